@@ -1,0 +1,2 @@
+//! Test media, vectors and tests that cross the crates.
+#![tactic(auto)]

@@ -1,0 +1,14 @@
+pub mod Tests
+pub mod Chains
+pub mod Unique
+pub mod NameOrder
+pub mod NameFacts
+pub mod Ordered
+pub mod TreeMap
+pub mod Balance
+pub mod Along
+pub mod HeaderFacts
+pub mod CreatedFacts
+pub mod CreatedFacts4
+pub mod ByteLemmas
+pub mod Writing

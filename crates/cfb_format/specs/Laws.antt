@@ -1,0 +1,85 @@
+-- What the definitions promise about each other.
+use Rattle.std.specs.Prelude.{ℕ, ◌≡◌, ◌↔◌, List, Some, length, take, IsTrue, ◌≤◌, ◌*◌, ◌^◌, ◌+◌, None, if◌then◌else◌}
+use Rattle.std.specs.Cmp.{IsTotalOrder}
+use Rattle.std.specs.declared.cmp.Ordering.TheVariants.{Equal}
+use Rattle.cfb_format.specs.declared.version.Version.{Version}
+use Rattle.cfb_format.specs.Names.{Cases, name_key, name_cmp}
+use Rattle.cfb_format.specs.Header.{HeaderFits, IsValidHeader, IsHeader, header_bytes}
+use Rattle.cfb_format.specs.declared.header.Header.{Header}
+use Rattle.cfb_format.specs.Chain.{IsChain, chain_from}
+use Rattle.cfb_format.specs.DirectoryEntry.{Entry}
+use Rattle.cfb_format.specs.Siblings.{Below, Balanced, HangsAt, SiblingTree, depth, in_order}
+use Rattle.cfb_format.specs.Reading.{Reading, Reads, IsStrictFile}
+use Rattle.cfb_format.specs.Meaning.{Means}
+use Rattle.cfb_format.specs.Soundness.{IsSoundFile, IsOwnedFile}
+use Rattle.cfb_format.specs.Full.{HasExactTablesFile}
+use Rattle.cfb_format.specs.Tree.{Tree, Objects, stream, StreamInfo, IsOrdered, object_named, is_same_name, a_stream, put_in_order, without}
+use Rattle.cfb_format.specs.Content.{readable, is_large, bytes_along}
+use Rattle.cfb_format.specs.Created.{created_bytes, empty_tree}
+
+-- bytes have at most one reading, and mean at most one tree
+abbrev pub AtMostOneReading : Type 0
+AtMostOneReading = (cases : Cases) (bytes : List ℕ) (r s : Reading) → Reads cases bytes r → Reads cases bytes s → r ≡ s
+
+abbrev pub AtMostOneTree : Type 0
+AtMostOneTree = (cases : Cases) (bytes : List ℕ) (t u : Tree) → Means cases bytes t → Means cases bytes u → t ≡ u
+
+-- the chain from a start is what walking along finds, and so there is at most one
+abbrev pub ChainIsWalked : Type 0
+ChainIsWalked = (table : List ℕ) (s : ℕ) (list : List ℕ) → (chain_from table s ≡ Some list) ↔ IsChain table s list
+
+-- the children of a storage are one list
+abbrev pub OneListBelow : Type 0
+OneListBelow = (cases : Cases) (entries : List Entry) (top : ℕ) (xs ys : List ℕ) → Below cases entries top xs → Below cases entries top ys → xs ≡ ys
+
+-- names are ordered, and only names of one key are equal
+abbrev pub NamesAreOrdered : Type 0
+NamesAreOrdered = (cases : Cases) → IsTotalOrder (name_cmp cases)
+
+abbrev pub EqualByKey : Type 0
+EqualByKey = (cases : Cases) (a b : List ℕ) → (name_cmp cases a b ≡ Equal) ↔ (name_key cases a ≡ name_key cases b)
+
+-- the file that is made for a version means the root alone, is strict and sound, whatever the letters
+abbrev pub CreatedMeansRoot : Type 0
+CreatedMeansRoot = (cases : Cases) (version : Version) → Means cases (created_bytes version) empty_tree
+
+abbrev pub CreatedIsStrict : Type 0
+CreatedIsStrict = (cases : Cases) (version : Version) → IsStrictFile cases (created_bytes version)
+
+abbrev pub CreatedIsSound : Type 0
+CreatedIsSound = (cases : Cases) (version : Version) → IsSoundFile cases (created_bytes version)
+
+-- nothing in it is lost, and its tables are no larger than they need to be
+abbrev pub CreatedIsOwned : Type 0
+CreatedIsOwned = (cases : Cases) (version : Version) → IsOwnedFile cases (created_bytes version)
+
+abbrev pub CreatedHasExactTables : Type 0
+CreatedHasExactTables = (cases : Cases) (version : Version) → HasExactTablesFile cases (created_bytes version)
+
+-- the tree that bytes mean is a map: the names of each storage rise
+abbrev pub MeantTreesAreOrdered : Type 0
+MeantTreesAreOrdered = (cases : Cases) (bytes : List ℕ) (tree : Tree) → Means cases bytes tree → IsOrdered cases tree.objects
+
+-- a balanced sibling tree with b black nodes on each way down has at most 2b levels, and at least 2^b - 1 names
+abbrev pub BalancedIsLow : Type 0
+BalancedIsLow = (entries : List Entry) (top b : ℕ) (t : SiblingTree) → Balanced entries top b → HangsAt entries top t
+    → (depth t ≤ 2 * b) × (2 ^ b ≤ length (in_order t) + 1)
+
+-- what can be read of a stream of 4096 bytes or more is its beginning of the bytes along its chain
+abbrev pub LargeStreamsLieAlongChains : Type 0
+LargeStreamsLieAlongChains = (bytes : List ℕ) (r : Reading) (e : Entry) (list : List ℕ) → IsTrue (is_large e) → IsChain r.fat e.start_sector list
+    → readable bytes r e ≡ take e.stream_len (bytes_along r.header.version bytes list)
+
+-- what is in a storage is a map by name: an object that is put is found, one that is removed isn't, and the others are as before
+abbrev pub PutIsFound : Type 0
+PutIsFound = (cases : Cases) (name : List ℕ) (info : StreamInfo) (q : List ℕ) (objects : Objects) → object_named cases name objects ≡ None
+    → object_named cases q (put_in_order cases name (stream name info) objects)
+    ≡ (if is_same_name cases q name then Some (record { name = name; object = a_stream info }) else object_named cases q objects)
+
+abbrev pub RemovedIsGone : Type 0
+RemovedIsGone = (cases : Cases) (name q : List ℕ) (objects : Objects) → IsOrdered cases objects
+    → object_named cases q (without cases name objects) ≡ (if is_same_name cases q name then None else object_named cases q objects)
+
+-- a valid header is read back as it was written
+abbrev pub HeaderIsReadBack : Type 0
+HeaderIsReadBack = (h : Header) → HeaderFits h → IsValidHeader h → IsHeader (header_bytes h) h

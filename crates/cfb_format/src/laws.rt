@@ -1,0 +1,56 @@
+//! What the definitions of the format promise about each other. None of these functions does
+//! anything: each has a law as its contract.
+ghost use Rattle.cfb_format.specs.Laws.{AtMostOneReading, AtMostOneTree, ChainIsWalked, OneListBelow, NamesAreOrdered, EqualByKey, CreatedMeansRoot, CreatedIsStrict, CreatedIsSound, CreatedIsOwned, CreatedHasExactTables, MeantTreesAreOrdered, BalancedIsLow, LargeStreamsLieAlongChains, PutIsFound, RemovedIsGone, HeaderIsReadBack};
+
+/// Bytes have at most one reading, and mean at most one tree.
+pub fn bytes_mean_at_most_one_tree()
+    ensures reading { AtMostOneReading }
+    ensures tree { AtMostOneTree }
+{}
+
+/// A start has at most one chain, which walking finds, and a storage at most one list of children.
+pub fn lists_are_unique()
+    ensures chain { ChainIsWalked }
+    ensures below { OneListBelow }
+{}
+
+/// Names stand in a total order, in which those of one key are equal.
+pub fn names_are_ordered()
+    ensures ordered { NamesAreOrdered }
+    ensures equal { EqualByKey }
+{}
+
+/// A valid header is read back as it was written.
+pub fn header_is_read_back()
+    ensures { HeaderIsReadBack }
+{}
+
+/// A storage is a finite map by name.
+pub fn storages_are_maps()
+    ensures put { PutIsFound }
+    ensures removed { RemovedIsGone }
+{}
+
+/// A large stream is read along its chain.
+pub fn large_streams_lie_along_chains()
+    ensures { LargeStreamsLieAlongChains }
+{}
+
+/// A balanced sibling tree is low.
+pub fn balanced_is_low()
+    ensures { BalancedIsLow }
+{}
+
+/// The tree that bytes mean is a map from names to objects.
+pub fn meant_trees_are_ordered()
+    ensures { MeantTreesAreOrdered }
+{}
+
+/// A created file means the root alone, in both versions.
+pub fn created_file_is_right()
+    ensures means { CreatedMeansRoot }
+    ensures strict { CreatedIsStrict }
+    ensures sound { CreatedIsSound }
+    ensures owned { CreatedIsOwned }
+    ensures tables { CreatedHasExactTables }
+{}

@@ -1,0 +1,123 @@
+//! A medium in memory.
+ghost use Rattle.std.specs.Prelude.{◌≡◌, ◌+◌, ◌≤◌, true, false, [], OnOk, OnErr, length};
+ghost use Rattle.cfb_format.specs.Medium.{written};
+ghost use Rattle.cfb_format.specs.Memory.{is_refused_growth};
+
+use crate::medium::{Medium, MediumFault, ReadMedium};
+use std::alloc::{AllocError, Allocator, Global};
+use std::marker::Model;
+
+/// Bytes in memory. It fails only where a growth of memory is refused, and then changes nothing.
+#[derive(Drop)]
+pub struct MemoryMedium<A: Allocator = Global> {
+    bytes: Vec<u8, A>,
+    failures: u64,
+}
+
+impl<A: Allocator> Model for MemoryMedium<A> {
+    ghost use Rattle.cfb_format.specs.Memory.{Held};
+
+    ghost Value = { Held };
+
+    ghost view = { λ m. record { bytes = m.bytes.items; failures = m.failures } };
+}
+
+impl<A: Allocator> MemoryMedium<A> {
+    /// No bytes.
+    pub fn new(alloc: A) -> MemoryMedium<A>
+        ensures { result ≡ record { bytes = []; failures = 0 } }
+    {
+        MemoryMedium {
+            bytes: Vec::new(alloc),
+            failures: 0,
+        }
+    }
+
+    /// These bytes.
+    pub fn from_bytes(bytes: Vec<u8, A>) -> MemoryMedium<A>
+        ensures { result ≡ record { bytes = bytes.items; failures = 0 } }
+    {
+        MemoryMedium { bytes, failures: 0 }
+    }
+
+    /// The bytes as they stand.
+    pub fn bytes(&self) -> &[u8]
+        ensures { result.now ≡ self.now.bytes }
+    {
+        &self.bytes
+    }
+
+    /// The bytes, with the memory that holds them.
+    pub fn into_bytes(self) -> Vec<u8, A>
+        ensures { result.items ≡ self.bytes }
+    {
+        let MemoryMedium { bytes, failures: _ } = self;
+        bytes
+    }
+}
+
+impl<A: Allocator> ReadMedium for MemoryMedium<A> {
+    ghost tells = { true };
+
+    ghost bytes = { λ m. m.bytes };
+
+    ghost failures = { λ m. m.failures };
+
+    ghost read_faults = { λ _. false };
+
+    fn length(&mut self) -> Result<u64, MediumFault> {
+        Ok(self.bytes.len() as u64)
+    }
+
+    fn read_at(&mut self, at: u64, into: &mut [u8]) -> Result<usize, MediumFault> {
+        let len = self.bytes.len() as u64;
+        if at >= len {
+            return Ok(0);
+        }
+        let rest = &self.bytes[at as usize..];
+        let count = into.len().min(rest.len());
+        into[..count].copy_from_slice(&rest[..count]);
+        Ok(count)
+    }
+}
+
+impl<A: Allocator> Medium for MemoryMedium<A> {
+    ghost write_faults = { is_refused_growth };
+
+    fn write_at(&mut self, at: u64, from: &[u8]) -> Result<usize, MediumFault> {
+        if from.is_empty() {
+            return Ok(0);
+        }
+        if overwrite(&mut self.bytes, at, from).is_err() {
+            self.failures = self.failures.saturating_add(1);
+            return Err(MediumFault::Memory);
+        }
+        Ok(from.len())
+    }
+
+    fn flush(&mut self) -> Result<(), MediumFault> {
+        Ok(())
+    }
+}
+
+/// Writes all of `from`, or nothing where memory is refused.
+fn overwrite<A: Allocator>(bytes: &mut Vec<u8, A>, at: u64, from: &[u8]) -> Result<(), AllocError>
+    ensures ok { OnOk result (bytes.new.items ≡ written bytes.old.items at from.now) }
+    ensures err { OnErr result (bytes.new.items ≡ bytes.old.items) }
+{
+    let start = at as usize;
+    let end = start.checked_add(from.len()).ok_or(AllocError)?;
+    if end > bytes.len() {
+        bytes.resize(end, 0)?;
+    }
+    put(bytes, start, from);
+    Ok(())
+}
+
+#[tactic(auto, using(crate::proofs::ByteLemmas::put_mid_written))]
+fn put(bytes: &mut [u8], start: usize, from: &[u8])
+    requires { start + length from.now ≤ length bytes.old }
+    ensures { bytes.new ≡ written bytes.old start from.now }
+{
+    bytes[start..start + from.len()].copy_from_slice(from);
+}
