@@ -12,3 +12,5 @@ pub mod CreatedFacts
 pub mod CreatedFacts4
 pub mod ByteLemmas
 pub mod Writing
+pub mod Words
+pub mod HeaderDifat

@@ -57,9 +57,12 @@ pub record IsHeader (bytes : List ℕ) (h : Header) : Type 0 where
   pub difat_entries : list_all is_regular (stored_difat bytes) ≡ true
 
 -- strict opening also wants version 3's number of directory sectors to be 0
+abbrev pub IsStrictDirCount : Version → ℕ → Type 0
+IsStrictDirCount V3 word = word ≡ 0
+IsStrictDirCount V4 word = ⊤
+
 abbrev pub IsStrictHeader : Version → List ℕ → Type 0
-IsStrictHeader V3 bytes = u32_at bytes 40 ≡ 0
-IsStrictHeader V4 bytes = ⊤
+IsStrictHeader version bytes = IsStrictDirCount version (u32_at bytes 40)
 
 -- a demand that only strict opening makes
 abbrev pub IfStrict : Validation → Type 0 → Type 0
