@@ -14,3 +14,4 @@ pub mod ByteLemmas
 pub mod Writing
 pub mod Words
 pub mod HeaderDifat
+pub mod HeaderStart

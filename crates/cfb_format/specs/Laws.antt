@@ -4,7 +4,8 @@ use Rattle.std.specs.Cmp.{IsTotalOrder}
 use Rattle.std.specs.declared.cmp.Ordering.TheVariants.{Equal}
 use Rattle.cfb_format.specs.declared.version.Version.{Version}
 use Rattle.cfb_format.specs.Names.{Cases, name_key, name_cmp}
-use Rattle.cfb_format.specs.Header.{HeaderFits, IsValidHeader, IsHeader, header_bytes}
+use Rattle.cfb_format.specs.Header.{HeaderFits, IsValidHeader, IsHeader, AcceptsHeader, header_bytes}
+use Rattle.cfb_format.specs.declared.validate.Validation.{Validation}
 use Rattle.cfb_format.specs.declared.header.Header.{Header}
 use Rattle.cfb_format.specs.Chain.{IsChain, chain_from}
 use Rattle.cfb_format.specs.DirectoryEntry.{Entry}
@@ -15,7 +16,7 @@ use Rattle.cfb_format.specs.Soundness.{IsSoundFile, IsOwnedFile}
 use Rattle.cfb_format.specs.Full.{HasExactTablesFile}
 use Rattle.cfb_format.specs.Tree.{Tree, Objects, stream, StreamInfo, IsOrdered, object_named, is_same_name, a_stream, put_in_order, without}
 use Rattle.cfb_format.specs.Content.{readable, is_large, bytes_along}
-use Rattle.cfb_format.specs.Created.{created_bytes, empty_tree}
+use Rattle.cfb_format.specs.Created.{created_bytes, created_header, empty_tree}
 
 -- bytes have at most one reading, and mean at most one tree
 abbrev pub AtMostOneReading : Type 0
@@ -83,3 +84,11 @@ RemovedIsGone = (cases : Cases) (name q : List ℕ) (objects : Objects) → IsOr
 -- a valid header is read back as it was written
 abbrev pub HeaderIsReadBack : Type 0
 HeaderIsReadBack = (h : Header) → HeaderFits h → IsValidHeader h → IsHeader (header_bytes h) h
+
+-- a header stands in the first 512 bytes, and what follows them has no part in it
+abbrev pub HeaderIsAtTheStart : Type 0
+HeaderIsAtTheStart = (validation : Validation) (bytes : List ℕ) (h : Header) → AcceptsHeader validation (take 512 bytes) h ↔ AcceptsHeader validation bytes h
+
+-- created bytes hold their header in both modes
+abbrev pub CreatedHeaderIsAccepted : Type 0
+CreatedHeaderIsAccepted = (validation : Validation) (version : Version) → AcceptsHeader validation (created_bytes version) (created_header version)

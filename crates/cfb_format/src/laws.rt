@@ -1,6 +1,6 @@
 //! What the definitions of the format promise about each other. None of these functions does
 //! anything: each has a law as its contract.
-ghost use Rattle.cfb_format.specs.Laws.{AtMostOneReading, AtMostOneTree, ChainIsWalked, OneListBelow, NamesAreOrdered, EqualByKey, CreatedMeansRoot, CreatedIsStrict, CreatedIsSound, CreatedIsOwned, CreatedHasExactTables, MeantTreesAreOrdered, BalancedIsLow, LargeStreamsLieAlongChains, PutIsFound, RemovedIsGone, HeaderIsReadBack};
+ghost use Rattle.cfb_format.specs.Laws.{AtMostOneReading, AtMostOneTree, ChainIsWalked, OneListBelow, NamesAreOrdered, EqualByKey, CreatedMeansRoot, CreatedIsStrict, CreatedIsSound, CreatedIsOwned, CreatedHasExactTables, MeantTreesAreOrdered, BalancedIsLow, LargeStreamsLieAlongChains, PutIsFound, RemovedIsGone, HeaderIsReadBack, HeaderIsAtTheStart, CreatedHeaderIsAccepted};
 
 /// Bytes have at most one reading, and mean at most one tree.
 pub fn bytes_mean_at_most_one_tree()
@@ -23,6 +23,11 @@ pub fn names_are_ordered()
 /// A valid header is read back as it was written.
 pub fn header_is_read_back()
     ensures { HeaderIsReadBack }
+{}
+
+/// A header stands in the first 512 bytes, and what follows them has no part in it.
+pub fn header_is_at_the_start()
+    ensures { HeaderIsAtTheStart }
 {}
 
 /// A storage is a finite map by name.
@@ -53,4 +58,5 @@ pub fn created_file_is_right()
     ensures sound { CreatedIsSound }
     ensures owned { CreatedIsOwned }
     ensures tables { CreatedHasExactTables }
+    ensures header { CreatedHeaderIsAccepted }
 {}

@@ -1,13 +1,19 @@
 use Rattle.cfb_format.specs.declared.version.Version.{Version}
 use Rattle.cfb_format.specs.declared.version.Version.TheVariants.{V3, V4}
+use Rattle.std.proofs.Common.{refl}
+use Rattle.cfb_format.specs.declared.validate.Validation.{Validation}
+use Rattle.cfb_format.specs.declared.validate.Validation.TheVariants.{Permissive, Strict}
+use Rattle.cfb_format.specs.Bytes.{u32_at, word_bytes, unit_bytes}
+use Rattle.cfb_format.specs.Header.{AcceptsHeader, header_bytes}
+use Rattle.cfb_format.specs.DirectoryEntry.{entry_bytes}
 use Rattle.cfb_format.specs.Names.{Cases}
 use Rattle.cfb_format.specs.Reading.{Reads, IsStrict}
 use Rattle.cfb_format.specs.Meaning.{Means}
 use Rattle.cfb_format.specs.Soundness.{IsSound, IsOwned}
 use Rattle.cfb_format.specs.Full.{HasExactTables}
-use Rattle.cfb_format.specs.Created.{created_bytes, created_reading, empty_tree}
-use Rattle.cfb_format.proofs.CreatedFacts.{reads3, means3, strict3, sound3, owned3, exact3}
-use Rattle.cfb_format.proofs.CreatedFacts4.{reads4, means4, strict4, sound4, owned4, exact4}
+use Rattle.cfb_format.specs.Created.{created_bytes, created_header, created_reading, empty_tree}
+use Rattle.cfb_format.proofs.CreatedFacts.{header3, reads3, means3, strict3, sound3, owned3, exact3}
+use Rattle.cfb_format.proofs.CreatedFacts4.{header4, reads4, means4, strict4, sound4, owned4, exact4}
 use Rattle.cfb_format.proofs.laws.created_file_is_right.Goals as goal
 
 means : (cases : Cases) (version : Version) → Means cases (created_bytes version) empty_tree
@@ -48,3 +54,14 @@ returns-clause-owned c = λ cases version. record { reading = created_reading ve
 
 pub returns-clause-tables : goal.returns-clause-tables
 returns-clause-tables c = λ cases version. record { reading = created_reading version; reads = reads cases version; holds = exact version }
+
+-- version 3 counts no directory sectors
+accepted : (validation : Validation) (version : Version) → AcceptsHeader validation (created_bytes version) (created_header version)
+unfolding created_bytes header_bytes word_bytes unit_bytes entry_bytes u32_at
+accepted Permissive V3 = record { header = header3; strict = tt }
+accepted Permissive V4 = record { header = header4; strict = tt }
+accepted Strict V3 = record { header = header3; strict = refl }
+accepted Strict V4 = record { header = header4; strict = tt }
+
+pub returns-clause-header : goal.returns-clause-header
+returns-clause-header c = accepted
