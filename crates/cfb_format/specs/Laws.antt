@@ -89,6 +89,10 @@ HeaderIsReadBack = (h : Header) → HeaderFits h → IsValidHeader h → IsHeade
 abbrev pub HeaderIsAtTheStart : Type 0
 HeaderIsAtTheStart = (validation : Validation) (bytes : List ℕ) (h : Header) → AcceptsHeader validation (take 512 bytes) h ↔ AcceptsHeader validation bytes h
 
+-- bytes hold at most one header
+abbrev pub AtMostOneHeader : Type 0
+AtMostOneHeader = (bytes : List ℕ) (h k : Header) → IsHeader bytes h → IsHeader bytes k → h ≡ k
+
 -- created bytes hold their header in both modes
 abbrev pub CreatedHeaderIsAccepted : Type 0
 CreatedHeaderIsAccepted = (validation : Validation) (version : Version) → AcceptsHeader validation (created_bytes version) (created_header version)

@@ -1,6 +1,6 @@
 //! What the definitions of the format promise about each other. None of these functions does
 //! anything: each has a law as its contract.
-ghost use Rattle.cfb_format.specs.Laws.{AtMostOneReading, AtMostOneTree, ChainIsWalked, OneListBelow, NamesAreOrdered, EqualByKey, CreatedMeansRoot, CreatedIsStrict, CreatedIsSound, CreatedIsOwned, CreatedHasExactTables, MeantTreesAreOrdered, BalancedIsLow, LargeStreamsLieAlongChains, PutIsFound, RemovedIsGone, HeaderIsReadBack, HeaderIsAtTheStart, CreatedHeaderIsAccepted};
+ghost use Rattle.cfb_format.specs.Laws.{AtMostOneReading, AtMostOneTree, ChainIsWalked, OneListBelow, NamesAreOrdered, EqualByKey, CreatedMeansRoot, CreatedIsStrict, CreatedIsSound, CreatedIsOwned, CreatedHasExactTables, MeantTreesAreOrdered, BalancedIsLow, LargeStreamsLieAlongChains, PutIsFound, RemovedIsGone, HeaderIsReadBack, HeaderIsAtTheStart, AtMostOneHeader, CreatedHeaderIsAccepted};
 
 /// Bytes have at most one reading, and mean at most one tree.
 pub fn bytes_mean_at_most_one_tree()
@@ -25,9 +25,11 @@ pub fn header_is_read_back()
     ensures { HeaderIsReadBack }
 {}
 
-/// A header stands in the first 512 bytes, and what follows them has no part in it.
+/// A header stands in the first 512 bytes, what follows them has no part in it, and there is at most
+/// one.
 pub fn header_is_at_the_start()
-    ensures { HeaderIsAtTheStart }
+    ensures start { HeaderIsAtTheStart }
+    ensures unique { AtMostOneHeader }
 {}
 
 /// A storage is a finite map by name.

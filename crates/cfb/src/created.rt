@@ -1,0 +1,126 @@
+//! The bytes of a file that is just created: header, FAT sector, directory sector.
+ghost use Rattle.std.specs.Prelude.{◌≡◌, ◌+◌, ◌-◌, ◌*◌, ◌<◌, ◌≤◌, ◌++◌, ◌∷◌, [], length, replicate, IsTrue, OnOk, IfErr};
+ghost use Rattle.std.specs.List.{repeat};
+ghost use Rattle.cfb_format.specs.Bytes.{sector_len as len_of, entries_per_sector, word_bytes, free_sector, fat_sector, end_of_chain};
+ghost use Rattle.cfb_format.specs.DirectoryEntry.{entry_bytes, empty_root_entry, unallocated_entry};
+ghost use Rattle.cfb_format.specs.Medium.{part, FailsBy};
+ghost use Rattle.cfb_format.specs.Header.{header_bytes};
+ghost use Rattle.cfb_format.specs.Created.{created_bytes, created_header as header_of};
+
+use cfb_format::bytes::{put, put_words};
+use cfb_format::consts;
+use cfb_format::header::Header;
+use cfb_format::medium::{Medium, MediumFault};
+use cfb_format::transfer::write_all_at;
+use cfb_format::version::Version;
+
+/// How many pieces of a sector's length a created file has.
+pub const PIECES: usize = 3;
+
+/// The entry of a root without objects.
+const ROOT_ENTRY: [u8; consts::DIR_ENTRY_LEN] = [
+    b'R', 0, b'o', 0, b'o', 0, b't', 0, b' ', 0, b'E', 0, b'n', 0, b't', 0, // name
+    b'r', 0, b'y', 0, 0, 0, 0, 0, 0, 0, 0, 0, 0, 0, 0, 0, //
+    0, 0, 0, 0, 0, 0, 0, 0, 0, 0, 0, 0, 0, 0, 0, 0, //
+    0, 0, 0, 0, 0, 0, 0, 0, 0, 0, 0, 0, 0, 0, 0, 0, //
+    22, 0, 5, 1, 255, 255, 255, 255, 255, 255, 255, 255, 255, 255, 255, 255, // links
+    0, 0, 0, 0, 0, 0, 0, 0, 0, 0, 0, 0, 0, 0, 0, 0, // class id
+    0, 0, 0, 0, 0, 0, 0, 0, 0, 0, 0, 0, 0, 0, 0, 0, // state bits, moments
+    0, 0, 0, 0, 254, 255, 255, 255, 0, 0, 0, 0, 0, 0, 0, 0, // start, length
+];
+
+/// An entry that is not used.
+const UNALLOCATED_ENTRY: [u8; consts::DIR_ENTRY_LEN] = [
+    0, 0, 0, 0, 0, 0, 0, 0, 0, 0, 0, 0, 0, 0, 0, 0, // name
+    0, 0, 0, 0, 0, 0, 0, 0, 0, 0, 0, 0, 0, 0, 0, 0, //
+    0, 0, 0, 0, 0, 0, 0, 0, 0, 0, 0, 0, 0, 0, 0, 0, //
+    0, 0, 0, 0, 0, 0, 0, 0, 0, 0, 0, 0, 0, 0, 0, 0, //
+    0, 0, 0, 0, 255, 255, 255, 255, 255, 255, 255, 255, 255, 255, 255, 255, // links
+    0, 0, 0, 0, 0, 0, 0, 0, 0, 0, 0, 0, 0, 0, 0, 0, // class id
+    0, 0, 0, 0, 0, 0, 0, 0, 0, 0, 0, 0, 0, 0, 0, 0, // state bits, moments
+    0, 0, 0, 0, 0, 0, 0, 0, 0, 0, 0, 0, 0, 0, 0, 0, // start, length
+];
+
+/// Fills a sector with a piece of the created file: its header, its FAT sector or its directory
+/// sector.
+pub fn lay_out(version: Version, piece: usize, into: &mut [u8])
+    requires piece { piece < 3 }
+    requires len { length into.old ≡ len_of version }
+    ensures { into.new ≡ part (created_bytes version) (piece * len_of version) (len_of version) }
+{
+    match piece {
+        0 => lay_out_header(version, into),
+        1 => lay_out_fat(into),
+        _ => lay_out_directory(version, into),
+    }
+}
+
+/// Sector 0 is the FAT, sector 1 the directory.
+fn created_header(version: Version) -> Header
+    ensures { result ≡ header_of version }
+{
+    let mut initial_difat_entries = [consts::FREE_SECTOR; consts::NUM_DIFAT_ENTRIES_IN_HEADER];
+    initial_difat_entries[0] = 0;
+    Header {
+        version,
+        num_dir_sectors: match version {
+            Version::V3 => 0,
+            Version::V4 => 1,
+        },
+        num_fat_sectors: 1,
+        first_dir_sector: 1,
+        first_minifat_sector: consts::END_OF_CHAIN,
+        num_minifat_sectors: 0,
+        first_difat_sector: consts::END_OF_CHAIN,
+        num_difat_sectors: 0,
+        initial_difat_entries,
+    }
+}
+
+fn lay_out_header(version: Version, into: &mut [u8])
+    requires { 512 ≤ length into.old }
+    ensures { into.new ≡ header_bytes (header_of version) ++ replicate (length into.old - 512) 0 }
+{
+    let mut bytes = [0; consts::HEADER_LEN];
+    created_header(version).write_to(&mut bytes);
+    into.fill(0);
+    put(into, 0, &bytes);
+}
+
+fn lay_out_fat(into: &mut [u8])
+    requires { 8 ≤ length into.old }
+    ensures { into.new ≡ word_bytes (fat_sector ∷ end_of_chain ∷ []) ++ replicate (length into.old - 8) 255 }
+{
+    into.fill(0xff);
+    put_words(into, 0, &[consts::FAT_SECTOR, consts::END_OF_CHAIN]);
+}
+
+fn lay_out_directory(version: Version, into: &mut [u8])
+    requires { length into.old ≡ 128 * entries_per_sector version }
+    ensures { into.new ≡ entry_bytes empty_root_entry
+        ++ repeat (entries_per_sector version - 1) (entry_bytes unallocated_entry) }
+{
+    let mut end = put(into, 0, &ROOT_ENTRY);
+    for _entry in 1..version.dir_entries_per_sector() {
+        end = put(into, end, &UNALLOCATED_ENTRY);
+    }
+}
+
+/// Writes a created file, a piece a sector; `sector` is room for one.
+pub fn write_created<F: Medium>(
+    medium: &mut F,
+    version: Version,
+    sector: &mut [u8],
+) -> Result<(), MediumFault>
+    requires len { length sector.old ≡ len_of version }
+    requires empty { IsTrue F.tells → F.bytes medium.old ≡ [] }
+    ensures ok { IsTrue F.tells → OnOk result (F.bytes medium.new ≡ created_bytes version) }
+    ensures calm { IsTrue F.tells → OnOk result (F.failures medium.new ≡ F.failures medium.old) }
+    ensures err { IsTrue F.tells → IfErr result (FailsBy F.write_faults (F.failures medium.old) (F.failures medium.new)) }
+{
+    for piece in 0..PIECES {
+        lay_out(version, piece, sector);
+        write_all_at(medium, (piece * sector.len()) as u64, sector)?;
+    }
+    Ok(())
+}
