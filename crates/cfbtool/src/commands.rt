@@ -1,0 +1,94 @@
+//! What the program does.
+use cfb::{CompoundFile, Error, MediumFault, MemoryMedium, Version};
+use std::alloc::Global;
+use std::fs;
+use std::io::{Read, Write};
+use std::process::ExitCode;
+use std::rt::Files;
+
+/// Does what the words say, with `input` as standard input, `out` as standard output and `faults`
+/// as standard error, and answers the status: 0 where it is done, 1 where it is refused, with one
+/// line on `faults`, and 2 where the words are wrong.
+///
+/// - `create 3 FILE`, `create 4 FILE`: a new empty file of this version; an old one is overwritten.
+/// - `check FILE`, `check FILE strict`: prints `version V sound` or `version V not sound`.
+pub fn tool<H: Files + AllocGlobal, R: Read, W: Write, E: Write>(
+    rt: &H,
+    words: &[String],
+    _input: &mut R,
+    out: &mut W,
+    faults: &mut E,
+) -> ExitCode {
+    let done = match words {
+        [call, version, path] if call.as_str() == "create" && version.as_str() == "3" => {
+            create(rt, Version::V3, path.as_str())
+        }
+        [call, version, path] if call.as_str() == "create" && version.as_str() == "4" => {
+            create(rt, Version::V4, path.as_str())
+        }
+        [call, path] if call.as_str() == "check" => check(rt, path.as_str(), false, out),
+        [call, path, mode] if call.as_str() == "check" && mode.as_str() == "strict" => {
+            check(rt, path.as_str(), true, out)
+        }
+        _ => return wrong_words(faults),
+    };
+    match done {
+        Ok(()) => ExitCode::SUCCESS,
+        Err(e) => refused(e, faults),
+    }
+}
+
+fn wrong_words<E: Write>(faults: &mut E) -> ExitCode {
+    let _ = writeln!(faults, "cfbtool: wrong words");
+    ExitCode::from(2)
+}
+
+fn refused<E: Write>(e: Error, faults: &mut E) -> ExitCode {
+    let _ = writeln!(faults, "cfbtool: {e}");
+    ExitCode::from(1)
+}
+
+/// A file is held in memory while it is worked on.
+fn read_file<H: Files + AllocGlobal>(rt: &H, path: &str) -> Result<MemoryMedium, Error> {
+    match fs::read(rt, path) {
+        Ok(bytes) => Ok(MemoryMedium::from_bytes(bytes)),
+        Err(_) => Err(Error::Medium(MediumFault::Read)),
+    }
+}
+
+fn write_file<H: Files + AllocGlobal>(
+    rt: &H,
+    path: &str,
+    medium: &MemoryMedium,
+) -> Result<(), Error> {
+    match fs::write(rt, path, medium.bytes()) {
+        Ok(()) => Ok(()),
+        Err(_) => Err(Error::Medium(MediumFault::Write)),
+    }
+}
+
+fn create<H: Files + AllocGlobal>(rt: &H, version: Version, path: &str) -> Result<(), Error> {
+    let alloc: Global = rt.alloc();
+    let file = CompoundFile::create_with_version(alloc, version, MemoryMedium::new(alloc))?;
+    write_file(rt, path, &file.into_inner())
+}
+
+fn check<H: Files + AllocGlobal, W: Write>(
+    rt: &H,
+    path: &str,
+    strict: bool,
+    out: &mut W,
+) -> Result<(), Error> {
+    let medium = read_file(rt, path)?;
+    let file = if strict {
+        CompoundFile::open_strict(rt.alloc(), medium)?
+    } else {
+        CompoundFile::open(rt.alloc(), medium)?
+    };
+    let number = file.version().number();
+    let verdict = if file.is_sound() { "sound" } else { "not sound" };
+    match writeln!(out, "version {number} {verdict}") {
+        Ok(()) => Ok(()),
+        Err(_) => Err(Error::Medium(MediumFault::Write)),
+    }
+}

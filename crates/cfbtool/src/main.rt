@@ -1,0 +1,30 @@
+//! A program over compound files. Run with no words it says that the words are wrong; the words
+//! are listed at `tool`.
+#![tactic(auto)]
+
+mod commands;
+#[cfg(test)]
+mod tests;
+
+pub use commands::tool;
+
+use std::env;
+use std::process::ExitCode;
+
+fn main(rt: HostRuntime) -> ExitCode {
+    let words = match env::args(&rt) {
+        Ok(all) => all.skip(1).collect(rt.alloc()),
+        Err(_) => Ok(Vec::new(rt.alloc())),
+    };
+    let Ok(words) = words else {
+        let _ = eprintln!(rt; "cfbtool: out of memory");
+        return ExitCode::from(1);
+    };
+    tool(
+        &rt,
+        words.as_slice(),
+        &mut rt.stdin(),
+        &mut rt.stdout(),
+        &mut rt.stderr(),
+    )
+}
