@@ -1,4 +1,4 @@
-ghost use Rattle.std.specs.Prelude.{◌≡◌, IfOk, length};
+ghost use Rattle.std.specs.Prelude.{◌≡◌, ◌≤◌, IsTrue, IfOk, OnOk, length};
 
 use crate::media::{Counting, Failing, Kind, Sip, Stuck};
 use crate::refusing::Refusing;
@@ -18,11 +18,13 @@ fn dots(alloc: Global) -> Result<MemoryMedium, AllocError>
 }
 
 /// Writes four letters, the last two past the end of the dots.
-fn put<F: Medium>(medium: &mut F) -> Result<(), MediumFault> {
+#[tactic(auto, using(cfb_format::proofs::ByteLemmas::writes))]
+fn put<F: Medium>(medium: &mut F) -> Result<(), MediumFault>
+    ensures { IsTrue F.tells → OnOk result (10 ≤ length (F.bytes medium.new)) }
+{
     write_all_at(medium, 6, b"abcd")
 }
 
-#[tactic(auto, using(cfb_format::proofs::ByteLemmas::writes))]
 fn put_and_read<F: Medium>(medium: &mut F) -> Result<[u8; 4], MediumFault> {
     put(medium)?;
     medium.flush()?;
