@@ -1,6 +1,6 @@
 //! Media over a medium, for tests: one that serves single bytes, one that fails, one that sticks,
 //! and one that counts its calls. Each is honest where the medium under it is.
-ghost use Rattle.std.specs.Prelude.{◌≡◌, ◌≢◌, ◌+◌, ◌-◌, ◌≤◌, ◌<◌, ◌^◌, ◌||◌, ◌↔◌, min, true, false, length, IsTrue};
+ghost use Rattle.std.specs.Prelude.{◌≡◌, ◌≢◌, ◌+◌, ◌-◌, ◌≤◌, ◌<◌, ◌^◌, ◌||◌, ◌↔◌, min, max, true, false, length, IsTrue};
 ghost use Rattle.std.specs.Bool.{OnFalse, OnTrue};
 ghost use Rattle.cfb_format.specs.Medium.{ChangesOnly, Rises};
 ghost use Rattle.cfb_bench.specs.Faults.{is_reading, is_writing, is_sticking};
@@ -169,6 +169,13 @@ impl<F: ReadMedium> Failing<F> {
         }
     }
 
+    /// How many calls it has made fail.
+    pub fn failures(&self) -> u64
+        ensures { result ≡ self.now.plan.failures }
+    {
+        self.plan.failures
+    }
+
     /// The medium under it, as it stands.
     pub fn into_inner(self) -> F
         ensures { result ≡ self.inner }
@@ -275,6 +282,13 @@ impl<F: ReadMedium> Stuck<F> {
             inner,
             plan: Plan::new(kind, nth, true),
         }
+    }
+
+    /// How many calls it has made fail.
+    pub fn failures(&self) -> u64
+        ensures { result ≡ self.now.plan.failures }
+    {
+        self.plan.failures
     }
 
     /// The medium under it, as it stands.
@@ -391,9 +405,9 @@ impl<F: ReadMedium> Counting<F> {
     }
 
     fn touches(&self, at: u64, len: usize) -> bool
-        ensures { IsTrue result ↔ ((at < self.now.end) × (self.now.start < min (at + len) (2 ^ 64 - 1))) }
+        ensures { IsTrue result ↔ (max at self.now.start < min (min (at + len) (2 ^ 64 - 1)) self.now.end) }
     {
-        at < self.end && self.start < at.saturating_add(len as u64)
+        at.max(self.start) < at.saturating_add(len as u64).min(self.end)
     }
 }
 

@@ -51,6 +51,23 @@ fn media_pass_bytes_on(rt: HostRuntime) -> Result<(), Fail> {
 }
 
 #[test]
+fn media_hand_a_flush_on(rt: HostRuntime) -> Result<(), Fail> {
+    let counting = Counting::within(dots(rt.alloc())?, 0, 8);
+    let stuck = Stuck::onwards(counting, Kind::Flush, 1);
+    let failing = Failing::once(stuck, Kind::Flush, 1);
+    let mut sip = Sip::new(failing);
+    assert_eq!(rt; sip.flush(), Err(MediumFault::Flush));
+    assert_eq!(rt; sip.flush(), Ok(()));
+    let failing = sip.into_inner();
+    assert_eq!(rt; failing.failures(), 1);
+    let mut again = Failing::once(failing.into_inner().into_inner(), Kind::Flush, 2);
+    assert_eq!(rt; again.flush(), Ok(()));
+    assert_eq!(rt; again.flush(), Err(MediumFault::Flush));
+    assert_eq!(rt; again.into_inner().flushes(), 2);
+    Ok(())
+}
+
+#[test]
 fn calls_in_a_range_are_counted(rt: HostRuntime) -> Result<(), Fail> {
     let mut sip = Sip::new(Counting::within(dots(rt.alloc())?, 7, 9));
     assert_eq!(rt; put_and_read(&mut sip), Ok(*b"abcd"));
@@ -61,6 +78,7 @@ fn calls_in_a_range_are_counted(rt: HostRuntime) -> Result<(), Fail> {
         (2, 2, 1)
     );
     assert_eq!(rt; counting.read_at(0, &mut [0u8; 7]), Ok(7));
+    assert_eq!(rt; counting.read_at(8, &mut [0u8; 0]), Ok(0));
     assert_eq!(rt; counting.write_at(9, b"e"), Ok(1));
     assert_eq!(rt; (counting.reads(), counting.writes()), (2, 2));
     assert_eq!(rt; counting.into_inner().bytes(), b"......abce".as_slice());
@@ -95,6 +113,7 @@ fn a_failing_write_spoils_its_range(rt: HostRuntime) -> Result<(), Fail> {
     assert_eq!(rt; put(&mut medium), Err(MediumFault::Write));
     assert_eq!(rt; medium.write_at(2, b"yz"), Err(MediumFault::Write));
     assert_eq!(rt; medium.flush(), Ok(()));
+    assert_eq!(rt; medium.failures(), 2);
     assert_eq!(rt;
         medium.into_inner().bytes(),
         b"..\xee\xee..\xee\xee\xee\xee".as_slice()
@@ -155,6 +174,7 @@ fn a_stuck_medium_serves_nothing(rt: HostRuntime) -> Result<(), Fail> {
     );
     assert_eq!(rt; read_exact_at(&mut once, 2, &mut back), Ok(()));
     assert_eq!(rt; back, *b"....");
+    assert_eq!(rt; once.failures(), 1);
     let mut onwards = Sip::new(Stuck::onwards(once, Kind::Write, 2));
     assert_eq!(rt; put(&mut onwards), Err(MediumFault::Stuck));
     assert_eq!(rt; put(&mut onwards), Err(MediumFault::Stuck));
