@@ -1,6 +1,8 @@
 //! Test media, vectors and tests that cross the crates.
 #![tactic(auto)]
 
+#[cfg(test)]
+mod empty_files;
 pub mod media;
 pub mod refusing;
 #[cfg(test)]

@@ -1,10 +1,14 @@
 //! Whole reads and writes at media in memory: what a contract says of a medium that tells its
 //! bytes is said here with no premise.
-ghost use Rattle.std.specs.Prelude.{◌≡◌, ◌<◌, ◌≤◌, ◌+◌, ◌^◌, length, OnOk, IfErr, OnErr};
+ghost use Rattle.std.specs.Prelude.{◌≡◌, ◌≢◌, ◌<◌, ◌≤◌, ◌+◌, ◌^◌, length, OnOk, IfOk, IfErr};
 ghost use Rattle.cfb_format.specs.Medium.{part, written};
+ghost use Rattle.cfb_format.specs.Refused.{number_of};
 ghost use Rattle.cfb_format.specs.declared.medium.MediumFault.TheVariants.{Memory};
+ghost use Rattle.cfb.specs.Files.{IsAsCreated};
+ghost use Rattle.cfb_bench.specs.Faults.{IsWantOfMemory};
 
 use crate::media::Sip;
+use cfb::{CompoundFile, Error, Version};
 use cfb_format::medium::MediumFault;
 use cfb_format::memory::MemoryMedium;
 use cfb_format::transfer::{read_exact_at, write_all_at};
@@ -45,4 +49,28 @@ pub fn write_first<A: Allocator>(
     ensures err { IfErr result (λ fault. fault ≡ Memory) }
 {
     write_all_at(medium, 0, from)
+}
+
+/// Makes a compound file in memory and opens it again: only memory can be refused.
+pub fn made_and_opened<A: Allocator + Clone>(
+    alloc: A,
+    version: Version,
+) -> Result<CompoundFile<MemoryMedium<A>, A>, Error>
+    ensures ok { IfOk result (λ file. IsAsCreated file × (file.version ≡ version)) }
+    ensures err { IfErr result IsWantOfMemory }
+{
+    let medium = MemoryMedium::new(alloc.clone()?);
+    let file = CompoundFile::create_with_version(alloc.clone()?, version, medium)?;
+    CompoundFile::open(alloc, file.into_inner())
+}
+
+/// Opens bytes in memory: the medium's error never comes.
+pub fn open_bytes<A: Allocator + Clone>(
+    alloc: A,
+    bytes: Vec<u8, A>,
+) -> Result<CompoundFile<MemoryMedium<A>, A>, Error>
+    ensures bytes { IfOk result (λ file. file.bytes ≡ bytes.items) }
+    ensures err { IfErr result (λ e. number_of e ≢ 5) }
+{
+    CompoundFile::open(alloc, MemoryMedium::from_bytes(bytes))
 }

@@ -86,7 +86,11 @@ fn check<H: Files + AllocGlobal, W: Write>(
         CompoundFile::open(rt.alloc(), medium)?
     };
     let number = file.version().number();
-    let verdict = if file.is_sound() { "sound" } else { "not sound" };
+    let verdict = if file.is_sound() {
+        "sound"
+    } else {
+        "not sound"
+    };
     match writeln!(out, "version {number} {verdict}") {
         Ok(()) => Ok(()),
         Err(_) => Err(Error::Medium(MediumFault::Write)),

@@ -7,7 +7,6 @@ mod commands;
 mod tests;
 
 pub use commands::tool;
-
 use std::env;
 use std::process::ExitCode;
 

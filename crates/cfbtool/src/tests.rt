@@ -75,10 +75,7 @@ fn wrong_words_do_nothing(rt: HostRuntime) -> Result<(), Fail> {
 
 #[test]
 fn what_cannot_be_read_or_written_is_refused(rt: HostRuntime) -> Result<(), Fail> {
-    let all: [&[&str]; 2] = [
-        &["check", "no/such.cfb"],
-        &["create", "3", "no/such.cfb"],
-    ];
+    let all: [&[&str]; 2] = [&["check", "no/such.cfb"], &["create", "3", "no/such.cfb"]];
     for given in all {
         let (status, out, faults) = run(&rt, given)?;
         assert!(rt; status == ExitCode::from(1));
@@ -94,7 +91,10 @@ fn other_files_are_refused(rt: HostRuntime) -> Result<(), Fail> {
     let (status, out, faults) = run(&rt, &["check", "other.cfb"])?;
     assert!(rt; status == ExitCode::from(1));
     assert_eq!(rt; out.len(), 0);
-    assert_eq!(rt; faults.as_slice(), b"cfbtool: shorter than a header (16)\n".as_slice());
+    assert_eq!(rt;
+        faults.as_slice(),
+        b"cfbtool: shorter than a header (16)\n".as_slice()
+    );
     fs::remove_file(&rt, "other.cfb")?;
     Ok(())
 }
