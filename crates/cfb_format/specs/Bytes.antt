@@ -5,16 +5,19 @@ use Rattle.std.specs.Int.{from_le_bytes, to_le_bytes, w16, w32, w64}
 use Rattle.cfb_format.specs.declared.version.Version.{Version}
 use Rattle.cfb_format.specs.declared.version.Version.TheVariants.{V3, V4}
 
--- the byte at a place, and the little-endian numbers of 2, 4 and 8 bytes from there on
+-- the byte at a place
 abbrev pub byte_at : List ℕ → ℕ → ℕ
 byte_at bytes at = slice_index bytes at
 
+-- the little-endian number of the 2 bytes at a place (MS-CFB 2.1)
 unfoldable pub u16_at : List ℕ → ℕ → ℕ
 u16_at bytes at = from_le_bytes w16 (drop at bytes)
 
+-- the same of 4 bytes
 unfoldable pub u32_at : List ℕ → ℕ → ℕ
 u32_at bytes at = from_le_bytes w32 (drop at bytes)
 
+-- the same of 8 bytes
 unfoldable pub u64_at : List ℕ → ℕ → ℕ
 u64_at bytes at = from_le_bytes w64 (drop at bytes)
 
@@ -23,34 +26,39 @@ unfoldable pub words : ℕ → List ℕ → List ℕ
 words zero bytes = []
 words (suc k) bytes = from_le_bytes w32 bytes ∷ words k (drop 4 bytes)
 
--- words of 4 bytes and of 2, as they are written
+-- words of 4 bytes, as they are written
 unfoldable pub word_bytes : List ℕ → List ℕ
 word_bytes [] = []
 word_bytes (word ∷ rest) = to_le_bytes w32 word ++ word_bytes rest
 
+-- units of 2 bytes, as they are written
 unfoldable pub unit_bytes : List ℕ → List ℕ
 unit_bytes [] = []
 unit_bytes (unit ∷ rest) = to_le_bytes w16 unit ++ unit_bytes rest
 
 -- ---- the versions
 
+-- the major version (MS-CFB 2.2)
 abbrev pub version_number : Version → ℕ
 version_number V3 = 3
 version_number V4 = 4
 
+-- the sector shift: a sector has 2 to this many bytes (MS-CFB 2.2)
 abbrev pub sector_shift : Version → ℕ
 sector_shift V3 = 9
 sector_shift V4 = 12
 
+-- the length of a sector (MS-CFB 2.1)
 abbrev pub sector_len : Version → ℕ
 sector_len V3 = 512
 sector_len V4 = 4096
 
--- how many words, and how many directory entries, a sector holds
+-- how many words a sector holds (MS-CFB 2.3)
 abbrev pub words_per_sector : Version → ℕ
 words_per_sector V3 = 128
 words_per_sector V4 = 1024
 
+-- how many directory entries a sector holds (MS-CFB 2.6)
 abbrev pub entries_per_sector : Version → ℕ
 entries_per_sector V3 = 4
 entries_per_sector V4 = 32
@@ -60,11 +68,13 @@ abbrev pub stream_len_modulus : Version → ℕ
 stream_len_modulus V3 = 0x1_0000_0000
 stream_len_modulus V4 = 0x1_0000_0000_0000_0000
 
+-- the greatest length of a stream (MS-CFB 2.6.3)
 abbrev pub max_stream_len : Version → ℕ
 max_stream_len version = stream_len_modulus version - 1
 
 -- ---- sectors: the header takes the place of one
 
+-- where a sector begins (MS-CFB 2.1)
 abbrev pub sector_start : Version → ℕ → ℕ
 sector_start version i = (i + 1) * sector_len version
 
@@ -86,21 +96,27 @@ is_whole_sector version bytes i = nat_le (sector_start version i + sector_len ve
 
 -- ---- the marks that stand in a table in place of a sector's number
 
+-- MAXREGSECT (MS-CFB 2.1)
 abbrev pub max_regular_sector : ℕ
 max_regular_sector = 0xFFFF_FFFA
 
+-- reserved (MS-CFB 2.1)
 abbrev pub invalid_sector : ℕ
 invalid_sector = 0xFFFF_FFFB
 
+-- DIFSECT (MS-CFB 2.1)
 abbrev pub difat_sector : ℕ
 difat_sector = 0xFFFF_FFFC
 
+-- FATSECT (MS-CFB 2.1)
 abbrev pub fat_sector : ℕ
 fat_sector = 0xFFFF_FFFD
 
+-- ENDOFCHAIN (MS-CFB 2.1)
 abbrev pub end_of_chain : ℕ
 end_of_chain = 0xFFFF_FFFE
 
+-- FREESECT (MS-CFB 2.1)
 abbrev pub free_sector : ℕ
 free_sector = 0xFFFF_FFFF
 
@@ -112,6 +128,7 @@ no_stream = 0xFFFF_FFFF
 abbrev pub is_regular : ℕ → Bool
 is_regular word = nat_le word max_regular_sector
 
+-- what an entry of the DIFAT may be (MS-CFB 2.5)
 abbrev pub is_regular_or_free : ℕ → Bool
 is_regular_or_free word = is_regular word || word == free_sector
 

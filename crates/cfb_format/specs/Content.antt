@@ -11,9 +11,11 @@ use Rattle.cfb_format.specs.Reading.{Reading, root_entry}
 abbrev pub mini_stream_cutoff : ℕ
 mini_stream_cutoff = 4096
 
+-- the length of a mini sector (MS-CFB 2.2 and 2.4)
 abbrev pub mini_sector_len : ℕ
 mini_sector_len = 64
 
+-- the stream lies in sectors of its own (MS-CFB 2.6.3)
 abbrev pub is_large : Entry → Bool
 is_large e = nat_le mini_stream_cutoff e.stream_len
 

@@ -35,6 +35,7 @@ created_bytes version = header_bytes (created_header version) ++ replicate (sect
     ++ word_bytes (fat_sector ∷ end_of_chain ∷ replicate (words_per_sector version - 2) free_sector)
     ++ entry_bytes empty_root_entry ++ repeat (entries_per_sector version - 1) (entry_bytes unallocated_entry)
 
+-- its parts
 abbrev pub created_reading : Version → Reading
 created_reading version = record {
   header = created_header version;

@@ -16,10 +16,11 @@ is_among list i = list_any (λ k. k == i) list
 
 -- ---- the DIFAT
 
--- what a DIFAT sector lists, and the DIFAT sector that comes after it
+-- what a DIFAT sector lists (MS-CFB 2.5)
 abbrev pub difat_entries : Version → List ℕ → ℕ → List ℕ
 difat_entries version bytes i = take (words_per_sector version - 1) (sector_words version bytes i)
 
+-- the DIFAT sector that comes after one (MS-CFB 2.5)
 abbrev pub next_difat : Version → List ℕ → ℕ → ℕ
 next_difat version bytes i = slice_index (sector_words version bytes i) (words_per_sector version - 1)
 
@@ -63,10 +64,11 @@ pub record IsStrictDifat (bytes : List ℕ) (h : Header) (list own : List ℕ) :
 abbrev pub fat_words : Version → List ℕ → List ℕ → List ℕ
 fat_words version bytes list = flat_map (sector_words version bytes) list
 
--- those at places that are sectors, as they stand in the file, and those past them
+-- the words at places that are sectors, as they stand in the file (MS-CFB 2.3)
 abbrev pub raw_fat : Version → List ℕ → List ℕ → List ℕ
 raw_fat version bytes list = take (sector_count version bytes) (fat_words version bytes list)
 
+-- the words past the last sector (MS-CFB 2.3)
 abbrev pub fat_padding : Version → List ℕ → List ℕ → List ℕ
 fat_padding version bytes list = drop (sector_count version bytes) (fat_words version bytes list)
 

@@ -12,6 +12,7 @@ use Rattle.cfb_format.specs.Content.{mini_sector_len, mini_stream_cutoff}
 use Rattle.cfb_format.specs.Soundness.{mini_stream_sectors}
 use Rattle.cfb_format.specs.Tree.{Objects, nothing, storage, stream, Tree}
 
+-- how many of this size hold n
 abbrev pub rounded_up : ℕ → ℕ → ℕ
 rounded_up n size = (n + (size - 1)) / size
 
@@ -34,23 +35,27 @@ abbrev pub CanTake : ℕ → Reading → ℕ → ℕ → Type 0
 CanTake limit r given_back wanted =
     HasRoom r.header.version limit (length r.fat) (length r.fat_sectors) (length r.difat_sectors) (wanted - (free_count r.fat + given_back))
 
+-- how many mini sectors the lengths of a version have room for (MS-CFB 2.4 and 2.6.3)
 abbrev pub max_mini_sectors : Version → ℕ
 max_mini_sectors V3 = 67108863
 max_mini_sectors V4 = 0xFFFF_FFFA
 
+-- how many directory entries have a number (MS-CFB 2.6.1)
 abbrev pub max_entries : ℕ
 max_entries = 0xFFFF_FFFB
 
+-- the entry is not used (MS-CFB 2.6.1)
 abbrev pub is_unallocated : ObjType → Bool
 is_unallocated Unallocated = true
 is_unallocated Storage = false
 is_unallocated Stream = false
 is_unallocated Root = false
 
--- what a length needs: sectors from the cutoff on, and else mini sectors
+-- what a length needs: sectors from the cutoff on
 abbrev pub sectors_for : Version → ℕ → ℕ
 sectors_for version len = if nat_le mini_stream_cutoff len then rounded_up len (sector_len version) else 0
 
+-- and mini sectors below the cutoff (MS-CFB 2.4)
 abbrev pub mini_sectors_for : ℕ → ℕ
 mini_sectors_for len = if nat_le mini_stream_cutoff len then 0 else rounded_up len mini_sector_len
 
@@ -91,16 +96,19 @@ IsFull limit r = IsFullOfSectors limit r ⊎ IsFullOfMiniSectors r ⊎ IsFullOfE
 
 -- ---- a copy into a new file
 
+-- how many entries the objects take
 abbrev pub object_count : Objects → ℕ
 object_count nothing = 0
 object_count (storage name info inside rest) = 1 + object_count inside + object_count rest
 object_count (stream name info rest) = 1 + object_count rest
 
+-- how many sectors their streams take
 abbrev pub sectors_in : Version → Objects → ℕ
 sectors_in version nothing = 0
 sectors_in version (storage name info inside rest) = sectors_in version inside + sectors_in version rest
 sectors_in version (stream name info rest) = sectors_for version info.len + sectors_in version rest
 
+-- how many mini sectors their streams take
 abbrev pub mini_sectors_in : Objects → ℕ
 mini_sectors_in nothing = 0
 mini_sectors_in (storage name info inside rest) = mini_sectors_in inside + mini_sectors_in rest

@@ -8,6 +8,7 @@ use Rattle.cfb_format.specs.declared.validate.Validation.{Validation}
 use Rattle.cfb_format.specs.declared.validate.Validation.TheVariants.{Permissive, Strict}
 use Rattle.cfb_format.specs.Bytes.{u16_at, u32_at, words, word_bytes, unit_bytes, version_number, sector_shift, end_of_chain, free_sector, is_regular}
 
+-- the header signature (MS-CFB 2.2)
 abbrev pub magic_number : List ℕ
 magic_number = 0xD0 ∷ 0xCF ∷ 0x11 ∷ 0xE0 ∷ 0xA1 ∷ 0xB1 ∷ 0x1A ∷ 0xE1 ∷ []
 
@@ -28,9 +29,11 @@ first_difat_of word = if word == free_sector then end_of_chain else word
 abbrev pub entries_before_free : List ℕ → List ℕ
 entries_before_free entries = before_first (λ word. word == free_sector) entries
 
+-- with FREE in the places that are left
 abbrev pub padded_difat : List ℕ → List ℕ
 padded_difat entries = entries ++ replicate (header_difat_len - length entries) free_sector
 
+-- the entries of the header that count (MS-CFB 2.5)
 abbrev pub stored_difat : List ℕ → List ℕ
 stored_difat bytes = entries_before_free (words header_difat_len (drop 76 bytes))
 
@@ -61,6 +64,7 @@ abbrev pub IsStrictDirCount : Version → ℕ → Type 0
 IsStrictDirCount V3 word = word ≡ 0
 IsStrictDirCount V4 word = ⊤
 
+-- the same of the bytes of a header
 abbrev pub IsStrictHeader : Version → List ℕ → Type 0
 IsStrictHeader version bytes = IsStrictDirCount version (u32_at bytes 40)
 

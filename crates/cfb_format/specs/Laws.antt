@@ -18,10 +18,11 @@ use Rattle.cfb_format.specs.Tree.{Tree, Objects, stream, StreamInfo, IsOrdered, 
 use Rattle.cfb_format.specs.Content.{readable, is_large, bytes_along}
 use Rattle.cfb_format.specs.Created.{created_bytes, created_header, empty_tree}
 
--- bytes have at most one reading, and mean at most one tree
+-- bytes have at most one reading
 abbrev pub AtMostOneReading : Type 0
 AtMostOneReading = (cases : Cases) (bytes : List ℕ) (r s : Reading) → Reads cases bytes r → Reads cases bytes s → r ≡ s
 
+-- and so they mean at most one tree
 abbrev pub AtMostOneTree : Type 0
 AtMostOneTree = (cases : Cases) (bytes : List ℕ) (t u : Tree) → Means cases bytes t → Means cases bytes u → t ≡ u
 
@@ -33,10 +34,11 @@ ChainIsWalked = (table : List ℕ) (s : ℕ) (list : List ℕ) → (chain_from t
 abbrev pub OneListBelow : Type 0
 OneListBelow = (cases : Cases) (entries : List Entry) (top : ℕ) (xs ys : List ℕ) → Below cases entries top xs → Below cases entries top ys → xs ≡ ys
 
--- names are ordered, and only names of one key are equal
+-- names are in a total order
 abbrev pub NamesAreOrdered : Type 0
 NamesAreOrdered = (cases : Cases) → IsTotalOrder (name_cmp cases)
 
+-- the names of one key are equal, and no others
 abbrev pub EqualByKey : Type 0
 EqualByKey = (cases : Cases) (a b : List ℕ) → (name_cmp cases a b ≡ Equal) ↔ (name_key cases a ≡ name_key cases b)
 
@@ -44,9 +46,11 @@ EqualByKey = (cases : Cases) (a b : List ℕ) → (name_cmp cases a b ≡ Equal)
 abbrev pub CreatedMeansRoot : Type 0
 CreatedMeansRoot = (cases : Cases) (version : Version) → Means cases (created_bytes version) empty_tree
 
+-- strict opening accepts it
 abbrev pub CreatedIsStrict : Type 0
 CreatedIsStrict = (cases : Cases) (version : Version) → IsStrictFile cases (created_bytes version)
 
+-- it is sound
 abbrev pub CreatedIsSound : Type 0
 CreatedIsSound = (cases : Cases) (version : Version) → IsSoundFile cases (created_bytes version)
 
@@ -54,6 +58,7 @@ CreatedIsSound = (cases : Cases) (version : Version) → IsSoundFile cases (crea
 abbrev pub CreatedIsOwned : Type 0
 CreatedIsOwned = (cases : Cases) (version : Version) → IsOwnedFile cases (created_bytes version)
 
+-- its tables are no larger than they need to be
 abbrev pub CreatedHasExactTables : Type 0
 CreatedHasExactTables = (cases : Cases) (version : Version) → HasExactTablesFile cases (created_bytes version)
 
@@ -77,6 +82,7 @@ PutIsFound = (cases : Cases) (name : List ℕ) (info : StreamInfo) (q : List ℕ
     → object_named cases q (put_in_order cases name (stream name info) objects)
     ≡ (if is_same_name cases q name then Some (record { name = name; object = a_stream info }) else object_named cases q objects)
 
+-- one that is removed is not found, and the others are as before
 abbrev pub RemovedIsGone : Type 0
 RemovedIsGone = (cases : Cases) (name q : List ℕ) (objects : Objects) → IsOrdered cases objects
     → object_named cases q (without cases name objects) ≡ (if is_same_name cases q name then None else object_named cases q objects)

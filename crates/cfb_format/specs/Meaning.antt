@@ -7,9 +7,11 @@ use Rattle.cfb_format.specs.Reading.{Reading, Reads, root_entry, Outline, no_mor
 use Rattle.cfb_format.specs.Content.{readable}
 use Rattle.cfb_format.specs.Tree.{StorageInfo, StreamInfo, Objects, nothing, storage, stream, Tree}
 
+-- a storage's own fields (MS-CFB 2.6.2)
 abbrev pub storage_info : Entry → StorageInfo
 storage_info e = record { clsid = e.clsid; state_bits = e.state_bits; created = e.creation_time; modified = e.modified_time }
 
+-- a stream's fields and content (MS-CFB 2.6.3)
 abbrev pub stream_info : (Entry → List ℕ) → Entry → StreamInfo
 stream_info content e = record { state_bits = e.state_bits; len = e.stream_len; content = content e }
 

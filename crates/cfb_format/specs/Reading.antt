@@ -57,6 +57,7 @@ pub record IsOutline (cases : Cases) (entries : List Entry) (outline : Outline) 
 
 -- ---- the file
 
+-- the parts of a file (MS-CFB 2.2 to 2.6)
 pub record Reading : Type 0 where
   pub header : Header
   -- the FAT sectors and the DIFAT sectors, in order
@@ -72,6 +73,7 @@ pub record Reading : Type 0 where
   pub minifat_sectors : List ℕ
   pub minifat : List ℕ
 
+-- the root is entry 0 (MS-CFB 2.6.2)
 abbrev pub root_entry : Reading → Entry
 root_entry r = entry_at r.entries 0
 

@@ -45,6 +45,7 @@ pub record Below (cases : Cases) (entries : List Entry) (top : ℕ) (list : List
 
 -- ---- balance
 
+-- the colour is red (MS-CFB 2.6.4)
 abbrev pub is_red_color : Color → Bool
 is_red_color Red = true
 is_red_color Black = false

@@ -9,31 +9,36 @@ use Rattle.cfb_format.specs.Chain.{value}
 use Rattle.cfb_format.specs.Reading.{Reading, HasReading, stream_numbers}
 use Rattle.cfb_format.specs.Content.{is_large, sector_chain, mini_chain, content_chain, mini_stream_chain, mini_sector_len, readable}
 
--- the tree's streams, and of these the ones that lie in sectors and those that lie in mini sectors
+-- the tree's streams, by the numbers of their entries
 abbrev pub streams : Reading → List ℕ
 streams r = stream_numbers r.outline
 
+-- of these the ones that lie in sectors
 abbrev pub large_streams : Reading → List ℕ
 large_streams r = filter (λ i. is_large (entry_at r.entries i)) (streams r)
 
+-- and the ones that lie in mini sectors
 abbrev pub small_streams : Reading → List ℕ
 small_streams r = filter (λ i. not (is_large (entry_at r.entries i))) (streams r)
 
--- the sectors of a stream, and its mini sectors
+-- the sectors of a stream
 abbrev pub sectors_of : Reading → ℕ → List ℕ
 sectors_of r i = unwrap_or (sector_chain r (entry_at r.entries i)) []
 
+-- the mini sectors of a stream
 abbrev pub mini_sectors_of : Reading → ℕ → List ℕ
 mini_sectors_of r i = unwrap_or (mini_chain r (entry_at r.entries i)) []
 
+-- the sectors of the mini stream
 abbrev pub mini_stream_sectors : Reading → List ℕ
 mini_stream_sectors r = unwrap_or (mini_stream_chain r) []
 
--- all sectors that have a use, and all mini sectors that have one
+-- all sectors that have a use
 abbrev pub used_sectors : Reading → List ℕ
 used_sectors r = r.fat_sectors ++ r.difat_sectors ++ r.directory ++ r.minifat_sectors ++ mini_stream_sectors r
     ++ flat_map (sectors_of r) (large_streams r)
 
+-- all mini sectors that have a use
 abbrev pub used_mini_sectors : Reading → List ℕ
 used_mini_sectors r = flat_map (mini_sectors_of r) (small_streams r)
 
@@ -52,6 +57,7 @@ PointsIntoFile bytes r = (i : ℕ) → i < length (raw_fat r.header.version byte
     → IsTrue (is_regular (slice_index (raw_fat r.header.version bytes r.fat_sectors) i))
     → slice_index (raw_fat r.header.version bytes r.fat_sectors) i < sector_count r.header.version bytes
 
+-- no sector has two uses, no loose end can come alive, and every stream is whole
 pub record IsSound (bytes : List ℕ) (r : Reading) : Type 0 where
   pub covers : sector_count r.header.version bytes ≤ length r.fat_sectors * words_per_sector r.header.version
   -- every chain is one
@@ -90,6 +96,7 @@ abbrev pub first_owner : (ℕ → List ℕ) → ℕ → Owner → List ℕ → O
 first_owner members i other [] = other
 first_owner members i other (k ∷ rest) = if is_among (members k) i then one_stream k else first_owner members i other rest
 
+-- the list that has the sector, or free, or none
 abbrev pub owner : Reading → ℕ → Owner
 owner r i =
     if is_among r.fat_sectors i then fat_table
@@ -99,6 +106,7 @@ owner r i =
     else if is_among (mini_stream_sectors r) i then mini_stream
     else first_owner (sectors_of r) i (if slice_index r.fat i == free_sector then is_free else no_owner) (large_streams r)
 
+-- the same of a mini sector
 abbrev pub mini_owner : Reading → ℕ → Owner
 mini_owner r m = first_owner (mini_sectors_of r) m (if slice_index r.minifat m == free_sector then is_free else no_owner) (small_streams r)
 

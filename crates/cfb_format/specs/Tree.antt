@@ -5,6 +5,7 @@ use Rattle.std.specs.Ordering.{is_eq, is_lt}
 use Rattle.std.specs.declared.cmp.Ordering.TheVariants.{Less}
 use Rattle.cfb_format.specs.Names.{Cases, name_cmp}
 
+-- a storage's class id, state bits and moments (MS-CFB 2.6.1)
 pub record StorageInfo : Type 0 where
   pub clsid : List ℕ
   pub state_bits : ℕ
@@ -33,6 +34,7 @@ pub record Tree : Type 0 where
 abbrev pub IsWhole : StreamInfo → Type 0
 IsWhole info = length info.content ≡ info.len
 
+-- all streams can be read
 abbrev pub AreWhole : Objects → Type 0
 AreWhole nothing = ⊤
 AreWhole (storage name info inside rest) = AreWhole inside × AreWhole rest
@@ -54,6 +56,7 @@ IsOrdered cases (stream name info rest) =
 
 -- ---- a storage as a map by name
 
+-- one object, without its name
 pub data Object : Type 0 where
   a_storage : StorageInfo → Objects → Object
   a_stream : StreamInfo → Object
@@ -63,6 +66,7 @@ pub record Found : Type 0 where
   pub name : List ℕ
   pub object : Object
 
+-- the names have one key
 abbrev pub is_same_name : Cases → List ℕ → List ℕ → Bool
 is_same_name cases a b = is_eq (name_cmp cases a b)
 
