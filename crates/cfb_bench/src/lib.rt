@@ -7,4 +7,6 @@ pub mod media;
 pub mod refusing;
 #[cfg(test)]
 mod tests;
+#[cfg(test)]
+mod texts;
 pub mod whole;
