@@ -12,3 +12,8 @@ pub mod CreatedFacts
 pub mod CreatedFacts4
 pub mod ByteLemmas
 pub mod Writing
+pub mod NameUnits
+pub mod ClassIds
+pub mod Refusals
+pub mod EntryReading
+pub mod EntryWriting
