@@ -15,3 +15,8 @@ pub mod Writing
 pub mod Words
 pub mod HeaderDifat
 pub mod HeaderStart
+pub mod NameUnits
+pub mod ClassIds
+pub mod Refusals
+pub mod EntryReading
+pub mod EntryWriting

@@ -4,12 +4,14 @@ use Rattle.std.specs.Int.{from_le_bytes, to_le_bytes, w16, w32, w64}
 use Rattle.std.specs.List.{list_any, flat_map, range_with_len}
 use Rattle.std.specs.Char.Utf16.{has_unpaired_surrogate, utf16_lossy_chars}
 use Rattle.cfb_format.specs.declared.version.Version.{Version}
+use Rattle.cfb_format.specs.declared.validate.Validation.{Validation}
 use Rattle.cfb_format.specs.declared.objtype.ObjType.{ObjType}
 use Rattle.cfb_format.specs.declared.objtype.ObjType.TheVariants.{Unallocated, Storage, Stream, Root}
 use Rattle.cfb_format.specs.declared.color.Color.{Color}
 use Rattle.cfb_format.specs.declared.color.Color.TheVariants.{Red, Black}
 use Rattle.cfb_format.specs.Bytes.{byte_at, unit_bytes, u16_at, u32_at, u64_at, stream_len_modulus, sector_bytes, entries_per_sector, is_regular, no_stream, end_of_chain}
 use Rattle.cfb_format.specs.Names.{utf16_units, is_forbidden}
+use Rattle.cfb_format.specs.Header.{IfStrict}
 
 pub record Entry : Type 0 where
   pub name : List ℕ
@@ -139,6 +141,11 @@ pub record IsStrictEntry (version : Version) (slot : List ℕ) (e : Entry) : Typ
   pub modified_time : e.modified_time ≡ u64_at slot 108
   pub start_sector : e.start_sector ≡ u32_at slot 116
   pub stream_len : e.stream_len ≡ stored_len version slot
+
+-- opening in this mode takes the slot for this entry
+pub record AcceptsEntry (validation : Validation) (version : Version) (slot : List ℕ) (e : Entry) : Type 0 where
+  pub entry : IsEntry version slot e
+  pub strict : IfStrict validation (IsStrictEntry version slot e)
 
 -- ---- the directory: the slots of its sectors
 

@@ -8,6 +8,8 @@ pub mod Chain
 pub mod Names
 pub mod Path
 pub mod DirectoryEntry
+pub mod EntryModel
+pub mod EntryParts
 pub mod Siblings
 pub mod Reading
 pub mod Content

@@ -1,5 +1,5 @@
 -- Which error a call answered.
-use Rattle.std.specs.Prelude.{◌≡◌, ℕ, Bool, Result, MatchResult}
+use Rattle.std.specs.Prelude.{◌≡◌, ℕ, Bool, Result, MatchResult, ⊤}
 use Rattle.cfb_format.specs.Medium.{FailsBy}
 use Rattle.cfb_format.specs.declared.error.Error.{Error}
 use Rattle.cfb_format.specs.declared.error.Error.TheVariants.{NotFound, AlreadyExists, InvalidInput, InvalidData, Medium, Memory, Full, Unsound, Failed, Unsupported}
@@ -21,6 +21,19 @@ number_of Unsupported = 10
 -- the bytes are not acceptable
 abbrev pub IsInvalidData : Error → Type 0
 IsInvalidData e = number_of e ≡ 4
+
+-- the bytes are not acceptable, and then P holds; or memory was refused
+abbrev pub IsInvalidOrMemory : Type 0 → Error → Type 0
+IsInvalidOrMemory P (InvalidData d) = P
+IsInvalidOrMemory P Memory = ⊤
+IsInvalidOrMemory P (NotFound d) = ⊥
+IsInvalidOrMemory P (AlreadyExists d) = ⊥
+IsInvalidOrMemory P (InvalidInput d) = ⊥
+IsInvalidOrMemory P (Medium f) = ⊥
+IsInvalidOrMemory P Full = ⊥
+IsInvalidOrMemory P Unsound = ⊥
+IsInvalidOrMemory P Failed = ⊥
+IsInvalidOrMemory P Unsupported = ⊥
 
 -- the medium failed, by a fault of which P holds
 abbrev pub IsMediumAnd : (MediumFault → Type 0) → Error → Type 0

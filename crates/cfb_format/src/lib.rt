@@ -5,12 +5,14 @@
 pub mod bytes;
 pub mod color;
 pub mod consts;
+pub mod direntry;
 pub mod error;
 pub mod header;
 pub mod laws;
 pub mod medium;
 pub mod memory;
 pub mod objtype;
+pub mod timestamp;
 pub mod transfer;
 pub mod validate;
 pub mod version;
