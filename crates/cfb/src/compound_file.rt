@@ -2,7 +2,7 @@
 ghost use Rattle.std.specs.Prelude.{◌≡◌, [], false, true, IsTrue, IfOk, IfErr, OnOk, length, vec_len};
 ghost use Rattle.cfb_format.specs.Bytes.{sector_len as len_of};
 
-use crate::created::write_created;
+use crate::created::{EmptySlots, write_created};
 use crate::opening::{is_as_created, read_head};
 use cfb_format::error::Error;
 use cfb_format::laws;
@@ -117,9 +117,10 @@ impl<F: ReadMedium, A: Allocator + Clone> CompoundFile<F, A> {
         laws::created_file_is_right();
         laws::header_is_at_the_start();
         let head = read_head(&mut medium, validation)?;
+        let slots = EmptySlots::new(alloc.clone()?)?;
         let mut expected = sector_buffer(alloc.clone()?, head.version)?;
         let mut found = sector_buffer(alloc.clone()?, head.version)?;
-        if !is_as_created(&mut medium, &head, &mut expected, &mut found)? {
+        if !is_as_created(&mut medium, &head, &slots, &mut expected, &mut found)? {
             return Err(Error::Unsupported);
         }
         Ok(CompoundFile {
@@ -162,8 +163,9 @@ impl<F: Medium, A: Allocator + Clone> CompoundFile<F, A> {
         ensures err { IsTrue F.tells → IfErr result (CreatingRefused F.write_faults) }
     {
         laws::created_file_is_right();
+        let slots = EmptySlots::new(alloc.clone()?)?;
         let mut sector = sector_buffer(alloc.clone()?, version)?;
-        write_created(&mut medium, version, &mut sector)?;
+        write_created(&mut medium, version, &slots, &mut sector)?;
         Ok(CompoundFile {
             medium,
             version,

@@ -9,41 +9,42 @@ ghost use Rattle.cfb_format.specs.Created.{created_bytes, created_header as head
 
 use cfb_format::bytes::{put, put_words};
 use cfb_format::consts;
+use cfb_format::direntry::DirEntry;
+use cfb_format::error::Error;
 use cfb_format::header::Header;
 use cfb_format::medium::{Medium, MediumFault};
 use cfb_format::transfer::write_all_at;
 use cfb_format::version::Version;
+use std::alloc::Allocator;
 
 /// How many pieces of a sector's length a created file has.
 pub const PIECES: usize = 3;
 
-/// The entry of a root without objects.
-const ROOT_ENTRY: [u8; consts::DIR_ENTRY_LEN] = [
-    b'R', 0, b'o', 0, b'o', 0, b't', 0, b' ', 0, b'E', 0, b'n', 0, b't', 0, // name
-    b'r', 0, b'y', 0, 0, 0, 0, 0, 0, 0, 0, 0, 0, 0, 0, 0, //
-    0, 0, 0, 0, 0, 0, 0, 0, 0, 0, 0, 0, 0, 0, 0, 0, //
-    0, 0, 0, 0, 0, 0, 0, 0, 0, 0, 0, 0, 0, 0, 0, 0, //
-    22, 0, 5, 1, 255, 255, 255, 255, 255, 255, 255, 255, 255, 255, 255, 255, // links
-    0, 0, 0, 0, 0, 0, 0, 0, 0, 0, 0, 0, 0, 0, 0, 0, // class id
-    0, 0, 0, 0, 0, 0, 0, 0, 0, 0, 0, 0, 0, 0, 0, 0, // state bits, moments
-    0, 0, 0, 0, 254, 255, 255, 255, 0, 0, 0, 0, 0, 0, 0, 0, // start, length
-];
+/// The slots of a directory with nothing in it, as they are written.
+#[derive(Drop)]
+pub struct EmptySlots {
+    root: [u8; consts::DIR_ENTRY_LEN],
+    unallocated: [u8; consts::DIR_ENTRY_LEN],
+    ghost is_root: { root ≡ entry_bytes empty_root_entry },
+    ghost is_unallocated: { unallocated ≡ entry_bytes unallocated_entry },
+}
 
-/// An entry that is not used.
-const UNALLOCATED_ENTRY: [u8; consts::DIR_ENTRY_LEN] = [
-    0, 0, 0, 0, 0, 0, 0, 0, 0, 0, 0, 0, 0, 0, 0, 0, // name
-    0, 0, 0, 0, 0, 0, 0, 0, 0, 0, 0, 0, 0, 0, 0, 0, //
-    0, 0, 0, 0, 0, 0, 0, 0, 0, 0, 0, 0, 0, 0, 0, 0, //
-    0, 0, 0, 0, 0, 0, 0, 0, 0, 0, 0, 0, 0, 0, 0, 0, //
-    0, 0, 0, 0, 255, 255, 255, 255, 255, 255, 255, 255, 255, 255, 255, 255, // links
-    0, 0, 0, 0, 0, 0, 0, 0, 0, 0, 0, 0, 0, 0, 0, 0, // class id
-    0, 0, 0, 0, 0, 0, 0, 0, 0, 0, 0, 0, 0, 0, 0, 0, // state bits, moments
-    0, 0, 0, 0, 0, 0, 0, 0, 0, 0, 0, 0, 0, 0, 0, 0, // start, length
-];
+impl EmptySlots {
+    /// `Memory` where the root's name gets none.
+    pub fn new<A: Allocator + Clone>(alloc: A) -> Result<EmptySlots, Error>
+        ensures { IfErr result (λ e. e ≡ Error.Memory) }
+    {
+        let mut root = [0; consts::DIR_ENTRY_LEN];
+        DirEntry::empty_root_entry(alloc.clone()?)?.write_to(&mut root);
+        let mut unallocated = [0; consts::DIR_ENTRY_LEN];
+        DirEntry::unallocated(alloc).write_to(&mut unallocated);
+        Ok(EmptySlots { root, unallocated })
+    }
+}
 
 /// Fills a sector with a piece of the created file: its header, its FAT sector or its directory
 /// sector.
-pub fn lay_out(version: Version, piece: usize, into: &mut [u8])
+pub fn lay_out(version: Version, piece: usize, slots: &EmptySlots, into: &mut [u8])
     requires piece { piece < 3 }
     requires len { length into.old ≡ len_of version }
     ensures { into.new ≡ part (created_bytes version) (piece * len_of version) (len_of version) }
@@ -51,7 +52,7 @@ pub fn lay_out(version: Version, piece: usize, into: &mut [u8])
     match piece {
         0 => lay_out_header(version, into),
         1 => lay_out_fat(into),
-        _ => lay_out_directory(version, into),
+        _ => lay_out_directory(version, slots, into),
     }
 }
 
@@ -95,14 +96,14 @@ fn lay_out_fat(into: &mut [u8])
     put_words(into, 0, &[consts::FAT_SECTOR, consts::END_OF_CHAIN]);
 }
 
-fn lay_out_directory(version: Version, into: &mut [u8])
+fn lay_out_directory(version: Version, slots: &EmptySlots, into: &mut [u8])
     requires { length into.old ≡ 128 * entries_per_sector version }
     ensures { into.new ≡ entry_bytes empty_root_entry
         ++ repeat (entries_per_sector version - 1) (entry_bytes unallocated_entry) }
 {
-    let mut end = put(into, 0, &ROOT_ENTRY);
+    let mut end = put(into, 0, &slots.root);
     for _entry in 1..version.dir_entries_per_sector() {
-        end = put(into, end, &UNALLOCATED_ENTRY);
+        end = put(into, end, &slots.unallocated);
     }
 }
 
@@ -110,6 +111,7 @@ fn lay_out_directory(version: Version, into: &mut [u8])
 pub fn write_created<F: Medium>(
     medium: &mut F,
     version: Version,
+    slots: &EmptySlots,
     sector: &mut [u8],
 ) -> Result<(), MediumFault>
     requires len { length sector.old ≡ len_of version }
@@ -119,7 +121,7 @@ pub fn write_created<F: Medium>(
     ensures err { IsTrue F.tells → IfErr result (FailsBy F.write_faults (F.failures medium.old) (F.failures medium.new)) }
 {
     for piece in 0..PIECES {
-        lay_out(version, piece, sector);
+        lay_out(version, piece, slots, sector);
         write_all_at(medium, (piece * sector.len()) as u64, sector)?;
     }
     Ok(())

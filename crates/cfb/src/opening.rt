@@ -7,7 +7,7 @@ ghost use Rattle.cfb_format.specs.Created.{created_bytes};
 ghost use Rattle.cfb.specs.Opening.{OpeningRefused};
 ghost use Rattle.cfb.specs.Head.{IsHead};
 
-use crate::created::{PIECES, lay_out};
+use crate::created::{EmptySlots, PIECES, lay_out};
 use cfb_format::bytes::put;
 use cfb_format::consts;
 use cfb_format::error::{Detail, Error};
@@ -107,6 +107,7 @@ fn read_piece<F: ReadMedium>(
 pub fn is_as_created<F: ReadMedium>(
     medium: &mut F,
     head: &Head,
+    slots: &EmptySlots,
     expected: &mut [u8],
     found: &mut [u8],
 ) -> Result<bool, MediumFault>
@@ -124,7 +125,7 @@ pub fn is_as_created<F: ReadMedium>(
         return Ok(false);
     }
     for piece in 0..PIECES {
-        lay_out(head.version, piece, expected);
+        lay_out(head.version, piece, slots, expected);
         read_piece(medium, piece, &head.first, found)?;
         if *expected != *found {
             return Ok(false);

@@ -1,20 +1,17 @@
-use Rattle.std.proofs.Common.{◌≡◌, ◌≤◌, ◌+◌, ◌-◌, ◌++◌, List, ℕ, sym, ◌∙◌, ap, length, append_assoc, arith}
+use Rattle.std.proofs.Common.{◌≡◌, ◌≤◌, ◌+◌, ◌-◌, ◌++◌, List, ℕ, sym, ◌∙◌, ap, take, length, append-nil, append_assoc, arith}
 use Rattle.std.specs.List.{repeat}
 use Rattle.std.proofs.lemmas.List.{take_all}
 use Rattle.cfb_format.specs.declared.version.Version.{Version}
 use Rattle.cfb_format.specs.declared.version.Version.TheVariants.{V3, V4}
-use Rattle.cfb_format.specs.Bytes.{unit_bytes, entries_per_sector}
+use Rattle.cfb_format.specs.Bytes.{entries_per_sector}
 use Rattle.cfb_format.specs.DirectoryEntry.{entry_bytes, empty_root_entry, unallocated_entry}
 use Rattle.cfb.proofs.Pieces.{repeat-more}
 use Rattle.cfb.proofs.created.lay_out_directory.Goals as goal
 
--- the two tables of bytes are the two entries as they are written
 pub loop-entry-init : goal.loop-entry-init
-unfolding entry_bytes unit_bytes
-loop-entry-init c = record { end = omega arith; laid = c.put-end.ensures.before }
+loop-entry-init c = record { end = omega arith; laid = c.put-end.ensures.before ∙ c.args.slots.now.is_root ∙ sym (append-nil (entry_bytes empty_root_entry)) }
 
 pub loop-entry-preserved : goal.loop-entry-preserved
-unfolding entry_bytes unit_bytes
 loop-entry-preserved c =
     let n = c.loop-entry._entry - 1 in
     let next : c.loop-entry._entry + 1 - 1 ≡ n + 1 = omega arith in
@@ -23,6 +20,7 @@ loop-entry-preserved c =
     record {
       end = omega arith;
       laid = c.put-end-in-loop-entry.ensures.before
+          ∙ ap (λ (xs : List ℕ). take c.loop-entry.end c.loop-entry.into ++ xs) c.args.slots.now.is_unallocated
           ∙ ap (λ (xs : List ℕ). xs ++ unused) c.loop-entry.invariant.laid
           ∙ append_assoc root (repeat n unused) unused
           ∙ ap (λ (xs : List ℕ). root ++ xs) (sym (repeat-more n unused))
