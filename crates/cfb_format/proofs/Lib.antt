@@ -14,6 +14,9 @@ pub mod ByteLemmas
 pub mod Writing
 pub mod NameUnits
 pub mod ClassIds
+pub mod Runs
 pub mod Refusals
 pub mod EntryReading
 pub mod EntryWriting
+pub mod Utf16Back
+pub mod EntryBack

@@ -1,6 +1,6 @@
 //! What the definitions of the format promise about each other. None of these functions does
 //! anything: each has a law as its contract.
-ghost use Rattle.cfb_format.specs.Laws.{AtMostOneReading, AtMostOneTree, ChainIsWalked, OneListBelow, NamesAreOrdered, EqualByKey, CreatedMeansRoot, CreatedIsStrict, CreatedIsSound, CreatedIsOwned, CreatedHasExactTables, MeantTreesAreOrdered, BalancedIsLow, LargeStreamsLieAlongChains, PutIsFound, RemovedIsGone, HeaderIsReadBack};
+ghost use Rattle.cfb_format.specs.Laws.{AtMostOneReading, AtMostOneTree, ChainIsWalked, OneListBelow, NamesAreOrdered, EqualByKey, CreatedMeansRoot, CreatedIsStrict, CreatedIsSound, CreatedIsOwned, CreatedHasExactTables, MeantTreesAreOrdered, BalancedIsLow, LargeStreamsLieAlongChains, PutIsFound, RemovedIsGone, HeaderIsReadBack, EntryIsReadBack, AtMostOneEntry};
 
 /// Bytes have at most one reading, and mean at most one tree.
 pub fn bytes_mean_at_most_one_tree()
@@ -23,6 +23,12 @@ pub fn names_are_ordered()
 /// A valid header is read back as it was written.
 pub fn header_is_read_back()
     ensures { HeaderIsReadBack }
+{}
+
+/// An entry that its kind may have is read back as it was written.
+pub fn entry_is_read_back()
+    ensures back { EntryIsReadBack }
+    ensures alone { AtMostOneEntry }
 {}
 
 /// A storage is a finite map by name.
