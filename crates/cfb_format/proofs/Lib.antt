@@ -17,6 +17,9 @@ pub mod HeaderDifat
 pub mod HeaderStart
 pub mod NameUnits
 pub mod ClassIds
+pub mod Runs
 pub mod Refusals
 pub mod EntryReading
 pub mod EntryWriting
+pub mod Utf16Back
+pub mod EntryBack

@@ -1,5 +1,5 @@
 -- Directory entries, 128 bytes each (MS-CFB 2.6.1 to 2.6.3).
-use Rattle.std.specs.Prelude.{ℕ, zero, suc, ◌+◌, ◌-◌, ◌*◌, ◌/◌, ◌%◌, ◌≡◌, ◌≤◌, List, [], ◌∷◌, ◌++◌, Bool, false, ◌||◌, length, take, drop, map, reverse, replicate, IsTrue, Option, Some, None, codes, if◌then◌else◌, ◌==◌, ⊤}
+use Rattle.std.specs.Prelude.{ℕ, zero, suc, ◌+◌, ◌-◌, ◌*◌, ◌/◌, ◌%◌, ◌≡◌, ◌<◌, ◌≤◌, ◌^◌, List, [], ◌∷◌, ◌++◌, Bool, true, false, ◌||◌, length, take, drop, map, reverse, replicate, IsTrue, Option, Some, None, codes, if◌then◌else◌, ◌==◌, ⊤}
 use Rattle.std.specs.Int.{from_le_bytes, to_le_bytes, w16, w32, w64}
 use Rattle.std.specs.List.{list_any, flat_map, range_with_len}
 use Rattle.std.specs.Char.Utf16.{has_unpaired_surrogate, utf16_lossy_chars}
@@ -10,7 +10,8 @@ use Rattle.cfb_format.specs.declared.objtype.ObjType.TheVariants.{Unallocated, S
 use Rattle.cfb_format.specs.declared.color.Color.{Color}
 use Rattle.cfb_format.specs.declared.color.Color.TheVariants.{Red, Black}
 use Rattle.cfb_format.specs.Bytes.{byte_at, unit_bytes, u16_at, u32_at, u64_at, stream_len_modulus, sector_bytes, entries_per_sector, is_regular, no_stream, end_of_chain}
-use Rattle.cfb_format.specs.Names.{utf16_units, is_forbidden}
+use Rattle.std.specs.Str.{all_scalars}
+use Rattle.cfb_format.specs.Names.{utf16_units, is_forbidden, is_valid_name}
 use Rattle.cfb_format.specs.Header.{IfStrict}
 
 pub record Entry : Type 0 where
@@ -191,6 +192,39 @@ entry_bytes e = unit_bytes (utf16_units e.name) ++ replicate (64 - 2 * length (u
     ++ clsid_bytes e.clsid ++ to_le_bytes w32 e.state_bits
     ++ to_le_bytes w64 e.creation_time ++ to_le_bytes w64 e.modified_time
     ++ to_le_bytes w32 e.start_sector ++ to_le_bytes w64 e.stream_len
+
+-- the names that an object of that kind may be given; the root has its own, and what isn't used has none
+abbrev pub IsNameFor : ObjType → List ℕ → Type 0
+IsNameFor Unallocated name = name ≡ []
+IsNameFor Storage name = IsTrue (is_valid_name name)
+IsNameFor Stream name = IsTrue (is_valid_name name)
+IsNameFor Root name = name ≡ root_name
+
+-- an entry that is read back as it was written: its fields are those that its kind may have in that version
+pub record IsValidEntry (version : Version) (e : Entry) : Type 0 where
+  pub name : IsNameFor e.obj_type e.name
+  pub left_sibling : IsTrue (is_entry_number e.left_sibling)
+  pub right_sibling : IsTrue (is_entry_number e.right_sibling)
+  pub child : IsAllowedChild e.obj_type e.child
+  pub clsid : e.clsid ≡ unless_stream e.obj_type nil_clsid e.clsid
+  pub creation_time : e.creation_time ≡ unless_stream e.obj_type 0 e.creation_time
+  pub modified_time : e.modified_time ≡ unless_stream e.obj_type 0 e.modified_time
+  pub start_sector : e.start_sector ≡ unless_storage e.obj_type e.start_sector
+  pub stream_len : e.stream_len ≡ unless_storage e.obj_type e.stream_len
+  pub len_in_version : e.stream_len < stream_len_modulus version
+
+-- its fields have their widths, and its name is of characters
+pub record EntryFits (e : Entry) : Type 0 where
+  pub name : all_scalars e.name ≡ true
+  pub left_sibling : e.left_sibling < 2 ^ 32
+  pub right_sibling : e.right_sibling < 2 ^ 32
+  pub child : e.child < 2 ^ 32
+  pub clsid : length e.clsid ≡ 16
+  pub state_bits : e.state_bits < 2 ^ 32
+  pub creation_time : e.creation_time < 2 ^ 64
+  pub modified_time : e.modified_time < 2 ^ 64
+  pub start_sector : e.start_sector < 2 ^ 32
+  pub stream_len : e.stream_len < 2 ^ 64
 
 -- an entry that isn't used, and the root of a file that was just made
 abbrev pub unallocated_entry : Entry

@@ -3,12 +3,12 @@ use Rattle.std.specs.Prelude.{ℕ, ◌≡◌, ◌↔◌, List, Some, length, tak
 use Rattle.std.specs.Cmp.{IsTotalOrder}
 use Rattle.std.specs.declared.cmp.Ordering.TheVariants.{Equal}
 use Rattle.cfb_format.specs.declared.version.Version.{Version}
+use Rattle.cfb_format.specs.declared.validate.Validation.{Validation}
 use Rattle.cfb_format.specs.Names.{Cases, name_key, name_cmp}
 use Rattle.cfb_format.specs.Header.{HeaderFits, IsValidHeader, IsHeader, AcceptsHeader, header_bytes}
-use Rattle.cfb_format.specs.declared.validate.Validation.{Validation}
 use Rattle.cfb_format.specs.declared.header.Header.{Header}
 use Rattle.cfb_format.specs.Chain.{IsChain, chain_from}
-use Rattle.cfb_format.specs.DirectoryEntry.{Entry}
+use Rattle.cfb_format.specs.DirectoryEntry.{Entry, EntryFits, IsValidEntry, IsEntry, AcceptsEntry, entry_bytes}
 use Rattle.cfb_format.specs.Siblings.{Below, Balanced, HangsAt, SiblingTree, depth, in_order}
 use Rattle.cfb_format.specs.Reading.{Reading, Reads, IsStrictFile}
 use Rattle.cfb_format.specs.Meaning.{Means}
@@ -87,9 +87,9 @@ abbrev pub RemovedIsGone : Type 0
 RemovedIsGone = (cases : Cases) (name q : List ℕ) (objects : Objects) → IsOrdered cases objects
     → object_named cases q (without cases name objects) ≡ (if is_same_name cases q name then None else object_named cases q objects)
 
--- a valid header is read back as it was written
+-- a valid header is read back as it was written, in both modes
 abbrev pub HeaderIsReadBack : Type 0
-HeaderIsReadBack = (h : Header) → HeaderFits h → IsValidHeader h → IsHeader (header_bytes h) h
+HeaderIsReadBack = (validation : Validation) (h : Header) → HeaderFits h → IsValidHeader h → AcceptsHeader validation (header_bytes h) h
 
 -- a header stands in the first 512 bytes, and what follows them has no part in it
 abbrev pub HeaderIsAtTheStart : Type 0
@@ -102,3 +102,11 @@ AtMostOneHeader = (bytes : List ℕ) (h k : Header) → IsHeader bytes h → IsH
 -- created bytes hold their header in both modes
 abbrev pub CreatedHeaderIsAccepted : Type 0
 CreatedHeaderIsAccepted = (validation : Validation) (version : Version) → AcceptsHeader validation (created_bytes version) (created_header version)
+
+-- a valid entry is read back as it was written, in both modes
+abbrev pub EntryIsReadBack : Type 0
+EntryIsReadBack = (validation : Validation) (version : Version) (e : Entry) → EntryFits e → IsValidEntry version e → AcceptsEntry validation version (entry_bytes e) e
+
+-- a slot holds at most one entry, and so it is no other one that is read back
+abbrev pub AtMostOneEntry : Type 0
+AtMostOneEntry = (version : Version) (slot : List ℕ) (d e : Entry) → IsEntry version slot d → IsEntry version slot e → d ≡ e

@@ -2,6 +2,7 @@ pub mod Medium
 pub mod Memory
 pub mod Refused
 pub mod Bytes
+pub mod Runs
 pub mod Header
 pub mod Fat
 pub mod Chain

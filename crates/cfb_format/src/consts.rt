@@ -1,4 +1,11 @@
-//! The constants of the format.
+//! The constants of the format, and how words of its tables are printed.
+ghost use Rattle.std.specs.Prelude.{◌≡◌, ◌++◌, ◌∷◌, [], IfOk, IfErr, IfSome, OnOk, flat_map};
+ghost use Rattle.cfb_format.specs.declared.error.Error.TheVariants.{Memory};
+ghost use Rattle.cfb_format.specs.Runs.{run_words};
+
+use crate::error::Error;
+use std::alloc::{AllocError, Allocator};
+use std::fmt;
 
 /// The length of the header, in bytes (MS-CFB 2.2).
 pub const HEADER_LEN: usize = 512;
@@ -54,3 +61,104 @@ pub const ROOT_STREAM_ID: u32 = 0;
 pub const MAX_REGULAR_STREAM_ID: u32 = 0xffff_fffa;
 /// Stands in place of an entry's number where there is none.
 pub const NO_STREAM: u32 = 0xffff_ffff;
+
+/// Words of a table that stand together and are printed as one.
+#[derive(Clone, Copy, PartialEq, Eq)]
+pub enum Run {
+    /// So many free sectors.
+    Free(u32),
+    End,
+    /// So many sectors of the FAT.
+    Fat(u32),
+    /// So many sectors of the DIFAT.
+    Difat(u32),
+    /// A number, and so many more that follow it in order.
+    Numbers(u32, u32),
+}
+
+impl fmt::Debug for Run {
+    fn fmt<W: fmt::Write>(&self, f: &mut fmt::Formatter<W>) -> fmt::Result {
+        match *self {
+            Run::Free(count) => fmt_counted(f, count, "FREE"),
+            Run::End => f.write_str("EOC"),
+            Run::Fat(count) => fmt_counted(f, count, "FAT"),
+            Run::Difat(count) => fmt_counted(f, count, "DIFAT"),
+            Run::Numbers(first, 0) => write!(f, "{first}"),
+            Run::Numbers(first, more) => {
+                let last = u64::from(first) + u64::from(more);
+                write!(f, "{first}..={last}")
+            }
+        }
+    }
+}
+
+/// Writes the mark, and before it how many there are unless it is one.
+fn fmt_counted<W: fmt::Write>(f: &mut fmt::Formatter<W>, count: u32, mark: &str) -> fmt::Result {
+    if count == 1 {
+        return f.write_str(mark);
+    }
+    write!(f, "{count} {mark}")
+}
+
+/// Words of a table, gathered into runs for printing. `Memory` where the list gets none.
+pub fn prettify<A: Allocator>(alloc: A, words: &[u32]) -> Result<Vec<Run, A>, Error>
+    ensures ok { IfOk result (λ runs. flat_map run_words runs.items ≡ words.now) }
+    ensures err { IfErr result (λ e. e ≡ Memory) }
+{
+    let mut runs = Vec::new(alloc);
+    for word in words {
+        push_word(&mut runs, *word)?;
+    }
+    Ok(runs)
+}
+
+/// Puts a word behind the last run, or into it.
+fn push_word<A: Allocator>(runs: &mut Vec<Run, A>, word: u32) -> Result<(), AllocError>
+    ensures { OnOk result (flat_map run_words runs.new.items ≡ flat_map run_words runs.old.items ++ word ∷ []) }
+{
+    if let Some(last) = runs.pop() {
+        if let Some(longer) = longer_run(last, word) {
+            runs.push(longer)?;
+            return Ok(());
+        }
+        runs.push(last)?;
+    }
+    runs.push(run_of(word))?;
+    Ok(())
+}
+
+fn run_of(word: u32) -> Run
+    ensures { run_words result ≡ word ∷ [] }
+{
+    match word {
+        END_OF_CHAIN => Run::End,
+        FREE_SECTOR => Run::Free(1),
+        FAT_SECTOR => Run::Fat(1),
+        DIFAT_SECTOR => Run::Difat(1),
+        _ => Run::Numbers(word, 0),
+    }
+}
+
+/// The run with a word more, if the word goes on with it.
+fn longer_run(run: Run, word: u32) -> Option<Run>
+    ensures { IfSome result (λ longer. run_words longer ≡ run_words run ++ word ∷ []) }
+{
+    match (run, word) {
+        (Run::Free(count), FREE_SECTOR) => Some(Run::Free(count.checked_add(1)?)),
+        (Run::Fat(count), FAT_SECTOR) => Some(Run::Fat(count.checked_add(1)?)),
+        (Run::Difat(count), DIFAT_SECTOR) => Some(Run::Difat(count.checked_add(1)?)),
+        (Run::Numbers(first, more), 0..=INVALID_SECTOR) => longer_numbers(first, more, word),
+        _ => None,
+    }
+}
+
+fn longer_numbers(first: u32, more: u32, word: u32) -> Option<Run>
+    ensures { IfSome result (λ longer. run_words longer ≡ run_words (Run.Numbers first more) ++ word ∷ []) }
+{
+    let more = more.checked_add(1)?;
+    if u64::from(first) + u64::from(more) == u64::from(word) {
+        Some(Run::Numbers(first, more))
+    } else {
+        None
+    }
+}

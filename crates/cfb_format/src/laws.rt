@@ -1,6 +1,6 @@
 //! What the definitions of the format promise about each other. None of these functions does
 //! anything: each has a law as its contract.
-ghost use Rattle.cfb_format.specs.Laws.{AtMostOneReading, AtMostOneTree, ChainIsWalked, OneListBelow, NamesAreOrdered, EqualByKey, CreatedMeansRoot, CreatedIsStrict, CreatedIsSound, CreatedIsOwned, CreatedHasExactTables, MeantTreesAreOrdered, BalancedIsLow, LargeStreamsLieAlongChains, PutIsFound, RemovedIsGone, HeaderIsReadBack, HeaderIsAtTheStart, AtMostOneHeader, CreatedHeaderIsAccepted};
+ghost use Rattle.cfb_format.specs.Laws.{AtMostOneReading, AtMostOneTree, ChainIsWalked, OneListBelow, NamesAreOrdered, EqualByKey, CreatedMeansRoot, CreatedIsStrict, CreatedIsSound, CreatedIsOwned, CreatedHasExactTables, MeantTreesAreOrdered, BalancedIsLow, LargeStreamsLieAlongChains, PutIsFound, RemovedIsGone, HeaderIsReadBack, EntryIsReadBack, AtMostOneEntry, HeaderIsAtTheStart, AtMostOneHeader, CreatedHeaderIsAccepted};
 
 /// Bytes have at most one reading, and mean at most one tree.
 pub fn bytes_mean_at_most_one_tree()
@@ -20,7 +20,7 @@ pub fn names_are_ordered()
     ensures equal { EqualByKey }
 {}
 
-/// A valid header is read back as it was written.
+/// A valid header is read back as it was written, in both modes.
 pub fn header_is_read_back()
     ensures { HeaderIsReadBack }
 {}
@@ -30,6 +30,12 @@ pub fn header_is_read_back()
 pub fn header_is_at_the_start()
     ensures start { HeaderIsAtTheStart }
     ensures unique { AtMostOneHeader }
+{}
+
+/// An entry that its kind may have is read back as it was written.
+pub fn entry_is_read_back()
+    ensures back { EntryIsReadBack }
+    ensures alone { AtMostOneEntry }
 {}
 
 /// A storage is a finite map by name.
