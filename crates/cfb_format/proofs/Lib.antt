@@ -20,3 +20,8 @@ pub mod ClassIds
 pub mod Refusals
 pub mod EntryReading
 pub mod EntryWriting
+pub mod Units
+pub mod PathParts
+pub mod PathText
+pub mod PathWalks
+pub mod Moments
