@@ -4,6 +4,10 @@
 #[cfg(test)]
 mod empty_files;
 pub mod media;
+#[cfg(test)]
+mod moments;
+#[cfg(test)]
+mod names;
 pub mod refusing;
 #[cfg(test)]
 mod tests;

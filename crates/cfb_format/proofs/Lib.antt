@@ -23,3 +23,8 @@ pub mod EntryReading
 pub mod EntryWriting
 pub mod Utf16Back
 pub mod EntryBack
+pub mod Units
+pub mod PathParts
+pub mod PathText
+pub mod PathWalks
+pub mod Moments

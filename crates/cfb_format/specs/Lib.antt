@@ -8,6 +8,7 @@ pub mod Fat
 pub mod Chain
 pub mod Names
 pub mod Path
+pub mod Timestamp
 pub mod DirectoryEntry
 pub mod EntryModel
 pub mod EntryParts

@@ -1,5 +1,5 @@
 -- Which error a call answered.
-use Rattle.std.specs.Prelude.{◌≡◌, ℕ, Bool, Result, MatchResult, ⊤}
+use Rattle.std.specs.Prelude.{◌≡◌, ℕ, Bool, true, false, Result, MatchResult, ⊤}
 use Rattle.cfb_format.specs.Medium.{FailsBy}
 use Rattle.cfb_format.specs.declared.error.Error.{Error}
 use Rattle.cfb_format.specs.declared.error.Error.TheVariants.{NotFound, AlreadyExists, InvalidInput, InvalidData, Medium, Memory, Full, Unsound, Failed, Unsupported}
@@ -64,3 +64,20 @@ CountsError can_give old new Unsupported = new ≡ old
 -- the call answered the medium's error exactly if the count of failures rose
 abbrev pub CountsFailure : {T : Type 0} → (MediumFault → Bool) → Result T Error → ℕ → ℕ → Type 0
 CountsFailure can_give result old new = MatchResult result (λ _. new ≡ old) (CountsError can_give old new)
+
+-- memory was refused
+abbrev pub IsMemory : Error → Type 0
+IsMemory e = e ≡ Memory
+
+-- a wrong input is refused as such, and a right one only for want of memory
+abbrev pub RefusesInput : Bool → Error → Type 0
+RefusesInput wrong (InvalidInput d) = wrong ≡ true
+RefusesInput wrong Memory = wrong ≡ false
+RefusesInput wrong (NotFound d) = ⊥
+RefusesInput wrong (AlreadyExists d) = ⊥
+RefusesInput wrong (InvalidData d) = ⊥
+RefusesInput wrong (Medium f) = ⊥
+RefusesInput wrong Full = ⊥
+RefusesInput wrong Unsound = ⊥
+RefusesInput wrong Failed = ⊥
+RefusesInput wrong Unsupported = ⊥

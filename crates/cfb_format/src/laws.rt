@@ -1,6 +1,7 @@
 //! What the definitions of the format promise about each other. None of these functions does
 //! anything: each has a law as its contract.
 ghost use Rattle.cfb_format.specs.Laws.{AtMostOneReading, AtMostOneTree, ChainIsWalked, OneListBelow, NamesAreOrdered, EqualByKey, CreatedMeansRoot, CreatedIsStrict, CreatedIsSound, CreatedIsOwned, CreatedHasExactTables, MeantTreesAreOrdered, BalancedIsLow, LargeStreamsLieAlongChains, PutIsFound, RemovedIsGone, HeaderIsReadBack, EntryIsReadBack, AtMostOneEntry, HeaderIsAtTheStart, AtMostOneHeader, CreatedHeaderIsAccepted};
+ghost use Rattle.cfb_format.specs.Timestamp.{UnixTimeIsReadBack};
 
 /// Bytes have at most one reading, and mean at most one tree.
 pub fn bytes_mean_at_most_one_tree()
@@ -67,4 +68,9 @@ pub fn created_file_is_right()
     ensures owned { CreatedIsOwned }
     ensures tables { CreatedHasExactTables }
     ensures header { CreatedHeaderIsAccepted }
+{}
+
+/// The Unix time of a moment leads back to it.
+pub fn unix_times_are_read_back()
+    ensures { UnixTimeIsReadBack }
 {}

@@ -12,6 +12,7 @@ pub mod laws;
 pub mod medium;
 pub mod memory;
 pub mod objtype;
+pub mod path;
 pub mod timestamp;
 pub mod transfer;
 pub mod validate;

@@ -1,0 +1,148 @@
+//! Names, their letters and their order, and paths.
+use cfb_format::error::Error;
+use cfb_format::path::{self, CaseMapper};
+use std::cmp::Ordering;
+use std::test::Fail;
+
+#[test]
+fn order_of_names(rt: HostRuntime) -> Result<(), Fail> {
+    let cases = CaseMapper::new(rt.alloc())?;
+    let all = [
+        ("foobar", "FOOBAR", Ordering::Equal),
+        ("foo", "barfoo", Ordering::Less),
+        ("Foo", "bar", Ordering::Greater),
+        ("", "a", Ordering::Less),
+        ("", "", Ordering::Equal),
+        ("b", "A", Ordering::Greater),
+        ("gr\u{FC}n", "GR\u{DC}N", Ordering::Equal),
+        ("\u{FF}", "\u{178}", Ordering::Equal),
+        ("\u{B5}", "\u{39C}", Ordering::Equal),
+        // the sharp s stands for itself, past the other letters of Latin-1 in upper case but one
+        (
+            "\u{D6}\u{C7}\u{D4}\u{CD}\u{D2}\u{C4}\u{C1}\u{D8}\u{D0}\u{D4}\u{DE}3\u{D7}\u{C6}XV\u{D4}\u{C4}HMDQ==",
+            "\u{DF}Y\u{DC}0M\u{C8}\u{DD}E\u{C4}\u{C4}\u{C2}K\u{CF}\u{D3}\u{C9}D\u{C0}P5\u{C3}\u{DD}A==",
+            Ordering::Less,
+        ),
+        ("\u{C9}1EDA\u{C9}==", "\u{DF}\u{D5}F\u{C6}RD==", Ordering::Less),
+        ("\u{DC}L43\u{C1}M==", "\u{DF}Q\u{D1}52\u{C7}==", Ordering::Less),
+        // ÷ and × are no letters, and no pair of a letter and its upper case
+        ("\u{F7}", "\u{D7}", Ordering::Greater),
+        // two units in UTF-16, as "ab" has
+        ("\u{1F600}", "ab", Ordering::Greater),
+        ("\u{1F600}", "abc", Ordering::Less),
+        ("z", "\u{1F600}", Ordering::Less),
+    ];
+    for (a, b, want) in all {
+        assert_eq!(rt; path::compare_names(&cases, a, b), want, "{a} and {b}");
+        assert_eq!(rt; path::compare_names(&cases, b, a), want.reverse(), "{b} and {a}");
+    }
+    Ok(())
+}
+
+#[test]
+fn equal_names_have_one_key(rt: HostRuntime) -> Result<(), Fail> {
+    let cases = CaseMapper::new(rt.alloc())?;
+    let key = path::name_key(rt.alloc(), &cases, "Gr\u{FC}n \u{1F600}")?;
+    assert_eq!(rt; key.units, 7);
+    assert_eq!(rt; key.letters.as_slice(), &['G', 'R', '\u{DC}', 'N', ' ', '\u{1F600}']);
+    let other = path::name_key(rt.alloc(), &cases, "gR\u{DC}N \u{1F600}")?;
+    assert!(rt; key == other);
+    Ok(())
+}
+
+#[test]
+fn letters_of_a_table(rt: HostRuntime) -> Result<(), Fail> {
+    let refused = CaseMapper::from_pairs(rt.alloc(), &[('\u{E9}', 'X'), ('a', 'b')]);
+    assert!(rt; matches!(&refused, Err(Error::InvalidInput(_))));
+    let pairs = [('\u{E9}', 'X'), ('\u{E9}', '\u{C9}')];
+    let cases = CaseMapper::from_pairs(rt.alloc(), &pairs)?;
+    assert_eq!(rt; path::compare_names(&cases, "\u{E9}", "\u{C9}"), Ordering::Equal);
+    assert_eq!(rt; path::compare_names(&cases, "\u{E4}", "\u{C4}"), Ordering::Greater);
+    assert_eq!(rt; path::compare_names(&cases, "a", "A"), Ordering::Equal);
+    let default = CaseMapper::new(rt.alloc())?;
+    assert_eq!(rt; path::compare_names(&default, "\u{E4}", "\u{C4}"), Ordering::Equal);
+    Ok(())
+}
+
+#[test]
+fn valid_names(rt: HostRuntime) -> Result<(), Fail> {
+    let all = [
+        ("", 0usize),
+        ("Foobar", 6),
+        ("a name with spaces.", 19),
+        ("..", 2),
+        ("abcdefghijklmnopqrstuvwxyzabcde", 31),
+        // 15 characters of two units, and one of one
+        ("\u{1F600}\u{1F600}\u{1F600}\u{1F600}\u{1F600}\u{1F600}\u{1F600}\u{1F600}\u{1F600}\u{1F600}\u{1F600}\u{1F600}\u{1F600}\u{1F600}\u{1F600}a", 31),
+    ];
+    for (name, units) in all {
+        assert_eq!(rt; path::validate_name(rt.alloc(), name)?.len(), units, "{name}");
+    }
+    let units = path::validate_name(rt.alloc(), "a\u{1F600}")?;
+    assert_eq!(rt; units.as_slice(), &[0x61, 0xD83D, 0xDE00]);
+    Ok(())
+}
+
+#[test]
+fn invalid_names(rt: HostRuntime) -> Result<(), Fail> {
+    let all = [
+        "a/b",
+        "a\\b",
+        "a:b",
+        "!ab",
+        "AMuchLongerNameThanAnObjectMayHave",
+        "abcdefghijklmnopqrstuvwxyzabcdef",
+        "\u{1F600}\u{1F600}\u{1F600}\u{1F600}\u{1F600}\u{1F600}\u{1F600}\u{1F600}\u{1F600}\u{1F600}\u{1F600}\u{1F600}\u{1F600}\u{1F600}\u{1F600}\u{1F600}",
+    ];
+    for name in all {
+        let refused = path::validate_name(rt.alloc(), name);
+        assert!(rt; matches!(&refused, Err(Error::InvalidInput(_))), "{name}");
+    }
+    Ok(())
+}
+
+#[test]
+fn names_of_paths(rt: HostRuntime) -> Result<(), Fail> {
+    let all = [
+        ("", "/"),
+        ("/", "/"),
+        (".", "/"),
+        ("foo", "/foo"),
+        ("/foo/bar", "/foo/bar"),
+        ("foo//bar/", "/foo/bar"),
+        ("./foo/./bar/.", "/foo/bar"),
+        ("foo/bar/baz", "/foo/bar/baz"),
+        ("/foo/bar/baz/", "/foo/bar/baz"),
+        ("foo/bar/../baz", "/foo/baz"),
+        ("foo/..", "/"),
+        ("a/b/c/../../d", "/a/d"),
+        ("/a/../b/../c", "/c"),
+        ("...", "/..."),
+        ("/.a/b.", "/.a/b."),
+        ("gr\u{FC}n/\u{1F600}", "/gr\u{FC}n/\u{1F600}"),
+    ];
+    for (given, want) in all {
+        let chain = path::name_chain_from_path(rt.alloc(), given)?;
+        let joined = path::path_from_name_chain(rt.alloc(), &chain)?;
+        assert_eq!(rt; joined.as_str(), want, "{given}");
+        assert!(rt; path::stays_below_root(given), "{given}");
+        let mut left = given;
+        for name in &chain {
+            let next = path::next_name(left);
+            assert_eq!(rt; next.map(|r| r.0), Some(*name), "{given}");
+            left = next.map(|r| r.1).unwrap_or("");
+        }
+        assert!(rt; path::next_name(left).is_none(), "{given}");
+    }
+    Ok(())
+}
+
+#[test]
+fn paths_that_leave_the_root(rt: HostRuntime) -> Result<(), Fail> {
+    for given in ["..", "/..", "foo/../../baz", "../foo", "a/b/../../../c", "./.."] {
+        let refused = path::name_chain_from_path(rt.alloc(), given);
+        assert!(rt; matches!(&refused, Err(Error::InvalidInput(_))), "{given}");
+        assert!(rt; !path::stays_below_root(given), "{given}");
+    }
+    Ok(())
+}
