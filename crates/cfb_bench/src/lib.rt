@@ -1,2 +1,5 @@
 //! Test media, vectors and tests that cross the crates.
 #![tactic(auto)]
+
+#[cfg(test)]
+mod vectors;
