@@ -4,13 +4,11 @@
 #[cfg(test)]
 mod empty_files;
 pub mod media;
-#[cfg(test)]
-mod moments;
-#[cfg(test)]
-mod names;
 pub mod refusing;
 #[cfg(test)]
 mod tests;
 #[cfg(test)]
 mod texts;
+#[cfg(test)]
+mod vectors;
 pub mod whole;

@@ -1,5 +1,5 @@
 -- Class ids: three numbers are little-endian in bytes, and written with the high byte first in the text.
-use Rattle.std.proofs.Common.{◌≡◌, ℕ, ◌+◌, ◌≤◌, List, [], ◌∷◌, ◌++◌, refl, sym, ◌∙◌, ap, length, arith, drop, take, length-drop, take_all}
+use Rattle.std.proofs.Common.{◌≡◌, ℕ, ◌≤◌, List, [], ◌∷◌, ◌++◌, refl, sym, ◌∙◌, ap, length, arith, drop, take, length-drop, take_all}
 use Rattle.std.specs.Prelude.{reverse}
 use Rattle.std.proofs.lemmas.List.{drop-drop}
 use Rattle.uuid.specs.Parts.{swap_fields}

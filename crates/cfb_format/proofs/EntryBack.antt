@@ -1,10 +1,10 @@
 -- A written directory entry is read back.
-use Rattle.std.proofs.Common.{◌≡◌, ◌<◌, ◌≤◌, ◌+◌, ◌-◌, ◌*◌, ◌/◌, ◌%◌, ◌^◌, ℕ, zero, suc, List, [], ◌∷◌, ◌++◌, Bool, true, false, refl, sym, ◌∙◌, ap, subst, length, drop, take, replicate, arith, lit≤, lit<, append_assoc, length-append, length-drop, get_or, get_or-drop}
+use Rattle.std.proofs.Common.{◌≡◌, ◌<◌, ◌≤◌, ◌+◌, ◌-◌, ◌*◌, ◌/◌, ◌%◌, ℕ, zero, suc, List, [], ◌∷◌, ◌++◌, Bool, true, false, refl, sym, ◌∙◌, ap, subst, length, drop, take, replicate, arith, lit≤, append_assoc, length-drop, get_or, get_or-drop}
 use Rattle.std.specs.Prelude.{IsTrue, Some, not, ◌&&◌, nat_le}
 use Rattle.std.specs.Int.{to_le_bytes, from_le_bytes, w16, w32, w64}
 use Rattle.std.specs.List.{list_any}
 use Rattle.std.specs.Char.Utf16.{has_unpaired_surrogate, utf16_lossy_chars}
-use Rattle.std.proofs.Math.Seq.{drop-append_seam, drop-append-add}
+use Rattle.std.proofs.Math.Seq.{drop-append_seam}
 use Rattle.std.proofs.lemmas.List.{drop-drop, length-replicate, take_all, take-append-le}
 use Rattle.std.proofs.lemmas.Bool.{leb-true}
 use Rattle.std.proofs.lemmas.Nat.{from_le_bytes-to_le_bytes_2, from_le_bytes-to_le_bytes_4, from_le_bytes-to_le_bytes_8}
@@ -19,7 +19,7 @@ use Rattle.cfb_format.specs.declared.color.Color.{Color}
 use Rattle.cfb_format.specs.declared.color.Color.TheVariants.{Red, Black}
 use Rattle.cfb_format.specs.Bytes.{unit_bytes, u16_at, u32_at, u64_at, byte_at, stream_len_modulus}
 use Rattle.cfb_format.specs.Names.{utf16_units, is_forbidden, is_valid_name}
-use Rattle.cfb_format.specs.DirectoryEntry.{Entry, EntryFits, IsValidEntry, IsEntry, IsStrictEntry, AcceptsEntry, IsNameFor, IsAllowedName, IsAllowedChild, entry_bytes, units, stored_units, stored_name, stored_clsid, stored_len, name_unit_count, name_for, root_name, nil_clsid, unless_stream, unless_storage, clsid_bytes, written_name_len, obj_type_of, obj_type_byte, color_of, color_byte, is_entry_number}
+use Rattle.cfb_format.specs.DirectoryEntry.{Entry, EntryFits, IsValidEntry, IsEntry, IsStrictEntry, AcceptsEntry, IsNameFor, IsAllowedName, IsAllowedChild, entry_bytes, units, stored_units, stored_name, stored_clsid, stored_len, name_unit_count, name_for, nil_clsid, unless_stream, unless_storage, clsid_bytes, written_name_len, obj_type_of, obj_type_byte, color_of, color_byte, is_entry_number}
 use Rattle.cfb_format.proofs.ClassIds.{stored_swapped, written_swapped}
 use Rattle.cfb_format.proofs.EntryReading.{met}
 use Rattle.cfb_format.proofs.Utf16Back.{paired_back, chars_back, units_fit, units_back, length-unit_bytes}

@@ -1,6 +1,6 @@
 -- A directory entry as it is written, one field behind the other.
-use Rattle.std.proofs.Common.{◌≡◌, ℕ, ◌+◌, ◌-◌, ◌*◌, ◌≤◌, List, [], ◌∷◌, ◌++◌, refl, sym, ◌∙◌, ap, length, arith, drop, take, replicate, append_assoc, append-nil, take_all}
-use Rattle.std.specs.Int.{to_le_bytes, w16, w32, w64}
+use Rattle.std.proofs.Common.{◌≡◌, ℕ, ◌+◌, ◌-◌, ◌*◌, ◌≤◌, List, [], ◌∷◌, ◌++◌, refl, sym, ◌∙◌, ap, length, arith, drop, take, replicate, append_assoc}
+use Rattle.std.specs.Int.{to_le_bytes, w32, w64}
 use Rattle.std.proofs.lemmas.List.{take-replicate, drop-replicate}
 use Rattle.std.proofs.Math.Seq.{take-add}
 use Rattle.cfb_format.specs.Bytes.{unit_bytes, word_bytes}

@@ -1,6 +1,6 @@
 -- The units of a name: as they are read, and as they are written character by character.
-use Rattle.std.proofs.Common.{◌≡◌, ℕ, zero, suc, ◌+◌, ◌*◌, ◌<◌, ◌≤◌, List, [], ◌∷◌, ◌++◌, refl, sym, ◌∙◌, ap, length, arith, drop, take, get_or, append_assoc, length-append}
-use Rattle.std.specs.Prelude.{chars, IsUtf8, map, flat_map}
+use Rattle.std.proofs.Common.{◌≡◌, ℕ, zero, suc, ◌+◌, ◌*◌, ◌<◌, ◌≤◌, List, ◌∷◌, ◌++◌, refl, sym, ◌∙◌, ap, length, arith, drop, take, get_or, append_assoc, length-append}
+use Rattle.std.specs.Prelude.{chars, IsUtf8}
 use Rattle.std.specs.Str.{encode_utf8_all}
 use Rattle.std.specs.Char.{encode_utf8}
 use Rattle.std.specs.Int.{from_le_bytes, w16}

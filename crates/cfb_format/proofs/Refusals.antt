@@ -1,5 +1,5 @@
 -- What follows from a result, once what it says is known to follow.
-use Rattle.std.specs.Prelude.{Result, IfOk, IfErr, ⊤}
+use Rattle.std.specs.Prelude.{Result, IfOk, IfErr}
 use Rattle.std.proofs.Common.{Ok, Err}
 use Rattle.cfb_format.specs.declared.error.Error.{Error}
 use Rattle.cfb_format.specs.declared.error.Error.TheVariants.{NotFound, AlreadyExists, InvalidInput, InvalidData, Medium, Memory, Full, Unsound, Failed, Unsupported}

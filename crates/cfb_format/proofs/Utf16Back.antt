@@ -1,6 +1,6 @@
 -- Characters are read back from their units.
-use Rattle.std.proofs.Common.{◌≡◌, ◌<◌, ◌≤◌, ◌+◌, ◌-◌, ◌*◌, ◌/◌, ◌%◌, ◌^◌, ℕ, suc, List, [], ◌∷◌, ◌++◌, Bool, true, false, refl, sym, ◌∙◌, ap, length, arith, get_or, inl, inr}
-use Rattle.std.specs.Prelude.{Some, Option, map, not, ◌&&◌, is_some, unwrap_or}
+use Rattle.std.proofs.Common.{◌≡◌, ◌<◌, ◌≤◌, ◌+◌, ◌-◌, ◌*◌, ◌/◌, ◌%◌, ◌^◌, ℕ, List, [], ◌∷◌, ◌++◌, Bool, true, false, refl, ◌∙◌, ap, length, arith, inl, inr}
+use Rattle.std.specs.Prelude.{Some, map, not, ◌&&◌, is_some, unwrap_or}
 use Rattle.std.specs.List.{AllByRecursion, list_any}
 use Rattle.std.specs.Str.{all_scalars}
 use Rattle.std.specs.Char.{IsScalar, InScalarRange}
@@ -10,7 +10,6 @@ use Rattle.std.proofs.str.Utf16.{IsPair, one_unit, two_units, lone_unit_char_low
 use Rattle.std.proofs.lemmas.Str.{utf16_chars-nil, utf16_chars_lone, utf16_chars_pair}
 use Rattle.std.proofs.lemmas.Bool.{cases_lt}
 use Rattle.std.proofs.lemmas.Bool.Decides.{nat_tests}
-use Rattle.std.proofs.lemmas.List.Concat.{flat_map-cons}
 use Rattle.cfb_format.specs.Bytes.{unit_bytes}
 use Rattle.cfb_format.specs.Names.{utf16_units}
 use Rattle.cfb_format.specs.DirectoryEntry.{units}

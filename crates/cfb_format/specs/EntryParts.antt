@@ -1,10 +1,9 @@
 -- The parts of a directory entry, for the functions that read a part each.
-use Rattle.std.specs.Prelude.{ℕ, ◌≡◌, ◌≤◌, ◌*◌, ◌%◌, ◌&&◌, Bool, List, IsTrue, false}
+use Rattle.std.specs.Prelude.{ℕ, ◌≡◌, ◌≤◌, ◌*◌, ◌%◌, List, IsTrue, false}
 use Rattle.std.specs.Char.Utf16.{has_unpaired_surrogate}
 use Rattle.cfb_format.specs.declared.version.Version.{Version}
 use Rattle.cfb_format.specs.declared.validate.Validation.{Validation}
 use Rattle.cfb_format.specs.declared.objtype.ObjType.{ObjType}
-use Rattle.cfb_format.specs.declared.objtype.ObjType.TheVariants.{Unallocated, Storage, Stream, Root}
 use Rattle.cfb_format.specs.declared.direntry.Details.{Details}
 use Rattle.cfb_format.specs.Bytes.{u16_at, u32_at, u64_at}
 use Rattle.cfb_format.specs.Header.{IfStrict}

@@ -1,4 +1,4 @@
-use Rattle.std.proofs.Common.{rules, sym, ◌∙◌, ap}
+use Rattle.std.proofs.Common.{rules, ◌∙◌, ap}
 use Rattle.uuid.specs.Parts.{swap_fields}
 use Rattle.cfb_format.proofs.ClassIds.{stored_swapped}
 use Rattle.cfb_format.proofs.direntry.clsid_at_80.Goals as goal

@@ -1,4 +1,4 @@
-use Rattle.std.proofs.Common.{rules, sym, ◌∙◌, ap, refl}
+use Rattle.std.proofs.Common.{rules}
 use Rattle.cfb_format.proofs.EntryReading.{root_bytes, root_chars}
 use Rattle.cfb_format.proofs.direntry.is_root_name.Goals as goal
 

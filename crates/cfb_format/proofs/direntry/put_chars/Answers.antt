@@ -1,4 +1,4 @@
-use Rattle.std.proofs.Common.{sym, ◌∙◌, ap, refl, ◌≡◌, ◌*◌, ◌+◌, length, take, arith, append-nil}
+use Rattle.std.proofs.Common.{sym, ◌∙◌, ap, refl, length, take, arith, append-nil}
 use Rattle.std.proofs.lemmas.Str.{IsUtf8-past_char}
 use Rattle.std.proofs.StrCases.{chars_of_empty}
 use Rattle.cfb_format.specs.Bytes.{unit_bytes}

@@ -1,4 +1,4 @@
-use Rattle.std.proofs.Common.{rules, sym, ◌∙◌, ap, refl, arith}
+use Rattle.std.proofs.Common.{arith}
 use Rattle.cfb_format.proofs.EntryWriting.{name_field}
 use Rattle.cfb_format.proofs.direntry.put_name.Goals as goal
 

@@ -1,4 +1,4 @@
-use Rattle.std.proofs.Common.{◌≡◌, ◌≤◌, arith, take, sym, ◌∙◌}
+use Rattle.std.proofs.Common.{◌≡◌, ◌≤◌, arith, take}
 use Rattle.cfb_format.specs.DirectoryEntry.{stored_units, name_unit_count}
 use Rattle.cfb_format.proofs.NameUnits.{take-units}
 use Rattle.cfb_format.proofs.EntryReading.{text_found, text_refused}

@@ -1,4 +1,4 @@
-use Rattle.std.proofs.Common.{rules, sym, ◌∙◌, ap, refl}
+use Rattle.std.proofs.Common.{sym}
 use Rattle.std.proofs.lemmas.Str.{IsUtf8-string_bytes}
 use Rattle.cfb_format.proofs.NameUnits.{chars-made}
 use Rattle.cfb_format.proofs.direntry.text_of_units.Goals as goal

@@ -1,6 +1,5 @@
-use Rattle.std.proofs.Common.{sym, ◌∙◌, ap, List, ℕ, refl}
+use Rattle.std.proofs.Common.{refl}
 use Rattle.std.specs.Str.{chars}
-use Rattle.cfb_format.specs.DirectoryEntry.{empty_root_entry}
 use Rattle.cfb_format.proofs.direntry.DirEntry.empty_root_entry.Goals as goal
 
 pub returns-clause-ok : goal.returns-clause-ok

@@ -1,4 +1,4 @@
-use Rattle.std.proofs.Common.{sym, ◌∙◌, ap}
+use Rattle.std.proofs.Common.{sym}
 use Rattle.cfb_format.proofs.Refusals.{refusal_follows}
 use Rattle.cfb_format.proofs.EntryReading.{name_accepted}
 use Rattle.cfb_format.proofs.direntry.DirEntry.read_from.Goals as goal

@@ -1,4 +1,4 @@
-use Rattle.std.proofs.Common.{sym, ◌∙◌, ap, chars, List, ℕ}
+use Rattle.std.proofs.Common.{ap, List, ℕ}
 use Rattle.std.proofs.lemmas.Str.{chars-nil}
 use Rattle.cfb_format.specs.DirectoryEntry.{unallocated_entry}
 use Rattle.cfb_format.proofs.direntry.DirEntry.unallocated.Goals as goal

@@ -1,4 +1,4 @@
-use Rattle.std.proofs.Common.{rules, sym, ◌∙◌, ap, refl, arith, take_all}
+use Rattle.std.proofs.Common.{rules, sym, ◌∙◌, take_all}
 use Rattle.cfb_format.specs.EntryModel.{entry_of}
 use Rattle.cfb_format.proofs.EntryWriting.{entry_written}
 use Rattle.cfb_format.proofs.direntry.DirEntry.write_to.Goals as goal
