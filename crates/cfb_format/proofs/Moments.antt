@@ -18,5 +18,5 @@ seconds-before moment zero hundreds some small e = absurd (omega (arith, some))
 seconds-before moment (suc seconds) hundreds some small e =
     let neg : pos 0 -ℤ pos (suc seconds) ≡ negsuc seconds = omega (arith, ints) in
     let whole : to_z w64 (of_z w64 (pos 0 -ℤ to_z w64 (suc seconds))) ≡ negsuc seconds =
-        ap (λ z. to_z w64 (of_z w64 (pos 0 -ℤ z))) (to_z_pos w64 (suc seconds) small) ∙ ap (λ z. to_z w64 (of_z w64 z)) neg ∙ to_z-of_z w64 (negsuc seconds) (fits_signed_from_abs w64 (negsuc seconds) small) in
+    ap (λ z. to_z w64 (of_z w64 (pos 0 -ℤ z))) (to_z_pos w64 (suc seconds) small) ∙ ap (λ z. to_z w64 (of_z w64 z)) neg ∙ to_z-of_z w64 (negsuc seconds) (fits_signed_from_abs w64 (negsuc seconds) small) in
     subst (λ z. IsAfterSeconds moment z hundreds) (sym whole) e

@@ -55,9 +55,10 @@ deep-parent path left part rest depth deep step e some = deep-pop path left part
 
 leaves-at : (path left part rest : List ℕ) (given : Names) → length given ≡ 0
     → ((names : Names) → names_along path (Some names) ≡ names_along left (Some (given ++ names))) → Step left part rest → says_parent part ≡ true → Leaves path rest
-leaves-at path left part rest [] len along step e =
-    (along [] ∙ step [] ∙ ap (names_along rest) (with-parent part [] e) ∙ along-none rest
-    , λ name names. along (name ∷ names) ∙ step (name ∷ names) ∙ ap (names_along rest) (with-parent part (name ∷ names) e))
+leaves-at path left part rest [] len along step e = (
+  along [] ∙ step [] ∙ ap (names_along rest) (with-parent part [] e) ∙ along-none rest,
+  λ name names. along (name ∷ names) ∙ step (name ∷ names) ∙ ap (names_along rest) (with-parent part (name ∷ names) e),
+)
 leaves-at path left part rest (name ∷ given) len along step e = absurd (omega (arith, len))
 
 pub deep-leaves : (path left part rest : List ℕ) (depth : ℕ) → Deep path left depth → Step left part rest → says_parent part ≡ true → depth ≡ 0 → Leaves path rest
