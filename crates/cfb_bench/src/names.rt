@@ -44,7 +44,7 @@ fn equal_names_have_one_key(rt: HostRuntime) -> Result<(), Fail> {
     let cases = CaseMapper::new(rt.alloc())?;
     let key = path::name_key(rt.alloc(), &cases, "Gr\u{FC}n \u{1F600}")?;
     assert_eq!(rt; key.units, 7);
-    assert_eq!(rt; key.letters.as_slice(), &['G', 'R', '\u{DC}', 'N', ' ', '\u{1F600}']);
+    assert_eq!(rt; key.letters.as_slice(), ['G', 'R', '\u{DC}', 'N', ' ', '\u{1F600}'].as_slice());
     let other = path::name_key(rt.alloc(), &cases, "gR\u{DC}N \u{1F600}")?;
     assert!(rt; key == other);
     Ok(())
@@ -79,7 +79,7 @@ fn valid_names(rt: HostRuntime) -> Result<(), Fail> {
         assert_eq!(rt; path::validate_name(rt.alloc(), name)?.len(), units, "{name}");
     }
     let units = path::validate_name(rt.alloc(), "a\u{1F600}")?;
-    assert_eq!(rt; units.as_slice(), &[0x61, 0xD83D, 0xDE00]);
+    assert_eq!(rt; units.as_slice(), [0x61u16, 0xD83D, 0xDE00].as_slice());
     Ok(())
 }
 

@@ -1,6 +1,6 @@
 -- Texts of a path and the characters that they spell.
-use Rattle.std.proofs.Common.{◌≡◌, ℕ, ◌+◌, ◌<◌, ◌≤◌, Bool, true, false, List, [], ◌∷◌, ◌++◌, length, take, drop, get_or, ◌≢◌, refl, sym, ap, ◌∙◌, subst, arith, length-drop, append_assoc, append-nil}
-use Rattle.std.specs.Prelude.{Some, None, Option, ◌==◌, nat_eq, All, encode_utf8, encode_utf8_all, ⊤}
+use Rattle.std.proofs.Common.{◌≡◌, ℕ, ◌<◌, ◌≤◌, Bool, true, false, List, [], ◌∷◌, ◌++◌, length, take, drop, get_or, ◌≢◌, refl, sym, ap, ◌∙◌, subst, arith, length-drop, append_assoc, append-nil}
+use Rattle.std.specs.Prelude.{Some, ◌==◌, nat_eq, encode_utf8_all}
 use Rattle.std.specs.Str.{chars, IsUtf8, NonePass, NoCharPasses}
 use Rattle.std.specs.Str.Pattern.{HasCharAt}
 use Rattle.std.proofs.lemmas.Str.{chars_from_encodes, chars_past_char, chars-append, chars-nil, encodes-chars, encode_ascii, IsUtf8-take, IsUtf8-drop, IsCharBoundary-before_ascii}
@@ -40,9 +40,9 @@ first-cut path part rest i j names good within free at cut after =
     let good-tail : IsUtf8 (slash ∷ drop j path) = subst IsUtf8 tail (IsUtf8-drop path i good edge) in
     let whole : path ≡ take i path ++ slash ∷ drop j path = sym (take-append-drop i path) ∙ ap (λ xs. take i path ++ xs) tail in
     let spelled : chars path ≡ chars part ++ slash ∷ chars rest =
-        ap chars whole ∙ chars-append (take i path) (slash ∷ drop j path) good-part
-        ∙ ap (λ xs. chars (take i path) ++ xs) (chars_past_char (slash ∷ drop j path) (drop j path) slash good-tail (ap (λ xs. xs ++ drop j path) (sym (encode_ascii slash (omega arith)))))
-        ∙ ap (λ xs. chars xs ++ slash ∷ chars (drop j path)) (sym cut) ∙ ap (λ xs. chars part ++ slash ∷ chars xs) (sym after) in
+    ap chars whole ∙ chars-append (take i path) (slash ∷ drop j path) good-part
+    ∙ ap (λ xs. chars (take i path) ++ xs) (chars_past_char (slash ∷ drop j path) (drop j path) slash good-tail (ap (λ xs. xs ++ drop j path) (sym (encode_ascii slash (omega arith)))))
+    ∙ ap (λ xs. chars xs ++ slash ∷ chars (drop j path)) (sym cut) ∙ ap (λ xs. chars part ++ slash ∷ chars xs) (sym after) in
     ap (λ cs. names_along cs (Some names)) spelled
     ∙ along-cut (chars part) (chars rest) names (NoSlash-chars part (subst IsUtf8 (sym cut) good-part) (free.0, free.1 ∙ sym cut, free.2))
 

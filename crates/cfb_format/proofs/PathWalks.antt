@@ -1,11 +1,9 @@
 -- Walks over a path's parts: what each part does to the names so far.
-use Rattle.std.proofs.Common.{◌≡◌, ◌≢◌, ℕ, ◌+◌, ◌-◌, ◌<◌, ◌≤◌, Bool, true, false, List, [], ◌∷◌, ◌++◌, length, take, refl, sym, ap, ◌∙◌, subst, append-nil, arith}
+use Rattle.std.proofs.Common.{◌≡◌, ◌≢◌, ℕ, ◌+◌, ◌-◌, ◌<◌, Bool, true, false, List, [], ◌∷◌, ◌++◌, length, take, refl, sym, ap, ◌∙◌, append-nil, arith}
 use Rattle.std.specs.Prelude.{Some, None, Option, map, reverse, option_map, unwrap_or, is_some, not, IfSome, IfNone, MatchOption}
 use Rattle.std.specs.Option.{option_to_list}
-use Rattle.std.specs.Str.{chars}
-use Rattle.std.proofs.lemmas.Str.{chars-nil}
 use Rattle.std.proofs.lemmas.Bool.{false≢true}
-use Rattle.std.proofs.lemmas.List.{reverse-append, reverse-reverse, map-append, append_assoc}
+use Rattle.std.proofs.lemmas.List.{reverse-append, reverse-reverse, map-append}
 use Rattle.cfb_format.specs.Path.{says_nothing, says_parent, without_last, names_with, names_of_path, names_along, names_left, Leaves, Gives}
 use Rattle.cfb_format.proofs.PathParts.{Names, along-none, along-nil}
 
@@ -55,9 +53,10 @@ deep-parent path left part rest depth deep step e some = deep-pop path left part
 
 leaves-at : (path left part rest : List ℕ) (given : Names) → length given ≡ 0
     → ((names : Names) → names_along path (Some names) ≡ names_along left (Some (given ++ names))) → Step left part rest → says_parent part ≡ true → Leaves path rest
-leaves-at path left part rest [] len along step e =
-    (along [] ∙ step [] ∙ ap (names_along rest) (with-parent part [] e) ∙ along-none rest
-    , λ name names. along (name ∷ names) ∙ step (name ∷ names) ∙ ap (names_along rest) (with-parent part (name ∷ names) e))
+leaves-at path left part rest [] len along step e = (
+  along [] ∙ step [] ∙ ap (names_along rest) (with-parent part [] e) ∙ along-none rest,
+  λ name names. along (name ∷ names) ∙ step (name ∷ names) ∙ ap (names_along rest) (with-parent part (name ∷ names) e),
+)
 leaves-at path left part rest (name ∷ given) len along step e = absurd (omega (arith, len))
 
 pub deep-leaves : (path left part rest : List ℕ) (depth : ℕ) → Deep path left depth → Step left part rest → says_parent part ≡ true → depth ≡ 0 → Leaves path rest

@@ -55,7 +55,7 @@ const DEFAULT_PAIRS: [(char, char); 32] = [
 /// What stands for upper case where names are compared (MS-CFB 2.6.4): `a` to `z` become `A` to
 /// `Z` always, the letters of a table become what it says, and any other character stands for
 /// itself.
-#[derive(Drop)]
+#[derive(Clone, Debug, Drop)]
 pub struct CaseMapper<A: Allocator = Global> {
     pairs: Vec<(char, char), A>,
 }
@@ -87,7 +87,7 @@ impl<A: Allocator> CaseMapper<A> {
     /// memory for the table is refused.
     pub fn from_pairs(alloc: A, letters: &[(char, char)]) -> Result<CaseMapper<A>, Error>
         ensures table { IfOk result (λ cases. cases ≡ letters.now) }
-    ensures past_ascii { OnOk result (has_ascii_letter letters.now ≡ false) }
+        ensures past_ascii { OnOk result (has_ascii_letter letters.now ≡ false) }
         ensures refused { IfErr result (RefusesInput (has_ascii_letter letters.now)) }
     {
         if letters.iter().any(|letter| letter.0.is_ascii()) {
@@ -137,13 +137,23 @@ pub struct NameKey<A: Allocator = Global> {
 /// The key of a name.
 ///
 /// It answers `Memory` where memory for the key is refused, and no other error.
-pub fn name_key<A: Allocator>(alloc: A, cases: &CaseMapper<A>, name: &str) -> Result<NameKey<A>, Error>
+pub fn name_key<A: Allocator>(
+    alloc: A,
+    cases: &CaseMapper<A>,
+    name: &str,
+) -> Result<NameKey<A>, Error>
     ensures units { IfOk result (λ key. key.units ≡ (key_of cases.now (chars name.now)).0) }
     ensures letters { IfOk result (λ key. key.letters.items ≡ (key_of cases.now (chars name.now)).1) }
     ensures refused { IfErr result IsMemory }
 {
-    let letters = name.chars().map(|letter| cases.upper_case(letter)).collect(alloc)?;
-    Ok(NameKey { units: unit_count(name), letters })
+    let letters = name
+        .chars()
+        .map(|letter| cases.upper_case(letter))
+        .collect(alloc)?;
+    Ok(NameKey {
+        units: unit_count(name),
+        letters,
+    })
 }
 
 /// The order of two names: fewer UTF-16 units first, then by the characters in upper case
@@ -151,7 +161,9 @@ pub fn name_key<A: Allocator>(alloc: A, cases: &CaseMapper<A>, name: &str) -> Re
 pub fn compare_names<A: Allocator>(cases: &CaseMapper<A>, a: &str, b: &str) -> Ordering
     ensures { result ≡ name_cmp cases.now (chars a.now) (chars b.now) }
 {
-    unit_count(a).cmp(&unit_count(b)).then_with(|| compare_letters(cases, a, b))
+    unit_count(a)
+        .cmp(&unit_count(b))
+        .then_with(|| compare_letters(cases, a, b))
 }
 
 /// The order of the characters in upper case.

@@ -1,4 +1,4 @@
-use Rattle.std.proofs.Common.{◌≡◌, ◌++◌, [], arith, ap, length, sym, ◌∙◌, rules, refl, get_or, take, List, ℕ}
+use Rattle.std.proofs.Common.{◌≡◌, ◌++◌, [], arith, ap, length, sym, ◌∙◌, get_or, take, List, ℕ}
 use Rattle.std.specs.Str.{chars}
 use Rattle.std.specs.Prelude.{map, string_bytes}
 use Rattle.std.proofs.lemmas.List.{length-map, map_more, take_all}
@@ -25,15 +25,15 @@ pub returns-clause-ok : goal.returns-clause-ok
 returns-clause-ok g c =
     let names = map (λ name. chars name.now) c.args.names.now in
     let all : chars (string_bytes c.loop-name.path) ≡ slashed names =
-        c.loop-name.invariant ∙ ap (λ xs. slashed (map (λ name. chars name.now) xs)) (take_all c.loop-name.name-index c.args.names.now c.loop-name-test.false) in
+    c.loop-name.invariant ∙ ap (λ xs. slashed (map (λ name. chars name.now) xs)) (take_all c.loop-name.name-index c.args.names.now c.loop-name-test.false) in
     let count = length-map c.args.names.now (λ name. chars name.now) in
     elim c.if-is_empty.branch [
       | then-is_empty+in_ok-push-2 w ↦
-        ap (λ p. chars (string_bytes p)) w.path-is
-        ∙ root-path (string_bytes c.loop-name.path) (string_bytes w.push-then-is_empty.new.self) names (IsUtf8-string_bytes c.loop-name.path)
-        (w.in_ok-push-2.ensures.bytes ∙ ap (λ (xs : List ℕ). string_bytes c.loop-name.path ++ xs) (encode_ascii 47 (omega arith))) all
-        (count ∙ eqb-true (length c.args.names.now) 0 (sym c.is_empty.ensures ∙ w.if-is_empty.true))
+          ap (λ p. chars (string_bytes p)) w.path-is
+          ∙ root-path (string_bytes c.loop-name.path) (string_bytes w.push-then-is_empty.new.self) names (IsUtf8-string_bytes c.loop-name.path)
+          (w.in_ok-push-2.ensures.bytes ∙ ap (λ (xs : List ℕ). string_bytes c.loop-name.path ++ xs) (encode_ascii 47 (omega arith))) all
+          (count ∙ eqb-true (length c.args.names.now) 0 (sym c.is_empty.ensures ∙ w.if-is_empty.true))
       | else-is_empty w ↦
-        ap (λ p. chars (string_bytes p)) w.path-is ∙ all
-        ∙ slashed-path names (λ none. eqb-differs (length c.args.names.now) 0 (sym c.is_empty.ensures ∙ w.if-is_empty.false) (sym count ∙ none))
+          ap (λ p. chars (string_bytes p)) w.path-is ∙ all
+          ∙ slashed-path names (λ none. eqb-differs (length c.args.names.now) 0 (sym c.is_empty.ensures ∙ w.if-is_empty.false) (sym count ∙ none))
     ]

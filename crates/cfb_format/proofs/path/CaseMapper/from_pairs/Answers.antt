@@ -1,11 +1,10 @@
-use Rattle.std.proofs.Common.{◌≡◌, ℕ, Bool, true, false, refl, sym, ◌∙◌, rules, tests}
+use Rattle.std.proofs.Common.{◌≡◌, sym, ◌∙◌, rules, tests}
 use Rattle.std.specs.Prelude.{nat_le}
 use Rattle.std.proofs.lemmas.Iterator.{YieldsList-from_slice}
 use Rattle.std.proofs.lemmas.Iterator.Search.{any_from_yields_List}
 use Rattle.std.proofs.lemmas.Result.{err_from_is_err_and}
 use Rattle.cfb_format.specs.Names.{has_ascii_letter}
 use Rattle.cfb_format.proofs.path.CaseMapper.from_pairs.Goals as goal
-
 
 pub returns-in_err-extend_from_slice-clause-refused : goal.returns-in_err-extend_from_slice-clause-refused
 returns-in_err-extend_from_slice-clause-refused g c =
