@@ -1,6 +1,6 @@
 -- Texts of a path and the characters that they spell.
-use Rattle.std.proofs.Common.{◌≡◌, ℕ, ◌+◌, ◌<◌, ◌≤◌, Bool, true, false, List, [], ◌∷◌, ◌++◌, length, take, drop, get_or, ◌≢◌, refl, sym, ap, ◌∙◌, subst, arith, length-drop, append_assoc, append-nil}
-use Rattle.std.specs.Prelude.{Some, None, Option, ◌==◌, nat_eq, All, encode_utf8, encode_utf8_all, ⊤}
+use Rattle.std.proofs.Common.{◌≡◌, ℕ, ◌<◌, ◌≤◌, Bool, true, false, List, [], ◌∷◌, ◌++◌, length, take, drop, get_or, ◌≢◌, refl, sym, ap, ◌∙◌, subst, arith, length-drop, append_assoc, append-nil}
+use Rattle.std.specs.Prelude.{Some, ◌==◌, nat_eq, encode_utf8_all}
 use Rattle.std.specs.Str.{chars, IsUtf8, NonePass, NoCharPasses}
 use Rattle.std.specs.Str.Pattern.{HasCharAt}
 use Rattle.std.proofs.lemmas.Str.{chars_from_encodes, chars_past_char, chars-append, chars-nil, encodes-chars, encode_ascii, IsUtf8-take, IsUtf8-drop, IsCharBoundary-before_ascii}

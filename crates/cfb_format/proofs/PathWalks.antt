@@ -1,11 +1,9 @@
 -- Walks over a path's parts: what each part does to the names so far.
-use Rattle.std.proofs.Common.{◌≡◌, ◌≢◌, ℕ, ◌+◌, ◌-◌, ◌<◌, ◌≤◌, Bool, true, false, List, [], ◌∷◌, ◌++◌, length, take, refl, sym, ap, ◌∙◌, subst, append-nil, arith}
+use Rattle.std.proofs.Common.{◌≡◌, ◌≢◌, ℕ, ◌+◌, ◌-◌, ◌<◌, Bool, true, false, List, [], ◌∷◌, ◌++◌, length, take, refl, sym, ap, ◌∙◌, append-nil, arith}
 use Rattle.std.specs.Prelude.{Some, None, Option, map, reverse, option_map, unwrap_or, is_some, not, IfSome, IfNone, MatchOption}
 use Rattle.std.specs.Option.{option_to_list}
-use Rattle.std.specs.Str.{chars}
-use Rattle.std.proofs.lemmas.Str.{chars-nil}
 use Rattle.std.proofs.lemmas.Bool.{false≢true}
-use Rattle.std.proofs.lemmas.List.{reverse-append, reverse-reverse, map-append, append_assoc}
+use Rattle.std.proofs.lemmas.List.{reverse-append, reverse-reverse, map-append}
 use Rattle.cfb_format.specs.Path.{says_nothing, says_parent, without_last, names_with, names_of_path, names_along, names_left, Leaves, Gives}
 use Rattle.cfb_format.proofs.PathParts.{Names, along-none, along-nil}
 

@@ -55,7 +55,7 @@ const DEFAULT_PAIRS: [(char, char); 32] = [
 /// What stands for upper case where names are compared (MS-CFB 2.6.4): `a` to `z` become `A` to
 /// `Z` always, the letters of a table become what it says, and any other character stands for
 /// itself.
-#[derive(Drop)]
+#[derive(Clone, Debug, Drop)]
 pub struct CaseMapper<A: Allocator = Global> {
     pairs: Vec<(char, char), A>,
 }

@@ -1,9 +1,9 @@
-use Rattle.std.proofs.Common.{arith, ◌<◌, ap, length, sym, ◌∙◌, rules}
+use Rattle.std.proofs.Common.{arith, ◌<◌, length, sym, ◌∙◌, rules}
 use Rattle.std.specs.Str.{chars}
 use Rattle.std.proofs.lemmas.Bool.{eqb-true}
 use Rattle.std.proofs.lemmas.Bool.Decides.{nat_tests}
 use Rattle.cfb_format.proofs.PathText.{chars-empty}
-use Rattle.cfb_format.proofs.PathWalks.{deep-leaves, deep-parent, deep-name, deep-nothing, deep-end}
+use Rattle.cfb_format.proofs.PathWalks.{deep-leaves, deep-parent, deep-name, deep-end}
 use Rattle.cfb_format.proofs.path.after_parent.Goals as goal
 
 pub returns-then-depth-eq0-clause-leaves : goal.returns-then-depth-eq0-clause-leaves

@@ -1,4 +1,4 @@
-use Rattle.std.proofs.Common.{length, ap, sym, ◌∙◌, ◌≢◌, [], arith}
+use Rattle.std.proofs.Common.{arith}
 use Rattle.cfb_format.proofs.PathText.{first-cut, first-uncut}
 use Rattle.cfb_format.proofs.path.first_part.Goals as goal
 

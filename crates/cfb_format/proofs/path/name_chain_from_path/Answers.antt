@@ -1,8 +1,7 @@
-use Rattle.std.proofs.Common.{arith, ap, length, sym, ◌∙◌, rules, ℕ, List}
+use Rattle.std.proofs.Common.{length, sym, ◌∙◌, rules}
 use Rattle.std.specs.Str.{chars}
 use Rattle.std.specs.Prelude.{map, vec_len}
 use Rattle.std.proofs.lemmas.Bool.{eqb-true}
-use Rattle.std.specs.Option.{option_to_list}
 use Rattle.cfb_format.proofs.PathText.{chars-empty}
 use Rattle.cfb_format.proofs.PathWalks.{kept-popped, kept-end}
 use Rattle.cfb_format.proofs.path.name_chain_from_path.Goals as goal

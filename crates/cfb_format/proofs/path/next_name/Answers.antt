@@ -1,4 +1,4 @@
-use Rattle.std.proofs.Common.{arith, ◌<◌, ap, length, sym, ◌∙◌, rules}
+use Rattle.std.proofs.Common.{arith, ◌<◌, length, sym, ◌∙◌, rules}
 use Rattle.std.specs.Str.{chars}
 use Rattle.std.proofs.lemmas.Bool.{eqb-true}
 use Rattle.std.proofs.lemmas.Bool.Decides.{nat_tests}

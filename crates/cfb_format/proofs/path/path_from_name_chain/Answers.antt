@@ -1,4 +1,4 @@
-use Rattle.std.proofs.Common.{◌≡◌, ◌++◌, [], arith, ap, length, sym, ◌∙◌, rules, refl, get_or, take, List, ℕ}
+use Rattle.std.proofs.Common.{◌≡◌, ◌++◌, [], arith, ap, length, sym, ◌∙◌, get_or, take, List, ℕ}
 use Rattle.std.specs.Str.{chars}
 use Rattle.std.specs.Prelude.{map, string_bytes}
 use Rattle.std.proofs.lemmas.List.{length-map, map_more, take_all}

@@ -1,5 +1,5 @@
 use Rattle.std.specs.Prelude.{◌==◌}
-use Rattle.std.proofs.Common.{ℕ, List, length, ap, sym, ◌∙◌, ◌≢◌, [], arith}
+use Rattle.std.proofs.Common.{ℕ, List, length, ap, sym, ◌∙◌, ◌≢◌, []}
 use Rattle.std.proofs.lemmas.Bool.{eqb-true, false≢true}
 use Rattle.cfb_format.proofs.PathText.{nothing-is, nothing-empty}
 use Rattle.cfb_format.proofs.path.says_nothing.Goals as goal

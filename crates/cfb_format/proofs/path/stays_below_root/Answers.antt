@@ -1,4 +1,3 @@
-use Rattle.std.proofs.Common.{sym, ◌∙◌}
 use Rattle.std.specs.Str.{chars}
 use Rattle.cfb_format.proofs.PathWalks.{is-below}
 use Rattle.cfb_format.proofs.path.stays_below_root.Goals as goal

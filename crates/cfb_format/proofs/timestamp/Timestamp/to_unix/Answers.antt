@@ -1,4 +1,4 @@
-use Rattle.std.proofs.Common.{◌≡◌, ◌<◌, ◌+◌, ◌-◌, ◌/◌, ◌%◌, ◌*◌, ◌^◌, arith}
+use Rattle.std.proofs.Common.{◌-◌, ◌/◌, ◌%◌, ◌*◌, arith}
 use Rattle.cfb_format.proofs.Moments.{seconds-after, seconds-before}
 use Rattle.cfb_format.proofs.timestamp.Timestamp.to_unix.Goals as goal
 
