@@ -71,10 +71,7 @@ fn new_entries_are_written(rt: HostRuntime) -> Result<(), Fail> {
     put(&mut stream, 64, &[0x08, 0, 0x02, 0x01]);
     put(&mut stream, 68, &[0xff; 12]);
     put(&mut stream, 116, &[0xfe, 0xff, 0xff, 0xff]);
-    assert_eq!(rt;
-        foo_slot(rt.alloc(), ObjType::Stream, Uuid::nil())?,
-        stream
-    );
+    assert_eq!(rt; foo_slot(rt.alloc(), ObjType::Stream, Uuid::nil())?, stream);
     let id = Uuid::parse_str("00112233-4455-6677-8899-aabbccddeeff").map_err(|_| "no id")?;
     let storage = foo_slot(rt.alloc(), ObjType::Storage, id)?;
     let id_bytes: [u8; 16] = [
