@@ -1,5 +1,6 @@
 //! What errors print.
-use cfb::{Detail, Error, MediumFault};
+use cfb::internal::{Header, Validation, consts};
+use cfb::{CompoundFile, Detail, Error, MediumFault, MemoryMedium, Version};
 use std::test::Fail;
 
 #[test]
@@ -41,5 +42,49 @@ fn details(rt: HostRuntime) -> Result<(), Fail> {
     }
     let fault = Error::Medium(MediumFault::Open);
     assert_eq!(rt; format!(in rt.alloc(); "{fault:?}")?.as_str(), "Medium(Open)");
+    Ok(())
+}
+
+/// A header prints its fields, and the entries of the DIFAT up to the free ones.
+#[test]
+fn headers(rt: HostRuntime) -> Result<(), Fail> {
+    let file = CompoundFile::create_with_version(
+        rt.alloc(),
+        Version::V3,
+        MemoryMedium::new(rt.alloc()),
+    )?;
+    let made = file.into_inner().into_bytes();
+    assert_eq!(rt; made.len(), 1536);
+    let mut bytes = [0u8; 512];
+    bytes.copy_from_slice(&made.as_slice()[..512]);
+    let header = Header::read_from(&bytes, Validation::Strict)?;
+    let text = format!(in rt.alloc(); "{header:?}")?;
+    assert_eq!(rt;
+        text.as_str(),
+        "Header { version: V3, num_dir_sectors: 0, num_fat_sectors: 1, first_dir_sector: 1, \
+         first_minifat_sector: EOC, num_minifat_sectors: 0, first_difat_sector: EOC, \
+         num_difat_sectors: 0, initial_difat_entries: [0] }"
+    );
+    Ok(())
+}
+
+#[test]
+fn runs(rt: HostRuntime) -> Result<(), Fail> {
+    let words = [
+        consts::END_OF_CHAIN,
+        0,
+        1,
+        2,
+        3,
+        consts::END_OF_CHAIN,
+        23,
+        consts::FREE_SECTOR,
+        consts::FREE_SECTOR,
+        27,
+        consts::FREE_SECTOR,
+    ];
+    let text = format!(in rt.alloc(); "{:?}", consts::Runs(&words))?;
+    assert_eq!(rt; text.as_str(), "[EOC, 0..=3, EOC, 23, 2 FREE, 27, FREE]");
+    assert_eq!(rt; format!(in rt.alloc(); "{:?}", consts::Runs(&[]))?.as_str(), "[]");
     Ok(())
 }

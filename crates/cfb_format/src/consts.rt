@@ -100,6 +100,30 @@ fn fmt_counted<W: fmt::Write>(f: &mut fmt::Formatter<W>, count: u32, mark: &str)
     write!(f, "{count} {mark}")
 }
 
+/// Words of a table that print as their runs, with no memory for a list of them.
+#[derive(Clone, Copy)]
+pub struct Runs<'a>(pub &'a [u32]);
+
+impl fmt::Debug for Runs<'_> {
+    fn fmt<W: fmt::Write>(&self, f: &mut fmt::Formatter<W>) -> fmt::Result {
+        let mut list = f.debug_list();
+        let mut last = None;
+        for word in self.0 {
+            let longer = last.and_then(|run| longer_run(run, *word));
+            if longer.is_none()
+                && let Some(run) = last
+            {
+                list.entry(&run);
+            }
+            last = Some(longer.unwrap_or(run_of(*word)));
+        }
+        if let Some(run) = last {
+            list.entry(&run);
+        }
+        list.finish()
+    }
+}
+
 /// Words of a table, gathered into runs for printing. `Memory` where the list gets none.
 pub fn prettify<A: Allocator>(alloc: A, words: &[u32]) -> Result<Vec<Run, A>, Error>
     ensures ok { IfOk result (λ runs. flat_map run_words runs.items ≡ words.now) }
@@ -127,7 +151,8 @@ fn push_word<A: Allocator>(runs: &mut Vec<Run, A>, word: u32) -> Result<(), Allo
     Ok(())
 }
 
-fn run_of(word: u32) -> Run
+/// The run of one word.
+pub fn run_of(word: u32) -> Run
     ensures { run_words result ≡ word ∷ [] }
 {
     match word {

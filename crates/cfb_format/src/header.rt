@@ -8,9 +8,11 @@ ghost use Rattle.cfb_format.specs.Refused.{IsInvalidData};
 
 use crate::bytes::{put, put_units, put_words, u16_at, u32_at};
 use crate::consts;
+use crate::consts::{Runs, run_of};
 use crate::error::{Detail, Error};
 use crate::validate::Validation;
 use crate::version::Version;
+use std::fmt;
 
 /// The fields of a header.
 #[derive(Clone, Copy, PartialEq, Eq)]
@@ -26,6 +28,34 @@ pub struct Header {
     pub num_difat_sectors: u32,
     /// The first entries of the DIFAT, and FREE after the last one.
     pub initial_difat_entries: [u32; consts::NUM_DIFAT_ENTRIES_IN_HEADER],
+}
+
+impl fmt::Debug for Header {
+    fn fmt<W: fmt::Write>(&self, f: &mut fmt::Formatter<W>) -> fmt::Result {
+        f.debug_struct("Header")
+            .field("version", &self.version)
+            .field("num_dir_sectors", &self.num_dir_sectors)
+            .field("num_fat_sectors", &self.num_fat_sectors)
+            .field("first_dir_sector", &run_of(self.first_dir_sector))
+            .field("first_minifat_sector", &run_of(self.first_minifat_sector))
+            .field("num_minifat_sectors", &self.num_minifat_sectors)
+            .field("first_difat_sector", &run_of(self.first_difat_sector))
+            .field("num_difat_sectors", &self.num_difat_sectors)
+            .field(
+                "initial_difat_entries",
+                &Runs(without_free_end(&self.initial_difat_entries)),
+            )
+            .finish()
+    }
+}
+
+/// The words up to the last that is not free.
+fn without_free_end(words: &[u32]) -> &[u32] {
+    let last = words.iter().rposition(|word| *word != consts::FREE_SECTOR);
+    match last {
+        Some(last) => &words[..last + 1],
+        None => &[],
+    }
 }
 
 impl Header {
