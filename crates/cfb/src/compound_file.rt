@@ -105,11 +105,7 @@ impl<F: ReadMedium, A: Allocator + Clone> CompoundFile<F, A> {
         Self::open_as(alloc, medium, Validation::Strict)
     }
 
-    fn open_as(
-        alloc: A,
-        mut medium: F,
-        validation: Validation,
-    ) -> Result<CompoundFile<F, A>, Error>
+    fn open_as(alloc: A, mut medium: F, validation: Validation) -> Result<CompoundFile<F, A>, Error>
         ensures answer { IsTrue F.tells
             → OpeningAnswers F.read_faults validation (F.bytes medium) (F.failures medium) result }
         ensures empty { IsTrue F.tells → IfOk result (λ file. IsEmptyFile file.bytes) }

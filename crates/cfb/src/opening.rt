@@ -9,14 +9,13 @@ ghost use Rattle.cfb.specs.Head.{IsHead};
 
 use crate::created::{EmptySlots, PIECES, lay_out};
 use cfb_format::bytes::put;
-use cfb_format::consts;
 use cfb_format::error::{Detail, Error};
 use cfb_format::header::Header;
-use cfb_format::laws;
 use cfb_format::medium::{MediumFault, ReadMedium};
 use cfb_format::transfer::read_exact_at;
 use cfb_format::validate::Validation;
 use cfb_format::version::Version;
+use cfb_format::{consts, laws};
 
 /// The greatest number of sectors, the header's place counted.
 const MAX_SECTORS: u64 = consts::MAX_REGULAR_SECTOR as u64 + 1;

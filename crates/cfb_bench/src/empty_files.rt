@@ -290,7 +290,10 @@ fn memory_is_refused_in_turn(rt: HostRuntime) -> Result<(), Fail> {
             heap.refuse_after(before);
             let found = make_and_open(&heap, version);
             let of_medium = found == Err(Error::Medium(MediumFault::Memory));
-            assert!(rt; of_medium || found == Err(Error::Memory), "at {before} of {all}: {found:?}");
+            assert!(rt;
+                of_medium || found == Err(Error::Memory),
+                "at {before} of {all}: {found:?}"
+            );
             assert_eq!(rt; make_and_open(&heap, version), Ok(()), "again at {before}");
         }
         heap.refuse_all();

@@ -41,7 +41,10 @@ fn details(rt: HostRuntime) -> Result<(), Fail> {
         assert_eq!(rt; format!(in rt.alloc(); "{detail}")?.as_str(), text);
     }
     let fault = Error::Medium(MediumFault::Open);
-    assert_eq!(rt; format!(in rt.alloc(); "{fault:?}")?.as_str(), "Medium(Open)");
+    assert_eq!(rt;
+        format!(in rt.alloc(); "{fault:?}")?.as_str(),
+        "Medium(Open)"
+    );
     Ok(())
 }
 
@@ -85,6 +88,9 @@ fn runs(rt: HostRuntime) -> Result<(), Fail> {
     ];
     let text = format!(in rt.alloc(); "{:?}", consts::Runs(&words))?;
     assert_eq!(rt; text.as_str(), "[EOC, 0..=3, EOC, 23, 2 FREE, 27, FREE]");
-    assert_eq!(rt; format!(in rt.alloc(); "{:?}", consts::Runs(&[]))?.as_str(), "[]");
+    assert_eq!(rt;
+        format!(in rt.alloc(); "{:?}", consts::Runs(&[]))?.as_str(),
+        "[]"
+    );
     Ok(())
 }

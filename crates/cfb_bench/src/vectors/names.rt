@@ -23,8 +23,16 @@ fn order_of_names(rt: HostRuntime) -> Result<(), Fail> {
             "\u{DF}Y\u{DC}0M\u{C8}\u{DD}E\u{C4}\u{C4}\u{C2}K\u{CF}\u{D3}\u{C9}D\u{C0}P5\u{C3}\u{DD}A==",
             Ordering::Less,
         ),
-        ("\u{C9}1EDA\u{C9}==", "\u{DF}\u{D5}F\u{C6}RD==", Ordering::Less),
-        ("\u{DC}L43\u{C1}M==", "\u{DF}Q\u{D1}52\u{C7}==", Ordering::Less),
+        (
+            "\u{C9}1EDA\u{C9}==",
+            "\u{DF}\u{D5}F\u{C6}RD==",
+            Ordering::Less,
+        ),
+        (
+            "\u{DC}L43\u{C1}M==",
+            "\u{DF}Q\u{D1}52\u{C7}==",
+            Ordering::Less,
+        ),
         // ÷ and × are no letters, and no pair of a letter and its upper case
         ("\u{F7}", "\u{D7}", Ordering::Greater),
         // two units in UTF-16, as "ab" has
@@ -34,7 +42,11 @@ fn order_of_names(rt: HostRuntime) -> Result<(), Fail> {
     ];
     for (a, b, want) in all {
         assert_eq!(rt; path::compare_names(&cases, a, b), want, "{a} and {b}");
-        assert_eq!(rt; path::compare_names(&cases, b, a), want.reverse(), "{b} and {a}");
+        assert_eq!(rt;
+            path::compare_names(&cases, b, a),
+            want.reverse(),
+            "{b} and {a}"
+        );
     }
     Ok(())
 }
@@ -44,7 +56,10 @@ fn equal_names_have_one_key(rt: HostRuntime) -> Result<(), Fail> {
     let cases = CaseMapper::new(rt.alloc())?;
     let key = path::name_key(rt.alloc(), &cases, "Gr\u{FC}n \u{1F600}")?;
     assert_eq!(rt; key.units, 7);
-    assert_eq!(rt; key.letters.as_slice(), ['G', 'R', '\u{DC}', 'N', ' ', '\u{1F600}'].as_slice());
+    assert_eq!(rt;
+        key.letters.as_slice(),
+        ['G', 'R', '\u{DC}', 'N', ' ', '\u{1F600}'].as_slice()
+    );
     let other = path::name_key(rt.alloc(), &cases, "gR\u{DC}N \u{1F600}")?;
     assert!(rt; key == other);
     Ok(())
@@ -56,11 +71,20 @@ fn letters_of_a_table(rt: HostRuntime) -> Result<(), Fail> {
     assert!(rt; matches!(&refused, Err(Error::InvalidInput(_))));
     let pairs = [('\u{E9}', 'X'), ('\u{E9}', '\u{C9}')];
     let cases = CaseMapper::from_pairs(rt.alloc(), &pairs)?;
-    assert_eq!(rt; path::compare_names(&cases, "\u{E9}", "\u{C9}"), Ordering::Equal);
-    assert_eq!(rt; path::compare_names(&cases, "\u{E4}", "\u{C4}"), Ordering::Greater);
+    assert_eq!(rt;
+        path::compare_names(&cases, "\u{E9}", "\u{C9}"),
+        Ordering::Equal
+    );
+    assert_eq!(rt;
+        path::compare_names(&cases, "\u{E4}", "\u{C4}"),
+        Ordering::Greater
+    );
     assert_eq!(rt; path::compare_names(&cases, "a", "A"), Ordering::Equal);
     let default = CaseMapper::new(rt.alloc())?;
-    assert_eq!(rt; path::compare_names(&default, "\u{E4}", "\u{C4}"), Ordering::Equal);
+    assert_eq!(rt;
+        path::compare_names(&default, "\u{E4}", "\u{C4}"),
+        Ordering::Equal
+    );
     Ok(())
 }
 
@@ -73,10 +97,17 @@ fn valid_names(rt: HostRuntime) -> Result<(), Fail> {
         ("..", 2),
         ("abcdefghijklmnopqrstuvwxyzabcde", 31),
         // 15 characters of two units, and one of one
-        ("\u{1F600}\u{1F600}\u{1F600}\u{1F600}\u{1F600}\u{1F600}\u{1F600}\u{1F600}\u{1F600}\u{1F600}\u{1F600}\u{1F600}\u{1F600}\u{1F600}\u{1F600}a", 31),
+        (
+            "\u{1F600}\u{1F600}\u{1F600}\u{1F600}\u{1F600}\u{1F600}\u{1F600}\u{1F600}\u{1F600}\u{1F600}\u{1F600}\u{1F600}\u{1F600}\u{1F600}\u{1F600}a",
+            31,
+        ),
     ];
     for (name, units) in all {
-        assert_eq!(rt; path::validate_name(rt.alloc(), name)?.len(), units, "{name}");
+        assert_eq!(rt;
+            path::validate_name(rt.alloc(), name)?.len(),
+            units,
+            "{name}"
+        );
     }
     let units = path::validate_name(rt.alloc(), "a\u{1F600}")?;
     assert_eq!(rt; units.as_slice(), [0x61u16, 0xD83D, 0xDE00].as_slice());
@@ -139,7 +170,14 @@ fn names_of_paths(rt: HostRuntime) -> Result<(), Fail> {
 
 #[test]
 fn paths_that_leave_the_root(rt: HostRuntime) -> Result<(), Fail> {
-    for given in ["..", "/..", "foo/../../baz", "../foo", "a/b/../../../c", "./.."] {
+    for given in [
+        "..",
+        "/..",
+        "foo/../../baz",
+        "../foo",
+        "a/b/../../../c",
+        "./..",
+    ] {
         let refused = path::name_chain_from_path(rt.alloc(), given);
         assert!(rt; matches!(&refused, Err(Error::InvalidInput(_))), "{given}");
         assert!(rt; !path::stays_below_root(given), "{given}");

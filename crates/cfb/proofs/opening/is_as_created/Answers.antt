@@ -35,7 +35,7 @@ loop-piece-preserved g c =
     let bytes = g.F.ReadMedium.bytes c.args.medium.now in
     let whole = created_bytes c.args.head.now.version in
     let len : length c.loop-piece.found ≡ n = omega arith in
-    let equal : c.lay_out.new.into ≡ c.read_piece.new.found = 
+    let equal : c.lay_out.new.into ≡ c.read_piece.new.found =
     (bytes_eq-Decides c.lay_out.new.into c.read_piece.new.found).0 (not_not (bytes_eq c.lay_out.new.into c.read_piece.new.found) (sym c.ne.ensures ∙ c.if-ne.false)) in
     record {
       same = λ told. c.in_ok-read_piece.ensures.same told ∙ c.loop-piece.invariant.same told;

@@ -9,16 +9,18 @@ use Rattle.cfb.proofs.compound_file.CompoundFile.open_as.Goals as goal
 pub returns-then-not-branch-clause-answer : goal.returns-then-not-branch-clause-answer
 returns-then-not-branch-clause-answer g c told =
     let bytes = g.F.ReadMedium.bytes c.args.medium in
-    let head = c.in_ok-head.ensures.ok told in
-    ((head.header, head.has), λ version same.
-    let there : AcceptsHeader c.args.validation bytes (created_header version) =
-    subst (λ b. AcceptsHeader c.args.validation b (created_header version)) (sym same) (c.created_file_is_right.ensures.header c.args.validation version) in
-    let one : created_header version ≡ head.header = c.header_is_at_the_start.ensures.unique bytes (created_header version) head.header there.header head.has.header.header in
-    let versions : version ≡ c.in_ok-head.head.version = ap (λ (h : Header). h.version) one ∙ head.version in
-    let now : g.F.ReadMedium.bytes c.read_head.new.medium ≡ created_bytes c.in_ok-head.head.version =
-    c.in_ok-head.ensures.same told ∙ same ∙ ap created_bytes versions in
-    let yes : IsTrue c.in_ok-is_as_created.field-0 = (c.in_ok-is_as_created.ensures.ok told).1 now in
-    let no : c.in_ok-is_as_created.field-0 ≡ false = c.if-not-branch.true in cc)
+    let head = c.in_ok-head.ensures.ok told in (
+      (head.header, head.has),
+      λ version same.
+          let there : AcceptsHeader c.args.validation bytes (created_header version) =
+          subst (λ b. AcceptsHeader c.args.validation b (created_header version)) (sym same) (c.created_file_is_right.ensures.header c.args.validation version) in
+          let one : created_header version ≡ head.header = c.header_is_at_the_start.ensures.unique bytes (created_header version) head.header there.header head.has.header.header in
+          let versions : version ≡ c.in_ok-head.head.version = ap (λ (h : Header). h.version) one ∙ head.version in
+          let now : g.F.ReadMedium.bytes c.read_head.new.medium ≡ created_bytes c.in_ok-head.head.version =
+          c.in_ok-head.ensures.same told ∙ same ∙ ap created_bytes versions in
+          let yes : IsTrue c.in_ok-is_as_created.field-0 = (c.in_ok-is_as_created.ensures.ok told).1 now in
+          let no : c.in_ok-is_as_created.field-0 ≡ false = c.if-not-branch.true in cc,
+    )
 
 pub returns-clause-empty : goal.returns-clause-empty
 returns-clause-empty g c told =
