@@ -1,0 +1,210 @@
+//! A medium as sectors (MS-CFB 2.1).
+ghost use Rattle.std.specs.Prelude.{◌≡◌, ◌≢◌, ◌+◌, ◌*◌, ◌<◌, ◌≤◌, ◌-◌, ℕ, Bool, true, false, min, max, length, take, drop, IsTrue, OnOk, OnErr, IfOk, IfErr, IsErrAnd, MatchResult};
+ghost use Rattle.cfb_format.specs.Bytes.{sector_len as sector_len_of, words_per_sector, u32_at};
+ghost use Rattle.cfb_format.specs.Medium.{part, written, ChangesOnly};
+ghost use Rattle.cfb_format.specs.Refused.{IsInvalidData, CountsFailure};
+ghost use Rattle.cfb_chains.specs.Words.{Apart, with_word, OtherWordsStay};
+ghost use Rattle.cfb_chains.specs.Sectors.{sectors_in, place, sectors_end, init_bytes, IsMediumError, OtherSectorsStay, SectorStays};
+
+use cfb_format::consts;
+use cfb_format::error::{Detail, Error};
+use cfb_format::medium::{Medium, ReadMedium};
+use cfb_format::transfer::{read_exact_at, write_all_at};
+use cfb_format::version::Version;
+use std::marker::Model;
+
+/// A medium, seen as sectors of the length that its version fixes. The header takes the place of
+/// one, and a last sector that the file cuts short counts as one.
+#[derive(Drop)]
+pub struct Sectors<F: ReadMedium> {
+    medium: F,
+    version: Version,
+    len: u64,
+    num_sectors: u32,
+    begun: bool,
+}
+
+impl<F: ReadMedium> Model for Sectors<F> {
+    ghost use Rattle.std.specs.Prelude.{◌≡◌, ◌*◌, ◌+◌, ◌≤◌, IsTrue, length};
+    ghost use Rattle.cfb_format.specs.Bytes.{sector_len as sector_len_of, sector_start};
+    ghost use Rattle.cfb_chains.specs.Sectors.{SectorFile};
+
+    ghost Value = { SectorFile };
+
+    ghost view = { λ s. record {
+      version = s.version;
+      len = s.len;
+      num_sectors = s.num_sectors;
+      bytes = F.bytes s.medium;
+      failures = F.failures s.medium;
+      begun = s.begun;
+    } };
+
+    ghost invariant = { λ s. (sector_len_of s.version ≤ s.len) × (s.len ≤ sector_start s.version s.num_sectors)
+      × (s.num_sectors ≤ 0xFFFFFFFA) × (IsTrue F.tells → s.len ≤ length (F.bytes s.medium)) };
+}
+
+impl<F: ReadMedium> Sectors<F> {
+    /// The sectors of a medium of this length.
+    pub fn new(version: Version, len: u64, medium: F) -> Sectors<F>
+        requires header { sector_len_of version ≤ len }
+        requires fits { len ≤ 0xFFFFFFFB * sector_len_of version }
+        requires there { IsTrue F.tells → len ≤ length (F.bytes medium) }
+        ensures { result ≡ record {
+          version = version;
+          len = len;
+          num_sectors = sectors_in version len;
+          bytes = F.bytes medium;
+          failures = F.failures medium;
+          begun = false;
+        } }
+    {
+        let num_sectors = (len.div_ceil(version.sector_len() as u64) - 1) as u32;
+        Sectors {
+            medium,
+            version,
+            len,
+            num_sectors,
+            begun: false,
+        }
+    }
+
+    /// The version of the file.
+    pub fn version(&self) -> Version
+        ensures { result ≡ self.now.version }
+    {
+        self.version
+    }
+
+    /// The length of a sector, in bytes.
+    pub fn sector_len(&self) -> usize
+        ensures { result ≡ sector_len_of self.now.version }
+    {
+        self.version.sector_len()
+    }
+
+    /// How many sectors there are, a cut last one and those reserved among them.
+    pub fn num_sectors(&self) -> u32
+        ensures { result ≡ self.now.num_sectors }
+    {
+        self.num_sectors
+    }
+
+    /// The medium.
+    pub fn inner(&self) -> &F
+        ensures bytes { F.bytes result.now ≡ self.now.bytes }
+        ensures failures { F.failures result.now ≡ self.now.failures }
+    {
+        &self.medium
+    }
+
+    /// Gives the medium back.
+    pub fn into_inner(self) -> F
+        ensures bytes { F.bytes result ≡ self.bytes }
+        ensures failures { F.failures result ≡ self.failures }
+    {
+        let Sectors {
+            medium,
+            version: _,
+            len: _,
+            num_sectors: _,
+            begun: _,
+        } = self;
+        medium
+    }
+
+    /// Whether a write or a flush of the medium was asked for since the last `end_change`, or ever.
+    pub fn begun(&self) -> bool
+        ensures { result ≡ self.now.begun }
+    {
+        self.begun
+    }
+
+    /// Says that the change that was begun, if one was, has ended well.
+    pub fn end_change(&mut self)
+        ensures { self.new ≡ record self.old { begun = false } }
+    {
+        self.begun = false;
+    }
+
+    /// Counts the sector past the last one as there, though no byte of it is yet.
+    pub fn reserve_sector(&mut self, sector: u32)
+        requires next { sector ≡ self.old.num_sectors }
+        requires room { sector < 0xFFFFFFFA }
+        ensures { self.new ≡ record self.old { num_sectors = sector + 1 } }
+    {
+        self.num_sectors = sector + 1;
+    }
+
+    /// The place of a sector's byte in the file.
+    fn place(&self, sector: u32, offset: usize) -> u64
+        requires { offset ≤ sector_len_of self.now.version }
+        ensures { result ≡ place self.now sector offset }
+    {
+        (sector as u64 + 1) * self.version.sector_len() as u64 + offset as u64
+    }
+
+    /// Where the last sector ends, or would, were it whole.
+    fn end(&self) -> u64
+        ensures { result ≡ sectors_end self.now }
+    {
+        self.place(self.num_sectors, 0)
+    }
+
+    /// The place of a sector's byte in the file, if it and `len` bytes more lie in sectors.
+    fn place_of(&self, sector: u32, offset: usize, len: usize) -> Result<u64, Error>
+        requires { offset ≤ sector_len_of self.now.version }
+        ensures ok { IfOk result (λ at. (at ≡ place self.now sector offset) × (at + len ≤ sectors_end self.now)) }
+        ensures past { IfErr result (λ e. IsInvalidData e × (sectors_end self.now < place self.now sector offset + len)) }
+    {
+        let at = self.place(sector, offset);
+        let end = self.end();
+        if at > end || len as u64 > end - at {
+            return Err(beyond(sector, self.num_sectors));
+        }
+        Ok(at)
+    }
+
+    /// Reads what is there of the bytes from `at` on, as far as `into` has room.
+    fn read_at(&mut self, at: u64, into: &mut [u8]) -> Result<usize, Error>
+        ensures kept { self.new ≡ record self.old { bytes = self.new.bytes; failures = self.new.failures } }
+        ensures count { IfOk result (λ n. n ≡ min (length into.old) (self.old.len - at)) }
+        ensures ok { IsTrue F.tells → IfOk result (λ n. take n into.new ≡ part self.old.bytes at n) }
+        ensures rest { IfOk result (λ n. drop n into.new ≡ drop n into.old) }
+        ensures err { IfErr result IsMediumError }
+        ensures same { IsTrue F.tells → OnOk result (self.new ≡ self.old) }
+        ensures bytes { IsTrue F.tells → self.new.bytes ≡ self.old.bytes }
+        ensures counts { IsTrue F.tells → CountsFailure F.read_faults result self.old.failures self.new.failures }
+    {
+        let there = self.len.saturating_sub(at);
+        let count = (into.len() as u64).min(there) as usize;
+        if count == 0 {
+            return Ok(0);
+        }
+        read_exact_at(&mut self.medium, at, &mut into[..count]).map_err(Error::Medium)?;
+        Ok(count)
+    }
+}
+
+/// A refusal of what lies past the file.
+fn beyond(sector: u32, num_sectors: u32) -> Error
+    ensures { IsInvalidData result }
+{
+    Error::InvalidData(Detail {
+        text: "beyond the sectors of the file",
+        numbers: [sector as u64, num_sectors as u64],
+    })
+}
+
+/// What a fresh sector holds.
+#[derive(Clone, Copy, Debug, PartialEq, Eq)]
+pub enum SectorInit {
+    /// Zeros.
+    Zero,
+    /// A part of the FAT, all of it free (MS-CFB 2.3).
+    Fat,
+    /// A part of the DIFAT that lists nothing and is the last (MS-CFB 2.5).
+    Difat,
+    /// Entries of the directory that are not used (MS-CFB 2.6.1).
+    Dir,
+}
