@@ -186,6 +186,117 @@ impl<F: ReadMedium> Sectors<F> {
     }
 }
 
+impl<F: ReadMedium> Sectors<F> {
+    /// Reads from a sector on and through those that follow it in the file, as far as `into` has
+    /// room and the file goes, and answers how many bytes that is. `InvalidData` exactly where
+    /// `into` has room for more than the sectors have, and `Medium` where the medium fails.
+    pub fn read_contiguous(
+        &mut self,
+        sector: u32,
+        offset: usize,
+        into: &mut [u8],
+    ) -> Result<usize, Error>
+        requires { offset ≤ sector_len_of self.old.version }
+        ensures kept { self.new ≡ record self.old { bytes = self.new.bytes; failures = self.new.failures } }
+        ensures count { IfOk result (λ n. n ≡ min (length into.old) (self.old.len - place self.old sector offset)) }
+        ensures ok { IsTrue F.tells → IfOk result (λ n. take n into.new ≡ part self.old.bytes (place self.old sector offset) n) }
+        ensures rest { IfOk result (λ n. drop n into.new ≡ drop n into.old) }
+        ensures past { sectors_end self.old < place self.old sector offset + length into.old → IsErrAnd result IsInvalidData × (self.new ≡ self.old) }
+        ensures inside { place self.old sector offset + length into.old ≤ sectors_end self.old → IfErr result IsMediumError }
+        ensures same { IsTrue F.tells → OnOk result (self.new ≡ self.old) }
+        ensures bytes { IsTrue F.tells → self.new.bytes ≡ self.old.bytes }
+        ensures counts { IsTrue F.tells → CountsFailure F.read_faults result self.old.failures self.new.failures }
+    {
+        let at = self.place_of(sector, offset, into.len())?;
+        self.read_at(at, into)
+    }
+
+    /// Fills `into` from a sector on and through those that follow it in the file. `InvalidData`
+    /// exactly where the file ends before that, and `Medium` where the medium fails.
+    pub fn read_exact(&mut self, sector: u32, offset: usize, into: &mut [u8]) -> Result<(), Error>
+        requires { offset ≤ sector_len_of self.old.version }
+        ensures kept { self.new ≡ record self.old { bytes = self.new.bytes; failures = self.new.failures } }
+        ensures ok { IsTrue F.tells → OnOk result (into.new ≡ part self.old.bytes (place self.old sector offset) (length into.old)) }
+        ensures past { self.old.len < place self.old sector offset + length into.old → IsErrAnd result IsInvalidData × (self.new ≡ self.old) }
+        ensures inside { place self.old sector offset + length into.old ≤ self.old.len → IfErr result IsMediumError }
+        ensures same { IsTrue F.tells → OnOk result (self.new ≡ self.old) }
+        ensures bytes { IsTrue F.tells → self.new.bytes ≡ self.old.bytes }
+        ensures counts { IsTrue F.tells → CountsFailure F.read_faults result self.old.failures self.new.failures }
+    {
+        let at = self.place(sector, offset);
+        if at > self.len || into.len() as u64 > self.len - at {
+            return Err(beyond(sector, self.num_sectors));
+        }
+        read_exact_at(&mut self.medium, at, into).map_err(Error::Medium)
+    }
+
+    /// Reads a word of a sector. `InvalidData` exactly where the file ends before it, and `Medium`
+    /// where the medium fails.
+    #[tactic(auto, using(crate::proofs::WordLemmas::word_of_part))]
+    pub fn read_word(&mut self, sector: u32, index: usize) -> Result<u32, Error>
+        requires { index < words_per_sector self.old.version }
+        ensures kept { self.new ≡ record self.old { bytes = self.new.bytes; failures = self.new.failures } }
+        ensures ok { IsTrue F.tells → IfOk result (λ word. word ≡ u32_at self.old.bytes (place self.old sector (4 * index))) }
+        ensures past { self.old.len < place self.old sector (4 * index) + 4 → IsErrAnd result IsInvalidData × (self.new ≡ self.old) }
+        ensures inside { place self.old sector (4 * index) + 4 ≤ self.old.len → IfErr result IsMediumError }
+        ensures same { IsTrue F.tells → OnOk result (self.new ≡ self.old) }
+        ensures bytes { IsTrue F.tells → self.new.bytes ≡ self.old.bytes }
+        ensures counts { IsTrue F.tells → CountsFailure F.read_faults result self.old.failures self.new.failures }
+    {
+        let mut bytes = [0; 4];
+        self.read_exact(sector, 4 * index, &mut bytes)?;
+        Ok(u32::from_le_bytes(bytes))
+    }
+}
+
+impl<F: Medium> Sectors<F> {
+    /// Writes all of `from` at `at`.
+    #[tactic(auto, using(cfb_format::proofs::ByteLemmas::writes))]
+    fn write_at(&mut self, at: u64, from: &[u8]) -> Result<(), Error>
+        requires some { 0 < length from.now }
+        requires inside { at + length from.now ≤ sectors_end self.old }
+        ensures ok { IsTrue F.tells → OnOk result (self.new ≡ record self.old {
+          bytes = written self.old.bytes at from.now;
+          len = max self.old.len (at + length from.now);
+          begun = true;
+        }) }
+        ensures kept { self.new ≡ record self.old { len = self.new.len; bytes = self.new.bytes; failures = self.new.failures; begun = true } }
+        ensures len { MatchResult result (λ _. self.new.len ≡ max self.old.len (at + length from.now)) (λ e. IsMediumError e × (self.new.len ≡ self.old.len)) }
+        ensures others { IsTrue F.tells → ChangesOnly at (length from.now) self.old.bytes self.new.bytes }
+        ensures counts { IsTrue F.tells → CountsFailure F.write_faults result self.old.failures self.new.failures }
+    {
+        self.begun = true;
+        write_all_at(&mut self.medium, at, from).map_err(Error::Medium)?;
+        self.len = self.len.max(at + from.len() as u64);
+        Ok(())
+    }
+
+    /// Writes all of `from` from a sector on and through those that follow it in the file. Where
+    /// the file ends before `offset`, zeros fill the gap. `InvalidData` exactly where the sectors
+    /// have no room for all of it, and `Medium` where the medium fails: then no byte has changed
+    /// but where `from` was to go, and past the old end.
+    pub fn write_contiguous(&mut self, sector: u32, offset: usize, from: &[u8]) -> Result<(), Error>
+        requires within { offset ≤ sector_len_of self.old.version }
+        requires some { 0 < length from.now }
+        ensures ok { IsTrue F.tells → OnOk result (self.new ≡ record self.old {
+          bytes = written self.old.bytes (place self.old sector offset) from.now;
+          len = max self.old.len (place self.old sector offset + length from.now);
+          begun = true;
+        }) }
+        ensures kept { self.new ≡ record self.old { len = self.new.len; bytes = self.new.bytes; failures = self.new.failures; begun = self.new.begun } }
+        ensures len { MatchResult result (λ _. self.new.len ≡ max self.old.len (place self.old sector offset + length from.now)) (λ _. self.new.len ≡ self.old.len) }
+        ensures past { sectors_end self.old < place self.old sector offset + length from.now → IsErrAnd result IsInvalidData × (self.new ≡ self.old) }
+        ensures inside { place self.old sector offset + length from.now ≤ sectors_end self.old → IfErr result IsMediumError × (self.new.begun ≡ true) }
+        ensures others { IsTrue F.tells → ChangesOnly (place self.old sector offset) (length from.now) self.old.bytes self.new.bytes }
+        ensures sectors { IsTrue F.tells → OtherSectorsStay self.old.version (place self.old sector offset) (length from.now) self.old.bytes self.new.bytes }
+        ensures words { IsTrue F.tells → OtherWordsStay (place self.old sector offset) (length from.now) self.old.bytes self.new.bytes }
+        ensures counts { IsTrue F.tells → CountsFailure F.write_faults result self.old.failures self.new.failures }
+    {
+        let at = self.place_of(sector, offset, from.len())?;
+        self.write_at(at, from)
+    }
+}
+
 /// A refusal of what lies past the file.
 fn beyond(sector: u32, num_sectors: u32) -> Error
     ensures { IsInvalidData result }
