@@ -1,2 +1,3 @@
 pub mod WordLemmas
 pub mod SectorLemmas
+pub mod FreshLemmas

@@ -38,11 +38,11 @@ sector_apart V3 at n i a b change apart = Stays_apart at n _ _ a b change (omega
 sector_apart V4 at n i a b change apart = Stays_apart at n _ _ a b change (omega arith)
 
 -- another sector than the one that was written in
-pub other_sector : (v : Version) (sector i offset n : ℕ) (a b : List ℕ) → ChangesOnly (sector_start v sector + offset) n a b → offset + n ≤ sector_len v
+pub other_sector : (v : Version) (sector i offset at n : ℕ) (a b : List ℕ) → at ≡ sector_start v sector + offset → ChangesOnly at n a b → offset + n ≤ sector_len v
     → i ≢ sector → SectorStays v i a b
 unfolding SectorStays
-other_sector V3 sector i offset n a b change fits other = Stays_apart _ n _ _ a b change (omega arith)
-other_sector V4 sector i offset n a b change fits other = Stays_apart _ n _ _ a b change (omega arith)
+other_sector V3 sector i offset at n a b there change fits other = Stays_apart at n _ _ a b change (omega arith)
+other_sector V4 sector i offset at n a b there change fits other = Stays_apart at n _ _ a b change (omega arith)
 
 -- the header comes before all sectors
 pub after_header : (v : Version) (i at n : ℕ) (a b : List ℕ) → ChangesOnly at n a b → at + n ≤ 512 → SectorStays v i a b
@@ -71,3 +71,7 @@ word_in_sector V3 i offset a b stays inside within = word_stays _ _ _ a b stays 
 word_in_sector V4 i offset a b stays inside within = word_stays _ _ _ a b stays (omega arith) (omega arith) within
 
 pub ruleset sector_stays = (SectorStays_refl, SectorStays_trans, SectorStays_next)
+
+-- a change of bytes that are the same
+pub ChangesOnly_from : (at n : ℕ) (a a' b : List ℕ) → a ≡ a' → ChangesOnly at n a b → ChangesOnly at n a' b
+ChangesOnly_from at n a a' b same change = subst (λ (xs : List ℕ). ChangesOnly at n xs b) same change

@@ -2,10 +2,12 @@
 ghost use Rattle.std.specs.Prelude.{◌≡◌, ◌≢◌, ◌+◌, ◌*◌, ◌<◌, ◌≤◌, ◌-◌, ℕ, Bool, true, false, min, max, length, take, drop, IsTrue, OnOk, OnErr, IfOk, IfErr, IsErrAnd, MatchResult};
 ghost use Rattle.cfb_format.specs.Bytes.{sector_len as sector_len_of, words_per_sector, u32_at};
 ghost use Rattle.cfb_format.specs.Medium.{part, written, ChangesOnly};
+ghost use Rattle.cfb_format.specs.DirectoryEntry.{entry_bytes, unallocated_entry};
 ghost use Rattle.cfb_format.specs.Refused.{IsInvalidData, CountsFailure};
 ghost use Rattle.cfb_chains.specs.Words.{Apart, with_word, OtherWordsStay};
-ghost use Rattle.cfb_chains.specs.Sectors.{sectors_in, place, sectors_end, init_bytes, IsMediumError, OtherSectorsStay, SectorStays};
+ghost use Rattle.cfb_chains.specs.Sectors.{sectors_in, place, sectors_end, init_bytes, copies, IsMediumError, OtherSectorsStay, SectorStays};
 
+use cfb_format::bytes::put;
 use cfb_format::consts;
 use cfb_format::error::{Detail, Error};
 use cfb_format::medium::{Medium, ReadMedium};
@@ -134,6 +136,14 @@ impl<F: ReadMedium> Sectors<F> {
         ensures { self.new ≡ record self.old { num_sectors = sector + 1 } }
     {
         self.num_sectors = sector + 1;
+    }
+
+    /// Counts a sector as there, if it is not yet.
+    fn count_in(&mut self, sector: u32)
+        requires { sector < 0xFFFFFFFA }
+        ensures { self.new ≡ record self.old { num_sectors = max self.old.num_sectors (sector + 1) } }
+    {
+        self.num_sectors = self.num_sectors.max(sector + 1);
     }
 
     /// The place of a sector's byte in the file.
@@ -295,7 +305,95 @@ impl<F: Medium> Sectors<F> {
         let at = self.place_of(sector, offset, from.len())?;
         self.write_at(at, from)
     }
+
+    /// Writes a word of a sector. `InvalidData` exactly where the sector is past the file, and
+    /// `Medium` where the medium fails: then no byte has changed but that word's, and past the old
+    /// end.
+    #[tactic(auto, unfolding(crate::specs::Words::with_word))]
+    pub fn write_word(&mut self, sector: u32, index: usize, value: u32) -> Result<(), Error>
+        requires { index < words_per_sector self.old.version }
+        ensures ok { IsTrue F.tells → OnOk result (self.new ≡ record self.old {
+          bytes = with_word self.old.bytes (place self.old sector (4 * index)) value;
+          len = max self.old.len (place self.old sector (4 * index) + 4);
+          begun = true;
+        }) }
+        ensures kept { self.new ≡ record self.old { len = self.new.len; bytes = self.new.bytes; failures = self.new.failures; begun = self.new.begun } }
+        ensures len { MatchResult result (λ _. self.new.len ≡ max self.old.len (place self.old sector (4 * index) + 4)) (λ _. self.new.len ≡ self.old.len) }
+        ensures past { self.old.num_sectors ≤ sector → IsErrAnd result IsInvalidData × (self.new ≡ self.old) }
+        ensures inside { sector < self.old.num_sectors → IfErr result IsMediumError × (self.new.begun ≡ true) }
+        ensures others { IsTrue F.tells → ChangesOnly (place self.old sector (4 * index)) 4 self.old.bytes self.new.bytes }
+        ensures sectors { IsTrue F.tells → (i : ℕ) → i ≢ sector → SectorStays self.old.version i self.old.bytes self.new.bytes }
+        ensures words { IsTrue F.tells → OtherWordsStay (place self.old sector (4 * index)) 4 self.old.bytes self.new.bytes }
+        ensures counts { IsTrue F.tells → CountsFailure F.write_faults result self.old.failures self.new.failures }
+    {
+        self.write_contiguous(sector, 4 * index, &value.to_le_bytes())
+    }
+
+    /// Writes a word of the header. `Medium` where the medium fails: then no byte has changed but
+    /// that word's.
+    #[tactic(auto, unfolding(crate::specs::Words::with_word))]
+    pub fn write_header_word(&mut self, offset: usize, value: u32) -> Result<(), Error>
+        requires { offset + 4 ≤ 512 }
+        ensures ok { IsTrue F.tells → OnOk result (self.new ≡ record self.old { bytes = with_word self.old.bytes offset value; begun = true }) }
+        ensures kept { self.new ≡ record self.old { bytes = self.new.bytes; failures = self.new.failures; begun = true } }
+        ensures err { IfErr result IsMediumError }
+        ensures others { IsTrue F.tells → ChangesOnly offset 4 self.old.bytes self.new.bytes }
+        ensures sectors { IsTrue F.tells → (i : ℕ) → SectorStays self.old.version i self.old.bytes self.new.bytes }
+        ensures words { IsTrue F.tells → OtherWordsStay offset 4 self.old.bytes self.new.bytes }
+        ensures counts { IsTrue F.tells → CountsFailure F.write_faults result self.old.failures self.new.failures }
+    {
+        self.begun = true;
+        write_all_at(&mut self.medium, offset as u64, &value.to_le_bytes()).map_err(Error::Medium)
+    }
+
+    /// Fills a sector of the file, or the one past its end, which is then the last. `InvalidData`
+    /// exactly where the sector lies further on, and `Medium` where the medium fails: then no byte
+    /// has changed but the sector's, and past the old end.
+    pub fn init_sector(&mut self, sector: u32, init: SectorInit) -> Result<(), Error>
+        requires room { sector < 0xFFFFFFFA }
+        ensures ok { IsTrue F.tells → OnOk result (self.new ≡ record self.old {
+          bytes = written self.old.bytes (place self.old sector 0) (init_bytes self.old.version init);
+          len = max self.old.len (place self.old sector (sector_len_of self.old.version));
+          num_sectors = max self.old.num_sectors (sector + 1);
+          begun = true;
+        }) }
+        ensures past { self.old.num_sectors < sector → IsErrAnd result IsInvalidData × (self.new ≡ self.old) }
+        ensures inside { sector ≤ self.old.num_sectors → IfErr result IsMediumError × (self.new ≡ record self.old {
+          len = self.new.len;
+          num_sectors = max self.old.num_sectors (sector + 1);
+          bytes = self.new.bytes;
+          failures = self.new.failures;
+          begun = true;
+        }) }
+        ensures len { MatchResult result (λ _. self.new.len ≡ max self.old.len (place self.old sector (sector_len_of self.old.version))) (λ _. self.new.len ≡ self.old.len) }
+        ensures others { IsTrue F.tells → ChangesOnly (place self.old sector 0) (sector_len_of self.old.version) self.old.bytes self.new.bytes }
+        ensures sectors { IsTrue F.tells → (i : ℕ) → i ≢ sector → SectorStays self.old.version i self.old.bytes self.new.bytes }
+        ensures words { IsTrue F.tells → OtherWordsStay (place self.old sector 0) (sector_len_of self.old.version) self.old.bytes self.new.bytes }
+        ensures counts { IsTrue F.tells → CountsFailure F.write_faults result self.old.failures self.new.failures }
+    {
+        let num_sectors = self.num_sectors();
+        if sector > num_sectors {
+            return Err(beyond(sector, num_sectors));
+        }
+        self.count_in(sector);
+        let at = self.place(sector, 0);
+        let bytes = fresh_sector(self.version(), init);
+        self.write_at(at, &bytes[..self.sector_len()])
+    }
+
+    /// Has the medium hand on what was written. `Medium` where it fails.
+    pub fn flush(&mut self) -> Result<(), Error>
+        ensures ok { IsTrue F.tells → OnOk result (self.new ≡ record self.old { begun = true }) }
+        ensures kept { self.new ≡ record self.old { bytes = self.new.bytes; failures = self.new.failures; begun = true } }
+        ensures bytes { IsTrue F.tells → self.new.bytes ≡ self.old.bytes }
+        ensures err { IfErr result IsMediumError }
+        ensures counts { IsTrue F.tells → CountsFailure F.write_faults result self.old.failures self.new.failures }
+    {
+        self.begun = true;
+        self.medium.flush().map_err(Error::Medium)
+    }
 }
+
 
 /// A refusal of what lies past the file.
 fn beyond(sector: u32, num_sectors: u32) -> Error
@@ -318,4 +416,58 @@ pub enum SectorInit {
     Difat,
     /// Entries of the directory that are not used (MS-CFB 2.6.1).
     Dir,
+}
+
+/// The bytes of a fresh sector, and what is left over.
+fn fresh_sector(version: Version, init: SectorInit) -> [u8; 4096]
+    ensures { take (sector_len_of version) result ≡ init_bytes version init }
+{
+    let mut bytes = [0; 4096];
+    fill(&mut bytes[..version.sector_len()], version, init);
+    bytes
+}
+
+/// Fills a sector.
+fn fill(into: &mut [u8], version: Version, init: SectorInit)
+    requires { length into.old ≡ sector_len_of version }
+    ensures { into.new ≡ init_bytes version init }
+{
+    let words = version.sector_len() / 4;
+    match init {
+        SectorInit::Zero => {
+            put_copies(into, version.sector_len(), &[0]);
+        }
+        SectorInit::Fat => {
+            put_copies(into, words, &consts::FREE_SECTOR.to_le_bytes());
+        }
+        SectorInit::Difat => {
+            let last = put_copies(into, words - 1, &consts::FREE_SECTOR.to_le_bytes());
+            put(into, last, &consts::END_OF_CHAIN.to_le_bytes());
+        }
+        SectorInit::Dir => {
+            put_copies(into, version.dir_entries_per_sector(), &unallocated_slot());
+        }
+    }
+}
+
+/// Puts so many copies of a piece at the beginning, and answers the place behind them.
+fn put_copies(into: &mut [u8], count: usize, piece: &[u8]) -> usize
+    requires { count * length piece.now ≤ length into.old }
+    ensures end { result ≡ count * length piece.now }
+    ensures before { take result into.new ≡ copies count piece.now }
+{
+    let mut end = 0;
+    for done in 0..count {
+        end = put(into, end, piece);
+    }
+    end
+}
+
+/// The slot of an entry that is not used.
+fn unallocated_slot() -> [u8; 128]
+    ensures { result ≡ entry_bytes unallocated_entry }
+{
+    let mut slot = [0; 128];
+    put(&mut slot, 68, &[0xff; 12]);
+    slot
 }
