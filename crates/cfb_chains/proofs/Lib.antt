@@ -1,3 +1,7 @@
 pub mod WordLemmas
 pub mod SectorLemmas
 pub mod FreshLemmas
+pub mod ReadLemmas
+pub mod Listed
+pub mod TableWords
+pub mod AgreementLemmas

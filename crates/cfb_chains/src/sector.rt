@@ -1,5 +1,5 @@
 //! A medium as sectors (MS-CFB 2.1).
-ghost use Rattle.std.specs.Prelude.{◌≡◌, ◌≢◌, ◌+◌, ◌*◌, ◌<◌, ◌≤◌, ◌-◌, ℕ, Bool, true, false, min, max, length, take, drop, IsTrue, OnOk, OnErr, IfOk, IfErr, IsErrAnd, MatchResult};
+ghost use Rattle.std.specs.Prelude.{◌≡◌, ◌≢◌, ◌+◌, ◌^◌, ◌*◌, ◌<◌, ◌≤◌, ◌-◌, ℕ, Bool, true, false, min, max, length, take, drop, IsTrue, OnOk, OnErr, IfOk, IfErr, IsErrAnd, MatchResult, Ok};
 ghost use Rattle.cfb_format.specs.Bytes.{sector_len as sector_len_of, words_per_sector, u32_at};
 ghost use Rattle.cfb_format.specs.Medium.{part, written, ChangesOnly};
 ghost use Rattle.cfb_format.specs.DirectoryEntry.{entry_bytes, unallocated_entry};
@@ -43,7 +43,7 @@ impl<F: ReadMedium> Model for Sectors<F> {
     } };
 
     ghost invariant = { λ s. (sector_len_of s.version ≤ s.len) × (s.len ≤ sector_start s.version s.num_sectors)
-      × (s.num_sectors ≤ 0xFFFFFFFA) × (IsTrue F.tells → s.len ≤ length (F.bytes s.medium)) };
+        × (s.num_sectors ≤ 0xFFFFFFFA) × (IsTrue F.tells → s.len ≤ length (F.bytes s.medium)) };
 }
 
 impl<F: ReadMedium> Sectors<F> {
@@ -149,7 +149,8 @@ impl<F: ReadMedium> Sectors<F> {
     /// The place of a sector's byte in the file.
     fn place(&self, sector: u32, offset: usize) -> u64
         requires { offset ≤ sector_len_of self.now.version }
-        ensures { result ≡ place self.now sector offset }
+        ensures place { result ≡ place self.now sector offset }
+        ensures fits { result < 2 ^ 45 }
     {
         (sector as u64 + 1) * self.version.sector_len() as u64 + offset as u64
     }
@@ -394,7 +395,6 @@ impl<F: Medium> Sectors<F> {
     }
 }
 
-
 /// A refusal of what lies past the file.
 fn beyond(sector: u32, num_sectors: u32) -> Error
     ensures { IsInvalidData result }
@@ -470,4 +470,346 @@ fn unallocated_slot() -> [u8; 128]
     let mut slot = [0; 128];
     put(&mut slot, 68, &[0xff; 12]);
     slot
+}
+
+/// A stretch of a file, in one sector or in the header, that is lent with a place in it. Reads and
+/// writes go on from that place, and never past the stretch.
+#[derive(Drop)]
+pub struct Sector<'a, F: ReadMedium> {
+    file: &'a mut Sectors<F>,
+    start: u64,
+    len: usize,
+    offset: usize,
+    ghost within: { offset ≤ len },
+    ghost inside: { start + len ≤ sectors_end file.now },
+    ghost fits: { start + len < 2 ^ 46 },
+}
+
+impl<F: ReadMedium> Sectors<F> {
+    ghost use Rattle.std.specs.Borrow.{sem};
+    ghost use Rattle.cfb_chains.specs.Lent.{file_of, start_of, len_of, offset_of, sectors_rest};
+
+    /// Lends the header, from this byte on.
+    pub fn seek_within_header(&mut self, offset: usize) -> Sector<'_, F>
+        requires { offset ≤ 512 }
+        ensures same_file { (file_of result).ghost_name ≡ self.entry.ghost_name }
+        ensures file { (file_of result).now ≡ self.old }
+        ensures there { (start_of result ≡ 0) × (len_of result ≡ 512) × (offset_of result ≡ offset) }
+    {
+        let _ = &self.medium;
+        Sector {
+            file: self,
+            start: 0,
+            len: consts::HEADER_LEN,
+            offset,
+        }
+    }
+
+    /// Lends a sector, from its first byte on. `InvalidData` exactly where it is past the file.
+    pub fn seek_to_sector(&mut self, sector: u32) -> Result<Sector<'_, F>, Error>
+        ensures* refused { sem 𝓛 (sectors_rest F.row F.ReadMedium self.entry result) }
+        ensures same_file { IfOk result (λ s. (file_of s).ghost_name ≡ self.entry.ghost_name) }
+        ensures file { IfOk result (λ s. (file_of s).now ≡ self.old) }
+        ensures there { IfOk result (λ s. (start_of s ≡ place self.old sector 0) × (len_of s ≡ sector_len_of self.old.version) × (offset_of s ≡ 0)) }
+        ensures known { IfOk result (λ s. sector < self.old.num_sectors) }
+        ensures past { IfErr result (λ e. IsInvalidData e × (self.old.num_sectors ≤ sector)) }
+    {
+        self.seek_within_sector(sector, 0)
+    }
+
+    /// Lends a sector, from this byte on. `InvalidData` exactly where it is past the file.
+    pub fn seek_within_sector(&mut self, sector: u32, offset: usize) -> Result<Sector<'_, F>, Error>
+        requires { offset ≤ sector_len_of self.old.version }
+        ensures* refused { sem 𝓛 (sectors_rest F.row F.ReadMedium self.entry result) }
+        ensures same_file { IfOk result (λ s. (file_of s).ghost_name ≡ self.entry.ghost_name) }
+        ensures file { IfOk result (λ s. (file_of s).now ≡ self.old) }
+        ensures there { IfOk result (λ s. (start_of s ≡ place self.old sector 0) × (len_of s ≡ sector_len_of self.old.version) × (offset_of s ≡ offset)) }
+        ensures known { IfOk result (λ s. sector < self.old.num_sectors) }
+        ensures past { IfErr result (λ e. IsInvalidData e × (self.old.num_sectors ≤ sector)) }
+    {
+        if sector >= self.num_sectors() {
+            return Err(beyond(sector, self.num_sectors()));
+        }
+        let start = self.place(sector, 0);
+        let len = self.sector_len();
+        Ok(Sector {
+            file: self,
+            start,
+            len,
+            offset,
+        })
+    }
+}
+
+impl<'a, F: ReadMedium> Sector<'a, F> {
+    ghost use Rattle.cfb_chains.specs.Lent.{file_of, start_of, len_of, offset_of, position_of, room_of};
+
+    /// How long it is, in bytes.
+    pub fn len(&self) -> usize
+        ensures { result ≡ len_of self.now }
+    {
+        self.len
+    }
+
+    /// How many bytes it has from its place on.
+    pub fn remaining(&self) -> usize
+        ensures { result ≡ room_of self.now }
+    {
+        self.len - self.offset
+    }
+
+    /// Goes to a byte of it, or to its end.
+    pub fn seek(&mut self, offset: usize)
+        requires { offset ≤ len_of self.old }
+        ensures same_file { (file_of self.new).ghost_name ≡ (file_of self.old).ghost_name }
+        ensures file { (file_of self.new).now ≡ (file_of self.old).now }
+        ensures there { (start_of self.new ≡ start_of self.old) × (len_of self.new ≡ len_of self.old) × (offset_of self.new ≡ offset) }
+    {
+        self.offset = offset;
+    }
+
+    /// A part of it, which has the place.
+    pub fn subsector(self, start: usize, len: usize) -> Sector<'a, F>
+        requires from { start ≤ offset_of self }
+        requires to { offset_of self ≤ start + len }
+        requires inside { start + len ≤ len_of self }
+        ensures same_file { (file_of result).ghost_name ≡ (file_of self.entry).ghost_name }
+        ensures file { (file_of result).now ≡ (file_of self.entry).now }
+        ensures there { (start_of result ≡ start_of self.entry + start) × (len_of result ≡ len) × (position_of result ≡ position_of self.entry) }
+    {
+        let Sector {
+            file,
+            start: whole,
+            len: _,
+            offset,
+        } = self;
+        Sector {
+            file,
+            start: whole + start as u64,
+            len,
+            offset: offset - start,
+        }
+    }
+
+    /// Reads what is there from its place on, as far as `into` and the sector have room and the
+    /// file goes, goes on behind it, and answers how many bytes it is. `Medium` where the medium
+    /// fails.
+    pub fn read(&mut self, into: &mut [u8]) -> Result<usize, Error>
+        ensures same_file { (file_of self.new).ghost_name ≡ (file_of self.old).ghost_name }
+        ensures place { (start_of self.new ≡ start_of self.old) × (len_of self.new ≡ len_of self.old) }
+        ensures kept { (file_of self.new).now ≡ record (file_of self.old).now { bytes = (file_of self.new).now.bytes; failures = (file_of self.new).now.failures } }
+        ensures count { IfOk result (λ n. n ≡ min (min (length into.old) (room_of self.old)) ((file_of self.old).now.len - position_of self.old)) }
+        ensures offset { MatchResult result (λ n. offset_of self.new ≡ offset_of self.old + n) (λ _. offset_of self.new ≡ offset_of self.old) }
+        ensures ok { IsTrue F.tells → IfOk result (λ n. take n into.new ≡ part (file_of self.old).now.bytes (position_of self.old) n) }
+        ensures rest { IfOk result (λ n. drop n into.new ≡ drop n into.old) }
+        ensures err { IfErr result IsMediumError }
+        ensures same { IsTrue F.tells → OnOk result ((file_of self.new).now ≡ (file_of self.old).now) }
+        ensures bytes { IsTrue F.tells → (file_of self.new).now.bytes ≡ (file_of self.old).now.bytes }
+        ensures counts { IsTrue F.tells → CountsFailure F.read_faults result (file_of self.old).now.failures (file_of self.new).now.failures }
+    {
+        let room = into.len().min(self.remaining());
+        let count = self
+            .file
+            .read_at(self.start + self.offset as u64, &mut into[..room])?;
+        self.offset += count;
+        Ok(count)
+    }
+}
+
+impl<'a, F: Medium> Sector<'a, F> {
+    ghost use Rattle.cfb_chains.specs.Lent.{file_of, start_of, len_of, offset_of, position_of, room_of};
+
+    /// Writes a beginning of `from` at its place, as far as the sector has room, goes on behind it,
+    /// and answers how many bytes it is. `Medium` where the medium fails: then no byte has changed
+    /// but where that beginning was to go, and past the old end.
+    pub fn write(&mut self, from: &[u8]) -> Result<usize, Error>
+        ensures same_file { (file_of self.new).ghost_name ≡ (file_of self.old).ghost_name }
+        ensures place { (start_of self.new ≡ start_of self.old) × (len_of self.new ≡ len_of self.old) }
+        ensures count { IfOk result (λ n. n ≡ min (length from.now) (room_of self.old)) }
+        ensures offset { MatchResult result (λ n. offset_of self.new ≡ offset_of self.old + n) (λ _. offset_of self.new ≡ offset_of self.old) }
+        ensures ok { IsTrue F.tells → IfOk result (λ n. 0 < n → (file_of self.new).now ≡ record (file_of self.old).now {
+          bytes = written (file_of self.old).now.bytes (position_of self.old) (take n from.now);
+          len = max (file_of self.old).now.len (position_of self.old + n);
+          begun = true;
+        }) }
+        ensures none { min (length from.now) (room_of self.old) ≡ 0 → (result ≡ Ok 0) × ((file_of self.new).now ≡ (file_of self.old).now) }
+        ensures kept { 0 < min (length from.now) (room_of self.old) → (file_of self.new).now ≡ record (file_of self.old).now {
+          len = (file_of self.new).now.len;
+          bytes = (file_of self.new).now.bytes;
+          failures = (file_of self.new).now.failures;
+          begun = true;
+        } }
+        ensures len { MatchResult result
+            (λ n. 0 < n → (file_of self.new).now.len ≡ max (file_of self.old).now.len (position_of self.old + n))
+            (λ e. IsMediumError e × ((file_of self.new).now.len ≡ (file_of self.old).now.len)) }
+        ensures others { IsTrue F.tells → ChangesOnly (position_of self.old) (min (length from.now) (room_of self.old)) (file_of self.old).now.bytes (file_of self.new).now.bytes }
+        ensures counts { IsTrue F.tells → CountsFailure F.write_faults result (file_of self.old).now.failures (file_of self.new).now.failures }
+    {
+        let count = from.len().min(self.remaining());
+        if count == 0 {
+            return Ok(0);
+        }
+        self.file
+            .write_at(self.start + self.offset as u64, &from[..count])?;
+        self.offset += count;
+        Ok(count)
+    }
+}
+
+#[cfg(test)]
+mod tests {
+    use super::{SectorInit, Sectors};
+    use cfb_format::error::Error;
+    use cfb_format::memory::MemoryMedium;
+    use cfb_format::version::Version;
+    use std::alloc::Global;
+    use std::test::Fail;
+
+    fn filled(
+        alloc: Global,
+        version: Version,
+        len: usize,
+        byte: u8,
+    ) -> Result<Sectors<MemoryMedium>, Fail>
+        requires header { sector_len_of version ≤ len }
+        requires small { len ≤ 65536 }
+        ensures version { IfOk result (λ s. s.version ≡ version) }
+    {
+        let bytes = vec![in alloc; byte; len]?;
+        Ok(Sectors::new(version, len as u64, MemoryMedium::from_bytes(bytes)))
+    }
+
+    #[test]
+    fn a_cut_sector_counts_and_a_fresh_one_follows(rt: HostRuntime) -> Result<(), Fail> {
+        let mut sectors = filled(rt.alloc(), Version::V3, 1124, 0)?;
+        assert_eq!(rt; sectors.num_sectors(), 2);
+        assert!(rt; sectors.init_sector(2, SectorInit::Zero).is_ok());
+        assert_eq!(rt; sectors.num_sectors(), 3);
+        assert!(rt; sectors.begun());
+        let medium = sectors.into_inner();
+        assert_eq!(rt; medium.bytes().len(), 2048);
+        assert!(rt; medium.bytes().iter().all(|byte| *byte == 0));
+        Ok(())
+    }
+
+    #[test]
+    fn fresh_sectors_hold_what_their_kind_says(rt: HostRuntime) -> Result<(), Fail> {
+        for (init, words) in [
+            (SectorInit::Zero, [0, 0, 0, 0]),
+            (
+                SectorInit::Fat,
+                [0xffff_ffff, 0xffff_ffff, 0xffff_ffff, 0xffff_ffff],
+            ),
+            (
+                SectorInit::Difat,
+                [0xffff_ffff, 0xffff_ffff, 0xffff_ffff, 0xffff_fffe],
+            ),
+            (SectorInit::Dir, [0, 0xffff_ffff, 0, 0]),
+        ] {
+            let mut sectors = filled(rt.alloc(), Version::V3, 1536, 1)?;
+            assert!(rt; sectors.init_sector(0, init).is_ok());
+            let read = [
+                sectors.read_word(0, 16),
+                sectors.read_word(0, 17),
+                sectors.read_word(0, 20),
+                sectors.read_word(0, 127),
+            ];
+            for (word, wanted) in read.iter().zip(&words) {
+                assert!(rt; *word == Ok(*wanted), "{init:?}");
+            }
+            assert!(rt; sectors.read_word(1, 0) == Ok(0x0101_0101));
+        }
+        let mut sectors = filled(rt.alloc(), Version::V4, 8192, 1)?;
+        assert!(rt; sectors.init_sector(0, SectorInit::Dir).is_ok());
+        assert!(rt; sectors.read_word(0, 1024 - 32 + 19) == Ok(0xffff_ffff));
+        assert!(rt; sectors.read_word(0, 1023) == Ok(0));
+        Ok(())
+    }
+
+    #[test]
+    fn reads_go_as_far_as_the_file(rt: HostRuntime) -> Result<(), Fail> {
+        let mut sectors = filled(rt.alloc(), Version::V3, 1124, 7)?;
+        let mut into = [0; 512];
+        assert!(rt; sectors.read_contiguous(0, 500, &mut into) == Ok(112));
+        assert!(rt; into[111] == 7 && into[112] == 0);
+        let mut half = [0; 50];
+        assert!(rt; sectors.read_exact(1, 50, &mut half).is_ok());
+        assert!(rt;
+            matches!(
+                sectors.read_exact(1, 51, &mut half),
+                Err(Error::InvalidData(_))
+            )
+        );
+        assert!(rt;
+            matches!(
+                sectors.read_contiguous(1, 1, &mut into),
+                Err(Error::InvalidData(_))
+            )
+        );
+        assert!(rt; sectors.read_word(1, 24) == Ok(0x0707_0707));
+        assert!(rt; matches!(sectors.read_word(1, 25), Err(Error::InvalidData(_))));
+        let count = match sectors.seek_within_sector(1, 40) {
+            Ok(mut sector) => sector.read(&mut into),
+            Err(error) => Err(error),
+        };
+        assert!(rt; count == Ok(60));
+        assert!(rt; !sectors.begun());
+        Ok(())
+    }
+
+    #[test]
+    fn writes_stay_within_the_sectors(rt: HostRuntime) -> Result<(), Fail> {
+        let mut sectors = filled(rt.alloc(), Version::V3, 1124, 7)?;
+        let from = [9; 8];
+        assert!(rt;
+            matches!(
+                sectors.write_contiguous(1, 505, &from),
+                Err(Error::InvalidData(_))
+            )
+        );
+        assert!(rt; matches!(sectors.write_word(2, 0, 1), Err(Error::InvalidData(_))));
+        assert!(rt;
+            matches!(
+                sectors.init_sector(3, SectorInit::Zero),
+                Err(Error::InvalidData(_))
+            )
+        );
+        assert!(rt; !sectors.begun());
+        assert!(rt; sectors.write_contiguous(0, 508, &from).is_ok());
+        assert!(rt; sectors.begun());
+        sectors.end_change();
+        assert!(rt; sectors.write_word(1, 127, 0x0403_0201).is_ok());
+        assert!(rt; sectors.write_header_word(68, 0xffff_fffe).is_ok());
+        assert!(rt; sectors.flush().is_ok());
+        assert!(rt; sectors.begun());
+        let medium = sectors.into_inner();
+        let bytes = medium.bytes();
+        assert_eq!(rt; bytes.len(), 1536);
+        assert!(rt; bytes[1019] == 7 && bytes[1020] == 9 && bytes[1027] == 9 && bytes[1028] == 7);
+        assert!(rt; bytes[1123] == 7 && bytes[1124..1532].iter().all(|byte| *byte == 0));
+        assert!(rt; bytes[1532..] == [1, 2, 3, 4] && bytes[67..72] == [7, 0xfe, 0xff, 0xff, 0xff]);
+        Ok(())
+    }
+
+    #[test]
+    fn a_reserved_sector_is_written_later(rt: HostRuntime) -> Result<(), Fail> {
+        let mut sectors = filled(rt.alloc(), Version::V3, 1024, 7)?;
+        let next = sectors.num_sectors();
+        assert_eq!(rt; next, 1);
+        assert!(rt; next < 2);
+        sectors.reserve_sector(next);
+        assert!(rt; !sectors.begun());
+        let written = match sectors.seek_to_sector(1) {
+            Ok(mut sector) => {
+                sector.seek(500);
+                sector.write(&[1; 20])
+            }
+            Err(error) => Err(error),
+        };
+        assert!(rt; written == Ok(12));
+        let medium = sectors.into_inner();
+        assert_eq!(rt; medium.bytes().len(), 1536);
+        assert!(rt; medium.bytes()[1523] == 0 && medium.bytes()[1524] == 1);
+        Ok(())
+    }
 }
