@@ -1,13 +1,13 @@
 //! A medium as sectors (MS-CFB 2.1).
 ghost use Rattle.std.specs.Prelude.{◌≡◌, ◌≢◌, ◌+◌, ◌^◌, ◌*◌, ◌<◌, ◌≤◌, ◌-◌, ℕ, Bool, true, false, min, max, length, take, drop, IsTrue, OnOk, OnErr, IfOk, IfErr, IsErrAnd, MatchResult, Ok};
-ghost use Rattle.cfb_format.specs.Bytes.{sector_len as sector_len_of, words_per_sector, u32_at};
+ghost use Rattle.cfb_format.specs.Bytes.{sector_len as sector_len_of, words_per_sector, sector_words, words, u32_at as word_at};
 ghost use Rattle.cfb_format.specs.Medium.{part, written, ChangesOnly};
 ghost use Rattle.cfb_format.specs.DirectoryEntry.{entry_bytes, unallocated_entry};
 ghost use Rattle.cfb_format.specs.Refused.{IsInvalidData, CountsFailure};
 ghost use Rattle.cfb_chains.specs.Words.{Apart, with_word, OtherWordsStay};
 ghost use Rattle.cfb_chains.specs.Sectors.{sectors_in, place, sectors_end, init_bytes, copies, IsMediumError, OtherSectorsStay, SectorStays};
 
-use cfb_format::bytes::put;
+use cfb_format::bytes::{put, u32_at};
 use cfb_format::consts;
 use cfb_format::error::{Detail, Error};
 use cfb_format::medium::{Medium, ReadMedium};
@@ -247,7 +247,7 @@ impl<F: ReadMedium> Sectors<F> {
     pub fn read_word(&mut self, sector: u32, index: usize) -> Result<u32, Error>
         requires { index < words_per_sector self.old.version }
         ensures kept { self.new ≡ record self.old { bytes = self.new.bytes; failures = self.new.failures } }
-        ensures ok { IsTrue F.tells → IfOk result (λ word. word ≡ u32_at self.old.bytes (place self.old sector (4 * index))) }
+        ensures ok { IsTrue F.tells → IfOk result (λ word. word ≡ word_at self.old.bytes (place self.old sector (4 * index))) }
         ensures past { self.old.len < place self.old sector (4 * index) + 4 → IsErrAnd result IsInvalidData × (self.new ≡ self.old) }
         ensures inside { place self.old sector (4 * index) + 4 ≤ self.old.len → IfErr result IsMediumError }
         ensures same { IsTrue F.tells → OnOk result (self.new ≡ self.old) }
@@ -257,6 +257,26 @@ impl<F: ReadMedium> Sectors<F> {
         let mut bytes = [0; 4];
         self.read_exact(sector, 4 * index, &mut bytes)?;
         Ok(u32::from_le_bytes(bytes))
+    }
+
+    /// Reads all words of a sector. `InvalidData` exactly where the file hasn't all of the sector,
+    /// and `Medium` where the medium fails.
+    pub fn read_words(&mut self, sector: u32, into: &mut [u32]) -> Result<(), Error>
+        requires { length into.old ≡ words_per_sector self.old.version }
+        ensures kept { self.new ≡ record self.old { bytes = self.new.bytes; failures = self.new.failures } }
+        ensures ok { IsTrue F.tells → OnOk result (into.new ≡ sector_words self.old.version self.old.bytes sector) }
+        ensures past { self.old.len < place self.old sector (sector_len_of self.old.version) → IsErrAnd result IsInvalidData × (self.new ≡ self.old) }
+        ensures inside { place self.old sector (sector_len_of self.old.version) ≤ self.old.len → IfErr result IsMediumError }
+        ensures same { IsTrue F.tells → OnOk result (self.new ≡ self.old) }
+        ensures bytes { IsTrue F.tells → self.new.bytes ≡ self.old.bytes }
+        ensures counts { IsTrue F.tells → CountsFailure F.read_faults result self.old.failures self.new.failures }
+    {
+        let mut buffer = zeros();
+        let len = self.sector_len();
+        let bytes = &mut buffer[..len];
+        self.read_exact(sector, 0, bytes)?;
+        get_words(bytes, into);
+        Ok(())
     }
 }
 
@@ -425,6 +445,21 @@ fn fresh_sector(version: Version, init: SectorInit) -> [u8; 4096]
     let mut bytes = [0; 4096];
     fill(&mut bytes[..version.sector_len()], version, init);
     bytes
+}
+
+/// As many zeros as the longest sector has bytes.
+fn zeros() -> [u8; 4096] {
+    [0; 4096]
+}
+
+/// Reads words.
+fn get_words(bytes: &[u8], into: &mut [u32])
+    requires { 4 * length into.old ≤ length bytes.now }
+    ensures { into.new ≡ words (length into.old) bytes.now }
+{
+    for (i, word) in into.iter_mut().enumerate() {
+        *word = u32_at(bytes, 4 * i);
+    }
 }
 
 /// Fills a sector.
@@ -643,6 +678,8 @@ impl<'a, F: Medium> Sector<'a, F> {
             (λ n. 0 < n → (file_of self.new).now.len ≡ max (file_of self.old).now.len (position_of self.old + n))
             (λ e. IsMediumError e × ((file_of self.new).now.len ≡ (file_of self.old).now.len)) }
         ensures others { IsTrue F.tells → ChangesOnly (position_of self.old) (min (length from.now) (room_of self.old)) (file_of self.old).now.bytes (file_of self.new).now.bytes }
+        ensures sectors { IsTrue F.tells → OtherSectorsStay (file_of self.old).now.version (position_of self.old) (min (length from.now) (room_of self.old)) (file_of self.old).now.bytes (file_of self.new).now.bytes }
+        ensures words { IsTrue F.tells → OtherWordsStay (position_of self.old) (min (length from.now) (room_of self.old)) (file_of self.old).now.bytes (file_of self.new).now.bytes }
         ensures counts { IsTrue F.tells → CountsFailure F.write_faults result (file_of self.old).now.failures (file_of self.new).now.failures }
     {
         let count = from.len().min(self.remaining());
