@@ -1,5 +1,5 @@
 -- The table in memory and the bytes that hold it.
-use Rattle.std.proofs.Common.{◌≡◌, ◌≢◌, ◌≤◌, ◌<◌, ◌+◌, ◌-◌, ◌*◌, ◌/◌, ◌^◌, inl, inr, ℕ, suc, List, [], ◌∷◌, ◌++◌, Bool, true, false, refl, sym, ◌∙◌, ap, subst, length, map, max, arith, length-append, length-drop, append-nil, get_or-drop}
+use Rattle.std.proofs.Common.{◌≡◌, ◌≢◌, ◌≤◌, ◌<◌, ◌+◌, ◌-◌, ◌*◌, ◌/◌, ◌^◌, inl, inr, ℕ, suc, List, [], ◌∷◌, ◌++◌, Bool, true, false, refl, sym, ◌∙◌, ap, subst, length, map, arith, length-append, length-drop, append-nil, get_or-drop}
 use Rattle.std.specs.Prelude.{if◌then◌else◌, slice_index, slice_index_or, nat_le, nat_eq, IsTrue, Contains, not, ◌&&◌, ◌==◌}
 use Rattle.std.specs.List.{IsDistinct, range_with_len, list_all}
 use Rattle.std.proofs.lemmas.Bool.{cases_eq, cases_lt, lt-leb}

@@ -1,5 +1,5 @@
 -- Fresh sectors: the same bytes again and again.
-use Rattle.std.proofs.Common.{refl, zero, suc, ◌≡◌, ℕ, ◌+◌, ◌-◌, ◌*◌, ◌/◌, ◌<◌, ◌≤◌, List, [], ◌∷◌, ◌++◌, length, take, drop, replicate, sym, ◌∙◌, ap, ap₂, arith, append_assoc, append-nil, length-append, add-one}
+use Rattle.std.proofs.Common.{refl, zero, suc, ◌≡◌, ℕ, ◌+◌, ◌-◌, ◌*◌, ◌/◌, ◌<◌, ◌≤◌, List, [], ◌∷◌, ◌++◌, length, take, drop, replicate, sym, ◌∙◌, ap, ap₂, arith, append_assoc, append-nil, add-one}
 use Rattle.std.proofs.lemmas.List.{take_all, take-append-drop}
 use Rattle.std.specs.Int.{to_le_bytes, w32}
 use Rattle.cfb_format.specs.Bytes.{word_bytes, unit_bytes, sector_len, words_per_sector, entries_per_sector, free_sector, end_of_chain}

@@ -1,5 +1,6 @@
 pub mod WordLemmas
 pub mod SectorLemmas
+pub mod CountLemmas
 pub mod FreshLemmas
 pub mod ReadLemmas
 pub mod Listed

@@ -1,8 +1,6 @@
 -- A read into a beginning of a slice.
-use Rattle.std.proofs.Common.{◌≡◌, ℕ, ◌≤◌, List, ◌++◌, length, take, drop, sym, ◌∙◌, ap, ap₂, arith, length-take}
+use Rattle.std.proofs.Common.{◌≡◌, ℕ, ◌≤◌, List, ◌++◌, length, take, drop, sym, ◌∙◌, ap, arith}
 use Rattle.std.proofs.lemmas.List.{drop-append-le, take-append-drop}
-use Rattle.std.proofs.lemmas.Slice.{drop-append-drop}
-use Rattle.std.proofs.lemmas.Bool.{cases_lt}
 
 -- what a read into `&mut into[..room]` left behind its n bytes is what `into` had there
 pub rest_after_read : (n room : ℕ) (r into : List ℕ) → length r ≡ length (take room into) → n ≤ length r → drop n r ≡ drop n (take room into)

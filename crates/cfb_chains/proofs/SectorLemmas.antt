@@ -1,5 +1,5 @@
 -- Stretches of bytes, and sectors, that a change leaves alone.
-use Rattle.std.proofs.Common.{refl, inl, inr, ◌≡◌, ◌≢◌, ℕ, ◌+◌, ◌*◌, ◌<◌, ◌≤◌, max, List, length, slice_index, Contains, subst, sym, ◌∙◌, arith}
+use Rattle.std.proofs.Common.{refl, inl, inr, ◌≡◌, ◌≢◌, ℕ, ◌+◌, ◌<◌, ◌≤◌, List, length, subst, ◌∙◌, arith}
 use Rattle.std.proofs.lemmas.Bool.{cases_lt}
 use Rattle.cfb_format.specs.Bytes.{sector_len, sector_start, u32_at}
 use Rattle.cfb_format.specs.Medium.{ChangesOnly}

@@ -1,5 +1,5 @@
 -- The words of the FAT sectors, and where they stand.
-use Rattle.std.proofs.Common.{◌≡◌, ◌≢◌, ◌≤◌, ◌<◌, ◌+◌, ◌-◌, ◌*◌, ◌/◌, ◌%◌, ◌^◌, ◌⊎◌, inl, inr, ℕ, zero, suc, List, [], ◌∷◌, ◌++◌, refl, sym, ◌∙◌, ap, length, drop, arith, mod-lt, length-append, drop-drop, get_or-take, append-nil, subst, add-zero}
+use Rattle.std.proofs.Common.{◌≡◌, ◌≢◌, ◌≤◌, ◌<◌, ◌+◌, ◌-◌, ◌*◌, ◌/◌, ◌%◌, ◌⊎◌, inl, inr, ℕ, zero, suc, List, [], ◌∷◌, ◌++◌, refl, sym, ◌∙◌, ap, length, drop, arith, mod-lt, length-append, drop-drop, get_or-take, add-zero}
 use Rattle.std.specs.Prelude.{slice_index, slice_index_or, nat_eq, Contains, flat_map}
 use Rattle.std.specs.List.{IsDistinct}
 use Rattle.std.specs.Int.{from_le_bytes, w32}

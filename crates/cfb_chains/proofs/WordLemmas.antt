@@ -1,11 +1,11 @@
 -- Words before and after a write.
-use Rattle.std.proofs.Common.{refl, inl, inr, ◌≡◌, ℕ, ◌+◌, ◌<◌, ◌≤◌, ◌^◌, max, List, length, drop, take, slice_index, sym, ◌∙◌, ap, arith, get_or-drop, get_or-take}
+use Rattle.std.proofs.Common.{refl, inl, inr, ◌≡◌, ℕ, ◌+◌, ◌<◌, ◌≤◌, ◌^◌, max, List, length, drop, slice_index, sym, ◌∙◌, arith, get_or-drop, get_or-take}
 use Rattle.std.specs.Int.{from_le_bytes, to_le_bytes, w32, byte_worth}
 use Rattle.std.proofs.lemmas.Nat.{from_le_bytes-to_le_bytes_4}
 use Rattle.std.proofs.lemmas.Bool.{cases_lt}
 use Rattle.cfb_format.specs.Bytes.{u32_at}
 use Rattle.cfb_format.specs.Medium.{part, written, ChangesOnly}
-use Rattle.cfb_format.proofs.ByteLemmas.{written_at, written_below, written_above, length-written, ChangesOnly-written}
+use Rattle.cfb_format.proofs.ByteLemmas.{written_at, written_below, written_above, length-written}
 use Rattle.cfb_chains.specs.Words.{Apart, with_word, Stays}
 
 abbrev four : ℕ → ℕ → ℕ → ℕ → ℕ

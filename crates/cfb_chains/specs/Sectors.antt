@@ -1,5 +1,5 @@
 -- A compound file as sectors over bytes (MS-CFB 2.1).
-use Rattle.std.specs.Prelude.{◌≡◌, ◌≢◌, ℕ, zero, suc, ◌+◌, ◌-◌, ◌*◌, ◌/◌, ◌<◌, ◌≤◌, Bool, List, [], ◌∷◌, ◌++◌, replicate}
+use Rattle.std.specs.Prelude.{◌≡◌, ℕ, zero, suc, ◌+◌, ◌-◌, ◌/◌, Bool, List, [], ◌∷◌, ◌++◌, replicate}
 use Rattle.cfb_format.specs.Bytes.{sector_len, sector_start, words_per_sector, entries_per_sector, word_bytes, free_sector, end_of_chain}
 use Rattle.cfb_format.specs.DirectoryEntry.{entry_bytes, unallocated_entry}
 use Rattle.cfb_format.specs.Refused.{number_of}

@@ -795,6 +795,16 @@ mod tests {
     }
 
     #[test]
+    fn all_words_of_a_sector_are_read(rt: HostRuntime) -> Result<(), Fail> {
+        let mut sectors = filled(rt.alloc(), Version::V3, 1124, 7)?;
+        let mut words = [0; 128];
+        assert!(rt; sectors.read_words(0, &mut words).is_ok());
+        assert!(rt; words.iter().all(|word| *word == 0x0707_0707));
+        assert!(rt; matches!(sectors.read_words(1, &mut words), Err(Error::InvalidData(_))));
+        Ok(())
+    }
+
+    #[test]
     fn writes_stay_within_the_sectors(rt: HostRuntime) -> Result<(), Fail> {
         let mut sectors = filled(rt.alloc(), Version::V3, 1124, 7)?;
         let from = [9; 8];

@@ -1,4 +1,4 @@
-use Rattle.std.proofs.Common.{arith, ap, ◌∙◌, ◌+◌, ◌*◌, ◌/◌, ◌-◌, ◌++◌, ℕ, List, length, take}
+use Rattle.std.proofs.Common.{ap, ◌∙◌, ◌+◌, ◌*◌, ◌/◌, ◌-◌, ◌++◌, ℕ, List, length, take}
 use Rattle.cfb_chains.specs.Sectors.{copies}
 use Rattle.cfb_chains.proofs.FreshLemmas.{zero_filled, fat_filled, difat_filled, dir_filled}
 use Rattle.cfb_chains.proofs.sector.fill.Goals as goal

@@ -1,4 +1,4 @@
-use Rattle.std.proofs.Common.{arith, length-take}
+use Rattle.std.proofs.Common.{arith}
 use Rattle.cfb_chains.proofs.ReadLemmas.{rest_after_read}
 use Rattle.cfb_chains.proofs.sector.Sector.read.Goals as goal
 

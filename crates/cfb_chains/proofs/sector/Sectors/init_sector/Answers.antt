@@ -1,4 +1,4 @@
-use Rattle.std.proofs.Common.{arith, ap, ◌∙◌, ◌≡◌, length-take}
+use Rattle.std.proofs.Common.{arith, ap, ◌∙◌, length-take}
 use Rattle.cfb_format.specs.Bytes.{sector_len}
 use Rattle.cfb_chains.specs.Sectors.{SectorFile, place}
 use Rattle.cfb_chains.proofs.WordLemmas.{word_apart}

@@ -1,4 +1,4 @@
-use Rattle.std.proofs.Common.{refl, length}
+use Rattle.std.proofs.Common.{refl}
 use Rattle.cfb_chains.proofs.WordLemmas.{word_apart}
 use Rattle.cfb_chains.proofs.SectorLemmas.{sector_apart, SectorStays_refl}
 use Rattle.cfb_chains.proofs.sector.Sectors.write_contiguous.Goals as goal
