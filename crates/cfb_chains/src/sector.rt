@@ -1,5 +1,5 @@
 //! A medium as sectors (MS-CFB 2.1).
-ghost use Rattle.std.specs.Prelude.{◌≡◌, ◌≢◌, ◌+◌, ◌^◌, ◌*◌, ◌<◌, ◌≤◌, ◌-◌, ℕ, Bool, true, false, min, max, length, take, drop, IsTrue, OnOk, OnErr, IfOk, IfErr, IsErrAnd, MatchResult, Ok};
+ghost use Rattle.std.specs.Prelude.{◌≡◌, ◌≢◌, ◌+◌, ◌^◌, ◌*◌, ◌<◌, ◌≤◌, ◌-◌, ℕ, Bool, true, false, min, max, length, take, drop, replicate, IsTrue, OnOk, OnErr, IfOk, IfErr, IsErrAnd, MatchResult, Ok};
 ghost use Rattle.cfb_format.specs.Bytes.{sector_len as sector_len_of, words_per_sector, sector_words, words, u32_at as word_at};
 ghost use Rattle.cfb_format.specs.Medium.{part, written, ChangesOnly};
 ghost use Rattle.cfb_format.specs.DirectoryEntry.{entry_bytes, unallocated_entry};
@@ -448,7 +448,9 @@ fn fresh_sector(version: Version, init: SectorInit) -> [u8; 4096]
 }
 
 /// As many zeros as the longest sector has bytes.
-fn zeros() -> [u8; 4096] {
+fn zeros() -> [u8; 4096]
+    ensures { result ≡ replicate 4096 0 }
+{
     [0; 4096]
 }
 
@@ -800,7 +802,12 @@ mod tests {
         let mut words = [0; 128];
         assert!(rt; sectors.read_words(0, &mut words).is_ok());
         assert!(rt; words.iter().all(|word| *word == 0x0707_0707));
-        assert!(rt; matches!(sectors.read_words(1, &mut words), Err(Error::InvalidData(_))));
+        assert!(rt;
+            matches!(
+                sectors.read_words(1, &mut words),
+                Err(Error::InvalidData(_))
+            )
+        );
         Ok(())
     }
 
