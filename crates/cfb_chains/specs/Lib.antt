@@ -1,0 +1,4 @@
+pub mod Words
+pub mod Sectors
+pub mod Lent
+pub mod Agreement

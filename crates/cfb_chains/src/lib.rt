@@ -1,0 +1,5 @@
+//! Sectors, the tables that chain them, and chains of sectors (MS-CFB 2.1 to 2.5).
+#![tactic(auto)]
+
+pub mod agreement;
+pub mod sector;
