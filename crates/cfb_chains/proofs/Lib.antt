@@ -1,0 +1,4 @@
+pub mod Members
+pub mod ChainLemmas
+pub mod WalkLemmas
+pub mod RefusedLemmas
