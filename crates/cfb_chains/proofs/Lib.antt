@@ -2,3 +2,4 @@ pub mod Members
 pub mod ChainLemmas
 pub mod WalkLemmas
 pub mod RefusedLemmas
+pub mod SizeLemmas

@@ -1,11 +1,12 @@
 -- The tables of a file in memory: the FAT, the FAT sectors and the DIFAT sectors.
-use Rattle.std.specs.Prelude.{ℕ, zero, suc, ◌≡◌, ◌≢◌, ◌+◌, ◌-◌, ◌*◌, ◌<◌, ◌≤◌, ◌⊎◌, List, [], ◌∷◌, ◌++◌, length, nat_eq, nat_lt, Contains, if◌then◌else◌}
+use Rattle.std.specs.Prelude.{ℕ, zero, suc, ◌≡◌, ◌≢◌, ◌+◌, ◌-◌, ◌*◌, ◌<◌, ◌≤◌, ◌⊎◌, List, [], ◌∷◌, ◌++◌, length, nat_eq, nat_lt, Contains, slice_set, if◌then◌else◌}
 use Rattle.std.specs.List.{IsDistinct}
 use Rattle.cfb_format.specs.declared.version.Version.{Version}
 use Rattle.cfb_format.specs.Bytes.{end_of_chain, free_sector, fat_sector, difat_sector, max_regular_sector, words_per_sector}
 use Rattle.cfb_format.specs.Chain.{value}
 use Rattle.cfb_format.specs.Full.{HasRoom, free_count, rounded_up}
 use Rattle.cfb_format.specs.Header.{header_difat_len}
+use Rattle.cfb_chains.specs.declared.lists.Sizes.{Sizes}
 use Rattle.cfb_chains.specs.Changes.{ChangesOnly, NoneFree, ListsFree}
 
 -- the FAT's values, the FAT sectors and the DIFAT sectors in order, and the number of sectors that the file may grow to
@@ -17,11 +18,6 @@ pub record TableState : Type 0 where
   pub difat_sectors : List ℕ
 
 -- ---- sizes
-
-pub record Sizes : Type 0 where
-  pub sectors : ℕ
-  pub fats : ℕ
-  pub difats : ℕ
 
 abbrev pub sizes_of : TableState → Sizes
 sizes_of t = record { sectors = length t.fat; fats = length t.fat_sectors; difats = length t.difat_sectors }
@@ -106,3 +102,52 @@ pub record HasTaken (old new : TableState) (touched more : List ℕ) : Type 0 wh
   pub exact : HasExactTables old → HasExactTables new
   pub same_version : new.version ≡ old.version
   pub same_max : new.max_sectors ≡ old.max_sectors
+
+-- ---- the lists in memory
+
+-- the words of so many numbers past the end, the last of which is asked for, and which of them are table sectors
+abbrev pub grown : ℕ → List ℕ
+grown numbers =
+    if nat_lt numbers 2 then end_of_chain ∷ []
+    else if nat_lt numbers 3 then fat_sector ∷ end_of_chain ∷ []
+    else fat_sector ∷ difat_sector ∷ end_of_chain ∷ []
+
+abbrev pub grown_fats : ℕ → ℕ → List ℕ
+grown_fats numbers first = if nat_lt numbers 2 then [] else first ∷ []
+
+abbrev pub grown_difats : ℕ → ℕ → List ℕ
+grown_difats numbers first = if nat_lt numbers 3 then [] else (first + 1) ∷ []
+
+abbrev pub grown_state : TableState → ℕ → TableState
+grown_state t numbers = record t {
+  fat = t.fat ++ grown numbers;
+  fat_sectors = t.fat_sectors ++ grown_fats numbers (length t.fat);
+  difat_sectors = t.difat_sectors ++ grown_difats numbers (length t.fat);
+}
+
+-- the tables, the free numbers with the one that was freed last at the end, and how much the lists can hold
+pub record Kept : Type 0 where
+  pub state : TableState
+  pub free : List ℕ
+  pub fat_capacity : ℕ
+  pub fats_capacity : ℕ
+  pub difats_capacity : ℕ
+  pub free_capacity : ℕ
+
+pub record IsKept (k : Kept) : Type 0 where
+  pub listed : ListsFree (length k.state.fat) k.free k.state.fat
+  pub sizes : AreSizes k.state.version (sizes_of k.state)
+  pub limit : k.state.max_sectors ≤ max_regular_sector
+
+-- the lists can become so long
+pub record CanHold (k : Kept) (s : Sizes) : Type 0 where
+  pub fat : s.sectors ≤ k.fat_capacity
+  pub fats : s.fats ≤ k.fats_capacity
+  pub difats : s.difats ≤ k.difats_capacity
+
+-- exactly what changes as x is taken: the number that was freed last, or numbers past the end
+abbrev pub TakesNext : Kept → Kept → ℕ → Type 0
+TakesNext old new x =
+    ((old.free ≡ new.free ++ x ∷ []) × (new ≡ record old { free = new.free; state = record old.state { fat = slice_set old.state.fat x end_of_chain } }))
+    ⊎ ((old.free ≡ []) × (x + 1 ≡ length old.state.fat + numbers_needed old.state.version (sizes_of old.state))
+    × (new ≡ record old { state = grown_state old.state (numbers_needed old.state.version (sizes_of old.state)) }))
