@@ -3,3 +3,4 @@ pub mod ChainLemmas
 pub mod WalkLemmas
 pub mod RefusedLemmas
 pub mod SizeLemmas
+pub mod FreeLemmas

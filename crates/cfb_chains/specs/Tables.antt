@@ -134,10 +134,10 @@ pub record Kept : Type 0 where
   pub difats_capacity : ℕ
   pub free_capacity : ℕ
 
-pub record IsKept (k : Kept) : Type 0 where
-  pub listed : ListsFree (length k.state.fat) k.free k.state.fat
-  pub sizes : AreSizes k.state.version (sizes_of k.state)
-  pub limit : k.state.max_sectors ≤ max_regular_sector
+pub record IsKept (state : TableState) (free : List ℕ) : Type 0 where
+  pub listed : ListsFree (length state.fat) free state.fat
+  pub sizes : AreSizes state.version (sizes_of state)
+  pub limit : state.max_sectors ≤ max_regular_sector
 
 -- the lists can become so long
 pub record CanHold (k : Kept) (s : Sizes) : Type 0 where
@@ -151,3 +151,24 @@ TakesNext old new x =
     ((old.free ≡ new.free ++ x ∷ []) × (new ≡ record old { free = new.free; state = record old.state { fat = slice_set old.state.fat x end_of_chain } }))
     ⊎ ((old.free ≡ []) × (x + 1 ≡ length old.state.fat + numbers_needed old.state.version (sizes_of old.state))
     × (new ≡ record old { state = grown_state old.state (numbers_needed old.state.version (sizes_of old.state)) }))
+
+-- so many sectors can be taken with the memory that there is, and stay below the limit
+pub record IsPrepared (k : Kept) (count : ℕ) : Type 0 where
+  pub held : CanHold k (sizes_after k.state.version (count - length k.free) (sizes_of k.state))
+  pub are : AreSizes k.state.version (sizes_after k.state.version (count - length k.free) (sizes_of k.state))
+  pub limited : (0 < count - length k.free) → (sizes_after k.state.version (count - length k.free) (sizes_of k.state)).sectors ≤ k.state.max_sectors
+
+-- the table with each number of the list made free
+abbrev pub wiped : List ℕ → List ℕ → List ℕ
+wiped table [] = table
+wiped table (i ∷ list) = wiped (slice_set table i free_sector) list
+
+-- the tables of these lists
+abbrev pub tables_of : Version → ℕ → List ℕ → List ℕ → List ℕ → TableState
+tables_of version max_sectors fat fat_sectors difat_sectors = record {
+  version = version;
+  max_sectors = max_sectors;
+  fat = fat;
+  fat_sectors = fat_sectors;
+  difat_sectors = difat_sectors;
+}
