@@ -107,3 +107,4 @@ lists-grow free table words busy f =
 
 pub none-free : (table : List ℕ) → ListsFree (length table) [] table → NoneFree table
 none-free table f i lt is = Contains-nil i (f.whole i lt is)
+

@@ -4,3 +4,4 @@ pub mod WalkLemmas
 pub mod RefusedLemmas
 pub mod SizeLemmas
 pub mod FreeLemmas
+pub mod KeptLemmas

@@ -1,7 +1,7 @@
 //! The lists that the tables are made of. Each growth of memory is reserved here before anything changes, and what was
 //! reserved for cannot fail.
-ghost use Rattle.std.specs.Prelude.{◌≡◌, ◌≢◌, ℕ, List, Contains, ◌+◌, ◌-◌, ◌*◌, ◌<◌, ◌≤◌, [], ◌∷◌, ◌++◌, length, slice_set, IfOk, IfErr, OnErr, OnOk, vec_len, vec_capacity};
-ghost use Rattle.cfb_format.specs.Bytes.{max_regular_sector, end_of_chain, words_per_sector as words_of};
+ghost use Rattle.std.specs.Prelude.{◌≡◌, ◌≢◌, ℕ, List, Contains, ◌+◌, ◌-◌, ◌*◌, ◌<◌, ◌≤◌, [], ◌∷◌, ◌++◌, length, min, slice_set, IfOk, IfErr, OnErr, OnOk, vec_len, vec_capacity};
+ghost use Rattle.cfb_format.specs.Bytes.{max_regular_sector, end_of_chain, free_sector, words_per_sector as words_of};
 ghost use Rattle.cfb_format.specs.Chain.{value};
 ghost use Rattle.cfb_format.specs.Full.{HasRoom};
 ghost use Rattle.cfb_chains.specs.Changes.{ListsFree};
@@ -197,5 +197,122 @@ impl<A: Allocator> Lists<A> {
             fats: self.fat_sectors.len(),
             difats: self.difat_sectors.len(),
         }
+    }
+
+    /// Reserves the memory for lists of these sizes. `Memory`.
+    fn reserve(&mut self, sizes: Sizes) -> Result<(), Error>
+        ensures ok { OnOk result (CanHold self.new sizes) }
+        ensures rest { self.new ≡ record self.old { fat_capacity = self.new.fat_capacity; fats_capacity = self.new.fats_capacity; difats_capacity = self.new.difats_capacity } }
+        ensures err { IfErr result (Refused ⊥ Unit ⊥) }
+    {
+        self.fat.reserve(sizes.sectors.saturating_sub(self.fat.len()))?;
+        self.fat_sectors.reserve(sizes.fats.saturating_sub(self.fat_sectors.len()))?;
+        self.difat_sectors.reserve(sizes.difats.saturating_sub(self.difat_sectors.len()))?;
+        Ok(())
+    }
+
+    /// Reserves the memory that taking so many sectors needs. `Full` where there are too few numbers, and `Memory`.
+    pub fn prepare(&mut self, count: usize) -> Result<(), Error>
+        ensures ok { OnOk result (IsPrepared self.new count) }
+        ensures rest { self.new ≡ record self.old { fat_capacity = self.new.fat_capacity; fats_capacity = self.new.fats_capacity; difats_capacity = self.new.difats_capacity } }
+        ensures err { IfErr result (Refused ⊥ Unit (CanTakeSectors self.old.state count → ⊥)) }
+    {
+        let missing = count.saturating_sub(self.free.len());
+        let sizes = self.sizes().with_more(self.version, self.max_sectors as usize, missing)?;
+        self.reserve(sizes)
+    }
+
+    /// Takes a sector, as the only one of a new chain: the one that was freed last, or one past the end, before which the
+    /// tables grow by the sectors that they need.
+    pub fn take_prepared(&mut self) -> u32
+        requires held { (self.old.free ≡ []) → CanHold self.old (grown_sizes (sizes_of self.old.state) (needed self.old.state.version (sizes_of self.old.state))) }
+        requires short { (self.old.free ≡ []) → length self.old.state.fat + needed self.old.state.version (sizes_of self.old.state) ≤ max_regular_sector }
+        ensures { TakesNext self.old self.new result }
+    {
+        if let Some(sector) = self.free.pop() {
+            self.fat[sector as usize] = END_OF_CHAIN;
+            return sector;
+        }
+        let numbers = self.sizes().numbers_needed(self.version);
+        grow(&mut self.fat, &mut self.fat_sectors, &mut self.difat_sectors, numbers)
+    }
+
+    /// Lets the last sector of a chain name the next one.
+    pub fn link(&mut self, last: u32, next: u32)
+        requires ended { value self.old.state.fat last ≡ end_of_chain }
+        requires regular { next ≤ max_regular_sector }
+        ensures { self.new ≡ record self.old { state = record self.old.state { fat = slice_set self.old.state.fat last next } } }
+    {
+        self.fat[last as usize] = next;
+    }
+
+    /// Makes a sector in use the last one of its chain.
+    pub fn end(&mut self, sector: u32)
+        requires busy { value self.old.state.fat sector ≢ free_sector }
+        ensures { self.new ≡ record self.old { state = record self.old.state { fat = slice_set self.old.state.fat sector end_of_chain } } }
+    {
+        self.fat[sector as usize] = END_OF_CHAIN;
+    }
+
+    /// Reserves the memory that freeing so many sectors needs. `Memory`.
+    pub fn prepare_free(&mut self, count: usize) -> Result<(), Error>
+        ensures ok { OnOk result (length self.new.free + count ≤ self.new.free_capacity) }
+        ensures rest { self.new ≡ record self.old { free_capacity = self.new.free_capacity } }
+        ensures err { IfErr result (Refused ⊥ Unit ⊥) }
+    {
+        self.free.reserve(count)?;
+        Ok(())
+    }
+
+    /// Frees a sector.
+    fn release(&mut self, sector: u32)
+        requires busy { value self.old.state.fat sector ≢ free_sector }
+        requires room { length self.old.free < self.old.free_capacity }
+        ensures { self.new ≡ record self.old { free = self.old.free ++ sector ∷ []; state = record self.old.state { fat = slice_set self.old.state.fat sector free_sector } } }
+    {
+        self.fat[sector as usize] = FREE_SECTOR;
+        self.free.push_reserved(sector);
+    }
+
+    /// Lets the file grow to so many sectors, and to no more.
+    pub fn set_max_sectors(&mut self, max_sectors: u32)
+        ensures { self.new ≡ record self.old { state = record self.old.state { max_sectors = min max_sectors max_regular_sector } } }
+    {
+        self.max_sectors = max_sectors.min(MAX_REGULAR_SECTOR);
+    }
+
+    /// The value of each sector.
+    pub fn fat(&self) -> &[u32]
+        ensures { result.now ≡ self.now.state.fat }
+    {
+        &self.fat
+    }
+
+    /// The FAT sectors, in order.
+    pub fn fat_sectors(&self) -> &[u32]
+        ensures { result.now ≡ self.now.state.fat_sectors }
+    {
+        &self.fat_sectors
+    }
+
+    /// The DIFAT sectors, in order.
+    pub fn difat_sectors(&self) -> &[u32]
+        ensures { result.now ≡ self.now.state.difat_sectors }
+    {
+        &self.difat_sectors
+    }
+
+    /// The version of the file.
+    pub fn version(&self) -> Version
+        ensures { result ≡ self.now.state.version }
+    {
+        self.version
+    }
+
+    /// How many sectors the file may grow to.
+    pub fn max_sectors(&self) -> u32
+        ensures { result ≡ self.now.state.max_sectors }
+    {
+        self.max_sectors
     }
 }
