@@ -1,13 +1,14 @@
 -- The list of free numbers, as the table changes.
-use Rattle.std.proofs.Common.{◌≡◌, ◌≢◌, ℕ, zero, suc, ◌+◌, ◌-◌, ◌<◌, ◌≤◌, ◌⊎◌, inl, inr, List, [], ◌∷◌, ◌++◌, length, set, refl, sym, ◌∙◌, ap, subst, arith, length-set, length-append}
-use Rattle.std.specs.Prelude.{Contains, nat_eq}
+use Rattle.std.proofs.Common.{◌≡◌, ◌≢◌, ℕ, zero, suc, ◌+◌, ◌-◌, ◌<◌, ◌≤◌, ◌⊎◌, inl, inr, List, [], ◌∷◌, ◌++◌, length, set, refl, sym, ◌∙◌, ap, subst, arith, cond, ne_eqb, length-set, length-append}
+use Rattle.std.specs.Prelude.{Contains, nat_eq, ◌==◌}
+use Rattle.cfb_format.specs.Full.{free_count}
 use Rattle.std.specs.List.{IsDistinct}
 use Rattle.std.proofs.lemmas.List.Elements.{Contains-append_left, Contains-append_right, Contains-append_cases, Contains-push, Contains-push_cases}
 use Rattle.std.proofs.lemmas.Bool.{cases_eq, cases_lt}
 use Rattle.cfb_format.specs.Bytes.{free_sector}
 use Rattle.cfb_format.specs.Chain.{value}
 use Rattle.cfb_chains.specs.Changes.{ListsFree, NoneFree}
-use Rattle.cfb_chains.proofs.Members.{Contains-nil, Contains-here, Contains-there, none_distinct, distinct-left, distinct-apart, distinct-push, value-at, value-below, value-set, value-set_other, value-left, value-right}
+use Rattle.cfb_chains.proofs.Members.{Contains-nil, Contains-here, Contains-there, Contains-cases, none_distinct, distinct-left, distinct-right, distinct-apart, distinct-push, value-at, value-below, value-set, value-set_other, value-left, value-right}
 
 -- going up through the table
 
@@ -108,3 +109,60 @@ lists-grow free table words busy f =
 pub none-free : (table : List ℕ) → ListsFree (length table) [] table → NoneFree table
 none-free table f i lt is = Contains-nil i (f.whole i lt is)
 
+
+-- ---- the list is as long as there are free numbers
+
+bit_yes : (y : ℕ) → y ≡ free_sector → cond (y == free_sector) 1 0 ≡ 1
+bit_yes y e = rw e refl
+
+bit_no : (y : ℕ) → y ≢ free_sector → cond (y == free_sector) 1 0 ≡ 0
+bit_no y ne = ap (λ b. cond b 1 0) (ne_eqb y free_sector ne)
+
+count-cons : (y : ℕ) (table : List ℕ) → free_count (y ∷ table) ≡ cond (y == free_sector) 1 0 + free_count table
+count-cons y table = refl
+
+count-set : (table : List ℕ) (x w : ℕ) → x < length table → value table x ≡ free_sector → w ≢ free_sector → suc (free_count (set table x w)) ≡ free_count table
+count-set [] x w lt is ne = absurd (omega (arith, lt))
+count-set (y ∷ table) zero w lt is ne =
+    let a = bit_yes y is in let b = bit_no w ne in
+    let p = count-cons y table in let q = count-cons w table in
+    omega (arith, a, b, p, q)
+count-set (y ∷ table) (suc x) w lt is ne =
+    let rest = count-set table x w (omega (arith, lt)) is ne in
+    let p = count-cons y table in let q = count-cons y (set table x w) in
+    omega (arith, rest, p, q)
+
+count-none : (table : List ℕ) → NoneFree table → free_count table ≡ 0
+count-none [] none = refl
+count-none (y ∷ table) none =
+    let a = bit_no y (none 0 (omega arith)) in
+    let rest = count-none table (λ i lt e. none (suc i) (omega (arith, lt)) e) in
+    let p = count-cons y table in
+    omega (arith, a, rest, p)
+
+lists-drop : (n : ℕ) (x : ℕ) (free table : List ℕ) (w : ℕ) → x < length table → w ≢ free_sector → ListsFree n (x ∷ free) table → ListsFree n free (set table x w)
+lists-drop n x free table w lx busy f =
+    let out : Contains free x → ⊥ = λ m. distinct-apart (x ∷ []) free f.once x (Contains-here x []) m in
+    record {
+      once = distinct-right (x ∷ []) free f.once;
+      sound = λ i m.
+          let ne : i ≢ x = λ e. out (subst (Contains free) e m) in
+          let s = f.sound i (Contains-there x free i m) in
+          (s.0, value-set_other table x i w ne ∙ s.1);
+      whole = λ i lt is. elim (cases_eq i x) [
+        | inl e ↦ absurd (busy (sym (value-set table x w lx) ∙ (ap (value (set table x w)) (sym e) ∙ is)))
+        | inr ne ↦ elim (Contains-cases x free i (f.whole i lt (sym (value-set_other table x i w ne) ∙ is))) [
+          | inl e ↦ absurd (ne (sym e))
+          | inr r ↦ r
+        ]
+      ];
+    }
+
+pub lists-count : (free table : List ℕ) → ListsFree (length table) free table → free_count table ≡ length free
+lists-count [] table f = count-none table (none-free table f)
+lists-count (x ∷ free) table f =
+    let top = f.sound x (Contains-here x free) in
+    let one : suc (free_count (set table x 0)) ≡ free_count table = count-set table x 0 top.0 top.1 (λ e. omega (arith, e)) in
+    let less = lists-drop (length table) x free table 0 top.0 (λ e. omega (arith, e)) f in
+    let rest = lists-count free (set table x 0) (subst (λ n. ListsFree n free (set table x 0)) (sym (length-set table x 0)) less) in
+    omega (arith, one, rest)

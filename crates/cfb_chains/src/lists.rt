@@ -215,7 +215,7 @@ impl<A: Allocator> Lists<A> {
     pub fn prepare(&mut self, count: usize) -> Result<(), Error>
         ensures ok { OnOk result (IsPrepared self.new count) }
         ensures rest { self.new ≡ record self.old { fat_capacity = self.new.fat_capacity; fats_capacity = self.new.fats_capacity; difats_capacity = self.new.difats_capacity } }
-        ensures err { IfErr result (Refused ⊥ Unit (CanTakeSectors self.old.state count → ⊥)) }
+        ensures err { IfErr result (Refused ⊥ Unit (HasRoom self.old.state.version self.old.state.max_sectors (length self.old.state.fat) (length self.old.state.fat_sectors) (length self.old.state.difat_sectors) (count - length self.old.free) → ⊥)) }
     {
         let missing = count.saturating_sub(self.free.len());
         let sizes = self.sizes().with_more(self.version, self.max_sectors as usize, missing)?;
