@@ -1,9 +1,10 @@
 -- The list of free numbers, as the table changes.
-use Rattle.std.proofs.Common.{◌≡◌, ◌≢◌, ℕ, zero, suc, ◌+◌, ◌-◌, ◌<◌, ◌≤◌, ◌⊎◌, inl, inr, List, [], ◌∷◌, ◌++◌, length, set, refl, sym, ◌∙◌, ap, subst, arith, cond, ne_eqb, length-set, length-append}
+use Rattle.std.proofs.Common.{◌≡◌, ◌≢◌, ℕ, zero, suc, ◌+◌, ◌-◌, ◌<◌, ◌≤◌, ◌⊎◌, inl, inr, Bool, List, [], ◌∷◌, ◌++◌, length, set, refl, sym, ◌∙◌, ap, subst, arith, cond, ne_eqb, length-set, length-append}
 use Rattle.std.specs.Prelude.{Contains, nat_eq, ◌==◌}
 use Rattle.cfb_format.specs.Full.{free_count}
 use Rattle.std.specs.List.{IsDistinct}
 use Rattle.std.proofs.lemmas.List.Elements.{Contains-append_left, Contains-append_right, Contains-append_cases, Contains-push, Contains-push_cases}
+use Rattle.std.proofs.lemmas.List.Sums.{sum_by-cons}
 use Rattle.std.proofs.lemmas.Bool.{cases_eq, cases_lt}
 use Rattle.cfb_format.specs.Bytes.{free_sector}
 use Rattle.cfb_format.specs.Chain.{value}
@@ -112,14 +113,17 @@ none-free table f i lt is = Contains-nil i (f.whole i lt is)
 
 -- ---- the list is as long as there are free numbers
 
-bit_yes : (y : ℕ) → y ≡ free_sector → cond (y == free_sector) 1 0 ≡ 1
+abbrev bit : ℕ → ℕ
+bit y = cond (y == free_sector) 1 0
+
+bit_yes : (y : ℕ) → y ≡ free_sector → bit y ≡ 1
 bit_yes y e = rw e refl
 
-bit_no : (y : ℕ) → y ≢ free_sector → cond (y == free_sector) 1 0 ≡ 0
-bit_no y ne = ap (λ b. cond b 1 0) (ne_eqb y free_sector ne)
+bit_no : (y : ℕ) → y ≢ free_sector → bit y ≡ 0
+bit_no y ne = ap (λ (b : Bool). cond {A = ℕ} b 1 0) (ne_eqb y free_sector ne)
 
-count-cons : (y : ℕ) (table : List ℕ) → free_count (y ∷ table) ≡ cond (y == free_sector) 1 0 + free_count table
-count-cons y table = refl
+count-cons : (y : ℕ) (table : List ℕ) → free_count (y ∷ table) ≡ bit y + free_count table
+count-cons y table = sum_by-cons bit y table
 
 count-set : (table : List ℕ) (x w : ℕ) → x < length table → value table x ≡ free_sector → w ≢ free_sector → suc (free_count (set table x w)) ≡ free_count table
 count-set [] x w lt is ne = absurd (omega (arith, lt))

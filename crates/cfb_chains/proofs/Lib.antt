@@ -5,3 +5,6 @@ pub mod RefusedLemmas
 pub mod SizeLemmas
 pub mod FreeLemmas
 pub mod KeptLemmas
+pub mod TakenLemmas
+pub mod PreparedLemmas
+pub mod AttachLemmas

@@ -8,7 +8,7 @@ use Rattle.cfb_format.specs.Bytes.{words_per_sector, max_regular_sector}
 use Rattle.cfb_format.specs.Full.{HasRoom, rounded_up}
 use Rattle.cfb_format.specs.Header.{header_difat_len}
 use Rattle.cfb_chains.specs.declared.lists.Sizes.{Sizes}
-use Rattle.cfb_chains.specs.Tables.{AreSizes, numbers_needed, grown_sizes, sizes_after}
+use Rattle.cfb_chains.specs.Tables.{AreSizes, PassesLimit, numbers_needed, grown_sizes, sizes_after}
 
 -- which growth it is
 abbrev pub Needs : Version → Sizes → ℕ → Type 0
@@ -203,3 +203,41 @@ pub room-grown-at : (v : Version) (limit : ℕ) (s t : Sizes) (k w : ℕ) → k 
     → HasRoom v limit s.sectors s.fats s.difats k → HasRoom v limit t.sectors t.fats t.difats w
 room-grown-at v limit s t k w e is r =
     subst (λ (g : Sizes). HasRoom v limit g.sectors g.fats g.difats w) (sym is) (room-grown v limit s w (subst (HasRoom v limit s.sectors s.fats s.difats) e r))
+
+-- sizes only grow
+pub sizes-rise : (v : Version) (k : ℕ) (s : Sizes) → (s.sectors ≤ (sizes_after v k s).sectors) × (s.fats ≤ (sizes_after v k s).fats) × (s.difats ≤ (sizes_after v k s).difats)
+unfolding sizes_after
+sizes-rise v zero s = (omega arith, omega arith, omega arith)
+sizes-rise v (suc k) s =
+    let r = sizes-rise v k (grown_sizes s (numbers_needed v s)) in
+    (omega (arith, r.0), omega (arith, r.1), omega (arith, r.2))
+
+-- one growth that passes the limit lets all of them pass it
+pub passes-limit : (v : Version) (limit k w : ℕ) (s start : Sizes) (more : ℕ) → k ≡ suc w → limit - s.sectors < numbers_needed v s
+    → sizes_after v k s ≡ sizes_after v more start → 0 < more → PassesLimit v limit start more
+passes-limit v limit k w s start more e few same some =
+    let g = grown_sizes s (numbers_needed v s) in
+    let r = sizes-rise v w g in
+    let t = ap (λ (z : Sizes). z.sectors) (sym (after-one v k w s e) ∙ same) in
+    (some, omega (arith, r.0, t, few))
+
+-- where the limit is passed there is no room, and where it isn't there is room if the FAT covers the file
+pub no-room : (v : Version) (limit more : ℕ) (s : Sizes) → PassesLimit v limit s more → HasRoom v limit s.sectors s.fats s.difats more → ⊥
+unfolding sizes_after
+no-room v limit zero s p r = let some = p.0 in omega (arith, some)
+no-room v limit (suc zero) s p r = let fits = room-needed v limit s 0 r in let pass = p.1 in let some = (needed-some v s).0 in omega (arith, fits, pass, some)
+no-room v limit (suc (suc more)) s p r =
+    no-room v limit (suc more) (grown_sizes s (numbers_needed v s)) (omega arith, p.1) (room-grown v limit s (suc more) r)
+
+pub room : (v : Version) (limit more : ℕ) (s : Sizes) → AreSizes v s → limit ≤ max_regular_sector → s.sectors ≤ s.fats * words_per_sector v
+    → (PassesLimit v limit s more → ⊥) → HasRoom v limit s.sectors s.fats s.difats more
+unfolding sizes_after
+room v limit zero s a top covered not = room-for-none v limit s a covered
+room v limit (suc more) s a top covered not =
+    let g = grown_sizes s (numbers_needed v s) in
+    let rise = sizes-rise v more g in
+    let some = (needed-some v s).0 in
+    let fits : (sizes_after v more g).sectors ≤ limit = elim (cases_lt limit (sizes_after v more g).sectors) [ inl lt ↦ absurd (not (omega arith, lt)) | inr ge ↦ ge ] in
+    let low : s.sectors + numbers_needed v s ≤ limit = omega (arith, rise.0, fits) in
+    let a' = are-sizes-grown v s (omega (arith, low, top)) a in
+    room-before v limit s more (omega (arith, low)) (room v limit more g a' top (covered-grown v s covered) (λ p. not (omega arith, p.1)))

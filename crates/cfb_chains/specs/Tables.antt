@@ -71,6 +71,15 @@ pub record IsFull (t : TableState) : Type 0 where
   pub none : NoneFree t.fat
   pub few : t.max_sectors - length t.fat < numbers_needed t.version (sizes_of t)
 
+-- so many sectors more past the end pass the limit
+abbrev pub PassesLimit : Version → ℕ → Sizes → ℕ → Type 0
+PassesLimit version limit s more = (0 < more) × (limit < (sizes_after version more s).sectors)
+
+-- there are too few numbers for so many sectors: those that no free number serves, and the table sectors that they need,
+-- pass the limit
+abbrev pub IsTooFew : TableState → ℕ → Type 0
+IsTooFew t count = PassesLimit t.version t.max_sectors (sizes_of t) (count - free_count t.fat)
+
 -- so many sectors can be taken
 abbrev pub CanTakeSectors : TableState → ℕ → Type 0
 CanTakeSectors t count =

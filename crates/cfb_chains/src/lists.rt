@@ -1,11 +1,11 @@
 //! The lists that the tables are made of. Each growth of memory is reserved here before anything changes, and what was
 //! reserved for cannot fail.
-ghost use Rattle.std.specs.Prelude.{◌≡◌, ◌≢◌, ℕ, List, Contains, ◌+◌, ◌-◌, ◌*◌, ◌<◌, ◌≤◌, [], ◌∷◌, ◌++◌, length, min, slice_set, IfOk, IfErr, OnErr, OnOk, vec_len, vec_capacity};
+ghost use Rattle.std.specs.Prelude.{◌≡◌, ◌≢◌, ℕ, nat_eq, List, Contains, ◌+◌, ◌-◌, ◌*◌, ◌<◌, ◌≤◌, [], ◌∷◌, ◌++◌, length, min, slice_set, IfOk, IfErr, OnErr, OnOk, vec_len, vec_capacity};
 ghost use Rattle.cfb_format.specs.Bytes.{max_regular_sector, end_of_chain, free_sector, words_per_sector as words_of};
-ghost use Rattle.cfb_format.specs.Chain.{value};
-ghost use Rattle.cfb_format.specs.Full.{HasRoom};
+ghost use Rattle.cfb_format.specs.Chain.{value, IsChain};
+ghost use Rattle.std.specs.List.{IsDistinct};
 ghost use Rattle.cfb_chains.specs.Changes.{ListsFree};
-ghost use Rattle.cfb_chains.specs.Tables.{TableState, Kept, IsKept, AreSizes, CanHold, TakesNext, IsPrepared, CanTakeSectors, wiped, tables_of, sizes_of, sizes_after, grown_sizes, numbers_needed as needed, grown, grown_fats, grown_difats};
+ghost use Rattle.cfb_chains.specs.Tables.{TableState, Kept, IsKept, AreSizes, CanHold, TakesNext, IsPrepared, PassesLimit, HasTaken, wiped, tables_of, sizes_of, sizes_after, grown_sizes, numbers_needed as needed, grown, grown_fats, grown_difats};
 ghost use Rattle.cfb_chains.specs.Refused.{Refused};
 
 use cfb_format::consts::{DIFAT_SECTOR, END_OF_CHAIN, FAT_SECTOR, FREE_SECTOR, MAX_REGULAR_SECTOR, NUM_DIFAT_ENTRIES_IN_HEADER};
@@ -72,7 +72,7 @@ impl Sizes {
         ensures sizes { IfOk result (λ sizes. sizes ≡ sizes_after version more self) }
         ensures are { IfOk result (λ sizes. AreSizes version sizes) }
         ensures limited { IfOk result (λ sizes. (0 < more) → sizes.sectors ≤ limit) }
-        ensures err { IfErr result (Refused ⊥ ⊥ (HasRoom version limit self.sectors self.fats self.difats more → ⊥)) }
+        ensures err { IfErr result (Refused ⊥ ⊥ (PassesLimit version limit self more)) }
     {
         let mut sizes = self;
         for turn in 0..more {
@@ -190,7 +190,8 @@ impl<A: Allocator> Lists<A> {
 
     /// How many sectors, FAT sectors and DIFAT sectors there are.
     pub fn sizes(&self) -> Sizes
-        ensures { result ≡ sizes_of self.now.state }
+        ensures sizes { result ≡ sizes_of self.now.state }
+        ensures kept { IsKept self.now.state self.now.free }
     {
         Sizes {
             sectors: self.fat.len(),
@@ -215,7 +216,7 @@ impl<A: Allocator> Lists<A> {
     pub fn prepare(&mut self, count: usize) -> Result<(), Error>
         ensures ok { OnOk result (IsPrepared self.new count) }
         ensures rest { self.new ≡ record self.old { fat_capacity = self.new.fat_capacity; fats_capacity = self.new.fats_capacity; difats_capacity = self.new.difats_capacity } }
-        ensures err { IfErr result (Refused ⊥ Unit (HasRoom self.old.state.version self.old.state.max_sectors (length self.old.state.fat) (length self.old.state.fat_sectors) (length self.old.state.difat_sectors) (count - length self.old.free) → ⊥)) }
+        ensures err { IfErr result (Refused ⊥ Unit (PassesLimit self.old.state.version self.old.state.max_sectors (sizes_of self.old.state) (count - length self.old.free))) }
     {
         let missing = count.saturating_sub(self.free.len());
         let sizes = self.sizes().with_more(self.version, self.max_sectors as usize, missing)?;
@@ -227,7 +228,8 @@ impl<A: Allocator> Lists<A> {
     pub fn take_prepared(&mut self) -> u32
         requires held { (self.old.free ≡ []) → CanHold self.old (grown_sizes (sizes_of self.old.state) (needed self.old.state.version (sizes_of self.old.state))) }
         requires short { (self.old.free ≡ []) → length self.old.state.fat + needed self.old.state.version (sizes_of self.old.state) ≤ max_regular_sector }
-        ensures { TakesNext self.old self.new result }
+        ensures next { TakesNext self.old self.new result }
+        ensures kept { IsKept self.old.state self.old.free }
     {
         if let Some(sector) = self.free.pop() {
             self.fat[sector as usize] = END_OF_CHAIN;
@@ -272,6 +274,39 @@ impl<A: Allocator> Lists<A> {
     {
         self.fat[sector as usize] = FREE_SECTOR;
         self.free.push_reserved(sector);
+    }
+
+    /// Adds so many sectors at the end of a chain, with the memory that was prepared for them, and lists them.
+    pub fn attach_prepared(&mut self, last: u32, count: usize, list: &mut Vec<u32, A>)
+        requires prepared { IsPrepared self.old count }
+        requires ended { value self.old.state.fat last ≡ end_of_chain }
+        requires regular { last ≤ max_regular_sector }
+        requires room { vec_len list.old + count ≤ vec_capacity list.old }
+        requires empty { list.old.items ≡ [] }
+        ensures taken { HasTaken self.old.state self.new.state (last ∷ []) list.new.items }
+        ensures chain { IsChain self.new.state.fat last (last ∷ list.new.items) }
+        ensures count { vec_len list.new ≡ count }
+    {
+        let mut end = last;
+        for turn in 0..count {
+            let _taken = turn;
+            let next = self.take_prepared();
+            self.link(end, next);
+            list.push_reserved(next);
+            end = next;
+        }
+    }
+
+    /// Frees these sectors.
+    pub fn free_all(&mut self, list: &[u32])
+        requires busy { (i : ℕ) → Contains list.now i → value self.old.state.fat i ≢ free_sector }
+        requires once { IsDistinct nat_eq list.now }
+        requires room { length self.old.free + length list.now ≤ self.old.free_capacity }
+        ensures { self.new ≡ record self.old { free = self.old.free ++ list.now; state = record self.old.state { fat = wiped self.old.state.fat list.now } } }
+    {
+        for sector in list {
+            self.release(*sector);
+        }
     }
 
     /// Lets the file grow to so many sectors, and to no more.

@@ -1,0 +1,103 @@
+-- Sectors at the end of a chain, and sectors that are freed.
+use Rattle.std.proofs.Common.{◌≡◌, ◌≢◌, ℕ, zero, suc, ◌+◌, ◌-◌, ◌<◌, ◌≤◌, ◌⊎◌, inl, inr, List, [], ◌∷◌, ◌++◌, length, set, refl, sym, ◌∙◌, ap, subst, arith, rules, length-set, append-nil, append_assoc}
+use Rattle.std.specs.Prelude.{Contains, nat_eq}
+use Rattle.std.specs.List.{IsDistinct}
+use Rattle.std.proofs.lemmas.List.Elements.{Contains-append_left, Contains-append_right, Contains-push}
+use Rattle.cfb_format.specs.Bytes.{free_sector, end_of_chain, max_regular_sector}
+use Rattle.cfb_format.specs.Chain.{value, IsChain}
+use Rattle.cfb_chains.specs.Changes.{IsFreed}
+use Rattle.cfb_chains.specs.Tables.{TableState, HasTaken, wiped}
+use Rattle.cfb_chains.proofs.Members.{Contains-nil, Contains-here, Contains-there, Contains-cases, Contains-one, Contains-or, first_of_three, value-below, value-set, value-set_other, distinct-apart, distinct-right}
+use Rattle.cfb_chains.proofs.ChainLemmas.{chain-stays, chain-turn, chain-rest, members-busy}
+use Rattle.cfb_chains.proofs.TakenLemmas.{taken-link, taken-then, taken-none, taken-keeps}
+use Rattle.cfb_chains.proofs.PreparedLemmas.{chain-one}
+
+-- ---- a chain goes on
+
+-- `more` were added behind `first`, and `last` is the last of them
+pub record Attached (old now : TableState) (first last : ℕ) (more : List ℕ) : Type 0 where
+  pub taken : HasTaken old now (first ∷ []) more
+  pub chain : IsChain now.fat first (first ∷ more)
+  pub last_is : (front : List ℕ) × (first ∷ more ≡ front ++ last ∷ [])
+
+pub attached-none : (t : TableState) (first : ℕ) → value t.fat first ≡ end_of_chain → first ≤ max_regular_sector → Attached t t first first []
+attached-none t first ended regular = record { taken = taken-none t first ended; chain = chain-one t.fat first ended regular; last_is = ([], refl) }
+
+module _ (old mid b : TableState) (first last x : ℕ) (more : List ℕ) (at : Attached old mid first last more) (next : HasTaken mid b [] (x ∷ []))
+    (x_ended : value b.fat x ≡ end_of_chain) (regular : x ≤ max_regular_sector) where
+  front : List ℕ
+  front = at.last_is.0
+
+  whole : IsChain mid.fat first (front ++ last ∷ [])
+  whole = subst (IsChain mid.fat first) at.last_is.1 at.chain
+
+  last_in : Contains (front ++ last ∷ []) last
+  last_in = Contains-push front last
+
+  last_busy : value mid.fat last ≢ free_sector
+  last_busy = (members-busy mid.fat first (front ++ last ∷ []) whole last last_in).0
+
+  pub last-ended : value b.fat last ≡ end_of_chain
+  last-ended = taken-keeps mid b (x ∷ []) next last last_busy ∙ (chain-rest mid.fat first front last [] whole).follows
+
+  x_not_last : x ≢ last
+  x_not_last e = last_busy (ap (value mid.fat) (sym e) ∙ next.fresh x (first_of_three (x ∷ []) next.fats next.difats x (Contains-here x [])))
+
+  abbrev linked : TableState
+  linked = record b { fat = set b.fat last x }
+
+  pub attached-more : Attached old linked first x (more ++ x ∷ [])
+  attached-more =
+      let below = value-below b.fat last (λ e. let is = last-ended in omega (arith, e, is)) in
+      let len = length-set b.fat last x in
+      let stays : IsChain b.fat first (front ++ last ∷ []) = chain-stays mid.fat b.fat first (front ++ last ∷ [])
+      (λ i m. taken-keeps mid b (x ∷ []) next i (members-busy mid.fat first (front ++ last ∷ []) whole i m).0) whole in
+      let at_last : value linked.fat last ≡ x = value-set b.fat last x below in
+      let at_x : value linked.fat x ≡ end_of_chain = value-set_other b.fat last x x x_not_last ∙ x_ended in
+      let tail : IsChain linked.fat (value linked.fat last) (x ∷ []) = subst (λ k. IsChain linked.fat k (x ∷ [])) (sym at_last) (chain-one linked.fat x at_x regular) in
+      let turned : IsChain linked.fat first (front ++ last ∷ x ∷ []) = chain-turn b.fat linked.fat first front last [] (x ∷ [])
+      (λ i m. value-set_other b.fat last i x (λ e. distinct-apart front (last ∷ []) whole.distinct i m (subst (Contains (last ∷ [])) (sym e) (Contains-here last []))))
+      (omega (arith, below, len)) stays tail in
+      let same : front ++ last ∷ x ∷ [] ≡ (first ∷ more) ++ x ∷ [] = sym (append_assoc front (last ∷ []) (x ∷ [])) ∙ ap (λ (z : List ℕ). z ++ x ∷ []) (sym at.last_is.1) in
+      let two : HasTaken old b (first ∷ []) (more ++ x ∷ []) = taken-then old mid b (first ∷ []) more [] (x ∷ []) at.taken next (λ i m. absurd (Contains-nil i m)) in
+      let link = taken-link b last x last-ended regular in
+      let within : (i : ℕ) → Contains (last ∷ []) i → Contains ((first ∷ []) ++ (more ++ x ∷ [])) i = λ i m.
+      Contains-append_left (first ∷ more) (x ∷ []) i (subst (λ z. Contains z i) (sym at.last_is.1) (subst (Contains (front ++ last ∷ [])) (Contains-one last i m) last_in)) in
+      let three : HasTaken old linked (first ∷ []) ((more ++ x ∷ []) ++ []) = taken-then old b linked (first ∷ []) (more ++ x ∷ []) (last ∷ []) [] two link within in
+      record {
+        taken = subst (HasTaken old linked (first ∷ [])) (append-nil (more ++ x ∷ [])) three;
+        chain = subst (IsChain linked.fat first) same turned;
+        last_is = (first ∷ more, refl);
+      }
+
+-- ---- freeing
+
+pub wiped-freed : (list table : List ℕ) → ((i : ℕ) → Contains list i → i < length table) → IsFreed list table (wiped table list)
+wiped-freed [] table below = record { same_length = refl; free = λ i m. absurd (Contains-nil i m); only = λ i out. refl }
+wiped-freed (x ∷ list) table below =
+    let next = set table x free_sector in
+    let len = length-set table x free_sector in
+    let rest = wiped-freed list next (λ i m. let b = below i (Contains-there x list i m) in omega (arith, b, len)) in
+    let lx = below x (Contains-here x list) in
+    record {
+      same_length = rest.same_length ∙ len;
+      free = λ i m. elim (Contains-or list i) [
+        | inl r ↦ rest.free i r
+        | inr out ↦ elim (Contains-cases x list i m) [
+          | inl e ↦ rest.only i out ∙ (ap (value next) (sym e) ∙ value-set table x free_sector lx)
+          | inr r ↦ absurd (out r)
+        ]
+      ];
+      only = λ i out. rest.only i (λ m. out (Contains-there x list i m)) ∙ value-set_other table x i free_sector (λ e. out (0, omega arith, sym e));
+    }
+
+pub wiped-push : (table list : List ℕ) (x : ℕ) → wiped table (list ++ x ∷ []) ≡ set (wiped table list) x free_sector
+wiped-push table [] x = refl
+wiped-push table (y ∷ list) x = wiped-push (set table y free_sector) list x
+
+-- the next one is still in use while the ones before it are freed
+pub wiped-busy : (table done : List ℕ) (x : ℕ) → ((i : ℕ) → Contains (done ++ x ∷ []) i → value table i ≢ free_sector) → IsDistinct nat_eq (done ++ x ∷ []) → value (wiped table done) x ≢ free_sector
+wiped-busy table done x busy once e =
+    let f = wiped-freed done table (λ i m. value-below table i (busy i (Contains-append_left done (x ∷ []) i m))) in
+    let out : Contains done x → ⊥ = λ m. distinct-apart done (x ∷ []) once x m (Contains-here x []) in
+    busy x (Contains-push done x) (sym (f.only x out) ∙ e)
