@@ -1,14 +1,15 @@
 -- Sectors at the end of a chain, and sectors that are freed.
-use Rattle.std.proofs.Common.{◌≡◌, ◌≢◌, ℕ, zero, suc, ◌+◌, ◌-◌, ◌<◌, ◌≤◌, ◌⊎◌, inl, inr, List, [], ◌∷◌, ◌++◌, length, set, refl, sym, ◌∙◌, ap, subst, arith, rules, length-set, append-nil, append_assoc}
+use Rattle.std.proofs.Common.{◌≡◌, ◌≢◌, ℕ, zero, suc, ◌+◌, ◌-◌, ◌<◌, ◌≤◌, ◌⊎◌, inl, inr, List, [], ◌∷◌, ◌++◌, length, set, take, drop, get_or, refl, sym, ◌∙◌, ap, subst, arith, rules, length-set, append-nil, append_assoc}
 use Rattle.std.specs.Prelude.{Contains, nat_eq}
 use Rattle.std.specs.List.{IsDistinct}
+use Rattle.std.proofs.lemmas.List.{take_more, take-append-drop}
 use Rattle.std.proofs.lemmas.List.Elements.{Contains-append_left, Contains-append_right, Contains-push}
 use Rattle.cfb_format.specs.Bytes.{free_sector, end_of_chain, max_regular_sector}
 use Rattle.cfb_format.specs.Chain.{value, IsChain}
-use Rattle.cfb_chains.specs.Changes.{IsFreed}
-use Rattle.cfb_chains.specs.Tables.{TableState, HasTaken, wiped}
-use Rattle.cfb_chains.proofs.Members.{Contains-nil, Contains-here, Contains-there, Contains-cases, Contains-one, Contains-or, first_of_three, value-below, value-set, value-set_other, distinct-apart, distinct-right}
-use Rattle.cfb_chains.proofs.ChainLemmas.{chain-stays, chain-turn, chain-rest, members-busy}
+use Rattle.cfb_chains.specs.Changes.{IsFreed, IsCut}
+use Rattle.cfb_chains.specs.Tables.{TableState, Kept, HasTaken, Extended, wiped}
+use Rattle.cfb_chains.proofs.Members.{Contains-nil, Contains-here, Contains-there, Contains-cases, Contains-one, Contains-or, in_three, first_of_three, second_of_three, third_of_three, value-below, value-set, value-set_other, distinct-apart, distinct-left}
+use Rattle.cfb_chains.proofs.ChainLemmas.{chain-stays, chain-turn, chain-rest, chain-apart, members-busy, regular-le, le-regular}
 use Rattle.cfb_chains.proofs.TakenLemmas.{taken-link, taken-then, taken-none, taken-keeps}
 use Rattle.cfb_chains.proofs.PreparedLemmas.{chain-one}
 
@@ -25,7 +26,7 @@ attached-none t first ended regular = record { taken = taken-none t first ended;
 
 module _ (old mid b : TableState) (first last x : ℕ) (more : List ℕ) (at : Attached old mid first last more) (next : HasTaken mid b [] (x ∷ []))
     (x_ended : value b.fat x ≡ end_of_chain) (regular : x ≤ max_regular_sector) where
-  front : List ℕ
+  abbrev front : List ℕ
   front = at.last_is.0
 
   whole : IsChain mid.fat first (front ++ last ∷ [])
@@ -101,3 +102,96 @@ wiped-busy table done x busy once e =
     let f = wiped-freed done table (λ i m. value-below table i (busy i (Contains-append_left done (x ∷ []) i m))) in
     let out : Contains done x → ⊥ = λ m. distinct-apart done (x ∷ []) once x m (Contains-here x []) in
     busy x (Contains-push done x) (sym (f.only x out) ∙ e)
+
+-- the numbers of a list, one after another
+module _ (table list : List ℕ) (i : ℕ) (lt : i < length list) (busy : (j : ℕ) → Contains list j → value table j ≢ free_sector) (once : IsDistinct nat_eq list) where
+  abbrev this : ℕ
+  this = get_or list i 0
+
+  split : (take i list ++ this ∷ []) ++ drop (i + 1) list ≡ list
+  split = ap (λ (z : List ℕ). z ++ drop (i + 1) list) (sym (take_more list i 0 lt)) ∙ take-append-drop (i + 1) list
+
+  pub next-busy : value (wiped table (take i list)) this ≢ free_sector
+  next-busy = wiped-busy table (take i list) this
+      (λ j m. busy j (subst (λ z. Contains z j) split (Contains-append_left (take i list ++ this ∷ []) (drop (i + 1) list) j m)))
+      (distinct-left (take i list ++ this ∷ []) (drop (i + 1) list) (subst (IsDistinct nat_eq) (sym split) once))
+
+-- what was freed so far, in the lists in memory
+abbrev pub freed_so_far : Kept → List ℕ → Kept
+freed_so_far k list = record k { free = k.free ++ list; state = record k.state { fat = wiped k.state.fat list } }
+
+pub freed-step : (old now new : Kept) (list : List ℕ) (i : ℕ) → i < length list → now ≡ freed_so_far old (take i list)
+    → new ≡ record now { free = now.free ++ get_or list i 0 ∷ []; state = record now.state { fat = set now.state.fat (get_or list i 0) free_sector } }
+    → new ≡ freed_so_far old (take (i + 1) list)
+freed-step old now new list i lt was is =
+    let x = get_or list i 0 in
+    let more = take_more list i 0 lt in
+    let free : (old.free ++ take i list) ++ x ∷ [] ≡ old.free ++ take (i + 1) list = append_assoc old.free (take i list) (x ∷ []) ∙ ap (λ (z : List ℕ). old.free ++ z) (sym more) in
+    let fat : set (wiped old.state.fat (take i list)) x free_sector ≡ wiped old.state.fat (take (i + 1) list) =
+    sym (wiped-push old.state.fat (take i list) x) ∙ ap (wiped old.state.fat) (sym more) in
+    is
+    ∙ ap (λ (z : Kept). record z { free = z.free ++ x ∷ []; state = record z.state { fat = set z.state.fat x free_sector } }) was
+    ∙ (λ k. record old { free = free k; state = record old.state { fat = fat k } })
+
+-- ---- the whole chain goes on
+
+pub extended : (old new : TableState) (start : ℕ) (front : List ℕ) (last : ℕ) (more : List ℕ) → IsChain old.fat start (front ++ last ∷ [])
+    → HasTaken old new (last ∷ []) more → IsChain new.fat last (last ∷ more) → Extended old new start more
+extended old new start front last more was taken chain =
+    let stays : (i : ℕ) → Contains front i → value new.fat i ≡ value old.fat i = λ i m.
+    let busy = (members-busy old.fat start (front ++ last ∷ []) was i (Contains-append_left front (last ∷ []) i m)).0 in
+    taken.only i (λ mem. elim (in_three ((last ∷ []) ++ more) taken.fats taken.difats i mem) [
+      | inl l ↦ elim (Contains-cases last more i l) [
+        | inl e ↦ distinct-apart front (last ∷ []) was.distinct i m (0, omega arith, e)
+        | inr r ↦ busy (taken.fresh i (first_of_three more taken.fats taken.difats i r))
+      ]
+      | inr r ↦ elim r [
+        | inl x ↦ busy (taken.fresh i (second_of_three more taken.fats taken.difats i x))
+        | inr x ↦ busy (taken.fresh i (third_of_three more taken.fats taken.difats i x))
+      ]
+    ]) in
+    let below = (members-busy new.fat last (last ∷ more) chain last (Contains-here last more)).1 in
+    record {
+      front = front;
+      last = last;
+      was = was;
+      chain = chain-turn old.fat new.fat start front last [] more stays below was (chain-rest new.fat last [] last more chain);
+      taken = taken;
+    }
+
+-- what is known of the last sector of a chain
+pub last-known : (table : List ℕ) (start : ℕ) (front : List ℕ) (last : ℕ) → IsChain table start (front ++ last ∷ []) → (value table last ≡ end_of_chain) × (last ≤ max_regular_sector)
+last-known table start front last c =
+    let m = members-busy table start (front ++ last ∷ []) c last (Contains-push front last) in
+    ((chain-rest table start front last [] c).follows, regular-le last m.2)
+
+-- a chain is cut behind x
+pub cut-freed : (table list : List ℕ) (x : ℕ) → x < length table → x ≤ max_regular_sector → IsChain table (value table x) list
+    → IsCut x list table (wiped (set table x end_of_chain) list)
+cut-freed table list x lt regular c =
+    let next = set table x end_of_chain in
+    let len = length-set table x end_of_chain in
+    let out = chain-apart table x list lt (le-regular x regular) c in
+    let f = wiped-freed list next (λ i m. let b = (members-busy table (value table x) list c i m).1 in omega (arith, b, len)) in
+    record {
+      same_length = f.same_length ∙ len;
+      ended = f.only x out ∙ value-set table x end_of_chain lt;
+      free = f.free;
+      only = λ i no_member. f.only i (λ m. no_member (Contains-there x list i m)) ∙ value-set_other table x i end_of_chain (λ e. no_member (0, omega arith, sym e));
+    }
+
+-- and what is behind it is still in use when x has become the end
+pub behind-busy : (table list : List ℕ) (x : ℕ) → x < length table → x ≤ max_regular_sector → IsChain table (value table x) list
+    → (i : ℕ) → Contains list i → value (set table x end_of_chain) i ≢ free_sector
+behind-busy table list x lt regular c i m e =
+    let out = chain-apart table x list lt (le-regular x regular) c in
+    let ne : i ≢ x = λ is. out (subst (Contains list) is m) in
+    (members-busy table (value table x) list c i m).0 (sym (value-set_other table x i end_of_chain ne) ∙ e)
+
+-- what starts a chain is not FREE
+pub start-busy : (table : List ℕ) (s : ℕ) (list : List ℕ) → IsChain table s list → s ≢ free_sector
+start-busy table s [] c e = let f = c.follows in omega (arith, f, e)
+start-busy table s (x ∷ list) c e =
+    let le = regular-le x c.follows.4 in
+    let f = c.follows.0 in
+    omega (arith, f, le, e)

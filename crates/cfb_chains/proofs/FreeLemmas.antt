@@ -136,7 +136,7 @@ count-set (y ∷ table) (suc x) w lt is ne =
     let p = count-cons y table in let q = count-cons y (set table x w) in
     omega (arith, rest, p, q)
 
-count-none : (table : List ℕ) → NoneFree table → free_count table ≡ 0
+pub count-none : (table : List ℕ) → NoneFree table → free_count table ≡ 0
 count-none [] none = refl
 count-none (y ∷ table) none =
     let a = bit_no y (none 0 (omega arith)) in
@@ -170,3 +170,8 @@ lists-count (x ∷ free) table f =
     let less = lists-drop (length table) x free table 0 top.0 (λ e. omega (arith, e)) f in
     let rest = lists-count free (set table x 0) (subst (λ n. ListsFree n free (set table x 0)) (sym (length-set table x 0)) less) in
     omega (arith, one, rest)
+
+pub count-zero : (table : List ℕ) → free_count table ≡ 0 → NoneFree table
+count-zero [] none i lt e = omega (arith, lt)
+count-zero (y ∷ table) none zero lt e = let a = bit_yes y e in let p = count-cons y table in omega (arith, a, p, none)
+count-zero (y ∷ table) none (suc i) lt e = let p = count-cons y table in count-zero table (omega (arith, p, none)) i (omega (arith, lt)) e

@@ -8,3 +8,5 @@ pub mod KeptLemmas
 pub mod TakenLemmas
 pub mod PreparedLemmas
 pub mod AttachLemmas
+pub mod UseLemmas
+pub mod FullLemmas

@@ -406,3 +406,19 @@ taken-none t last ended = record {
 -- where no chain goes on, all that is in use stays
 pub taken-keeps : (a b : TableState) (more : List ℕ) → HasTaken a b [] more → (i : ℕ) → value a.fat i ≢ free_sector → value b.fat i ≡ value a.fat i
 taken-keeps a b more h i busy = h.only i (λ m. busy (h.fresh i m))
+
+-- new members of chains, FAT sectors and DIFAT sectors are apart, since their values are
+pub three-distinct : (a b : TableState) (touched more : List ℕ) (h : HasTaken a b touched more) → IsDistinct nat_eq (more ++ h.fats ++ h.difats)
+three-distinct a b touched more h =
+    let no_mark : (i : ℕ) → Contains more i → (value b.fat i ≢ fat_sector) × (value b.fat i ≢ difat_sector) = λ i m.
+    elim (h.busy i (Contains-append_right touched more i m)) [
+      | inl le ↦ ((λ e. omega (arith, le, e)), (λ e. omega (arith, le, e)))
+      | inr is ↦ ((λ e. omega (arith, is, e)), (λ e. omega (arith, is, e)))
+    ] in
+    distinct-join (more ++ h.fats) h.difats
+        (distinct-join more h.fats h.once h.fats_once (λ i m n. (no_mark i m).0 (h.fat_marks i n)))
+        h.difats_once
+        (λ i m n. let is = h.difat_marks i n in elim (Contains-append_cases more h.fats i m) [
+          | inl x ↦ (no_mark i x).1 is
+          | inr x ↦ (let was = h.fat_marks i x in omega (arith, is, was))
+        ])

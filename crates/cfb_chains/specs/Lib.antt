@@ -1,3 +1,4 @@
 pub mod Changes
 pub mod Tables
 pub mod Refused
+pub mod Owners

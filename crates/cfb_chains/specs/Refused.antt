@@ -4,6 +4,7 @@ use Rattle.cfb_format.specs.declared.error.Error.{Error}
 use Rattle.cfb_format.specs.declared.error.Error.TheVariants.{NotFound, AlreadyExists, InvalidInput, InvalidData, Medium, Memory, Full, Unsound, Failed, Unsupported}
 use Rattle.cfb_format.specs.Chain.{IsChain}
 use Rattle.cfb_chains.specs.Changes.{NoChain}
+use Rattle.cfb_chains.specs.Tables.{TableState, IsTooFew}
 
 -- the error is one of these three, and so much holds of each
 abbrev pub Refused : Type 0 → Type 0 → Type 0 → Error → Type 0
@@ -27,3 +28,6 @@ NoLast table start = (list : List ℕ) → IsChain table start list → list ≢
 
 abbrev pub LastRefused : List ℕ → ℕ → Error → Type 0
 LastRefused table start = Refused (NoLast table start) ⊥ ⊥
+
+abbrev pub ExtendRefused : TableState → ℕ → ℕ → Error → Type 0
+ExtendRefused t start count = Refused (NoLast t.fat start) Unit (IsTooFew t count)

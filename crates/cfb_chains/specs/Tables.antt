@@ -3,7 +3,7 @@ use Rattle.std.specs.Prelude.{ℕ, zero, suc, ◌≡◌, ◌≢◌, ◌+◌, ◌
 use Rattle.std.specs.List.{IsDistinct}
 use Rattle.cfb_format.specs.declared.version.Version.{Version}
 use Rattle.cfb_format.specs.Bytes.{end_of_chain, free_sector, fat_sector, difat_sector, max_regular_sector, words_per_sector}
-use Rattle.cfb_format.specs.Chain.{value}
+use Rattle.cfb_format.specs.Chain.{value, IsChain}
 use Rattle.cfb_format.specs.Full.{HasRoom, free_count, rounded_up}
 use Rattle.cfb_format.specs.Header.{header_difat_len}
 use Rattle.cfb_chains.specs.declared.lists.Sizes.{Sizes}
@@ -85,6 +85,21 @@ abbrev pub CanTakeSectors : TableState → ℕ → Type 0
 CanTakeSectors t count =
     HasRoom t.version t.max_sectors (length t.fat) (length t.fat_sectors) (length t.difat_sectors) (count - free_count t.fat)
 
+-- ---- laws of fullness
+
+-- the tables are full exactly if there are too few numbers for one sector
+abbrev pub FullIsTooFew : Type 0
+FullIsTooFew = (t : TableState) → (IsFull t → IsTooFew t 1) × (IsTooFew t 1 → IsFull t)
+
+-- with too few numbers there is no room, whatever sizes the tables are given
+abbrev pub TooFewIsNoRoom : Type 0
+TooFewIsNoRoom = (t : TableState) (count : ℕ) → IsTooFew t count → CanTakeSectors t count → ⊥
+
+-- and with enough of them there is, where the FAT covers the file
+abbrev pub EnoughIsRoom : Type 0
+EnoughIsRoom = (t : TableState) (count : ℕ) → AreSizes t.version (sizes_of t) → t.max_sectors ≤ max_regular_sector → IsCovered t
+    → (IsTooFew t count → ⊥) → CanTakeSectors t count
+
 -- ---- taking
 
 -- `more` are taken for chains, and FAT sectors and DIFAT sectors come with them; the chains' last members so far, which
@@ -111,6 +126,14 @@ pub record HasTaken (old new : TableState) (touched more : List ℕ) : Type 0 wh
   pub exact : HasExactTables old → HasExactTables new
   pub same_version : new.version ≡ old.version
   pub same_max : new.max_sectors ≡ old.max_sectors
+
+-- the chain from the start goes on by these sectors
+pub record Extended (old new : TableState) (start : ℕ) (more : List ℕ) : Type 0 where
+  pub front : List ℕ
+  pub last : ℕ
+  pub was : IsChain old.fat start (front ++ last ∷ [])
+  pub chain : IsChain new.fat start (front ++ last ∷ more)
+  pub taken : HasTaken old new (last ∷ []) more
 
 -- ---- the lists in memory
 

@@ -1,13 +1,15 @@
 //! The lists that the tables are made of. Each growth of memory is reserved here before anything changes, and what was
 //! reserved for cannot fail.
-ghost use Rattle.std.specs.Prelude.{◌≡◌, ◌≢◌, ℕ, nat_eq, List, Contains, ◌+◌, ◌-◌, ◌*◌, ◌<◌, ◌≤◌, [], ◌∷◌, ◌++◌, length, min, slice_set, IfOk, IfErr, OnErr, OnOk, vec_len, vec_capacity};
+ghost use Rattle.std.specs.Prelude.{◌≡◌, ◌≢◌, ℕ, nat_eq, List, Contains, ◌+◌, ◌-◌, ◌*◌, ◌<◌, ◌≤◌, [], ◌∷◌, ◌++◌, length, min, slice_set, IfOk, IfErr, IfSome, IfNone, OnErr, OnOk, vec_len, vec_capacity};
 ghost use Rattle.cfb_format.specs.Bytes.{max_regular_sector, end_of_chain, free_sector, words_per_sector as words_of};
 ghost use Rattle.cfb_format.specs.Chain.{value, IsChain};
+ghost use Rattle.cfb_format.specs.Full.{free_count};
 ghost use Rattle.std.specs.List.{IsDistinct};
-ghost use Rattle.cfb_chains.specs.Changes.{ListsFree};
-ghost use Rattle.cfb_chains.specs.Tables.{TableState, Kept, IsKept, AreSizes, CanHold, TakesNext, IsPrepared, PassesLimit, HasTaken, wiped, tables_of, sizes_of, sizes_after, grown_sizes, numbers_needed as needed, grown, grown_fats, grown_difats};
-ghost use Rattle.cfb_chains.specs.Refused.{Refused};
+ghost use Rattle.cfb_chains.specs.Changes.{ListsFree, IsFreed, IsCut};
+ghost use Rattle.cfb_chains.specs.Tables.{TableState, Kept, IsKept, AreSizes, CanHold, TakesNext, IsPrepared, IsTooFew, PassesLimit, HasTaken, Extended, wiped, tables_of, sizes_of, sizes_after, grown_sizes, numbers_needed as needed, grown, grown_fats, grown_difats};
+ghost use Rattle.cfb_chains.specs.Refused.{Refused, WalkRefused, LastRefused, ExtendRefused};
 
+use crate::walk::{last_of, walk};
 use cfb_format::consts::{DIFAT_SECTOR, END_OF_CHAIN, FAT_SECTOR, FREE_SECTOR, MAX_REGULAR_SECTOR, NUM_DIFAT_ENTRIES_IN_HEADER};
 use cfb_format::error::Error;
 use cfb_format::version::Version;
@@ -45,20 +47,20 @@ impl Sizes {
         }
     }
 
-    /// The sizes with one sector more past the end. `Full` where the numbers it takes would pass the limit.
-    fn with_one_more(self, version: Version, limit: usize) -> Result<Sizes, Error>
+    /// The sizes with one sector more past the end, if the numbers it takes don't pass the limit.
+    fn with_one_more(self, version: Version, limit: usize) -> Option<Sizes>
         requires are { AreSizes version self }
         requires limit { limit ≤ max_regular_sector }
-        ensures sizes { IfOk result (λ sizes. sizes ≡ grown_sizes self (needed version self)) }
-        ensures are { IfOk result (λ sizes. AreSizes version sizes) }
-        ensures limited { IfOk result (λ sizes. sizes.sectors ≤ limit) }
-        ensures err { IfErr result (Refused ⊥ ⊥ (limit - self.sectors < needed version self)) }
+        ensures sizes { IfSome result (λ sizes. sizes ≡ grown_sizes self (needed version self)) }
+        ensures are { IfSome result (λ sizes. AreSizes version sizes) }
+        ensures limited { IfSome result (λ sizes. sizes.sectors ≤ limit) }
+        ensures none { IfNone result (limit - self.sectors < needed version self) }
     {
         let numbers = self.numbers_needed(version);
         if limit.saturating_sub(self.sectors) < numbers {
-            return Err(Error::Full);
+            return None;
         }
-        Ok(Sizes {
+        Some(Sizes {
             sectors: self.sectors + numbers,
             fats: if numbers < 2 { self.fats } else { self.fats + 1 },
             difats: if numbers < 3 { self.difats } else { self.difats + 1 },
@@ -77,7 +79,10 @@ impl Sizes {
         let mut sizes = self;
         for turn in 0..more {
             let _grown = turn;
-            sizes = sizes.with_one_more(version, limit)?;
+            let Some(next) = sizes.with_one_more(version, limit) else {
+                return Err(Error::Full);
+            };
+            sizes = next;
         }
         Ok(sizes)
     }
@@ -212,13 +217,22 @@ impl<A: Allocator> Lists<A> {
         Ok(())
     }
 
+    /// How many of so many sectors no free number serves.
+    fn missing(&self, count: usize) -> usize
+        ensures listed { result ≡ count - length self.now.free }
+        ensures free { result ≡ count - free_count self.now.state.fat }
+    {
+        count.saturating_sub(self.free.len())
+    }
+
     /// Reserves the memory that taking so many sectors needs. `Full` where there are too few numbers, and `Memory`.
     pub fn prepare(&mut self, count: usize) -> Result<(), Error>
         ensures ok { OnOk result (IsPrepared self.new count) }
         ensures rest { self.new ≡ record self.old { fat_capacity = self.new.fat_capacity; fats_capacity = self.new.fats_capacity; difats_capacity = self.new.difats_capacity } }
-        ensures err { IfErr result (Refused ⊥ Unit (PassesLimit self.old.state.version self.old.state.max_sectors (sizes_of self.old.state) (count - length self.old.free))) }
+        ensures err { IfErr result (Refused ⊥ Unit (IsTooFew self.old.state count)) }
+        ensures enough { OnOk result (IsTooFew self.old.state count → ⊥) }
     {
-        let missing = count.saturating_sub(self.free.len());
+        let missing = self.missing(count);
         let sizes = self.sizes().with_more(self.version, self.max_sectors as usize, missing)?;
         self.reserve(sizes)
     }
@@ -307,6 +321,107 @@ impl<A: Allocator> Lists<A> {
         for sector in list {
             self.release(*sector);
         }
+    }
+
+    /// Takes a sector, as the only one of a new chain. `Full` and `Memory`.
+    pub fn take(&mut self) -> Result<u32, Error>
+        ensures taken { IfOk result (λ x. HasTaken self.old.state self.new.state [] (x ∷ [])) }
+        ensures chain { IfOk result (λ x. IsChain self.new.state.fat x (x ∷ [])) }
+        ensures enough { OnOk result (IsTooFew self.old.state 1 → ⊥) }
+        ensures unchanged { OnErr result (self.new.state ≡ self.old.state) }
+        ensures err { IfErr result (Refused ⊥ Unit (IsTooFew self.old.state 1)) }
+    {
+        self.prepare(1)?;
+        Ok(self.take_prepared())
+    }
+
+    /// Adds so many sectors behind the last one of a chain, and gives their numbers. `Full` and `Memory`.
+    pub fn attach_by(&mut self, alloc: A, last: u32, count: usize) -> Result<Vec<u32, A>, Error>
+        requires ended { value self.old.state.fat last ≡ end_of_chain }
+        requires regular { last ≤ max_regular_sector }
+        ensures taken { IfOk result (λ list. HasTaken self.old.state self.new.state (last ∷ []) list.items) }
+        ensures chain { IfOk result (λ list. IsChain self.new.state.fat last (last ∷ list.items)) }
+        ensures count { IfOk result (λ list. vec_len list ≡ count) }
+        ensures enough { OnOk result (IsTooFew self.old.state count → ⊥) }
+        ensures unchanged { OnErr result (self.new.state ≡ self.old.state) }
+        ensures err { IfErr result (Refused ⊥ Unit (IsTooFew self.old.state count)) }
+    {
+        let mut list = Vec::with_capacity(alloc, count)?;
+        self.prepare(count)?;
+        self.attach_prepared(last, count, &mut list);
+        Ok(list)
+    }
+
+    /// Adds so many sectors at the end of the chain from `start`, and gives their numbers. `InvalidData` where there is no
+    /// such chain and where it is empty, `Full` and `Memory`.
+    pub fn extend_by(&mut self, alloc: A, start: u32, count: usize) -> Result<Vec<u32, A>, Error>
+        ensures ok { IfOk result (λ list. Extended self.old.state self.new.state start list.items) }
+        ensures count { IfOk result (λ list. vec_len list ≡ count) }
+        ensures enough { OnOk result (IsTooFew self.old.state count → ⊥) }
+        ensures unchanged { OnErr result (self.new.state ≡ self.old.state) }
+        ensures err { IfErr result (ExtendRefused self.old.state start count) }
+    {
+        let last = self.last(start)?;
+        let list = self.attach_by(alloc, last, count)?;
+        Ok(list)
+    }
+
+    /// The sectors of the chain from `start`. `InvalidData` where there is no such chain, and `Memory`.
+    pub fn chain(&self, alloc: A, start: u32) -> Result<Vec<u32, A>, Error>
+        ensures ok { IfOk result (λ list. IsChain self.now.state.fat start list.items) }
+        ensures err { IfErr result (WalkRefused self.now.state.fat start) }
+    {
+        walk(alloc, &self.fat, start)
+    }
+
+    /// The last sector of the chain from `start`. `InvalidData` where there is no such chain and where it is empty.
+    pub fn last(&self, start: u32) -> Result<u32, Error>
+        ensures ok { IfOk result (λ last. (front : List ℕ) × IsChain self.now.state.fat start (front ++ last ∷ [])) }
+        ensures err { IfErr result (LastRefused self.now.state.fat start) }
+    {
+        last_of(&self.fat, start)
+    }
+
+    /// The sectors behind this one in its chain.
+    fn behind(&self, alloc: A, sector: u32) -> Result<Vec<u32, A>, Error>
+        requires below { sector < length self.now.state.fat }
+        ensures ok { IfOk result (λ list. IsChain self.now.state.fat (value self.now.state.fat sector) list.items) }
+        ensures err { IfErr result (WalkRefused self.now.state.fat (value self.now.state.fat sector)) }
+        ensures short { length self.now.state.fat ≤ max_regular_sector }
+    {
+        walk(alloc, &self.fat, self.fat[sector as usize])
+    }
+
+    /// Frees the chain from `start`, and gives the numbers that it had. `InvalidData` where there is no such chain, and
+    /// `Memory`.
+    pub fn free(&mut self, alloc: A, start: u32) -> Result<Vec<u32, A>, Error>
+        ensures ok { IfOk result (λ list. IsChain self.old.state.fat start list.items) }
+        ensures freed { IfOk result (λ list. IsFreed list.items self.old.state.fat self.new.state.fat) }
+        ensures rest { self.new.state ≡ record self.old.state { fat = self.new.state.fat } }
+        ensures unchanged { OnErr result (self.new.state ≡ self.old.state) }
+        ensures err { IfErr result (WalkRefused self.old.state.fat start) }
+    {
+        let list = self.chain(alloc, start)?;
+        self.prepare_free(list.len())?;
+        self.free_all(&list);
+        Ok(list)
+    }
+
+    /// Ends a chain at this sector, and frees the ones behind it, whose numbers it gives. `InvalidData` where no chain goes
+    /// on from the sector, and `Memory`.
+    pub fn free_after(&mut self, alloc: A, sector: u32) -> Result<Vec<u32, A>, Error>
+        requires below { sector < length self.old.state.fat }
+        ensures ok { IfOk result (λ list. IsChain self.old.state.fat (value self.old.state.fat sector) list.items) }
+        ensures cut { IfOk result (λ list. IsCut sector list.items self.old.state.fat self.new.state.fat) }
+        ensures rest { self.new.state ≡ record self.old.state { fat = self.new.state.fat } }
+        ensures unchanged { OnErr result (self.new.state ≡ self.old.state) }
+        ensures err { IfErr result (WalkRefused self.old.state.fat (value self.old.state.fat sector)) }
+    {
+        let list = self.behind(alloc, sector)?;
+        self.prepare_free(list.len())?;
+        self.end(sector);
+        self.free_all(&list);
+        Ok(list)
     }
 
     /// Lets the file grow to so many sectors, and to no more.

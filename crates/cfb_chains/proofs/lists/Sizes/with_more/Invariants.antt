@@ -1,5 +1,4 @@
 use Rattle.std.proofs.Common.{◌≡◌, ◌-◌, ◌≤◌, ◌<◌}
-use Rattle.cfb_format.specs.Full.{HasRoom}
 use Rattle.cfb_chains.specs.Tables.{AreSizes, sizes_after}
 use Rattle.cfb_chains.proofs.lists.Sizes.with_more.Given as goal
 
@@ -8,6 +7,4 @@ invariant-loop-turn l = record {
   are : AreSizes l.version l.sizes;
   limited : (0 < l.turn) → l.sizes.sectors ≤ l.limit;
   rest : sizes_after l.version (l.more - l.turn) l.sizes ≡ sizes_after l.version l.more l.fn.self;
-  room : HasRoom l.version l.limit l.fn.self.sectors l.fn.self.fats l.fn.self.difats l.more
-      → HasRoom l.version l.limit l.sizes.sectors l.sizes.fats l.sizes.difats (l.more - l.turn);
 }

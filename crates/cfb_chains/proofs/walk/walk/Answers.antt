@@ -2,8 +2,8 @@ use Rattle.std.proofs.Common.{rules, ◌≡◌, ◌≢◌, ℕ, List, ◌<◌, �
 use Rattle.cfb_chains.specs.Changes.{NoChain}
 use Rattle.cfb_chains.proofs.WalkLemmas.{walked-step, walked-end, walked-past, walked-long}
 use Rattle.cfb_chains.proofs.RefusedLemmas.{refused-invalid}
-use Rattle.cfb_chains.proofs.tables.walk.Goals as goal
-use Rattle.cfb_chains.proofs.tables.walk.Goals.{then-sector-gt-MAX_REGULAR_SECTOR-via-then-sector-gt-MAX_REGULAR_SECTOR, then-sector-gt-MAX_REGULAR_SECTOR-via-else-sector-gt-MAX_REGULAR_SECTOR+then-sector-table, then-sector-gt-MAX_REGULAR_SECTOR-via-else-sector-gt-MAX_REGULAR_SECTOR+else-sector-table+then-len-table}
+use Rattle.cfb_chains.proofs.walk.walk.Goals as goal
+use Rattle.cfb_chains.proofs.walk.walk.Goals.{then-sector-gt-MAX_REGULAR_SECTOR-via-then-sector-gt-MAX_REGULAR_SECTOR, then-sector-gt-MAX_REGULAR_SECTOR-via-else-sector-gt-MAX_REGULAR_SECTOR+then-sector-table, then-sector-gt-MAX_REGULAR_SECTOR-via-else-sector-gt-MAX_REGULAR_SECTOR+else-sector-table+then-len-table}
 
 pub returns-then-sector-gt-MAX_REGULAR_SECTOR-clause-err : goal.returns-then-sector-gt-MAX_REGULAR_SECTOR-clause-err
 returns-then-sector-gt-MAX_REGULAR_SECTOR-clause-err g c =

@@ -1,5 +1,5 @@
 use Rattle.cfb_chains.proofs.ChainLemmas.{chain-stays, other-chains-stay, chain-turn, members-busy}
-use Rattle.cfb_chains.proofs.tables.chains_follow_changes.Goals as goal
+use Rattle.cfb_chains.proofs.laws.chains_follow_changes.Goals as goal
 
 pub returns-clause-stay : goal.returns-clause-stay
 returns-clause-stay c = chain-stays

@@ -3,8 +3,8 @@ use Rattle.cfb_format.specs.Bytes.{end_of_chain}
 use Rattle.cfb_chains.specs.Refused.{NoLast}
 use Rattle.cfb_chains.proofs.WalkLemmas.{walked-start, walked-step, walked-end, walked-past, walked-long, no_members}
 use Rattle.cfb_chains.proofs.RefusedLemmas.{refused-invalid}
-use Rattle.cfb_chains.proofs.tables.last_of.Goals as goal
-use Rattle.cfb_chains.proofs.tables.last_of.Goals.{then-last-gt-MAX_REGULAR_SECTOR-via-then-last-gt-MAX_REGULAR_SECTOR, then-last-gt-MAX_REGULAR_SECTOR-via-else-last-gt-MAX_REGULAR_SECTOR+then-last-table}
+use Rattle.cfb_chains.proofs.walk.last_of.Goals as goal
+use Rattle.cfb_chains.proofs.walk.last_of.Goals.{then-last-gt-MAX_REGULAR_SECTOR-via-then-last-gt-MAX_REGULAR_SECTOR, then-last-gt-MAX_REGULAR_SECTOR-via-else-last-gt-MAX_REGULAR_SECTOR+then-last-table}
 
 pub returns-then-start-eq-END_OF_CHAIN-clause-err : goal.returns-then-start-eq-END_OF_CHAIN-clause-err
 returns-then-start-eq-END_OF_CHAIN-clause-err c =

@@ -1,6 +1,6 @@
 use Rattle.std.proofs.Common.{◌≡◌, ◌-◌, ◌≤◌, length, vec_len}
 use Rattle.cfb_chains.proofs.WalkLemmas.{Walked}
-use Rattle.cfb_chains.proofs.tables.walk.Given as goal
+use Rattle.cfb_chains.proofs.walk.walk.Given as goal
 
 abbrev pub invariant-loop-sector : goal.invariant-loop-sector
 invariant-loop-sector g l = record {
