@@ -1,13 +1,13 @@
 use Rattle.cfb_chains.proofs.AttachLemmas.{last-known, extended}
 use Rattle.cfb_chains.proofs.lists.Lists.extend_by.Goals as goal
 
-pub attach_by-list-requires-clause-ended : goal.attach_by-list-requires-clause-ended
-attach_by-list-requires-clause-ended g c =
+pub attach_by-requires-clause-ended : goal.attach_by-requires-clause-ended
+attach_by-requires-clause-ended g c =
     let k = c.in_ok-last.ensures.ok in
     (last-known c.args.self.now.state.fat c.args.start k.0 c.in_ok-last.last k.1).0
 
-pub attach_by-list-requires-clause-regular : goal.attach_by-list-requires-clause-regular
-attach_by-list-requires-clause-regular g c =
+pub attach_by-requires-clause-regular : goal.attach_by-requires-clause-regular
+attach_by-requires-clause-regular g c =
     let k = c.in_ok-last.ensures.ok in
     (last-known c.args.self.now.state.fat c.args.start k.0 c.in_ok-last.last k.1).1
 
