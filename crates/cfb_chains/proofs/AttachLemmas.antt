@@ -195,3 +195,13 @@ start-busy table s (x ∷ list) c e =
     let le = regular-le x c.follows.4 in
     let f = c.follows.0 in
     omega (arith, f, le, e)
+
+-- one sector more behind the last one of a chain
+pub attached-one : (old mid : TableState) (last x : ℕ) → value old.fat last ≡ end_of_chain → last ≤ max_regular_sector → HasTaken old mid [] (x ∷ [])
+    → IsChain mid.fat x (x ∷ []) → Attached old (record mid { fat = set mid.fat last x }) last x (x ∷ [])
+attached-one old mid last x ended regular taken chain =
+    let known = last-known mid.fat x [] x chain in
+    attached-more old old mid last last x [] (attached-none old last ended regular) taken known.0 known.1
+
+pub attached-ended : (old mid : TableState) (last x : ℕ) → value old.fat last ≡ end_of_chain → HasTaken old mid [] (x ∷ []) → value mid.fat last ≡ end_of_chain
+attached-ended old mid last x ended taken = taken-keeps old mid (x ∷ []) taken last (λ e. omega (arith, e, ended)) ∙ ended

@@ -1,7 +1,7 @@
 -- How a table of successors changes.
 use Rattle.std.specs.Prelude.{ℕ, ◌≡◌, ◌≢◌, ◌<◌, ◌≤◌, ◌⊎◌, List, [], ◌∷◌, ◌++◌, length, nat_eq, Contains, IsTrue}
 use Rattle.std.specs.List.{IsDistinct}
-use Rattle.cfb_format.specs.Bytes.{end_of_chain, free_sector, is_regular}
+use Rattle.cfb_format.specs.Bytes.{end_of_chain, free_sector, max_regular_sector, is_regular}
 use Rattle.cfb_format.specs.Chain.{value, IsChain}
 
 -- no number stands in both lists
@@ -19,6 +19,10 @@ NoneFree table = (i : ℕ) → i < length table → value table i ≢ free_secto
 -- no list is the chain from the start
 abbrev pub NoChain : List ℕ → ℕ → Type 0
 NoChain table start = (list : List ℕ) → IsChain table start list → ⊥
+
+-- what comes after a sector of the table: END, or another sector of it
+abbrev pub IsNextOf : List ℕ → ℕ → ℕ → Type 0
+IsNextOf table i next = (i < length table) × (next ≡ value table i) × ((next ≡ end_of_chain) ⊎ ((next < length table) × (next ≤ max_regular_sector)))
 
 -- the list has each number below the end that is free, once
 pub record ListsFree (below : ℕ) (free table : List ℕ) : Type 0 where

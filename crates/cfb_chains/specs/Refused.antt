@@ -3,7 +3,7 @@ use Rattle.std.specs.Prelude.{ℕ, ◌≢◌, List, [], ◌∷◌}
 use Rattle.cfb_format.specs.declared.error.Error.{Error}
 use Rattle.cfb_format.specs.declared.error.Error.TheVariants.{NotFound, AlreadyExists, InvalidInput, InvalidData, Medium, Memory, Full, Unsound, Failed, Unsupported}
 use Rattle.cfb_format.specs.Chain.{IsChain}
-use Rattle.cfb_chains.specs.Changes.{NoChain}
+use Rattle.cfb_chains.specs.Changes.{NoChain, IsNextOf}
 use Rattle.cfb_chains.specs.Tables.{TableState, IsTooFew}
 
 -- the error is one of these three, and so much holds of each
@@ -31,3 +31,6 @@ LastRefused table start = Refused (NoLast table start) ⊥ ⊥
 
 abbrev pub ExtendRefused : TableState → ℕ → ℕ → Error → Type 0
 ExtendRefused t start count = Refused (NoLast t.fat start) Unit (IsTooFew t count)
+
+abbrev pub NextRefused : List ℕ → ℕ → Error → Type 0
+NextRefused table i = Refused ((next : ℕ) → IsNextOf table i next → ⊥) ⊥ ⊥

@@ -5,11 +5,11 @@ ghost use Rattle.cfb_format.specs.Bytes.{max_regular_sector, end_of_chain, free_
 ghost use Rattle.cfb_format.specs.Chain.{value, IsChain};
 ghost use Rattle.cfb_format.specs.Full.{free_count};
 ghost use Rattle.std.specs.List.{IsDistinct};
-ghost use Rattle.cfb_chains.specs.Changes.{ListsFree, IsFreed, IsCut};
+ghost use Rattle.cfb_chains.specs.Changes.{IsNextOf, ListsFree, IsFreed, IsCut};
 ghost use Rattle.cfb_chains.specs.Tables.{TableState, Kept, IsKept, AreSizes, CanHold, TakesNext, IsPrepared, IsTooFew, PassesLimit, HasTaken, Extended, wiped, tables_of, sizes_of, sizes_after, grown_sizes, numbers_needed as needed, grown, grown_fats, grown_difats};
-ghost use Rattle.cfb_chains.specs.Refused.{Refused, WalkRefused, LastRefused, ExtendRefused};
+ghost use Rattle.cfb_chains.specs.Refused.{Refused, WalkRefused, LastRefused, NextRefused, ExtendRefused};
 
-use crate::walk::{last_of, walk};
+use crate::walk::{last_of, next_in, walk};
 use cfb_format::consts::{DIFAT_SECTOR, END_OF_CHAIN, FAT_SECTOR, FREE_SECTOR, MAX_REGULAR_SECTOR, NUM_DIFAT_ENTRIES_IN_HEADER};
 use cfb_format::error::Error;
 use cfb_format::version::Version;
@@ -333,6 +333,43 @@ impl<A: Allocator> Lists<A> {
     {
         self.prepare(1)?;
         Ok(self.take_prepared())
+    }
+
+    /// Adds a sector behind the last one of a chain. `Full` and `Memory`.
+    pub fn attach(&mut self, last: u32) -> Result<u32, Error>
+        requires ended { value self.old.state.fat last ≡ end_of_chain }
+        requires regular { last ≤ max_regular_sector }
+        ensures taken { IfOk result (λ x. HasTaken self.old.state self.new.state (last ∷ []) (x ∷ [])) }
+        ensures chain { IfOk result (λ x. IsChain self.new.state.fat last (last ∷ x ∷ [])) }
+        ensures enough { OnOk result (IsTooFew self.old.state 1 → ⊥) }
+        ensures unchanged { OnErr result (self.new.state ≡ self.old.state) }
+        ensures err { IfErr result (Refused ⊥ Unit (IsTooFew self.old.state 1)) }
+    {
+        let sector = self.take()?;
+        self.link(last, sector);
+        Ok(sector)
+    }
+
+    /// Adds a sector at the end of the chain from `start`. `InvalidData` where there is no such chain and where it is empty,
+    /// `Full` and `Memory`.
+    pub fn extend(&mut self, start: u32) -> Result<u32, Error>
+        ensures ok { IfOk result (λ x. Extended self.old.state self.new.state start (x ∷ [])) }
+        ensures enough { OnOk result (IsTooFew self.old.state 1 → ⊥) }
+        ensures unchanged { OnErr result (self.new.state ≡ self.old.state) }
+        ensures err { IfErr result (ExtendRefused self.old.state start 1) }
+    {
+        let last = self.last(start)?;
+        let sector = self.attach(last)?;
+        Ok(sector)
+    }
+
+    /// The sector that comes after this one in its chain, or END. `InvalidData` where the sector or what its word names is no
+    /// sector of the table.
+    pub fn next(&self, sector: u32) -> Result<u32, Error>
+        ensures ok { IfOk result (λ next. IsNextOf self.now.state.fat sector next) }
+        ensures err { IfErr result (NextRefused self.now.state.fat sector) }
+    {
+        next_in(&self.fat, sector)
     }
 
     /// Adds so many sectors behind the last one of a chain, and gives their numbers. `Full` and `Memory`.

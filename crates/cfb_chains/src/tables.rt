@@ -3,9 +3,9 @@
 ghost use Rattle.std.specs.Prelude.{◌≡◌, ◌≢◌, ℕ, ◌-◌, ◌<◌, ◌≤◌, [], ◌∷◌, ◌++◌, List, length, min, IfOk, IfErr, OnErr, OnOk, vec_len};
 ghost use Rattle.cfb_format.specs.Bytes.{max_regular_sector, end_of_chain};
 ghost use Rattle.cfb_format.specs.Chain.{IsChain, value};
-ghost use Rattle.cfb_chains.specs.Changes.{IsFreed, IsCut};
+ghost use Rattle.cfb_chains.specs.Changes.{IsNextOf, IsFreed, IsCut};
 ghost use Rattle.cfb_chains.specs.Tables.{AreSizes, HasTaken, Extended, IsTooFew, sizes_of, tables_of};
-ghost use Rattle.cfb_chains.specs.Refused.{Refused, WalkRefused, LastRefused, ExtendRefused};
+ghost use Rattle.cfb_chains.specs.Refused.{Refused, WalkRefused, LastRefused, NextRefused, ExtendRefused};
 
 use crate::lists::Lists;
 use cfb_format::error::Error;
@@ -118,6 +118,40 @@ impl<A: Allocator> Tables<A> {
         self.lists.take()
     }
 
+    /// Adds a sector behind the last one of a chain. `Full` where there is no number for it, and `Memory`; the tables then stay
+    /// as they were.
+    pub fn attach(&mut self, last: u32) -> Result<u32, Error>
+        requires ended { value self.old.fat last ≡ end_of_chain }
+        requires regular { last ≤ max_regular_sector }
+        ensures taken { IfOk result (λ x. HasTaken self.old self.new (last ∷ []) (x ∷ [])) }
+        ensures chain { IfOk result (λ x. IsChain self.new.fat last (last ∷ x ∷ [])) }
+        ensures enough { OnOk result (IsTooFew self.old 1 → ⊥) }
+        ensures unchanged { OnErr result (self.new ≡ self.old) }
+        ensures err { IfErr result (Refused ⊥ Unit (IsTooFew self.old 1)) }
+    {
+        self.lists.attach(last)
+    }
+
+    /// Adds a sector at the end of the chain from `start`. `InvalidData` where there is no such chain and where it is empty,
+    /// `Full` where there is no number for it, and `Memory`; the tables then stay as they were.
+    pub fn extend(&mut self, start: u32) -> Result<u32, Error>
+        ensures ok { IfOk result (λ x. Extended self.old self.new start (x ∷ [])) }
+        ensures enough { OnOk result (IsTooFew self.old 1 → ⊥) }
+        ensures unchanged { OnErr result (self.new ≡ self.old) }
+        ensures err { IfErr result (ExtendRefused self.old start 1) }
+    {
+        self.lists.extend(start)
+    }
+
+    /// The sector that comes after this one in its chain, or END (MS-CFB 2.3). `InvalidData` where the sector or what its word
+    /// names is no sector of the file.
+    pub fn next(&self, sector: u32) -> Result<u32, Error>
+        ensures ok { IfOk result (λ next. IsNextOf self.now.fat sector next) }
+        ensures err { IfErr result (NextRefused self.now.fat sector) }
+    {
+        self.lists.next(sector)
+    }
+
     /// Adds so many sectors behind the last one of a chain, and gives their numbers. `Full` where there are too few numbers,
     /// and `Memory`; the tables then stay as they were.
     pub fn attach_by(&mut self, alloc: A, last: u32, count: usize) -> Result<Vec<u32, A>, Error>
@@ -204,8 +238,8 @@ mod tests {
     }
 
     /// The number of the refusal, or 0.
-    fn refusal<T: Drop>(result: Result<T, Error>) -> u8 {
-        match result {
+    fn refusal<T: Drop>(answer: Result<T, Error>) -> u8 {
+        match answer {
             Ok(_) => 0,
             Err(e) => e.number(),
         }

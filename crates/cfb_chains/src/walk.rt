@@ -2,7 +2,8 @@
 ghost use Rattle.std.specs.Prelude.{◌≡◌, ◌≢◌, ℕ, List, Contains, ◌^◌, ◌+◌, ◌-◌, ◌*◌, ◌<◌, ◌≤◌, [], ◌∷◌, ◌++◌, length, IfOk, IfErr, OnErr, OnOk, vec_len, vec_capacity};
 ghost use Rattle.cfb_format.specs.Chain.{IsChain, value};
 ghost use Rattle.cfb_format.specs.Refused.{IsInvalidData};
-ghost use Rattle.cfb_chains.specs.Refused.{WalkRefused, LastRefused};
+ghost use Rattle.cfb_chains.specs.Changes.{IsNextOf};
+ghost use Rattle.cfb_chains.specs.Refused.{WalkRefused, LastRefused, NextRefused};
 
 use cfb_format::consts::{END_OF_CHAIN, MAX_REGULAR_SECTOR};
 use cfb_format::error::{Detail, Error};
@@ -58,4 +59,23 @@ pub fn last_of(table: &[u32], start: u32) -> Result<u32, Error>
         last = next;
     }
     Err(no_chain(start))
+}
+
+/// The sector that comes after this one in its chain, or END. `InvalidData` where the sector or what its word names is no
+/// sector of the table.
+pub fn next_in(table: &[u32], sector: u32) -> Result<u32, Error>
+    ensures ok { IfOk result (λ next. IsNextOf table.now sector next) }
+    ensures err { IfErr result (NextRefused table.now sector) }
+{
+    if sector as usize >= table.len() {
+        return Err(no_chain(sector));
+    }
+    let next = table[sector as usize];
+    if next == END_OF_CHAIN {
+        return Ok(next);
+    }
+    if next > MAX_REGULAR_SECTOR || next as usize >= table.len() {
+        return Err(no_chain(sector));
+    }
+    Ok(next)
 }
