@@ -1,13 +1,13 @@
 -- Chains while their table changes.
 use Rattle.std.proofs.Common.{◌≡◌, ◌≢◌, ◌<◌, ◌≤◌, ◌⊎◌, inl, inr, ℕ, List, [], ◌∷◌, ◌++◌, refl, sym, ◌∙◌, ap, subst, length, arith}
-use Rattle.std.specs.Prelude.{slice_index, Contains, IsTrue, nat_eq}
+use Rattle.std.specs.Prelude.{slice_index, Contains, IsTrue}
 use Rattle.std.proofs.lemmas.List.Elements.{Contains-append_left}
 use Rattle.std.proofs.lemmas.Bool.{leb-true, le-leb}
 use Rattle.cfb_format.specs.Bytes.{end_of_chain, free_sector, is_regular, max_regular_sector}
 use Rattle.cfb_format.specs.Chain.{value, Follows, IsChain}
 use Rattle.cfb_format.proofs.Chains.{Follows-distinct}
 use Rattle.cfb_chains.specs.Changes.{Apart, ChangesOnly}
-use Rattle.cfb_chains.proofs.Members.{Contains-here, Contains-there, Contains-nil, Contains-cases, value-at, value-below, distinct-left, distinct-right, distinct-apart}
+use Rattle.cfb_chains.proofs.Members.{Contains-here, Contains-there, Contains-nil, Contains-cases, value-at, value-below, distinct-apart}
 
 pub regular-le : (i : ℕ) → IsTrue (is_regular i) → i ≤ max_regular_sector
 regular-le i h = leb-true i max_regular_sector h

@@ -1,15 +1,14 @@
 -- The list of free numbers, as the table changes.
-use Rattle.std.proofs.Common.{◌≡◌, ◌≢◌, ℕ, zero, suc, ◌+◌, ◌-◌, ◌<◌, ◌≤◌, ◌⊎◌, inl, inr, Bool, List, [], ◌∷◌, ◌++◌, length, set, refl, sym, ◌∙◌, ap, subst, arith, cond, ne_eqb, length-set, length-append}
-use Rattle.std.specs.Prelude.{Contains, nat_eq, ◌==◌}
+use Rattle.std.proofs.Common.{◌≡◌, ◌≢◌, ℕ, zero, suc, ◌+◌, ◌-◌, ◌<◌, inl, inr, Bool, List, [], ◌∷◌, ◌++◌, length, set, refl, sym, ◌∙◌, ap, subst, arith, cond, ne_eqb, length-set, length-append}
+use Rattle.std.specs.Prelude.{Contains, ◌==◌}
 use Rattle.cfb_format.specs.Full.{free_count}
-use Rattle.std.specs.List.{IsDistinct}
-use Rattle.std.proofs.lemmas.List.Elements.{Contains-append_left, Contains-append_right, Contains-append_cases, Contains-push, Contains-push_cases}
+use Rattle.std.proofs.lemmas.List.Elements.{Contains-append_left, Contains-push, Contains-push_cases}
 use Rattle.std.proofs.lemmas.List.Sums.{sum_by-cons}
 use Rattle.std.proofs.lemmas.Bool.{cases_eq, cases_lt}
 use Rattle.cfb_format.specs.Bytes.{free_sector}
 use Rattle.cfb_format.specs.Chain.{value}
 use Rattle.cfb_chains.specs.Changes.{ListsFree, NoneFree}
-use Rattle.cfb_chains.proofs.Members.{Contains-nil, Contains-here, Contains-there, Contains-cases, none_distinct, distinct-left, distinct-right, distinct-apart, distinct-push, value-at, value-below, value-set, value-set_other, value-left, value-right}
+use Rattle.cfb_chains.proofs.Members.{Contains-nil, Contains-here, Contains-there, Contains-cases, none_distinct, distinct-left, distinct-right, distinct-apart, distinct-push, value-below, value-set, value-set_other, value-left, value-right}
 
 -- going up through the table
 
@@ -109,7 +108,6 @@ lists-grow free table words busy f =
 
 pub none-free : (table : List ℕ) → ListsFree (length table) [] table → NoneFree table
 none-free table f i lt is = Contains-nil i (f.whole i lt is)
-
 
 -- ---- the list is as long as there are free numbers
 

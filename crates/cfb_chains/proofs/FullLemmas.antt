@@ -1,5 +1,5 @@
 -- When the tables are full.
-use Rattle.std.proofs.Common.{◌≡◌, ℕ, ◌+◌, ◌-◌, ◌<◌, ◌≤◌, refl, ◌∙◌, ap, arith, length}
+use Rattle.std.proofs.Common.{◌≡◌, ℕ, ◌+◌, ◌-◌, ◌≤◌, refl, ◌∙◌, ap, arith, length}
 use Rattle.cfb_format.specs.Bytes.{max_regular_sector}
 use Rattle.cfb_format.specs.Full.{free_count}
 use Rattle.cfb_chains.specs.declared.lists.Sizes.{Sizes}
@@ -11,8 +11,8 @@ use Rattle.cfb_chains.proofs.FreeLemmas.{count-none, count-zero}
 after_first : (t : TableState) → free_count t.fat ≡ 0 → (sizes_after t.version (1 - free_count t.fat) (sizes_of t)).sectors ≡ length t.fat + numbers_needed t.version (sizes_of t)
 after_first t zero =
     ap (λ (z : Sizes). z.sectors)
-        (after-one t.version (1 - free_count t.fat) 0 (sizes_of t) (omega (arith, zero))
-        ∙ after-none t.version 0 (grown_sizes (sizes_of t) (numbers_needed t.version (sizes_of t))) refl)
+    (after-one t.version (1 - free_count t.fat) 0 (sizes_of t) (omega (arith, zero))
+    ∙ after-none t.version 0 (grown_sizes (sizes_of t) (numbers_needed t.version (sizes_of t))) refl)
 
 pub full-is-too-few : (t : TableState) → (IsFull t → IsTooFew t 1) × (IsTooFew t 1 → IsFull t)
 full-is-too-few t = (

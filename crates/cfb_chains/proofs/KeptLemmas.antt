@@ -1,16 +1,14 @@
 -- What holds of the lists in memory as they change.
-use Rattle.std.proofs.Common.{◌≡◌, ◌≢◌, ℕ, zero, suc, ◌+◌, ◌-◌, ◌*◌, ◌<◌, ◌≤◌, ◌⊎◌, inl, inr, List, [], ◌∷◌, ◌++◌, length, set, refl, sym, ◌∙◌, ap, subst, arith, rules, length-set, length-append, append-nil}
-use Rattle.std.specs.Prelude.{Contains}
+use Rattle.std.proofs.Common.{◌≡◌, ◌≢◌, ℕ, zero, suc, ◌+◌, ◌<◌, ◌≤◌, inl, inr, List, [], ◌∷◌, ◌++◌, length, set, refl, sym, subst, arith, length-set, length-append}
 use Rattle.std.proofs.lemmas.List.Elements.{Contains-push}
 use Rattle.cfb_format.specs.declared.version.Version.{Version}
 use Rattle.cfb_format.specs.Bytes.{free_sector, end_of_chain, fat_sector, difat_sector, max_regular_sector}
 use Rattle.cfb_format.specs.Chain.{value}
 use Rattle.cfb_chains.specs.declared.lists.Sizes.{Sizes}
 use Rattle.cfb_chains.specs.Changes.{ListsFree, NoneFree}
-use Rattle.cfb_chains.specs.Tables.{TableState, IsKept, AreSizes, sizes_of, numbers_needed, grown_sizes, grown, grown_fats, grown_difats, grown_state}
-use Rattle.cfb_chains.proofs.Members.{value-at}
+use Rattle.cfb_chains.specs.Tables.{TableState, IsKept, AreSizes, sizes_of, numbers_needed, grown_sizes, grown, grown_state}
 use Rattle.cfb_chains.proofs.FreeLemmas.{lists-pop, lists-push, lists-link, lists-grow}
-use Rattle.cfb_chains.proofs.SizeLemmas.{Needs, needed-cases, are-sizes-grown}
+use Rattle.cfb_chains.proofs.SizeLemmas.{needed-cases, are-sizes-grown}
 
 -- the words that are appended: how many, and none is FREE
 grown-cases : (v : Version) (s : Sizes) → let m = numbers_needed v s in
@@ -45,21 +43,21 @@ grown-busy v s = (grown-cases v s).0
 pub sizes-grown : (t : TableState) → let m = numbers_needed t.version (sizes_of t) in sizes_of (grown_state t m) ≡ grown_sizes (sizes_of t) m
 sizes-grown t = elim (needed-cases t.version (sizes_of t)) [
   | inl c ↦ rw c.0 (λ i. record {
-      sectors = length-append t.fat (end_of_chain ∷ []) i;
-      fats = length-append t.fat_sectors [] i;
-      difats = length-append t.difat_sectors [] i;
-    })
+    sectors = length-append t.fat (end_of_chain ∷ []) i;
+    fats = length-append t.fat_sectors [] i;
+    difats = length-append t.difat_sectors [] i;
+  })
   | inr q ↦ elim q [
     | inl c ↦ rw c.0 (λ i. record {
-        sectors = length-append t.fat (fat_sector ∷ end_of_chain ∷ []) i;
-        fats = length-append t.fat_sectors (length t.fat ∷ []) i;
-        difats = length-append t.difat_sectors [] i;
-      })
+      sectors = length-append t.fat (fat_sector ∷ end_of_chain ∷ []) i;
+      fats = length-append t.fat_sectors (length t.fat ∷ []) i;
+      difats = length-append t.difat_sectors [] i;
+    })
     | inr c ↦ rw c.0 (λ i. record {
-        sectors = length-append t.fat (fat_sector ∷ difat_sector ∷ end_of_chain ∷ []) i;
-        fats = length-append t.fat_sectors (length t.fat ∷ []) i;
-        difats = length-append t.difat_sectors ((length t.fat + 1) ∷ []) i;
-      })
+      sectors = length-append t.fat (fat_sector ∷ difat_sector ∷ end_of_chain ∷ []) i;
+      fats = length-append t.fat_sectors (length t.fat ∷ []) i;
+      difats = length-append t.difat_sectors ((length t.fat + 1) ∷ []) i;
+    })
   ]
 ]
 

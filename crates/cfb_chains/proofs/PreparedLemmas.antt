@@ -1,14 +1,12 @@
 -- Memory that was reserved lasts for the sectors that it was reserved for, and what taking the next one does.
-use Rattle.std.proofs.Common.{◌≡◌, ◌≢◌, ℕ, zero, suc, ◌+◌, ◌-◌, ◌*◌, ◌<◌, ◌≤◌, ◌⊎◌, inl, inr, List, [], ◌∷◌, ◌++◌, length, set, refl, sym, ◌∙◌, ap, subst, arith, rules, length-set, length-append, append-nil, append_assoc}
-use Rattle.std.specs.Prelude.{Contains, slice_index, IsTrue}
-use Rattle.std.proofs.lemmas.List.Elements.{Contains-append_left, Contains-append_right, Contains-push}
-use Rattle.cfb_format.specs.declared.version.Version.{Version}
-use Rattle.cfb_format.specs.Bytes.{free_sector, end_of_chain, max_regular_sector, is_regular}
-use Rattle.cfb_format.specs.Chain.{value, Follows, IsChain}
+use Rattle.std.proofs.Common.{◌≡◌, ℕ, suc, ◌+◌, ◌-◌, ◌≤◌, inl, inr, List, [], ◌∷◌, ◌++◌, length, set, refl, sym, ◌∙◌, ap, subst, arith, length-set, length-append}
+use Rattle.std.proofs.lemmas.List.Elements.{Contains-push}
+use Rattle.cfb_format.specs.Bytes.{end_of_chain, max_regular_sector}
+use Rattle.cfb_format.specs.Chain.{value, IsChain}
 use Rattle.cfb_chains.specs.declared.lists.Sizes.{Sizes}
 use Rattle.cfb_chains.specs.Tables.{TableState, Kept, IsKept, IsPrepared, CanHold, AreSizes, HasTaken, TakesNext, sizes_of, sizes_after, grown_sizes, numbers_needed, grown_state}
-use Rattle.cfb_chains.proofs.Members.{Contains-one, value-at, value-below, value-set, value-set_other, first_of_three}
-use Rattle.cfb_chains.proofs.ChainLemmas.{chain_of, chain-stays, chain-turn, le-regular, members-busy}
+use Rattle.cfb_chains.proofs.Members.{value-at, value-below, value-set}
+use Rattle.cfb_chains.proofs.ChainLemmas.{chain_of, le-regular}
 use Rattle.cfb_chains.proofs.SizeLemmas.{after-one, sizes-rise}
 use Rattle.cfb_chains.proofs.KeptLemmas.{sizes-grown}
 use Rattle.cfb_chains.proofs.TakenLemmas.{taken-pop, taken-grown, grown-ended}
@@ -71,10 +69,10 @@ prepared-next old new x n p (inl c) =
     let fats : new.state.fat_sectors ≡ old.state.fat_sectors = ap (λ (z : Kept). z.state.fat_sectors) c.1 in
     let difats : new.state.difat_sectors ≡ old.state.difat_sectors = ap (λ (z : Kept). z.state.difat_sectors) c.1 in
     prepared-moves old new (suc n) n version (ap (λ (z : Kept). z.state.max_sectors) c.1)
-        (ap (λ (z : Kept). z.fat_capacity) c.1) (ap (λ (z : Kept). z.fats_capacity) c.1) (ap (λ (z : Kept). z.difats_capacity) c.1)
-        (omega (arith, count))
-        (λ i. sizes_after (version i) (sym count i) (record { sectors = same i; fats = length (fats i); difats = length (difats i) }))
-        p
+    (ap (λ (z : Kept). z.fat_capacity) c.1) (ap (λ (z : Kept). z.fats_capacity) c.1) (ap (λ (z : Kept). z.difats_capacity) c.1)
+    (omega (arith, count))
+    (λ i. sizes_after (version i) (sym count i) (record { sectors = same i; fats = length (fats i); difats = length (difats i) }))
+    p
 prepared-next old new x n p (inr c) =
     let none : length old.free ≡ 0 = ap length c.0 in
     let free : new.free ≡ old.free = ap (λ (z : Kept). z.free) c.2 in
@@ -84,11 +82,11 @@ prepared-next old new x n p (inr c) =
     let sizes : sizes_of new.state ≡ grown_sizes (sizes_of old.state) (numbers_needed old.state.version (sizes_of old.state)) =
     ap (λ (z : Kept). sizes_of z.state) c.2 ∙ sizes-grown old.state in
     prepared-moves old new (suc n) n version (ap (λ (z : Kept). z.state.max_sectors) c.2)
-        (ap (λ (z : Kept). z.fat_capacity) c.2) (ap (λ (z : Kept). z.fats_capacity) c.2) (ap (λ (z : Kept). z.difats_capacity) c.2)
-        (omega (arith, none, same_free))
-        ((λ i. sizes_after (version i) (n - length new.free) (sizes i))
-        ∙ sym (after-one old.state.version (suc n - length old.free) (n - length new.free) (sizes_of old.state) count))
-        p
+    (ap (λ (z : Kept). z.fat_capacity) c.2) (ap (λ (z : Kept). z.fats_capacity) c.2) (ap (λ (z : Kept). z.difats_capacity) c.2)
+    (omega (arith, none, same_free))
+    ((λ i. sizes_after (version i) (n - length new.free) (sizes i))
+    ∙ sym (after-one old.state.version (suc n - length old.free) (n - length new.free) (sizes_of old.state) count))
+    p
 
 -- a sector whose value is the end is a chain
 pub chain-one : (table : List ℕ) (x : ℕ) → value table x ≡ end_of_chain → x ≤ max_regular_sector → IsChain table x (x ∷ [])
@@ -140,7 +138,7 @@ prepared-linked old new n x w e p =
     let free : new.free ≡ old.free = ap (λ (z : Kept). z.free) e in
     let count : n - length new.free ≡ n - length old.free = ap (λ (z : List ℕ). n - length z) free in
     prepared-moves old new n n version (ap (λ (z : Kept). z.state.max_sectors) e)
-        (ap (λ (z : Kept). z.fat_capacity) e) (ap (λ (z : Kept). z.fats_capacity) e) (ap (λ (z : Kept). z.difats_capacity) e)
-        (omega (arith, count))
-        (λ i. sizes_after (version i) (count i) (record { sectors = same i; fats = length (fats i); difats = length (difats i) }))
-        p
+    (ap (λ (z : Kept). z.fat_capacity) e) (ap (λ (z : Kept). z.fats_capacity) e) (ap (λ (z : Kept). z.difats_capacity) e)
+    (omega (arith, count))
+    (λ i. sizes_after (version i) (count i) (record { sectors = same i; fats = length (fats i); difats = length (difats i) }))
+    p

@@ -1,5 +1,5 @@
 -- From the number of an error to what holds of it.
-use Rattle.std.proofs.Common.{◌≡◌, arith}
+use Rattle.std.proofs.Common.{arith}
 use Rattle.cfb_format.specs.declared.error.Error.{Error}
 use Rattle.cfb_format.specs.declared.error.Error.TheVariants.{NotFound, AlreadyExists, InvalidInput, InvalidData, Medium, Memory, Full, Unsound, Failed, Unsupported}
 use Rattle.cfb_format.specs.Refused.{IsInvalidData}

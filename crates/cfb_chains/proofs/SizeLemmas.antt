@@ -1,11 +1,10 @@
 -- How the tables' sizes grow, and when there is room.
-use Rattle.std.proofs.Common.{◌≡◌, ◌≢◌, ℕ, zero, suc, ◌+◌, ◌-◌, ◌*◌, ◌<◌, ◌≤◌, ◌⊎◌, inl, inr, refl, sym, ◌∙◌, ap, subst, arith, rules}
-use Rattle.std.specs.Prelude.{nat_lt, if◌then◌else◌}
+use Rattle.std.proofs.Common.{◌≡◌, ℕ, zero, suc, ◌+◌, ◌-◌, ◌*◌, ◌<◌, ◌≤◌, ◌⊎◌, inl, inr, refl, sym, ◌∙◌, ap, subst, arith}
 use Rattle.std.proofs.lemmas.Bool.{cases_eq, cases_lt, lt-ltb, le-ltb}
 use Rattle.cfb_format.specs.declared.version.Version.{Version}
 use Rattle.cfb_format.specs.declared.version.Version.TheVariants.{V3, V4}
 use Rattle.cfb_format.specs.Bytes.{words_per_sector, max_regular_sector}
-use Rattle.cfb_format.specs.Full.{HasRoom, rounded_up}
+use Rattle.cfb_format.specs.Full.{HasRoom}
 use Rattle.cfb_format.specs.Header.{header_difat_len}
 use Rattle.cfb_chains.specs.declared.lists.Sizes.{Sizes}
 use Rattle.cfb_chains.specs.Tables.{AreSizes, PassesLimit, numbers_needed, grown_sizes, sizes_after}
@@ -64,21 +63,21 @@ are-sizes-grown v s fits a =
     let short = a.difats in
     elim (needed-cases v s) [
       | inl c ↦ subst (AreSizes v) (sym (one s (numbers_needed v s) c.0)) (record {
-          short = omega (arith, fits, c.0);
-          places = places;
-          difats = omega (arith, short);
-        })
+        short = omega (arith, fits, c.0);
+        places = places;
+        difats = omega (arith, short);
+      })
       | inr r ↦ elim r [
         | inl c ↦ subst (AreSizes v) (sym (two s (numbers_needed v s) c.0)) (record {
-            short = omega (arith, fits, c.0);
-            places = omega (arith, c.2);
-            difats = omega (arith, short);
-          })
+          short = omega (arith, fits, c.0);
+          places = omega (arith, c.2);
+          difats = omega (arith, short);
+        })
         | inr c ↦ subst (AreSizes v) (sym (three s (numbers_needed v s) c.0)) (record {
-            short = omega (arith, fits, c.0);
-            places = let more = more_places v s.difats in omega (arith, places, more);
-            difats = omega (arith, short);
-          })
+          short = omega (arith, fits, c.0);
+          places = let more = more_places v s.difats in omega (arith, places, more);
+          difats = omega (arith, short);
+        })
       ]
     ]
 
@@ -109,22 +108,37 @@ module _ (v : Version) (limit : ℕ) (s : Sizes) (w : ℕ) (r : HasRoom v limit 
       let md = r.more_difats in
       elim (needed-cases v s) [
         | inl c ↦ subst (λ (g : Sizes). HasRoom v limit g.sectors g.fats g.difats w) (sym (one s (numbers_needed v s) c.0)) (record {
-            fats = r.fats; difats = r.difats; more_fats = mf; more_difats = md; places = r.places;
-            covers = omega (arith, covers, mf, md); left = omega (arith, left, mf, md);
-          })
+          fats = r.fats;
+          difats = r.difats;
+          more_fats = mf;
+          more_difats = md;
+          places = r.places;
+          covers = omega (arith, covers, mf, md);
+          left = omega (arith, left, mf, md);
+        })
         | inr q ↦ elim q [
           | inl c ↦
               let f = two_fats c.1 in
               subst (λ (g : Sizes). HasRoom v limit g.sectors g.fats g.difats w) (sym (two s (numbers_needed v s) c.0)) (record {
-                fats = r.fats; difats = r.difats; more_fats = omega (arith, f); more_difats = md; places = r.places;
-                covers = omega (arith, covers, f, md); left = omega (arith, left, f, md);
+                fats = r.fats;
+                difats = r.difats;
+                more_fats = omega (arith, f);
+                more_difats = md;
+                places = r.places;
+                covers = omega (arith, covers, f, md);
+                left = omega (arith, left, f, md);
               })
           | inr c ↦
               let f = two_fats c.1 in
               let d = three_difats f c.2 in
               subst (λ (g : Sizes). HasRoom v limit g.sectors g.fats g.difats w) (sym (three s (numbers_needed v s) c.0)) (record {
-                fats = r.fats; difats = r.difats; more_fats = omega (arith, f); more_difats = omega (arith, d); places = r.places;
-                covers = omega (arith, covers, f, d); left = omega (arith, left, f, d);
+                fats = r.fats;
+                difats = r.difats;
+                more_fats = omega (arith, f);
+                more_difats = omega (arith, d);
+                places = r.places;
+                covers = omega (arith, covers, f, d);
+                left = omega (arith, left, f, d);
               })
         ]
       ]
@@ -162,31 +176,51 @@ room-before v limit s w fits r = elim (needed-cases v s) [
       let q = subst (λ (g : Sizes). HasRoom v limit g.sectors g.fats g.difats w) (one s (numbers_needed v s) c.0) r in
       let covers = q.covers in let left = q.left in let mf = q.more_fats in let md = q.more_difats in
       record {
-        fats = q.fats; difats = q.difats; more_fats = mf; more_difats = md; places = q.places;
-        covers = omega (arith, covers, mf, md); left = omega (arith, left, mf, md, fits, c.0);
+        fats = q.fats;
+        difats = q.difats;
+        more_fats = mf;
+        more_difats = md;
+        places = q.places;
+        covers = omega (arith, covers, mf, md);
+        left = omega (arith, left, mf, md, fits, c.0);
       }
   | inr z ↦ elim z [
     | inl c ↦
         let q = subst (λ (g : Sizes). HasRoom v limit g.sectors g.fats g.difats w) (two s (numbers_needed v s) c.0) r in
         let covers = q.covers in let left = q.left in let mf = q.more_fats in let md = q.more_difats in
         record {
-          fats = q.fats; difats = q.difats; more_fats = omega (arith, mf); more_difats = md; places = q.places;
-          covers = omega (arith, covers, mf, md); left = omega (arith, left, mf, md, fits, c.0);
+          fats = q.fats;
+          difats = q.difats;
+          more_fats = omega (arith, mf);
+          more_difats = md;
+          places = q.places;
+          covers = omega (arith, covers, mf, md);
+          left = omega (arith, left, mf, md, fits, c.0);
         }
     | inr c ↦
         let q = subst (λ (g : Sizes). HasRoom v limit g.sectors g.fats g.difats w) (three s (numbers_needed v s) c.0) r in
         let covers = q.covers in let left = q.left in let mf = q.more_fats in let md = q.more_difats in
         record {
-          fats = q.fats; difats = q.difats; more_fats = omega (arith, mf); more_difats = omega (arith, md); places = q.places;
-          covers = omega (arith, covers, mf, md); left = omega (arith, left, mf, md, fits, c.0);
+          fats = q.fats;
+          difats = q.difats;
+          more_fats = omega (arith, mf);
+          more_difats = omega (arith, md);
+          places = q.places;
+          covers = omega (arith, covers, mf, md);
+          left = omega (arith, left, mf, md, fits, c.0);
         }
   ]
 ]
 
 pub room-for-none : (v : Version) (limit : ℕ) (s : Sizes) → AreSizes v s → s.sectors ≤ s.fats * words_per_sector v → HasRoom v limit s.sectors s.fats s.difats 0
 room-for-none v limit s a covered = record {
-  fats = s.fats; difats = s.difats; more_fats = omega arith; more_difats = omega arith; places = a.places;
-  covers = omega (arith, covered); left = omega arith;
+  fats = s.fats;
+  difats = s.difats;
+  more_fats = omega arith;
+  more_difats = omega arith;
+  places = a.places;
+  covers = omega (arith, covered);
+  left = omega arith;
 }
 
 -- the sizes after a run of growths, one by one

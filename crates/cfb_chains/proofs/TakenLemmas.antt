@@ -1,5 +1,5 @@
 -- What taking sectors does to the tables.
-use Rattle.std.proofs.Common.{◌≡◌, ◌≢◌, ℕ, zero, suc, ◌+◌, ◌-◌, ◌*◌, ◌<◌, ◌≤◌, ◌⊎◌, inl, inr, List, [], ◌∷◌, ◌++◌, length, set, refl, sym, ◌∙◌, ap, subst, arith, rules, length-set, length-append, append-nil, append_assoc}
+use Rattle.std.proofs.Common.{◌≡◌, ◌≢◌, ℕ, zero, suc, ◌+◌, ◌-◌, ◌*◌, ◌<◌, ◌≤◌, ◌⊎◌, inl, inr, List, [], ◌∷◌, ◌++◌, length, set, refl, sym, ◌∙◌, ap, subst, arith, length-set, length-append, append-nil, append_assoc}
 use Rattle.std.specs.Prelude.{Contains, nat_eq}
 use Rattle.std.specs.List.{IsDistinct}
 use Rattle.std.proofs.lemmas.List.Elements.{Contains-append_left, Contains-append_right, Contains-append_cases, Contains-push}
@@ -12,7 +12,7 @@ use Rattle.cfb_format.specs.Full.{rounded_up}
 use Rattle.cfb_format.specs.Header.{header_difat_len}
 use Rattle.cfb_chains.specs.Changes.{NoneFree}
 use Rattle.cfb_chains.specs.Tables.{TableState, HasTaken, HasExactTables, IsKept, sizes_of, numbers_needed, grown_state}
-use Rattle.cfb_chains.proofs.Members.{Contains-nil, Contains-cases, Contains-one, Contains-or, Contains-there, in_three, first_of_three, second_of_three, third_of_three, none_distinct, one_distinct, distinct-join, value-below, value-past, value-set, value-set_other, value-left, value-right}
+use Rattle.cfb_chains.proofs.Members.{Contains-nil, Contains-cases, Contains-one, Contains-or, in_three, first_of_three, second_of_three, third_of_three, none_distinct, one_distinct, distinct-join, value-below, value-past, value-set, value-set_other, value-left, value-right}
 use Rattle.cfb_chains.proofs.FreeLemmas.{none-free}
 use Rattle.cfb_chains.proofs.SizeLemmas.{needed-cases}
 
@@ -416,9 +416,9 @@ three-distinct a b touched more h =
       | inr is ↦ ((λ e. omega (arith, is, e)), (λ e. omega (arith, is, e)))
     ] in
     distinct-join (more ++ h.fats) h.difats
-        (distinct-join more h.fats h.once h.fats_once (λ i m n. (no_mark i m).0 (h.fat_marks i n)))
-        h.difats_once
-        (λ i m n. let is = h.difat_marks i n in elim (Contains-append_cases more h.fats i m) [
-          | inl x ↦ (no_mark i x).1 is
-          | inr x ↦ (let was = h.fat_marks i x in omega (arith, is, was))
-        ])
+    (distinct-join more h.fats h.once h.fats_once (λ i m n. (no_mark i m).0 (h.fat_marks i n)))
+    h.difats_once
+    (λ i m n. let is = h.difat_marks i n in elim (Contains-append_cases more h.fats i m) [
+      | inl x ↦ (no_mark i x).1 is
+      | inr x ↦ (let was = h.fat_marks i x in omega (arith, is, was))
+    ])

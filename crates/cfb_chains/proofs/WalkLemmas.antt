@@ -1,11 +1,10 @@
 -- A walk along a chain.
-use Rattle.std.proofs.Common.{◌≡◌, ◌≢◌, ℕ, ◌+◌, ◌<◌, ◌≤◌, ◌⊎◌, inl, inr, List, [], ◌∷◌, ◌++◌, length, refl, sym, ◌∙◌, ap, subst, arith, rules}
+use Rattle.std.proofs.Common.{◌≡◌, ◌≢◌, ℕ, ◌<◌, ◌≤◌, ◌⊎◌, inl, inr, List, [], ◌∷◌, ◌++◌, length, refl, sym, ◌∙◌, ap, subst, arith}
 use Rattle.std.specs.Prelude.{slice_index, IsTrue}
 use Rattle.std.proofs.lemmas.List.{length-append, append_assoc, append-nil}
 use Rattle.cfb_format.specs.Bytes.{end_of_chain, is_regular, max_regular_sector}
 use Rattle.cfb_format.specs.Chain.{Follows, IsChain}
 use Rattle.cfb_format.proofs.Chains.{Follows-length}
-use Rattle.cfb_format.proofs.Unique.{Follows-unique}
 use Rattle.cfb_chains.proofs.ChainLemmas.{chain_of, regular-le, le-regular}
 
 -- the members so far, and the next one: every chain from there is the rest of one from the start, and the other way round

@@ -1,5 +1,5 @@
 -- How a table of successors changes.
-use Rattle.std.specs.Prelude.{ℕ, ◌≡◌, ◌≢◌, ◌<◌, ◌≤◌, ◌⊎◌, List, [], ◌∷◌, ◌++◌, length, nat_eq, Contains, IsTrue}
+use Rattle.std.specs.Prelude.{ℕ, ◌≡◌, ◌≢◌, ◌<◌, ◌≤◌, ◌⊎◌, List, ◌∷◌, ◌++◌, length, nat_eq, Contains, IsTrue}
 use Rattle.std.specs.List.{IsDistinct}
 use Rattle.cfb_format.specs.Bytes.{end_of_chain, free_sector, max_regular_sector, is_regular}
 use Rattle.cfb_format.specs.Chain.{value, IsChain}

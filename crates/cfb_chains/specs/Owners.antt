@@ -1,9 +1,9 @@
 -- Which numbers of a table are in use, and how that changes as chains grow and are freed.
-use Rattle.std.specs.Prelude.{ℕ, ◌≡◌, ◌≢◌, ◌<◌, List, [], ◌∷◌, ◌++◌, length, nat_eq, Contains, IsTrue}
+use Rattle.std.specs.Prelude.{ℕ, ◌≡◌, ◌≢◌, List, [], ◌∷◌, ◌++◌, nat_eq, Contains}
 use Rattle.std.specs.List.{IsDistinct}
-use Rattle.cfb_format.specs.Bytes.{is_regular, free_sector}
+use Rattle.cfb_format.specs.Bytes.{free_sector}
 use Rattle.cfb_format.specs.Chain.{value}
-use Rattle.cfb_format.specs.Soundness.{IsLoose, KeepsLoose}
+use Rattle.cfb_format.specs.Soundness.{KeepsLoose}
 use Rattle.cfb_chains.specs.Changes.{ChangesOnly, IsFreed, IsCut}
 use Rattle.cfb_chains.specs.Tables.{TableState, HasTaken}
 

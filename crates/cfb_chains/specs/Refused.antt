@@ -1,5 +1,5 @@
 -- Why a call on the tables was refused: what holds at each error, and which errors the call can give.
-use Rattle.std.specs.Prelude.{ℕ, ◌≢◌, List, [], ◌∷◌}
+use Rattle.std.specs.Prelude.{ℕ, ◌≢◌, List, []}
 use Rattle.cfb_format.specs.declared.error.Error.{Error}
 use Rattle.cfb_format.specs.declared.error.Error.TheVariants.{NotFound, AlreadyExists, InvalidInput, InvalidData, Medium, Memory, Full, Unsound, Failed, Unsupported}
 use Rattle.cfb_format.specs.Chain.{IsChain}

@@ -1,5 +1,5 @@
 -- The tables of a file in memory: the FAT, the FAT sectors and the DIFAT sectors.
-use Rattle.std.specs.Prelude.{ℕ, zero, suc, ◌≡◌, ◌≢◌, ◌+◌, ◌-◌, ◌*◌, ◌<◌, ◌≤◌, ◌⊎◌, List, [], ◌∷◌, ◌++◌, length, nat_eq, nat_lt, Contains, slice_set, if◌then◌else◌}
+use Rattle.std.specs.Prelude.{ℕ, zero, suc, ◌≡◌, ◌+◌, ◌-◌, ◌*◌, ◌<◌, ◌≤◌, ◌⊎◌, List, [], ◌∷◌, ◌++◌, length, nat_eq, nat_lt, Contains, slice_set, if◌then◌else◌}
 use Rattle.std.specs.List.{IsDistinct}
 use Rattle.cfb_format.specs.declared.version.Version.{Version}
 use Rattle.cfb_format.specs.Bytes.{end_of_chain, free_sector, fat_sector, difat_sector, max_regular_sector, words_per_sector}

@@ -10,7 +10,10 @@ ghost use Rattle.cfb_chains.specs.Tables.{TableState, Kept, IsKept, AreSizes, Ca
 ghost use Rattle.cfb_chains.specs.Refused.{Refused, WalkRefused, LastRefused, NextRefused, ExtendRefused};
 
 use crate::walk::{last_of, next_in, walk};
-use cfb_format::consts::{DIFAT_SECTOR, END_OF_CHAIN, FAT_SECTOR, FREE_SECTOR, MAX_REGULAR_SECTOR, NUM_DIFAT_ENTRIES_IN_HEADER};
+use cfb_format::consts::{
+    DIFAT_SECTOR, END_OF_CHAIN, FAT_SECTOR, FREE_SECTOR, MAX_REGULAR_SECTOR,
+    NUM_DIFAT_ENTRIES_IN_HEADER,
+};
 use cfb_format::error::Error;
 use cfb_format::version::Version;
 use std::alloc::{Allocator, Global};
@@ -62,8 +65,16 @@ impl Sizes {
         }
         Some(Sizes {
             sectors: self.sectors + numbers,
-            fats: if numbers < 2 { self.fats } else { self.fats + 1 },
-            difats: if numbers < 3 { self.difats } else { self.difats + 1 },
+            fats: if numbers < 2 {
+                self.fats
+            } else {
+                self.fats + 1
+            },
+            difats: if numbers < 3 {
+                self.difats
+            } else {
+                self.difats + 1
+            },
         })
     }
 
@@ -103,7 +114,12 @@ fn append<A: Allocator>(fat: &mut Vec<u32, A>, word: u32) -> u32
 
 /// Appends so many numbers: the sector that is asked for, and before it a FAT sector and a DIFAT sector where they are
 /// needed.
-fn grow<A: Allocator>(fat: &mut Vec<u32, A>, fat_sectors: &mut Vec<u32, A>, difat_sectors: &mut Vec<u32, A>, numbers: usize) -> u32
+fn grow<A: Allocator>(
+    fat: &mut Vec<u32, A>,
+    fat_sectors: &mut Vec<u32, A>,
+    difat_sectors: &mut Vec<u32, A>,
+    numbers: usize,
+) -> u32
     requires some { 0 < numbers }
     requires few { numbers < 4 }
     requires room { vec_len fat.old + numbers ≤ vec_capacity fat.old }
@@ -164,12 +180,12 @@ impl<A: Allocator> Model for Lists<A> {
     ghost Value = { Kept };
 
     ghost view = { λ l. record {
-        state = tables_of l.version l.max_sectors l.fat.items l.fat_sectors.items l.difat_sectors.items;
-        free = l.free.items;
-        fat_capacity = vec_capacity l.fat;
-        fats_capacity = vec_capacity l.fat_sectors;
-        difats_capacity = vec_capacity l.difat_sectors;
-        free_capacity = vec_capacity l.free;
+      state = tables_of l.version l.max_sectors l.fat.items l.fat_sectors.items l.difat_sectors.items;
+      free = l.free.items;
+      fat_capacity = vec_capacity l.fat;
+      fats_capacity = vec_capacity l.fat_sectors;
+      difats_capacity = vec_capacity l.difat_sectors;
+      free_capacity = vec_capacity l.free;
     } };
 
     ghost invariant = { λ l. IsKept (tables_of l.version l.max_sectors l.fat.items l.fat_sectors.items l.difat_sectors.items) l.free.items };
@@ -177,7 +193,13 @@ impl<A: Allocator> Model for Lists<A> {
 
 impl<A: Allocator> Lists<A> {
     /// The tables of a file that was read.
-    pub fn new(alloc: A, version: Version, fat: Vec<u32, A>, fat_sectors: Vec<u32, A>, difat_sectors: Vec<u32, A>) -> Result<Lists<A>, Error>
+    pub fn new(
+        alloc: A,
+        version: Version,
+        fat: Vec<u32, A>,
+        fat_sectors: Vec<u32, A>,
+        difat_sectors: Vec<u32, A>,
+    ) -> Result<Lists<A>, Error>
         requires sizes { AreSizes version (record { sectors = vec_len fat; fats = vec_len fat_sectors; difats = vec_len difat_sectors }) }
         ensures ok { IfOk result (λ lists. lists.state ≡ tables_of version max_regular_sector fat.items fat_sectors.items difat_sectors.items) }
         ensures err { IfErr result (Refused ⊥ Unit ⊥) }
@@ -211,9 +233,12 @@ impl<A: Allocator> Lists<A> {
         ensures rest { self.new ≡ record self.old { fat_capacity = self.new.fat_capacity; fats_capacity = self.new.fats_capacity; difats_capacity = self.new.difats_capacity } }
         ensures err { IfErr result (Refused ⊥ Unit ⊥) }
     {
-        self.fat.reserve(sizes.sectors.saturating_sub(self.fat.len()))?;
-        self.fat_sectors.reserve(sizes.fats.saturating_sub(self.fat_sectors.len()))?;
-        self.difat_sectors.reserve(sizes.difats.saturating_sub(self.difat_sectors.len()))?;
+        self.fat
+            .reserve(sizes.sectors.saturating_sub(self.fat.len()))?;
+        self.fat_sectors
+            .reserve(sizes.fats.saturating_sub(self.fat_sectors.len()))?;
+        self.difat_sectors
+            .reserve(sizes.difats.saturating_sub(self.difat_sectors.len()))?;
         Ok(())
     }
 
@@ -233,7 +258,9 @@ impl<A: Allocator> Lists<A> {
         ensures enough { OnOk result (IsTooFew self.old.state count → ⊥) }
     {
         let missing = self.missing(count);
-        let sizes = self.sizes().with_more(self.version, self.max_sectors as usize, missing)?;
+        let sizes = self
+            .sizes()
+            .with_more(self.version, self.max_sectors as usize, missing)?;
         self.reserve(sizes)
     }
 
@@ -250,7 +277,12 @@ impl<A: Allocator> Lists<A> {
             return sector;
         }
         let numbers = self.sizes().numbers_needed(self.version);
-        grow(&mut self.fat, &mut self.fat_sectors, &mut self.difat_sectors, numbers)
+        grow(
+            &mut self.fat,
+            &mut self.fat_sectors,
+            &mut self.difat_sectors,
+            numbers,
+        )
     }
 
     /// Lets the last sector of a chain name the next one.

@@ -30,7 +30,13 @@ impl<A: Allocator> Model for Tables<A> {
 impl<A: Allocator> Tables<A> {
     /// The tables of a file that was read: the value of each sector, the FAT sectors and the DIFAT sectors in order. The file
     /// may grow to the greatest number of sectors. `Memory`.
-    pub fn new(alloc: A, version: Version, fat: Vec<u32, A>, fat_sectors: Vec<u32, A>, difat_sectors: Vec<u32, A>) -> Result<Tables<A>, Error>
+    pub fn new(
+        alloc: A,
+        version: Version,
+        fat: Vec<u32, A>,
+        fat_sectors: Vec<u32, A>,
+        difat_sectors: Vec<u32, A>,
+    ) -> Result<Tables<A>, Error>
         requires sizes { AreSizes version (record { sectors = vec_len fat; fats = vec_len fat_sectors; difats = vec_len difat_sectors }) }
         ensures ok { IfOk result (λ tables. tables ≡ tables_of version max_regular_sector fat.items fat_sectors.items difat_sectors.items) }
         ensures err { IfErr result (Refused ⊥ Unit ⊥) }

@@ -28,7 +28,10 @@ pub fn walk<A: Allocator>(alloc: A, table: &[u32], start: u32) -> Result<Vec<u32
     let mut list = Vec::new(alloc);
     let mut sector = start;
     while sector != END_OF_CHAIN {
-        if sector > MAX_REGULAR_SECTOR || sector as usize >= table.len() || list.len() >= table.len() {
+        if sector > MAX_REGULAR_SECTOR
+            || sector as usize >= table.len()
+            || list.len() >= table.len()
+        {
             return Err(no_chain(start));
         }
         list.push(sector)?;

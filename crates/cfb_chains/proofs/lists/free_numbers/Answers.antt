@@ -1,7 +1,6 @@
-use Rattle.std.proofs.Common.{rules, ◌≡◌, ◌≢◌, ℕ, List, [], ◌∷◌, ◌++◌, ◌<◌, length, sym, ◌∙◌, arith}
+use Rattle.std.proofs.Common.{◌≡◌, ◌≢◌, sym, ◌∙◌}
 use Rattle.cfb_format.specs.Bytes.{free_sector}
 use Rattle.cfb_format.specs.Chain.{value}
-use Rattle.cfb_chains.specs.Changes.{ListsFree}
 use Rattle.cfb_chains.proofs.Members.{value-at}
 use Rattle.cfb_chains.proofs.FreeLemmas.{lists-none, lists-more, lists-skip}
 use Rattle.cfb_chains.proofs.lists.free_numbers.Goals as goal

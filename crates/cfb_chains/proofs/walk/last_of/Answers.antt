@@ -1,7 +1,6 @@
-use Rattle.std.proofs.Common.{rules, ◌≡◌, ◌≢◌, ℕ, List, ◌+◌, ◌<◌, ◌≤◌, [], ◌∷◌, ◌++◌, inl, inr, refl, ap, length, arith, length-append}
-use Rattle.cfb_format.specs.Bytes.{end_of_chain}
+use Rattle.std.proofs.Common.{[], ◌∷◌, ◌++◌, inl, inr, arith, length-append}
 use Rattle.cfb_chains.specs.Refused.{NoLast}
-use Rattle.cfb_chains.proofs.WalkLemmas.{walked-start, walked-step, walked-end, walked-past, walked-long, no_members}
+use Rattle.cfb_chains.proofs.WalkLemmas.{walked-step, walked-end, walked-past, walked-long, no_members}
 use Rattle.cfb_chains.proofs.RefusedLemmas.{refused-invalid}
 use Rattle.cfb_chains.proofs.walk.last_of.Goals as goal
 use Rattle.cfb_chains.proofs.walk.last_of.Goals.{then-last-gt-MAX_REGULAR_SECTOR-via-then-last-gt-MAX_REGULAR_SECTOR, then-last-gt-MAX_REGULAR_SECTOR-via-else-last-gt-MAX_REGULAR_SECTOR+then-last-table}

@@ -1,4 +1,4 @@
-use Rattle.std.proofs.Common.{rules, ◌≡◌, ◌≢◌, ℕ, List, ◌<◌, ◌≤◌, inl, inr, length, arith, vec_len}
+use Rattle.std.proofs.Common.{inl, inr, arith}
 use Rattle.cfb_chains.specs.Changes.{NoChain}
 use Rattle.cfb_chains.proofs.WalkLemmas.{walked-step, walked-end, walked-past, walked-long}
 use Rattle.cfb_chains.proofs.RefusedLemmas.{refused-invalid}

@@ -1,4 +1,4 @@
-use Rattle.std.proofs.Common.{◌≡◌, ◌-◌, ◌≤◌, length, vec_len}
+use Rattle.std.proofs.Common.{◌-◌, ◌≤◌, length, vec_len}
 use Rattle.cfb_chains.proofs.WalkLemmas.{Walked}
 use Rattle.cfb_chains.proofs.walk.walk.Given as goal
 

@@ -1,4 +1,4 @@
-use Rattle.std.proofs.Common.{◌≡◌, ℕ, List, [], ◌∷◌, sym, ◌∙◌, ap, subst}
+use Rattle.std.proofs.Common.{[], ◌∷◌, sym, ap, subst}
 use Rattle.cfb_format.specs.Chain.{IsChain}
 use Rattle.cfb_chains.specs.Tables.{TableState, Kept, HasTaken}
 use Rattle.cfb_chains.proofs.AttachLemmas.{attached-one, attached-ended, last-known}

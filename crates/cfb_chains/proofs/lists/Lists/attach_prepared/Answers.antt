@@ -1,6 +1,6 @@
-use Rattle.std.proofs.Common.{rules, ◌≡◌, ◌≢◌, ℕ, suc, ◌+◌, ◌-◌, ◌<◌, List, [], ◌∷◌, ◌++◌, length, vec_len, refl, sym, ◌∙◌, ap, subst, arith}
+use Rattle.std.proofs.Common.{◌≡◌, suc, ◌+◌, ◌-◌, [], ◌∷◌, ◌++◌, length, refl, sym, ◌∙◌, ap, subst, arith}
 use Rattle.cfb_chains.specs.Tables.{TableState, Kept, IsPrepared}
-use Rattle.cfb_chains.proofs.PreparedLemmas.{prepared-held, prepared-short, prepared-next, prepared-linked, IsNext, is-next}
+use Rattle.cfb_chains.proofs.PreparedLemmas.{prepared-held, prepared-short, prepared-next, prepared-linked, is-next}
 use Rattle.cfb_chains.proofs.AttachLemmas.{Attached, attached-none, attached-more, last-ended}
 use Rattle.cfb_chains.proofs.lists.Lists.attach_prepared.Goals as goal
 

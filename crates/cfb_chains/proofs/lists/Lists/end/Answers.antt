@@ -1,4 +1,4 @@
-use Rattle.std.proofs.Common.{rules, ◌≡◌, ◌≢◌, arith}
+use Rattle.std.proofs.Common.{arith}
 use Rattle.cfb_chains.specs.Tables.{tables_of}
 use Rattle.cfb_chains.proofs.KeptLemmas.{kept-link}
 use Rattle.cfb_chains.proofs.lists.Lists.end.Goals as goal

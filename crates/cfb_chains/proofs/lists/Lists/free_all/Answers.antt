@@ -1,6 +1,6 @@
-use Rattle.std.proofs.Common.{◌≡◌, ◌≢◌, ℕ, List, take, get_or, sym, ◌∙◌, ap}
+use Rattle.std.proofs.Common.{ℕ, List, get_or, sym, ◌∙◌, ap}
 use Rattle.cfb_format.specs.Chain.{value}
-use Rattle.cfb_chains.specs.Tables.{Kept, wiped}
+use Rattle.cfb_chains.specs.Tables.{Kept}
 use Rattle.cfb_chains.proofs.AttachLemmas.{next-busy, freed-step}
 use Rattle.cfb_chains.proofs.lists.Lists.free_all.Goals as goal
 
@@ -9,7 +9,7 @@ release-requires-clause-busy g c e =
     let l = c.loop-sector in
     let fat = ap (λ (z : Kept). z.state.fat) l.invariant.freed in
     next-busy c.args.self.now.state.fat c.args.list.now l.sector-index c.loop-sector-test.true c.requires.busy c.requires.once
-        (ap (λ (z : List ℕ). value z (get_or c.args.list.now l.sector-index 0)) (sym fat) ∙ e)
+    (ap (λ (z : List ℕ). value z (get_or c.args.list.now l.sector-index 0)) (sym fat) ∙ e)
 
 pub loop-sector-preserved : goal.loop-sector-preserved
 loop-sector-preserved g c =

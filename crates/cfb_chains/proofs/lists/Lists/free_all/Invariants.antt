@@ -1,5 +1,5 @@
 use Rattle.std.proofs.Common.{◌≡◌, ◌++◌, take}
-use Rattle.cfb_chains.specs.Tables.{Kept, TableState, wiped}
+use Rattle.cfb_chains.specs.Tables.{wiped}
 use Rattle.cfb_chains.proofs.lists.Lists.free_all.Given as goal
 
 abbrev pub invariant-loop-sector : goal.invariant-loop-sector

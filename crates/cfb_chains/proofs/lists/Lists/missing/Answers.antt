@@ -1,4 +1,4 @@
-use Rattle.std.proofs.Common.{rules, ◌≡◌, ℕ, ◌-◌, length, vec_len, arith}
+use Rattle.std.proofs.Common.{arith}
 use Rattle.cfb_chains.proofs.FreeLemmas.{lists-count}
 use Rattle.cfb_chains.proofs.lists.Lists.missing.Goals as goal
 

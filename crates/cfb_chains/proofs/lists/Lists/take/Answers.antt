@@ -1,4 +1,4 @@
-use Rattle.std.proofs.Common.{◌≡◌, ℕ, List, [], ◌∷◌, sym, ◌∙◌, ap, subst}
+use Rattle.std.proofs.Common.{[], ◌∷◌, ap, subst}
 use Rattle.cfb_chains.specs.Tables.{TableState, Kept, HasTaken}
 use Rattle.cfb_chains.proofs.PreparedLemmas.{prepared-held, prepared-short, is-next, chain-one}
 use Rattle.cfb_chains.proofs.lists.Lists.take.Goals as goal

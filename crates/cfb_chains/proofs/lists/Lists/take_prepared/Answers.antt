@@ -1,7 +1,6 @@
-use Rattle.std.proofs.Common.{rules, ◌≡◌, ◌≢◌, ℕ, List, ◌+◌, ◌<◌, ◌≤◌, [], ◌∷◌, ◌++◌, length, vec_len, sym, ◌∙◌, ap, arith, append-nil}
+use Rattle.std.proofs.Common.{◌≡◌, [], ◌++◌, length, ◌∙◌, ap, arith, append-nil}
 use Rattle.std.proofs.lemmas.List.{nil_from_length}
 use Rattle.std.proofs.lemmas.List.Elements.{Contains-push}
-use Rattle.cfb_format.specs.Bytes.{max_regular_sector}
 use Rattle.cfb_chains.specs.Tables.{tables_of, sizes_of, numbers_needed, grown, grown_fats, grown_difats, IsKept}
 use Rattle.cfb_chains.proofs.KeptLemmas.{kept-pop, kept-grown}
 use Rattle.cfb_chains.proofs.lists.Lists.take_prepared.Goals as goal

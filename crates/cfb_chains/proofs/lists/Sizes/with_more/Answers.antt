@@ -1,4 +1,4 @@
-use Rattle.std.proofs.Common.{◌≡◌, ℕ, suc, ◌+◌, ◌-◌, ◌<◌, ◌≤◌, sym, ◌∙◌, ap, arith, rules}
+use Rattle.std.proofs.Common.{◌≡◌, suc, ◌+◌, ◌-◌, sym, ◌∙◌, ap, arith}
 use Rattle.cfb_chains.specs.Tables.{sizes_after}
 use Rattle.cfb_chains.proofs.SizeLemmas.{after-none, after-one, passes-limit}
 use Rattle.cfb_chains.proofs.lists.Sizes.with_more.Goals as goal
@@ -21,7 +21,7 @@ returns-in_default-clause-err c =
     let w = c.args.more - (l.turn + 1) in
     let turn : c.args.more - l.turn ≡ suc w = omega (arith, c.loop-turn-test.true) in
     passes-limit c.args.version c.args.limit (c.args.more - l.turn) w l.sizes c.args.self c.args.more turn c.in_default.ensures.none l.invariant.rest
-        (omega (arith, c.loop-turn-test.true))
+    (omega (arith, c.loop-turn-test.true))
 
 pub returns-clause-sizes : goal.returns-clause-sizes
 returns-clause-sizes c =

@@ -1,4 +1,3 @@
-use Rattle.std.proofs.Common.{rules, sym}
 use Rattle.cfb_chains.proofs.tables.Tables.extend.Goals as goal
 
 pub returns-clause-err : goal.returns-clause-err
