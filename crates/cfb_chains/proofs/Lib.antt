@@ -6,3 +6,15 @@ pub mod ReadLemmas
 pub mod Listed
 pub mod TableWords
 pub mod AgreementLemmas
+pub mod Members
+pub mod ChainLemmas
+pub mod WalkLemmas
+pub mod RefusedLemmas
+pub mod SizeLemmas
+pub mod FreeLemmas
+pub mod KeptLemmas
+pub mod TakenLemmas
+pub mod PreparedLemmas
+pub mod AttachLemmas
+pub mod UseLemmas
+pub mod FullLemmas

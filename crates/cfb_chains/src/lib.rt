@@ -2,4 +2,8 @@
 #![tactic(auto)]
 
 pub mod agreement;
+pub mod laws;
+mod lists;
 pub mod sector;
+pub mod tables;
+pub mod walk;
