@@ -1,3 +1,4 @@
 mod Counts
 mod Refusal
 mod Writes
+mod Reopening

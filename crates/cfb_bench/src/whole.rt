@@ -9,6 +9,7 @@ ghost use Rattle.cfb_bench.specs.Faults.{IsWantOfMemory};
 
 use crate::media::Sip;
 use cfb::{CompoundFile, Error, Version};
+use cfb_format::laws;
 use cfb_format::medium::MediumFault;
 use cfb_format::memory::MemoryMedium;
 use cfb_format::transfer::{read_exact_at, write_all_at};
@@ -59,6 +60,7 @@ pub fn made_and_opened<A: Allocator + Clone>(
     ensures ok { IfOk result (λ file. IsAsCreated file × (file.version ≡ version)) }
     ensures err { IfErr result IsWantOfMemory }
 {
+    laws::created_file_is_right();
     let medium = MemoryMedium::new(alloc.clone()?);
     let file = CompoundFile::create_with_version(alloc.clone()?, version, medium)?;
     CompoundFile::open(alloc, file.into_inner())

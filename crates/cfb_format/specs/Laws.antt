@@ -4,6 +4,7 @@ use Rattle.std.specs.Cmp.{IsTotalOrder}
 use Rattle.std.specs.declared.cmp.Ordering.TheVariants.{Equal}
 use Rattle.cfb_format.specs.declared.version.Version.{Version}
 use Rattle.cfb_format.specs.declared.validate.Validation.{Validation}
+use Rattle.cfb_format.specs.Bytes.{sector_len}
 use Rattle.cfb_format.specs.Names.{Cases, name_key, name_cmp}
 use Rattle.cfb_format.specs.Header.{HeaderFits, IsValidHeader, IsHeader, AcceptsHeader, header_bytes}
 use Rattle.cfb_format.specs.declared.header.Header.{Header}
@@ -98,6 +99,10 @@ HeaderIsAtTheStart = (validation : Validation) (bytes : List ℕ) (h : Header) �
 -- bytes hold at most one header
 abbrev pub AtMostOneHeader : Type 0
 AtMostOneHeader = (bytes : List ℕ) (h k : Header) → IsHeader bytes h → IsHeader bytes k → h ≡ k
+
+-- a created file has room for header, FAT sector and directory sector, and no more
+abbrev pub CreatedIsThreeSectors : Type 0
+CreatedIsThreeSectors = (version : Version) → length (created_bytes version) ≡ 3 * sector_len version
 
 -- created bytes hold their header in both modes
 abbrev pub CreatedHeaderIsAccepted : Type 0

@@ -1,6 +1,6 @@
 //! What the definitions of the format promise about each other. None of these functions does
 //! anything: each has a law as its contract.
-ghost use Rattle.cfb_format.specs.Laws.{AtMostOneReading, AtMostOneTree, ChainIsWalked, OneListBelow, NamesAreOrdered, EqualByKey, CreatedMeansRoot, CreatedIsStrict, CreatedIsSound, CreatedIsOwned, CreatedHasExactTables, MeantTreesAreOrdered, BalancedIsLow, LargeStreamsLieAlongChains, PutIsFound, RemovedIsGone, HeaderIsReadBack, EntryIsReadBack, AtMostOneEntry, HeaderIsAtTheStart, AtMostOneHeader, CreatedHeaderIsAccepted};
+ghost use Rattle.cfb_format.specs.Laws.{AtMostOneReading, AtMostOneTree, ChainIsWalked, OneListBelow, NamesAreOrdered, EqualByKey, CreatedMeansRoot, CreatedIsStrict, CreatedIsSound, CreatedIsOwned, CreatedHasExactTables, MeantTreesAreOrdered, BalancedIsLow, LargeStreamsLieAlongChains, PutIsFound, RemovedIsGone, HeaderIsReadBack, EntryIsReadBack, AtMostOneEntry, HeaderIsAtTheStart, AtMostOneHeader, CreatedIsThreeSectors, CreatedHeaderIsAccepted};
 ghost use Rattle.cfb_format.specs.Timestamp.{UnixTimeIsReadBack};
 
 /// Bytes have at most one reading, and mean at most one tree.
@@ -67,6 +67,7 @@ pub fn created_file_is_right()
     ensures sound { CreatedIsSound }
     ensures owned { CreatedIsOwned }
     ensures tables { CreatedHasExactTables }
+    ensures len { CreatedIsThreeSectors }
     ensures header { CreatedHeaderIsAccepted }
 {}
 

@@ -1,9 +1,9 @@
 use Rattle.cfb_format.specs.declared.version.Version.{Version}
 use Rattle.cfb_format.specs.declared.version.Version.TheVariants.{V3, V4}
-use Rattle.std.proofs.Common.{refl}
+use Rattle.std.proofs.Common.{refl, ◌≡◌, ◌*◌, length}
 use Rattle.cfb_format.specs.declared.validate.Validation.{Validation}
 use Rattle.cfb_format.specs.declared.validate.Validation.TheVariants.{Permissive, Strict}
-use Rattle.cfb_format.specs.Bytes.{u32_at, word_bytes, unit_bytes}
+use Rattle.cfb_format.specs.Bytes.{sector_len, u32_at, word_bytes, unit_bytes}
 use Rattle.cfb_format.specs.Header.{AcceptsHeader, header_bytes}
 use Rattle.cfb_format.specs.DirectoryEntry.{entry_bytes}
 use Rattle.cfb_format.specs.Names.{Cases}
@@ -12,8 +12,8 @@ use Rattle.cfb_format.specs.Meaning.{Means}
 use Rattle.cfb_format.specs.Soundness.{IsSound, IsOwned}
 use Rattle.cfb_format.specs.Full.{HasExactTables}
 use Rattle.cfb_format.specs.Created.{created_bytes, created_header, created_reading, empty_tree}
-use Rattle.cfb_format.proofs.CreatedFacts.{header3, reads3, means3, strict3, sound3, owned3, exact3}
-use Rattle.cfb_format.proofs.CreatedFacts4.{header4, reads4, means4, strict4, sound4, owned4, exact4}
+use Rattle.cfb_format.proofs.CreatedFacts.{len3, header3, reads3, means3, strict3, sound3, owned3, exact3}
+use Rattle.cfb_format.proofs.CreatedFacts4.{len4, header4, reads4, means4, strict4, sound4, owned4, exact4}
 use Rattle.cfb_format.proofs.laws.created_file_is_right.Goals as goal
 
 means : (cases : Cases) (version : Version) → Means cases (created_bytes version) empty_tree
@@ -65,3 +65,10 @@ accepted Strict V4 = record { header = header4; strict = tt }
 
 pub returns-clause-header : goal.returns-clause-header
 returns-clause-header c = accepted
+
+three : (version : Version) → length (created_bytes version) ≡ 3 * sector_len version
+three V3 = len3
+three V4 = len4
+
+pub returns-clause-len : goal.returns-clause-len
+returns-clause-len c = three
