@@ -22,24 +22,34 @@ fn run(rt: &HostRuntime, all: &[&str]) -> Result<(ExitCode, Vec<u8>, Vec<u8>), F
     Ok((status, out, faults))
 }
 
-#[test]
-fn creates_and_checks(rt: HostRuntime) -> Result<(), Fail> {
-    for (version, len) in [("3", 1536usize), ("4", 12288)] {
-        let path = format!(in rt.alloc(); "created{version}.cfb")?;
-        let (status, out, faults) = run(&rt, &["create", version, path.as_str()])?;
-        assert!(rt; status == ExitCode::SUCCESS);
-        assert_eq!(rt; (out.len(), faults.len()), (0, 0));
-        assert_eq!(rt; fs::read(&rt, path.as_str())?.len(), len);
-        let line = format!(in rt.alloc(); "version {version} sound\n")?;
-        let (status, out, faults) = run(&rt, &["check", path.as_str()])?;
-        assert!(rt; status == ExitCode::SUCCESS);
-        assert_eq!(rt; out.as_slice(), line.as_bytes());
-        assert_eq!(rt; faults.len(), 0);
-        let (status, out, _) = run(&rt, &["check", path.as_str(), "strict"])?;
-        assert!(rt; status == ExitCode::SUCCESS);
-        assert_eq!(rt; out.as_slice(), line.as_bytes());
-        fs::remove_file(&rt, path.as_str())?;
+/// Runs words that are to succeed, and answers what they print.
+fn printed(rt: &HostRuntime, all: &[&str]) -> Result<Vec<u8>, Fail> {
+    let (status, out, faults) = run(rt, all)?;
+    if status != ExitCode::SUCCESS || !faults.is_empty() {
+        return Err(Fail::from("refused"));
     }
+    Ok(out)
+}
+
+#[test]
+fn creates_and_checks_version_3(rt: HostRuntime) -> Result<(), Fail> {
+    assert_eq!(rt; printed(&rt, &["create", "3", "created3.cfb"])?.len(), 0);
+    assert_eq!(rt; fs::read(&rt, "created3.cfb")?.len(), 1536);
+    let line = b"version 3 sound\n".as_slice();
+    assert_eq!(rt; printed(&rt, &["check", "created3.cfb"])?.as_slice(), line);
+    assert_eq!(rt; printed(&rt, &["check", "created3.cfb", "strict"])?.as_slice(), line);
+    fs::remove_file(&rt, "created3.cfb")?;
+    Ok(())
+}
+
+#[test]
+fn creates_and_checks_version_4(rt: HostRuntime) -> Result<(), Fail> {
+    assert_eq!(rt; printed(&rt, &["create", "4", "created4.cfb"])?.len(), 0);
+    assert_eq!(rt; fs::read(&rt, "created4.cfb")?.len(), 12288);
+    let line = b"version 4 sound\n".as_slice();
+    assert_eq!(rt; printed(&rt, &["check", "created4.cfb"])?.as_slice(), line);
+    assert_eq!(rt; printed(&rt, &["check", "created4.cfb", "strict"])?.as_slice(), line);
+    fs::remove_file(&rt, "created4.cfb")?;
     Ok(())
 }
 

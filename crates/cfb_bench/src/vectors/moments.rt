@@ -22,6 +22,7 @@ fn from_unix_times(rt: HostRuntime) -> Result<(), Fail> {
         (i64::MAX, 999999999, u64::MAX),
     ];
     for (seconds, nanoseconds, want) in all {
+        assert!(rt; nanoseconds < 1_000_000_000);
         let moment = Timestamp::from_unix(seconds, nanoseconds);
         assert_eq!(rt; moment.value(), want, "{seconds} and {nanoseconds}");
     }
