@@ -27,4 +27,5 @@ pub mod Units
 pub mod PathParts
 pub mod PathText
 pub mod PathWalks
+pub mod PathBack
 pub mod Moments

@@ -1,5 +1,6 @@
 -- What the definitions promise about each other.
-use Rattle.std.specs.Prelude.{ℕ, ◌≡◌, ◌↔◌, List, Some, length, take, IsTrue, ◌≤◌, ◌*◌, ◌^◌, ◌+◌, None, if◌then◌else◌}
+use Rattle.std.specs.Prelude.{ℕ, ◌≡◌, ◌↔◌, List, Some, length, take, IsTrue, ◌≤◌, ◌*◌, ◌^◌, ◌+◌, None, if◌then◌else◌, true}
+use Rattle.std.specs.List.{list_all}
 use Rattle.std.specs.Cmp.{IsTotalOrder}
 use Rattle.std.specs.declared.cmp.Ordering.TheVariants.{Equal}
 use Rattle.cfb_format.specs.declared.version.Version.{Version}
@@ -8,6 +9,7 @@ use Rattle.cfb_format.specs.Bytes.{sector_len}
 use Rattle.cfb_format.specs.Names.{Cases, name_key, name_cmp}
 use Rattle.cfb_format.specs.Header.{HeaderFits, IsValidHeader, IsHeader, AcceptsHeader, header_bytes}
 use Rattle.cfb_format.specs.declared.header.Header.{Header}
+use Rattle.cfb_format.specs.Path.{names_of_path, path_of_names, is_plain_name}
 use Rattle.cfb_format.specs.Chain.{IsChain, chain_from}
 use Rattle.cfb_format.specs.DirectoryEntry.{Entry, EntryFits, IsValidEntry, IsEntry, AcceptsEntry, entry_bytes}
 use Rattle.cfb_format.specs.Siblings.{Below, Balanced, HangsAt, SiblingTree, depth, in_order}
@@ -115,3 +117,7 @@ EntryIsReadBack = (validation : Validation) (version : Version) (e : Entry) → 
 -- a slot holds at most one entry, and so it is no other one that is read back
 abbrev pub AtMostOneEntry : Type 0
 AtMostOneEntry = (version : Version) (slot : List ℕ) (d e : Entry) → IsEntry version slot d → IsEntry version slot e → d ≡ e
+
+-- the path of names says these names, where each of them is a name that a path can lead to
+abbrev pub NamesOfTheirPath : Type 0
+NamesOfTheirPath = (names : List (List ℕ)) → list_all is_plain_name names ≡ true → names_of_path (path_of_names names) ≡ Some names

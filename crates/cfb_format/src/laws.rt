@@ -1,6 +1,6 @@
 //! What the definitions of the format promise about each other. None of these functions does
 //! anything: each has a law as its contract.
-ghost use Rattle.cfb_format.specs.Laws.{AtMostOneReading, AtMostOneTree, ChainIsWalked, OneListBelow, NamesAreOrdered, EqualByKey, CreatedMeansRoot, CreatedIsStrict, CreatedIsSound, CreatedIsOwned, CreatedHasExactTables, MeantTreesAreOrdered, BalancedIsLow, LargeStreamsLieAlongChains, PutIsFound, RemovedIsGone, HeaderIsReadBack, EntryIsReadBack, AtMostOneEntry, HeaderIsAtTheStart, AtMostOneHeader, CreatedIsThreeSectors, CreatedHeaderIsAccepted};
+ghost use Rattle.cfb_format.specs.Laws.{AtMostOneReading, AtMostOneTree, ChainIsWalked, OneListBelow, NamesAreOrdered, EqualByKey, CreatedMeansRoot, CreatedIsStrict, CreatedIsSound, CreatedIsOwned, CreatedHasExactTables, MeantTreesAreOrdered, BalancedIsLow, LargeStreamsLieAlongChains, PutIsFound, RemovedIsGone, HeaderIsReadBack, EntryIsReadBack, AtMostOneEntry, HeaderIsAtTheStart, AtMostOneHeader, CreatedIsThreeSectors, CreatedHeaderIsAccepted, NamesOfTheirPath};
 ghost use Rattle.cfb_format.specs.Timestamp.{UnixTimeIsReadBack};
 
 /// Bytes have at most one reading, and mean at most one tree.
@@ -74,4 +74,9 @@ pub fn created_file_is_right()
 /// The Unix time of a moment leads back to it.
 pub fn unix_times_are_read_back()
     ensures { UnixTimeIsReadBack }
+{}
+
+/// The path of names that are not empty, not `.` or `..`, and have no `/`, says these names.
+pub fn names_of_a_path()
+    ensures { NamesOfTheirPath }
 {}
