@@ -7,7 +7,7 @@ use Rattle.cfb_format.specs.Path.{names_of_path}
 use Rattle.cfb.specs.Refusal.{not_found, already_exists, invalid_input, not_sound, medium_failed, out_of_memory, failed_earlier}
 use Rattle.cfb_format.specs.Tree.{Tree, nothing, storage, stream}
 use Rattle.cfb_format.specs.Created.{empty_tree}
-use Rattle.cfb.specs.Calls.{Call, create_storage, create_storage_all, create_stream, create_new_stream, remove_storage_all, remove_stream, set_state_bits, set_created_time, set_modified_time, touch, exists, walk, entry, read_storage, walk_storage, Reply, done, flag, entries, one_entry, refused, EntryInfo}
+use Rattle.cfb.specs.Calls.{Call, create_storage, create_storage_all, create_stream, create_new_stream, remove_storage, remove_storage_all, remove_stream, set_state_bits, set_created_time, set_modified_time, touch, exists, walk, entry, read_storage, walk_storage, Reply, done, flag, entries, one_entry, refused, EntryInfo}
 use Rattle.cfb.specs.Steps.{outcome}
 use Rattle.cfb.specs.CallChanges.{tree_after}
 use Rattle.cfb.specs.CallReplies.{reply_of}
@@ -51,6 +51,59 @@ wrong_name = refl
 pub unsound : outcome default_cases false with_s (remove_stream (codes "/s")) ≡ Some not_sound
 unfolding names_of_path
 unsound = refl
+
+-- a wrong name comes before a parent that is missing
+pub name_first : refusal with_s (create_storage (codes "/t/a:b") 0) ≡ Some (refused invalid_input)
+unfolding names_of_path
+name_first = refl
+
+-- a way that leaves the root comes before all else
+pub path_first : refusal with_s (create_storage (codes "/../s") 0) ≡ Some (refused invalid_input)
+unfolding names_of_path
+path_first = refl
+
+-- the rules come before soundness, which is asked even where nothing would change
+pub rules_first : outcome default_cases false with_s (create_storage (codes "/s") 0) ≡ Some already_exists
+unfolding names_of_path
+rules_first = refl
+
+pub unsound_root : outcome default_cases false with_s (create_storage_all (codes "/") 0) ≡ Some not_sound
+unfolding names_of_path
+unsound_root = refl
+
+pub all_of_root : refusal with_s (create_storage_all (codes "/") 0) ≡ None
+unfolding names_of_path
+all_of_root = refl
+
+-- a stream on the way
+pub all_over_stream : refusal with_s (create_storage_all (codes "/s/x/y") 0) ≡ Some (refused already_exists)
+unfolding names_of_path
+all_over_stream = refl
+
+pub all_names : refusal with_s (create_storage_all (codes "/s/x:/y") 0) ≡ Some (refused invalid_input)
+unfolding names_of_path
+all_names = refl
+
+-- removing: the root, a stream, nothing there
+pub remove_root : refusal with_s (remove_storage (codes "/")) ≡ Some (refused invalid_input)
+unfolding names_of_path
+remove_root = refl
+
+pub remove_wrong_kind : refusal with_s (remove_storage (codes "/s")) ≡ Some (refused invalid_input)
+unfolding names_of_path
+remove_wrong_kind = refl
+
+pub remove_missing : refusal with_s (remove_storage (codes "/t")) ≡ Some (refused not_found)
+unfolding names_of_path
+remove_missing = refl
+
+pub remove_root_as_stream : refusal with_s (remove_stream (codes "/")) ≡ Some (refused invalid_input)
+unfolding names_of_path
+remove_root_as_stream = refl
+
+pub remove_all_of_stream : refusal with_s (remove_storage_all (codes "/s")) ≡ None
+unfolding names_of_path
+remove_all_of_stream = refl
 
 -- in the order 3, 1, 2, then a storage with a stream
 abbrev several : Tree

@@ -259,7 +259,7 @@ module _ (cases : Cases) where
       go : (o : Option Found) → option_and_then (λ found. found_from cases found (next ∷ more)) o ≡ None
           → option_and_then (λ found. inside_of found.object (parent_names (next ∷ more))) o ≡ Some inside
           → ((object : Object) → option_and_then (λ found. found_from cases found more) (child_named cases next object) ≡ None
-              → inside_of object (parent_names (next ∷ more)) ≡ Some inside → object_named cases (last_name (next ∷ more)) inside ≡ None)
+          → inside_of object (parent_names (next ∷ more)) ≡ Some inside → object_named cases (last_name (next ∷ more)) inside ≡ None)
           → object_named cases (last_name (next ∷ more)) inside ≡ None
       go None a at below = none_some inside at
       go (Some found) a at below = below found.object a at
@@ -350,7 +350,7 @@ module _ (cases : Cases) where
     where
       go : (found : Option Found) → object_named cases name objects ≡ found → ((x : Objects) → IsOrdered cases x → IsOrdered cases (storages_added cases moment names x))
           → IsOrdered cases (if is_some found then inside_changed cases name (storages_added cases moment names) objects
-              else put_in_order cases name (storage name (new_storage moment) (storages_added cases moment names nothing)) objects)
+          else put_in_order cases name (storage name (new_storage moment) (storages_added cases moment names nothing)) objects)
       go (Some x) t more = inside-IsOrdered name (storages_added cases moment names) objects (λ other info inside e k. more inside k) o
       go None t more = storage_put name (new_storage moment) (storages_added cases moment names nothing) objects (more nothing tt) t o
 

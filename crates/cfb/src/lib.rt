@@ -12,7 +12,6 @@ pub use cfb_format::memory::MemoryMedium;
 pub use cfb_format::version::Version;
 pub use compound_file::CompoundFile;
 
-
 /// The layers that compound files are made of.
 pub mod internal {
     pub use cfb_format::header::Header;
