@@ -3,6 +3,7 @@
 
 mod compound_file;
 mod created;
+pub mod laws;
 mod opening;
 
 pub use cfb_format::error::{Detail, Error};

@@ -1,0 +1,8 @@
+use Rattle.cfb.proofs.CallSteps.{Step-some, Step-one}
+use Rattle.cfb.proofs.laws.rules_are_complete.Goals as goal
+
+pub returns-clause-some : goal.returns-clause-some
+returns-clause-some c = Step-some
+
+pub returns-clause-one : goal.returns-clause-one
+returns-clause-one c = Step-one

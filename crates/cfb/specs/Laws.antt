@@ -1,0 +1,32 @@
+-- What the rules of calls promise.
+use Rattle.std.specs.Prelude.{ℕ, ◌≡◌, Bool}
+use Rattle.cfb_format.specs.Names.{Cases}
+use Rattle.cfb_format.specs.Tree.{Tree, IsOrdered}
+use Rattle.cfb.specs.Refusal.{Refusal}
+use Rattle.cfb.specs.Calls.{Call, Reply, refused}
+use Rattle.cfb.specs.Steps.{Step}
+use Rattle.cfb.specs.StreamCalls.{StreamSetting, StreamState, StreamCall, StreamReply, not_done, StreamStep}
+
+-- a refused call changes no tree
+abbrev pub RefusedCallsChangeNothing : Type 0
+RefusedCallsChangeNothing = (cases : Cases) (sound : Bool) (mini_stream_len : ℕ) (tree tree' : Tree) (call : Call) (refusal : Refusal)
+    → Step cases sound mini_stream_len tree call (refused refusal) tree' → tree' ≡ tree
+
+-- after a call the names of each storage rise, if they did before
+abbrev pub CallsKeepOrder : Type 0
+CallsKeepOrder = (cases : Cases) (sound : Bool) (mini_stream_len : ℕ) (tree tree' : Tree) (call : Call) (reply : Reply)
+    → IsOrdered cases tree.objects → Step cases sound mini_stream_len tree call reply tree' → IsOrdered cases tree'.objects
+
+-- some reply and tree fit each call, and no others do
+abbrev pub SomeReplyFits : Type 0
+SomeReplyFits = (cases : Cases) (sound : Bool) (mini_stream_len : ℕ) (tree : Tree) (call : Call)
+    → (reply : Reply) × (tree' : Tree) × Step cases sound mini_stream_len tree call reply tree'
+
+abbrev pub OneReplyFits : Type 0
+OneReplyFits = (cases : Cases) (sound : Bool) (mini_stream_len : ℕ) (tree t u : Tree) (call : Call) (r s : Reply)
+    → Step cases sound mini_stream_len tree call r t → Step cases sound mini_stream_len tree call s u → (r ≡ s) × (t ≡ u)
+
+-- a call on a stream that the rules refuse leaves its state as it was
+abbrev pub RefusedStreamCallsChangeNothing : Type 0
+RefusedStreamCallsChangeNothing = (setting : StreamSetting) (old new : StreamState) (call : StreamCall) (refusal : Refusal)
+    → StreamStep setting old call (not_done refusal) new → new ≡ old

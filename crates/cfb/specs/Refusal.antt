@@ -1,0 +1,23 @@
+-- The kinds of refusal.
+use Rattle.std.specs.Prelude.{ℕ, ◌≡◌}
+use Rattle.cfb_format.specs.declared.error.Error.{Error}
+use Rattle.cfb_format.specs.Refused.{number_of}
+
+pub data Refusal : Type 0 where
+  not_found already_exists invalid_input invalid_data medium_failed out_of_memory file_full not_sound failed_earlier : Refusal
+
+-- the number of each kind
+abbrev pub refusal_number : Refusal → ℕ
+refusal_number not_found = 1
+refusal_number already_exists = 2
+refusal_number invalid_input = 3
+refusal_number invalid_data = 4
+refusal_number medium_failed = 5
+refusal_number out_of_memory = 6
+refusal_number file_full = 7
+refusal_number not_sound = 8
+refusal_number failed_earlier = 9
+
+-- an error is of this kind, whatever it tells beside
+abbrev pub IsRefusal : Refusal → Error → Type 0
+IsRefusal refusal e = number_of e ≡ refusal_number refusal

@@ -1,0 +1,20 @@
+//! What the rules of calls promise. None of these functions does anything: each has a law as its
+//! contract.
+ghost use Rattle.cfb.specs.Laws.{RefusedCallsChangeNothing, CallsKeepOrder, SomeReplyFits, OneReplyFits, RefusedStreamCallsChangeNothing};
+
+/// A refused call changes nothing.
+pub fn refused_calls_change_nothing()
+    ensures by_path { RefusedCallsChangeNothing }
+    ensures on_stream { RefusedStreamCallsChangeNothing }
+{}
+
+/// The rules say of each call what it answers and what it makes of the tree.
+pub fn rules_are_complete()
+    ensures some { SomeReplyFits }
+    ensures one { OneReplyFits }
+{}
+
+/// A tree stays a map by name.
+pub fn calls_keep_order()
+    ensures { CallsKeepOrder }
+{}
