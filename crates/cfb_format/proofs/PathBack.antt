@@ -50,8 +50,8 @@ back path name (next ∷ names) chain kept plain all =
     let is = plain-is name plain in
     let each = both (is_plain_name next) (list_all is_plain_name names) all in
     back path next names (chain ++ name ∷ [])
-      (kept-name path (name ++ slash ∷ (next ++ slashed names)) name (next ++ slashed names) chain kept (λ before. along-cut name (next ++ slashed names) before is.2) is.1 is.0)
-      each.0 each.1
+    (kept-name path (name ++ slash ∷ (next ++ slashed names)) name (next ++ slashed names) chain kept (λ before. along-cut name (next ++ slashed names) before is.2) is.1 is.0)
+    each.0 each.1
     ∙ ap Some (append_assoc chain (name ∷ []) (next ∷ names))
 
 -- the `/` in front stands behind an empty part

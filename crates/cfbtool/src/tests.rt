@@ -37,7 +37,10 @@ fn creates_and_checks_version_3(rt: HostRuntime) -> Result<(), Fail> {
     assert_eq!(rt; fs::read(&rt, "created3.cfb")?.len(), 1536);
     let line = b"version 3 sound\n".as_slice();
     assert_eq!(rt; printed(&rt, &["check", "created3.cfb"])?.as_slice(), line);
-    assert_eq!(rt; printed(&rt, &["check", "created3.cfb", "strict"])?.as_slice(), line);
+    assert_eq!(rt;
+        printed(&rt, &["check", "created3.cfb", "strict"])?.as_slice(),
+        line
+    );
     fs::remove_file(&rt, "created3.cfb")?;
     Ok(())
 }
@@ -48,7 +51,10 @@ fn creates_and_checks_version_4(rt: HostRuntime) -> Result<(), Fail> {
     assert_eq!(rt; fs::read(&rt, "created4.cfb")?.len(), 12288);
     let line = b"version 4 sound\n".as_slice();
     assert_eq!(rt; printed(&rt, &["check", "created4.cfb"])?.as_slice(), line);
-    assert_eq!(rt; printed(&rt, &["check", "created4.cfb", "strict"])?.as_slice(), line);
+    assert_eq!(rt;
+        printed(&rt, &["check", "created4.cfb", "strict"])?.as_slice(),
+        line
+    );
     fs::remove_file(&rt, "created4.cfb")?;
     Ok(())
 }
