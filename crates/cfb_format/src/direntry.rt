@@ -1,11 +1,10 @@
 //! Directory entries (MS-CFB 2.6.1 to 2.6.3).
 ghost use Rattle.std.specs.Prelude.{◌≡◌, ◌↔◌, ◌≤◌, ◌*◌, ◌+◌, ◌-◌, ◌++◌, ℕ, List, IsTrue, false, IfOk, IfErr, length, take, drop, replicate, chars, string_bytes};
 ghost use Rattle.std.specs.Int.{to_le_bytes, w64};
-ghost use Rattle.std.specs.List.{list_any};
 ghost use Rattle.std.specs.Char.Utf16.{has_unpaired_surrogate, utf16_lossy_chars};
 ghost use Rattle.cfb_format.specs.declared.error.Error.TheVariants.{Memory};
 ghost use Rattle.cfb_format.specs.Bytes.{u16_at as unit_of, u64_at as long_of, unit_bytes};
-ghost use Rattle.cfb_format.specs.Names.{utf16_units, is_forbidden as is_forbidden_of, max_name_len};
+ghost use Rattle.cfb_format.specs.Names.{utf16_units, max_name_len};
 ghost use Rattle.cfb_format.specs.DirectoryEntry.{Entry, AcceptsEntry, IsAllowedChild, unallocated_entry, empty_root_entry, entry_bytes, clsid_bytes as clsid_bytes_of, is_entry_number as is_entry_number_of, name_unit_count, root_name as root_name_of, units, stored_name, stored_clsid, written_name_len};
 ghost use Rattle.cfb_format.specs.EntryModel.{entry_of, new_entry};
 ghost use Rattle.cfb_format.specs.EntryParts.{AcceptsName, HasLinks, IsText, ReadsName, details_for as read_details, stored_details as details_of};
@@ -13,12 +12,12 @@ ghost use Rattle.cfb_format.specs.Refused.{IsInvalidOrMemory};
 
 use crate::bytes::{put, put_units, put_words, u16_at, u32_at};
 use crate::color::Color;
-use crate::consts;
 use crate::error::{Detail, Error};
 use crate::objtype::ObjType;
 use crate::timestamp::Timestamp;
 use crate::validate::Validation;
 use crate::version::Version;
+use crate::{consts, path};
 use std::alloc::{Allocator, Global};
 use uuid::Uuid;
 
@@ -372,7 +371,7 @@ fn name_for<A: Allocator>(
     if kind == ObjType::Root {
         return root_name(stored, validation);
     }
-    if has_forbidden(&stored) {
+    if path::has_forbidden(&stored) {
         return Err(malformed("directory entry whose name has a forbidden character"));
     }
     Ok(stored)
@@ -398,24 +397,6 @@ fn is_root_name(name: &str) -> bool
     ensures { IsTrue result ↔ (chars name.now ≡ root_name_of) }
 {
     name == consts::ROOT_DIR_NAME
-}
-
-/// Whether `/`, `\`, `:` or `!` stands in the name.
-fn has_forbidden(name: &str) -> bool
-    ensures { result ≡ list_any is_forbidden_of (chars name.now) }
-{
-    for c in name.chars() {
-        if is_forbidden(c) {
-            return true;
-        }
-    }
-    false
-}
-
-fn is_forbidden(c: char) -> bool
-    ensures { result ≡ is_forbidden_of c }
-{
-    matches!(c, '/' | '\\' | ':' | '!')
 }
 
 /// Puts the name and zeros behind it, and answers how many units it has.

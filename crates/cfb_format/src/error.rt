@@ -20,7 +20,8 @@ pub struct Detail {
 impl Detail {
     /// A text alone.
     pub fn text(text: &'static str) -> Detail
-        ensures { result.numbers ≡ 0 ∷ 0 ∷ [] }
+        ensures says { result.text.now ≡ text.now }
+        ensures numbers { result.numbers ≡ 0 ∷ 0 ∷ [] }
     {
         Detail {
             text,

@@ -200,7 +200,8 @@ pub fn validate_name<A: Allocator>(alloc: A, name: &str) -> Result<Vec<u16, A>, 
     Ok(name.encode_utf16().collect(alloc)?)
 }
 
-fn has_forbidden(name: &str) -> bool
+/// Whether `/`, `\`, `:` or `!` stands in the name.
+pub(crate) fn has_forbidden(name: &str) -> bool
     ensures { result ≡ list_any forbidden (chars name.now) }
 {
     name.chars().any(is_forbidden)
