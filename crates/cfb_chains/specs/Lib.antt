@@ -1,5 +1,6 @@
 pub mod Words
 pub mod Sectors
+pub mod Difat
 pub mod Lent
 pub mod Agreement
 pub mod Changes
