@@ -1,6 +1,8 @@
 pub mod Words
 pub mod Sectors
 pub mod Difat
+pub mod Clean
+pub mod Alloc
 pub mod Lent
 pub mod Agreement
 pub mod Changes

@@ -7,3 +7,4 @@ mod lists;
 pub mod sector;
 pub mod tables;
 pub mod walk;
+mod writing;

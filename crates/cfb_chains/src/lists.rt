@@ -20,7 +20,7 @@ use std::alloc::{Allocator, Global};
 use std::marker::Model;
 
 /// How many words a sector holds.
-fn words_per_sector(version: Version) -> usize
+pub fn words_per_sector(version: Version) -> usize
     ensures { result ≡ words_of version }
 {
     version.sector_len() / 4

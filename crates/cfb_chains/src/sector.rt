@@ -87,7 +87,10 @@ impl<F: ReadMedium> Sectors<F> {
 
     /// How many sectors there are, a cut last one and those reserved among them.
     pub fn num_sectors(&self) -> u32
-        ensures { result ≡ self.now.num_sectors }
+        ensures count { result ≡ self.now.num_sectors }
+        ensures header { sector_len_of self.now.version ≤ self.now.len }
+        ensures len { self.now.len ≤ sectors_end self.now }
+        ensures most { self.now.num_sectors ≤ 0xFFFFFFFA }
     {
         self.num_sectors
     }
@@ -136,6 +139,15 @@ impl<F: ReadMedium> Sectors<F> {
         ensures { self.new ≡ record self.old { num_sectors = sector + 1 } }
     {
         self.num_sectors = sector + 1;
+    }
+
+    /// Counts so many sectors as there, though no byte of the new ones is yet.
+    pub fn reserve_sectors(&mut self, num_sectors: u32)
+        requires more { self.old.num_sectors ≤ num_sectors }
+        requires room { num_sectors ≤ 0xFFFFFFFA }
+        ensures { self.new ≡ record self.old { num_sectors = num_sectors } }
+    {
+        self.num_sectors = num_sectors;
     }
 
     /// Counts a sector as there, if it is not yet.
