@@ -7,9 +7,10 @@ use Rattle.std.proofs.lemmas.List.Elements.{Contains-append_left, Contains-push}
 use Rattle.cfb_format.specs.Bytes.{free_sector, end_of_chain, max_regular_sector}
 use Rattle.cfb_format.specs.Chain.{value, IsChain}
 use Rattle.cfb_chains.specs.Changes.{IsFreed, IsCut}
-use Rattle.cfb_chains.specs.Tables.{TableState, Kept, HasTaken, Extended, wiped}
+use Rattle.cfb_chains.specs.Tables.{TableState, Kept, HasTaken, Extended, sizes_of, wiped}
 use Rattle.cfb_chains.proofs.Members.{Contains-nil, Contains-here, Contains-there, Contains-cases, Contains-one, Contains-or, in_three, first_of_three, second_of_three, third_of_three, value-below, value-set, value-set_other, distinct-apart, distinct-left}
 use Rattle.cfb_chains.proofs.ChainLemmas.{chain-stays, chain-turn, chain-rest, chain-apart, members-busy, regular-le, le-regular}
+use Rattle.cfb_chains.proofs.TableCounts.{HasPlaces, taken-places}
 use Rattle.cfb_chains.proofs.TakenLemmas.{taken-link, taken-then, taken-none, taken-keeps}
 use Rattle.cfb_chains.proofs.PreparedLemmas.{chain-one}
 
@@ -21,8 +22,8 @@ pub record Attached (old now : TableState) (first last : ℕ) (more : List ℕ) 
   pub chain : IsChain now.fat first (first ∷ more)
   pub last_is : (front : List ℕ) × (first ∷ more ≡ front ++ last ∷ [])
 
-pub attached-none : (t : TableState) (first : ℕ) → value t.fat first ≡ end_of_chain → first ≤ max_regular_sector → Attached t t first first []
-attached-none t first ended regular = record { taken = taken-none t first ended; chain = chain-one t.fat first ended regular; last_is = ([], refl) }
+pub attached-none : (t : TableState) (first : ℕ) → HasPlaces t.version (sizes_of t) → value t.fat first ≡ end_of_chain → first ≤ max_regular_sector → Attached t t first first []
+attached-none t first places ended regular = record { taken = taken-none t first places ended; chain = chain-one t.fat first ended regular; last_is = ([], refl) }
 
 module _ (old mid b : TableState) (first last x : ℕ) (more : List ℕ) (at : Attached old mid first last more) (next : HasTaken mid b [] (x ∷ []))
     (x_ended : value b.fat x ≡ end_of_chain) (regular : x ≤ max_regular_sector) where
@@ -61,7 +62,7 @@ module _ (old mid b : TableState) (first last x : ℕ) (more : List ℕ) (at : A
       (omega (arith, below, len)) stays tail in
       let same : front ++ last ∷ x ∷ [] ≡ (first ∷ more) ++ x ∷ [] = sym (append_assoc front (last ∷ []) (x ∷ [])) ∙ ap (λ (z : List ℕ). z ++ x ∷ []) (sym at.last_is.1) in
       let two : HasTaken old b (first ∷ []) (more ++ x ∷ []) = taken-then old mid b (first ∷ []) more [] (x ∷ []) at.taken next (λ i m. absurd (Contains-nil i m)) in
-      let link = taken-link b last x last-ended regular in
+      let link = taken-link b last x (taken-places mid b [] (x ∷ []) next) last-ended regular in
       let within : (i : ℕ) → Contains (last ∷ []) i → Contains ((first ∷ []) ++ (more ++ x ∷ [])) i = λ i m.
       Contains-append_left (first ∷ more) (x ∷ []) i (subst (λ z. Contains z i) (sym at.last_is.1) (subst (Contains (front ++ last ∷ [])) (Contains-one last i m) last_in)) in
       let three : HasTaken old linked (first ∷ []) ((more ++ x ∷ []) ++ []) = taken-then old b linked (first ∷ []) (more ++ x ∷ []) (last ∷ []) [] two link within in
@@ -197,11 +198,11 @@ start-busy table s (x ∷ list) c e =
     omega (arith, f, le, e)
 
 -- one sector more behind the last one of a chain
-pub attached-one : (old mid : TableState) (last x : ℕ) → value old.fat last ≡ end_of_chain → last ≤ max_regular_sector → HasTaken old mid [] (x ∷ [])
+pub attached-one : (old mid : TableState) (last x : ℕ) → HasPlaces old.version (sizes_of old) → value old.fat last ≡ end_of_chain → last ≤ max_regular_sector → HasTaken old mid [] (x ∷ [])
     → IsChain mid.fat x (x ∷ []) → Attached old (record mid { fat = set mid.fat last x }) last x (x ∷ [])
-attached-one old mid last x ended regular taken chain =
+attached-one old mid last x places ended regular taken chain =
     let known = last-known mid.fat x [] x chain in
-    attached-more old old mid last last x [] (attached-none old last ended regular) taken known.0 known.1
+    attached-more old old mid last last x [] (attached-none old last places ended regular) taken known.0 known.1
 
 pub attached-ended : (old mid : TableState) (last x : ℕ) → value old.fat last ≡ end_of_chain → HasTaken old mid [] (x ∷ []) → value mid.fat last ≡ end_of_chain
 attached-ended old mid last x ended taken = taken-keeps old mid (x ∷ []) taken last (λ e. omega (arith, e, ended)) ∙ ended

@@ -16,6 +16,7 @@ pub mod RefusedLemmas
 pub mod SizeLemmas
 pub mod FreeLemmas
 pub mod KeptLemmas
+pub mod TableCounts
 pub mod TakenLemmas
 pub mod PreparedLemmas
 pub mod AttachLemmas

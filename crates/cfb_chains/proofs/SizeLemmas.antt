@@ -41,16 +41,16 @@ plus_none n = omega arith
 one_raw : (s : Sizes) (m : ℕ) → m ≡ 1 → grown_sizes s m ≡ record { sectors = s.sectors + 1; fats = s.fats + 0; difats = s.difats + 0 }
 one_raw s m e = rw e refl
 
-one : (s : Sizes) (m : ℕ) → m ≡ 1 → grown_sizes s m ≡ record { sectors = s.sectors + 1; fats = s.fats; difats = s.difats }
+pub one : (s : Sizes) (m : ℕ) → m ≡ 1 → grown_sizes s m ≡ record { sectors = s.sectors + 1; fats = s.fats; difats = s.difats }
 one s m e = one_raw s m e ∙ (λ i. record { sectors = s.sectors + 1; fats = plus_none s.fats i; difats = plus_none s.difats i })
 
 two_raw : (s : Sizes) (m : ℕ) → m ≡ 2 → grown_sizes s m ≡ record { sectors = s.sectors + 2; fats = s.fats + 1; difats = s.difats + 0 }
 two_raw s m e = rw e refl
 
-two : (s : Sizes) (m : ℕ) → m ≡ 2 → grown_sizes s m ≡ record { sectors = s.sectors + 2; fats = s.fats + 1; difats = s.difats }
+pub two : (s : Sizes) (m : ℕ) → m ≡ 2 → grown_sizes s m ≡ record { sectors = s.sectors + 2; fats = s.fats + 1; difats = s.difats }
 two s m e = two_raw s m e ∙ (λ i. record { sectors = s.sectors + 2; fats = s.fats + 1; difats = plus_none s.difats i })
 
-three : (s : Sizes) (m : ℕ) → m ≡ 3 → grown_sizes s m ≡ record { sectors = s.sectors + 3; fats = s.fats + 1; difats = s.difats + 1 }
+pub three : (s : Sizes) (m : ℕ) → m ≡ 3 → grown_sizes s m ≡ record { sectors = s.sectors + 3; fats = s.fats + 1; difats = s.difats + 1 }
 three s m e = rw e refl
 
 more_places : (v : Version) (d : ℕ) → d * (words_per_sector v - 1) + 127 ≤ (d + 1) * (words_per_sector v - 1)

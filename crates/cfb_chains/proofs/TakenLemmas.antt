@@ -15,6 +15,13 @@ use Rattle.cfb_chains.specs.Tables.{TableState, HasTaken, HasExactTables, IsKept
 use Rattle.cfb_chains.proofs.Members.{Contains-nil, Contains-cases, Contains-one, Contains-or, in_three, first_of_three, second_of_three, third_of_three, none_distinct, one_distinct, distinct-join, value-below, value-past, value-set, value-set_other, value-left, value-right}
 use Rattle.cfb_chains.proofs.FreeLemmas.{none-free}
 use Rattle.cfb_chains.proofs.SizeLemmas.{needed-cases}
+use Rattle.cfb_chains.proofs.KeptLemmas.{sizes-grown}
+use Rattle.cfb_chains.proofs.TableCounts.{Counts, HasPlaces, counts-same, counts-grown, counts-then, counts-of}
+
+-- the sizes are the same
+counts-set : (t : TableState) (fat : List ℕ) → length fat ≡ length t.fat → HasPlaces t.version (sizes_of t) → Counts t.version t.version (sizes_of t) (sizes_of (record t { fat = fat }))
+counts-set t fat same places =
+    counts-same t.version (sizes_of t) (sizes_of (record t { fat = fat })) (λ i. record { sectors = same i; fats = length t.fat_sectors; difats = length t.difat_sectors }) places
 
 -- ---- a free number is taken
 
@@ -22,6 +29,7 @@ pub taken-pop : (t : TableState) (free : List ℕ) (x : ℕ) → IsKept t (free 
 taken-pop t free x k =
     let top = k.listed.sound x (Contains-push free x) in
     let same = length-set t.fat x end_of_chain in
+    let counts = counts-set t (set t.fat x end_of_chain) same k.sizes.places in
     record {
       fats = [];
       difats = [];
@@ -40,16 +48,21 @@ taken-pop t free x k =
       none_free = λ more. absurd (omega (arith, same, more));
       limited = λ more. absurd (omega (arith, same, more));
       exact = λ e. record { fats = e.fats ∙ ap (λ n. rounded_up n (words_per_sector t.version)) (sym same); difats = e.difats };
+      covered = counts.covered;
+      fat_count = counts.fats;
+      difat_count = counts.difats;
       same_version = refl;
       same_max = refl;
     }
 
 -- ---- the last sector of a chain is made to name the next one
 
-pub taken-link : (t : TableState) (last next : ℕ) → value t.fat last ≡ end_of_chain → next ≤ max_regular_sector → HasTaken t (record t { fat = set t.fat last next }) (last ∷ []) []
-taken-link t last next ended regular =
+pub taken-link : (t : TableState) (last next : ℕ) → HasPlaces t.version (sizes_of t) → value t.fat last ≡ end_of_chain → next ≤ max_regular_sector
+    → HasTaken t (record t { fat = set t.fat last next }) (last ∷ []) []
+taken-link t last next places ended regular =
     let below = value-below t.fat last (λ e. omega (arith, e, ended)) in
     let same = length-set t.fat last next in
+    let counts = counts-set t (set t.fat last next) same places in
     record {
       fats = [];
       difats = [];
@@ -68,6 +81,9 @@ taken-link t last next ended regular =
       none_free = λ more. absurd (omega (arith, same, more));
       limited = λ more. absurd (omega (arith, same, more));
       exact = λ e. record { fats = e.fats ∙ ap (λ n. rounded_up n (words_per_sector t.version)) (sym same); difats = e.difats };
+      covered = counts.covered;
+      fat_count = counts.fats;
+      difat_count = counts.difats;
       same_version = refl;
       same_max = refl;
     }
@@ -100,8 +116,9 @@ module _ (t : TableState) (x : ℕ) (words fats difats : List ℕ) where
       → ((i : ℕ) → Contains fats i → value (t.fat ++ words) i ≡ fat_sector)
       → ((i : ℕ) → Contains difats i → value (t.fat ++ words) i ≡ difat_sector)
       → IsDistinct nat_eq fats → IsDistinct nat_eq difats → value (t.fat ++ words) x ≡ end_of_chain
-      → length t.fat + length words ≤ t.max_sectors → (HasExactTables t → HasExactTables after) → HasTaken t after [] (x ∷ [])
-  taken-words none busy new all marks difat_marks fats_once difats_once ended limit exact =
+      → length t.fat + length words ≤ t.max_sectors → (HasExactTables t → HasExactTables after)
+      → Counts t.version t.version (sizes_of t) (sizes_of after) → HasTaken t after [] (x ∷ [])
+  taken-words none busy new all marks difat_marks fats_once difats_once ended limit exact counts =
       let len = length-append t.fat words in
       record {
         fats = fats;
@@ -124,6 +141,9 @@ module _ (t : TableState) (x : ℕ) (words fats difats : List ℕ) where
         none_free = λ more. none-appended t.fat words none busy;
         limited = λ more. omega (arith, len, limit);
         exact = exact;
+        covered = counts.covered;
+        fat_count = counts.fats;
+        difat_count = counts.difats;
         same_version = refl;
         same_max = refl;
       }
@@ -157,8 +177,8 @@ module _ (t : TableState) (x : ℕ) (none : NoneFree t.fat) where
   abbrev W : ℕ
   W = words_per_sector t.version
 
-  taken-one : x + 1 ≡ n + 1 → n + 1 ≤ t.max_sectors → n < length t.fat_sectors * W → HasTaken t (grown_state t 1) [] (x ∷ [])
-  taken-one is fits covered = taken-words t x (end_of_chain ∷ []) [] [] none
+  taken-one : x + 1 ≡ n + 1 → n + 1 ≤ t.max_sectors → n < length t.fat_sectors * W → Counts t.version t.version (sizes_of t) (sizes_of (grown_state t 1)) → HasTaken t (grown_state t 1) [] (x ∷ [])
+  taken-one is fits covered counts = taken-words t x (end_of_chain ∷ []) [] [] none
       (λ i lt e. elim (cases_eq i 0) [ inl z ↦ (let w : value (end_of_chain ∷ []) i ≡ end_of_chain = ap (value (end_of_chain ∷ [])) z in omega (arith, w, e)) | inr ne ↦ omega (arith, lt, ne) ])
       (λ i m. let e = Contains-one x i m in omega (arith, e, is))
       (λ i ge lt. (0, omega arith, omega (arith, ge, lt, is)))
@@ -172,6 +192,7 @@ module _ (t : TableState) (x : ℕ) (none : NoneFree t.fat) where
             ap length (append-nil t.fat_sectors) ∙ exact-one t.version n (length t.fat_sectors) covered e.fats ∙ ap (λ k. rounded_up k W) (sym len);
         difats = ap length (append-nil t.difat_sectors) ∙ e.difats ∙ ap (λ (z : List ℕ). rounded_up (length z - header_difat_len) (W - 1)) (sym (append-nil t.fat_sectors));
       })
+      counts
 
   busy-two : NoneFree (fat_sector ∷ end_of_chain ∷ [])
   busy-two zero lt e = omega (arith, e)
@@ -179,8 +200,8 @@ module _ (t : TableState) (x : ℕ) (none : NoneFree t.fat) where
   busy-two (suc (suc i)) lt e = omega (arith, lt)
 
   taken-two : x + 1 ≡ n + 2 → n + 2 ≤ t.max_sectors → length t.fat_sectors * W ≤ n → length t.fat_sectors < header_difat_len + length t.difat_sectors * (W - 1)
-      → HasTaken t (grown_state t 2) [] (x ∷ [])
-  taken-two is fits full places = taken-words t x (fat_sector ∷ end_of_chain ∷ []) (n ∷ []) [] none busy-two
+      → Counts t.version t.version (sizes_of t) (sizes_of (grown_state t 2)) → HasTaken t (grown_state t 2) [] (x ∷ [])
+  taken-two is fits full places counts = taken-words t x (fat_sector ∷ end_of_chain ∷ []) (n ∷ []) [] none busy-two
       (λ i m. elim (Contains-cases x (n ∷ []) i m) [ inl e ↦ omega (arith, e, is) | inr r ↦ (let e = Contains-one n i r in omega (arith, e)) ])
       (λ i ge lt. elim (cases_eq n i) [ inl e ↦ (1, omega arith, e) | inr ne ↦ (0, omega arith, omega (arith, ge, lt, is, ne)) ])
       (λ i m. at-end t.fat (fat_sector ∷ end_of_chain ∷ []) i 0 (let e = Contains-one n i m in omega (arith, e)))
@@ -194,6 +215,7 @@ module _ (t : TableState) (x : ℕ) (none : NoneFree t.fat) where
         difats = ap length (append-nil t.difat_sectors) ∙ exact-difats t.version (length t.fat_sectors) (length t.difat_sectors) places e.difats
             ∙ ap (λ k. rounded_up (k - header_difat_len) (W - 1)) (sym (length-append t.fat_sectors (n ∷ [])));
       })
+      counts
 
   busy-three : NoneFree (fat_sector ∷ difat_sector ∷ end_of_chain ∷ [])
   busy-three zero lt e = omega (arith, e)
@@ -202,8 +224,8 @@ module _ (t : TableState) (x : ℕ) (none : NoneFree t.fat) where
   busy-three (suc (suc (suc i))) lt e = omega (arith, lt)
 
   taken-three : x + 1 ≡ n + 3 → n + 3 ≤ t.max_sectors → length t.fat_sectors * W ≤ n → header_difat_len + length t.difat_sectors * (W - 1) ≤ length t.fat_sectors
-      → HasTaken t (grown_state t 3) [] (x ∷ [])
-  taken-three is fits full places = taken-words t x (fat_sector ∷ difat_sector ∷ end_of_chain ∷ []) (n ∷ []) ((n + 1) ∷ []) none busy-three
+      → Counts t.version t.version (sizes_of t) (sizes_of (grown_state t 3)) → HasTaken t (grown_state t 3) [] (x ∷ [])
+  taken-three is fits full places counts = taken-words t x (fat_sector ∷ difat_sector ∷ end_of_chain ∷ []) (n ∷ []) ((n + 1) ∷ []) none busy-three
       (λ i m. elim (Contains-cases x (n ∷ (n + 1) ∷ []) i m) [
         | inl e ↦ omega (arith, e, is)
         | inr r ↦ elim (Contains-cases n ((n + 1) ∷ []) i r) [ inl e ↦ omega (arith, e) | inr q ↦ (let e = Contains-one (n + 1) i q in omega (arith, e)) ]
@@ -223,6 +245,7 @@ module _ (t : TableState) (x : ℕ) (none : NoneFree t.fat) where
         difats = length-append t.difat_sectors ((n + 1) ∷ []) ∙ exact-more-difats t.version (length t.fat_sectors) (length t.difat_sectors) places e.difats
             ∙ ap (λ k. rounded_up (k - header_difat_len) (W - 1)) (sym (length-append t.fat_sectors (n ∷ [])));
       })
+      counts
 
 pub grown-ended : (t : TableState) (x : ℕ) → let m = numbers_needed t.version (sizes_of t) in x + 1 ≡ length t.fat + m → value (grown_state t m).fat x ≡ end_of_chain
 grown-ended t x is = elim (needed-cases t.version (sizes_of t)) [
@@ -238,11 +261,14 @@ pub taken-grown : (t : TableState) (x : ℕ) → IsKept t [] → let m = numbers
 taken-grown t x k is fits =
     let m = numbers_needed t.version (sizes_of t) in
     let none = none-free t.fat k.listed in
+    let all = subst (Counts t.version t.version (sizes_of t)) (sym (sizes-grown t)) (counts-grown t.version (sizes_of t) k.sizes.places) in
+    let counts : (j : ℕ) → m ≡ j → Counts t.version t.version (sizes_of t) (sizes_of (grown_state t j)) =
+    λ j e. subst (λ j. Counts t.version t.version (sizes_of t) (sizes_of (grown_state t j))) e all in
     elim (needed-cases t.version (sizes_of t)) [
-      | inl c ↦ subst (λ j. HasTaken t (grown_state t j) [] (x ∷ [])) (sym c.0) (taken-one t x none (omega (arith, is, c.0)) (omega (arith, fits, c.0)) c.1)
+      | inl c ↦ subst (λ j. HasTaken t (grown_state t j) [] (x ∷ [])) (sym c.0) (taken-one t x none (omega (arith, is, c.0)) (omega (arith, fits, c.0)) c.1 (counts 1 c.0))
       | inr q ↦ elim q [
-        | inl c ↦ subst (λ j. HasTaken t (grown_state t j) [] (x ∷ [])) (sym c.0) (taken-two t x none (omega (arith, is, c.0)) (omega (arith, fits, c.0)) c.1 c.2)
-        | inr c ↦ subst (λ j. HasTaken t (grown_state t j) [] (x ∷ [])) (sym c.0) (taken-three t x none (omega (arith, is, c.0)) (omega (arith, fits, c.0)) c.1 c.2)
+        | inl c ↦ subst (λ j. HasTaken t (grown_state t j) [] (x ∷ [])) (sym c.0) (taken-two t x none (omega (arith, is, c.0)) (omega (arith, fits, c.0)) c.1 c.2 (counts 2 c.0))
+        | inr c ↦ subst (λ j. HasTaken t (grown_state t j) [] (x ∷ [])) (sym c.0) (taken-three t x none (omega (arith, is, c.0)) (omega (arith, fits, c.0)) c.1 c.2 (counts 3 c.0))
       ]
     ]
 
@@ -344,6 +370,12 @@ module _ (a b c : TableState) (t m u w : List ℕ) (f : HasTaken a b t m) (s : H
     | inr ge ↦ (let longer = s.longer in let top = f.limited (omega (arith, more, ge, longer)) in omega (arith, top, ge))
   ]
 
+  counts-both : Counts a.version c.version (sizes_of a) (sizes_of c)
+  counts-both =
+      let longer = s.longer in
+      let len = ap length s.fat_sectors ∙ length-append b.fat_sectors s.fats in
+      counts-then a.version b.version c.version (sizes_of a) (sizes_of b) (sizes_of c) s.same_version longer (omega (arith, len)) (counts-of a b t m f) (counts-of b c u w s)
+
   pub taken-then : HasTaken a c t (m ++ w)
   taken-then = record {
     fats = f.fats ++ s.fats;
@@ -375,13 +407,16 @@ module _ (a b c : TableState) (t m u w : List ℕ) (f : HasTaken a b t m) (s : H
     none_free = none-then;
     limited = limited-then;
     exact = λ e. s.exact (f.exact e);
+    covered = counts-both.covered;
+    fat_count = counts-both.fats;
+    difat_count = counts-both.difats;
     same_version = s.same_version ∙ f.same_version;
     same_max = s.same_max ∙ f.same_max;
   }
 
 -- nothing changes
-pub taken-none : (t : TableState) (last : ℕ) → value t.fat last ≡ end_of_chain → HasTaken t t (last ∷ []) []
-taken-none t last ended = record {
+pub taken-none : (t : TableState) (last : ℕ) → HasPlaces t.version (sizes_of t) → value t.fat last ≡ end_of_chain → HasTaken t t (last ∷ []) []
+taken-none t last places ended = record {
   fats = [];
   difats = [];
   fat_sectors = sym (append-nil t.fat_sectors);
@@ -399,6 +434,9 @@ taken-none t last ended = record {
   none_free = λ more. absurd (omega (arith, more));
   limited = λ more. absurd (omega (arith, more));
   exact = λ e. e;
+  covered = λ covers. covers;
+  fat_count = (counts-same t.version (sizes_of t) (sizes_of t) refl places).fats;
+  difat_count = (counts-same t.version (sizes_of t) (sizes_of t) refl places).difats;
   same_version = refl;
   same_max = refl;
 }

@@ -1,5 +1,5 @@
 -- The tables of a file in memory: the FAT, the FAT sectors and the DIFAT sectors.
-use Rattle.std.specs.Prelude.{ℕ, zero, suc, ◌≡◌, ◌+◌, ◌-◌, ◌*◌, ◌<◌, ◌≤◌, ◌⊎◌, List, [], ◌∷◌, ◌++◌, length, nat_eq, nat_lt, Contains, slice_set, if◌then◌else◌}
+use Rattle.std.specs.Prelude.{ℕ, zero, suc, ◌≡◌, ◌+◌, ◌-◌, ◌*◌, ◌<◌, ◌≤◌, ◌⊎◌, max, List, [], ◌∷◌, ◌++◌, length, nat_eq, nat_lt, Contains, slice_set, if◌then◌else◌}
 use Rattle.std.specs.List.{IsDistinct}
 use Rattle.cfb_format.specs.declared.version.Version.{Version}
 use Rattle.cfb_format.specs.Bytes.{end_of_chain, free_sector, fat_sector, difat_sector, max_regular_sector, words_per_sector}
@@ -124,6 +124,12 @@ pub record HasTaken (old new : TableState) (touched more : List ℕ) : Type 0 wh
   pub none_free : length old.fat < length new.fat → NoneFree new.fat
   pub limited : length old.fat < length new.fat → length new.fat ≤ old.max_sectors
   pub exact : HasExactTables old → HasExactTables new
+  -- the FAT sectors cover the file again, if they did
+  pub covered : IsCovered old → IsCovered new
+  -- FAT sectors are added only until they cover the file
+  pub fat_count : IsCovered old → length new.fat_sectors ≡ max (length old.fat_sectors) (rounded_up (length new.fat) (words_per_sector new.version))
+  -- and DIFAT sectors only until they list those that the header doesn't
+  pub difat_count : length new.difat_sectors ≡ max (length old.difat_sectors) (rounded_up (length new.fat_sectors - header_difat_len) (words_per_sector new.version - 1))
   pub same_version : new.version ≡ old.version
   pub same_max : new.max_sectors ≡ old.max_sectors
 

@@ -253,6 +253,7 @@ impl<A: Allocator> Lists<A> {
     /// Reserves the memory that taking so many sectors needs. `Full` where there are too few numbers, and `Memory`.
     pub fn prepare(&mut self, count: usize) -> Result<(), Error>
         ensures ok { OnOk result (IsPrepared self.new count) }
+        ensures sizes { AreSizes self.old.state.version (sizes_of self.old.state) }
         ensures rest { self.new ≡ record self.old { fat_capacity = self.new.fat_capacity; fats_capacity = self.new.fats_capacity; difats_capacity = self.new.difats_capacity } }
         ensures err { IfErr result (Refused ⊥ Unit (IsTooFew self.old.state count)) }
         ensures enough { OnOk result (IsTooFew self.old.state count → ⊥) }
@@ -325,6 +326,7 @@ impl<A: Allocator> Lists<A> {
     /// Adds so many sectors at the end of a chain, with the memory that was prepared for them, and lists them.
     pub fn attach_prepared(&mut self, last: u32, count: usize, list: &mut Vec<u32, A>)
         requires prepared { IsPrepared self.old count }
+        requires sizes { AreSizes self.old.state.version (sizes_of self.old.state) }
         requires ended { value self.old.state.fat last ≡ end_of_chain }
         requires regular { last ≤ max_regular_sector }
         requires room { vec_len list.old + count ≤ vec_capacity list.old }
@@ -357,6 +359,7 @@ impl<A: Allocator> Lists<A> {
 
     /// Takes a sector, as the only one of a new chain. `Full` and `Memory`.
     pub fn take(&mut self) -> Result<u32, Error>
+        ensures sizes { AreSizes self.old.state.version (sizes_of self.old.state) }
         ensures taken { IfOk result (λ x. HasTaken self.old.state self.new.state [] (x ∷ [])) }
         ensures chain { IfOk result (λ x. IsChain self.new.state.fat x (x ∷ [])) }
         ensures enough { OnOk result (IsTooFew self.old.state 1 → ⊥) }

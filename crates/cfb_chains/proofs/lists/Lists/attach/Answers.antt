@@ -15,13 +15,13 @@ link-requires-clause-regular g c =
 pub returns-clause-taken : goal.returns-clause-taken
 returns-clause-taken g c =
     let x = c.in_ok-sector.sector in
-    let one = attached-one c.args.self.now.state c.take.new.self.state c.args.last x c.requires.ended c.requires.regular c.in_ok-sector.ensures.taken c.in_ok-sector.ensures.chain in
+    let one = attached-one c.args.self.now.state c.take.new.self.state c.args.last x c.take.ensures.sizes.places c.requires.ended c.requires.regular c.in_ok-sector.ensures.taken c.in_ok-sector.ensures.chain in
     let same = ap (λ (z : Kept). z.state) c.link.ensures in
     subst (λ (z : TableState). HasTaken c.args.self.now.state z (c.args.last ∷ []) (x ∷ [])) (sym same) one.taken
 
 pub returns-clause-chain : goal.returns-clause-chain
 returns-clause-chain g c =
     let x = c.in_ok-sector.sector in
-    let one = attached-one c.args.self.now.state c.take.new.self.state c.args.last x c.requires.ended c.requires.regular c.in_ok-sector.ensures.taken c.in_ok-sector.ensures.chain in
+    let one = attached-one c.args.self.now.state c.take.new.self.state c.args.last x c.take.ensures.sizes.places c.requires.ended c.requires.regular c.in_ok-sector.ensures.taken c.in_ok-sector.ensures.chain in
     let same = ap (λ (z : Kept). z.state) c.link.ensures in
     subst (λ (z : TableState). IsChain z.fat c.args.last (c.args.last ∷ x ∷ [])) (sym same) one.chain

@@ -11,7 +11,7 @@ loop-turn-init g c =
     let len : length c.args.list.now.items ≡ 0 = ap length c.requires.empty in
     record {
       prepared = subst (IsPrepared k) count c.requires.prepared;
-      attached = subst (Attached k.state k.state c.args.last c.args.last) (sym c.requires.empty) (attached-none k.state c.args.last c.requires.ended c.requires.regular);
+      attached = subst (Attached k.state k.state c.args.last c.args.last) (sym c.requires.empty) (attached-none k.state c.args.last c.requires.sizes.places c.requires.ended c.requires.regular);
       len = omega (arith, len, c.args.list.now.ok.0);
       room = refl;
     }
