@@ -1,11 +1,12 @@
 -- Sectors, and bytes of the header, that a change leaves alone.
-use Rattle.std.proofs.Common.{refl, inl, inr, ◌≡◌, ◌≢◌, ◌⊎◌, ℕ, ◌+◌, ◌<◌, ◌≤◌, List, [], ◌∷◌, length, slice_index, sym, ◌∙◌, arith}
+use Rattle.std.proofs.Common.{refl, inl, inr, ◌≡◌, ◌≢◌, ◌⊎◌, ℕ, ◌+◌, ◌<◌, ◌≤◌, List, [], ◌∷◌, length, slice_index, sym, ◌∙◌, subst, arith}
 use Rattle.std.specs.Prelude.{Contains}
 use Rattle.cfb_format.specs.declared.version.Version.{Version}
 use Rattle.cfb_format.specs.declared.version.Version.TheVariants.{V3, V4}
 use Rattle.cfb_format.specs.Bytes.{sector_len, sector_start}
 use Rattle.cfb_format.specs.Medium.{ChangesOnly}
-use Rattle.cfb_chains.specs.Alloc.{ChangesSectors, IsOtherHeaderByte}
+use Rattle.cfb_chains.specs.Alloc.{ChangesSectors, IsOtherHeaderByte, IsTablesWord}
+use Rattle.cfb_chains.proofs.Listed.{not_in_nil}
 use Rattle.cfb_chains.proofs.SectorLemmas.{SectorStays_refl, SectorStays_trans, other_sector, after_header}
 
 pub changes_refl : (touched : List ℕ) (v : Version) (a : List ℕ) → ChangesSectors touched v a a
@@ -49,10 +50,6 @@ beside : (at n i : ℕ) (a b : List ℕ) → ChangesOnly at n a b → i < length
 beside at n i a b change lt (inl low) = change.below i lt low
 beside at n i a b change lt (inr high) = change.above i lt high
 
--- a word of the header that speaks of the FAT sectors or the DIFAT sectors
-abbrev pub IsTablesWord : ℕ → Type 0
-IsTablesWord at = (at ≡ 44) ⊎ ((68 ≤ at) × (at + 4 ≤ 512))
-
 other_beside : (v : Version) (at i : ℕ) → IsTablesWord at → IsOtherHeaderByte v i → (i < at) ⊎ (at + 4 ≤ i)
 other_beside v at i (inl is) (inl low) = inl (omega (arith, is, low))
 other_beside v at i (inl is) (inr (inl mid)) = inr (omega (arith, is, mid.0))
@@ -61,7 +58,7 @@ other_beside v at i (inr w) (inl low) = inl (omega (arith, w.0, low))
 other_beside v at i (inr w) (inr (inl mid)) = inl (omega (arith, w.0, mid.1))
 other_beside v at i (inr w) (inr (inr high)) = inr (omega (arith, w.1, high.0))
 
-word_inside : (at : ℕ) → IsTablesWord at → at + 4 ≤ 512
+pub word_inside : (at : ℕ) → IsTablesWord at → at + 4 ≤ 512
 word_inside at (inl is) = omega (arith, is)
 word_inside at (inr w) = w.1
 
@@ -71,3 +68,13 @@ changes_in_header v at a b word change = record {
   sectors = λ i out. after_header v i at 4 a b change (word_inside at word);
   header = λ i lt other. beside at 4 i a b change lt (other_beside v at i word other);
 }
+
+-- a change after one that touches nothing but the header
+pub changes_after : (touched : List ℕ) (v w : Version) (a b c : List ℕ) → w ≡ v → ChangesSectors [] v a b → ChangesSectors touched w b c → ChangesSectors touched v a c
+changes_after touched v w a b c same first second =
+    changes_trans touched v a b c (changes_more [] touched v a b (λ i m. absurd (not_in_nil i m)) first) (subst (λ (u : Version). ChangesSectors touched u b c) same second)
+
+-- and before one
+pub changes_before : (touched : List ℕ) (v w : Version) (a b c : List ℕ) → w ≡ v → ChangesSectors touched v a b → ChangesSectors [] w b c → ChangesSectors touched v a c
+changes_before touched v w a b c same first second =
+    changes_trans touched v a b c first (changes_more [] touched v b c (λ i m. absurd (not_in_nil i m)) (subst (λ (u : Version). ChangesSectors [] u b c) same second))

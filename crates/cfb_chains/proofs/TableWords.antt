@@ -54,7 +54,7 @@ pub sector_len_fits : (v : Version) → sector_len v ≤ 4096
 sector_len_fits V3 = omega arith
 sector_len_fits V4 = omega arith
 
-words_fit : (v : Version) → 4 * words_per_sector v ≤ sector_len v
+pub words_fit : (v : Version) → 4 * words_per_sector v ≤ sector_len v
 words_fit V3 = omega arith
 words_fit V4 = omega arith
 

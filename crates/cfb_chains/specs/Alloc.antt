@@ -53,6 +53,10 @@ pub record IsFilled (version : Version) (init : SectorInit) (bytes : List ℕ) (
 abbrev pub IsOtherHeaderByte : Version → ℕ → Type 0
 IsOtherHeaderByte version i = (i < 44) ⊎ ((48 ≤ i) × (i < 68)) ⊎ ((512 ≤ i) × (i < sector_len version))
 
+-- a word of the header that speaks of the FAT sectors or the DIFAT sectors (MS-CFB 2.2)
+abbrev pub IsTablesWord : ℕ → Type 0
+IsTablesWord at = (at ≡ 44) ⊎ ((68 ≤ at) × (at + 4 ≤ 512))
+
 -- of the sectors these alone change, and of the header what speaks of the FAT sectors and the DIFAT sectors
 pub record ChangesSectors (touched : List ℕ) (version : Version) (old new : List ℕ) : Type 0 where
   pub no_shorter : length old ≤ length new

@@ -37,10 +37,13 @@ difat_place version own k = sector_start version (slice_index own ((k - header_d
 abbrev pub link_place : Version → List ℕ → ℕ
 link_place version own = if nat_lt 0 (length own) then sector_start version (slice_index own (length own - 1)) + 4 * (words_per_sector version - 1) else 68
 
--- the k-th FAT sector is listed in the header, with a FREE behind it where there is a place, and counted
+-- the place of the header behind the k-th is free, if there is one
+abbrev pub freed_behind : List ℕ → ℕ → List ℕ
+freed_behind bytes k = if nat_lt (k + 1) header_difat_len then with_word bytes (header_place (k + 1)) free_sector else bytes
+
+-- the k-th FAT sector is listed in the header, with a free place behind it, and counted
 abbrev pub listed_in_header : List ℕ → ℕ → ℕ → List ℕ
-listed_in_header bytes k sector =
-    with_word (with_word (if nat_lt (k + 1) header_difat_len then with_word bytes (header_place (k + 1)) free_sector else bytes) (header_place k) sector) 44 (k + 1)
+listed_in_header bytes k sector = with_word (with_word (freed_behind bytes k) (header_place k) sector) 44 (k + 1)
 
 -- it is listed in a DIFAT sector, and counted
 abbrev pub listed_in_sector : Version → List ℕ → List ℕ → ℕ → ℕ → List ℕ

@@ -1,0 +1,11 @@
+-- What an answer says, drawn from what it says.
+use Rattle.std.specs.Prelude.{Result, Ok, Err, IfOk}
+use Rattle.std.specs.Result.{OnOk}
+
+pub on_ok : {T E : Type 0} (P Q : Type 0) (r : Result T E) → (P → Q) → OnOk r P → OnOk r Q
+on_ok P Q (Ok x) f p = f p
+on_ok P Q (Err e) f p = tt
+
+pub on_both : {T E : Type 0} (P Q R : Type 0) (r : Result T E) → (P → Q → R) → OnOk r P → OnOk r Q → OnOk r R
+on_both P Q R (Ok x) f p q = f p q
+on_both P Q R (Err e) f p q = tt
