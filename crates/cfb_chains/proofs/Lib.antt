@@ -19,3 +19,4 @@ pub mod PreparedLemmas
 pub mod AttachLemmas
 pub mod UseLemmas
 pub mod FullLemmas
+pub mod CleanLemmas

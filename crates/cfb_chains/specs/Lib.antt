@@ -6,3 +6,4 @@ pub mod Changes
 pub mod Tables
 pub mod Refused
 pub mod Owners
+pub mod Clean
