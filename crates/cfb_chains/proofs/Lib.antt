@@ -23,3 +23,4 @@ pub mod PreparedLemmas
 pub mod AttachLemmas
 pub mod UseLemmas
 pub mod FullLemmas
+pub mod CleanLemmas

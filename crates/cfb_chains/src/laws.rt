@@ -1,6 +1,7 @@
 //! What the definitions of chains and tables promise about each other. None of these functions does anything: each has a law
 //! as its contract.
 ghost use Rattle.cfb_chains.specs.Changes.{ChainsStay, OtherChainsStay, ChainsTurn, MembersAreBusy};
+ghost use Rattle.cfb_chains.specs.Clean.{CleanPointsWithin, TakenIsClean, ExtendedIsClean, FreedIsClean, CutIsClean};
 ghost use Rattle.cfb_chains.specs.Tables.{FullIsTooFew, TooFewIsNoRoom, EnoughIsRoom};
 ghost use Rattle.cfb_chains.specs.Owners.{UsesAreKept, NothingLooseIsKept, UseChangesFollow, TakingChanges, FreeingChanges, TakenIsTaking, FreedIsFreeing, CutIsFreeing};
 
@@ -29,4 +30,14 @@ pub fn uses_follow_changes()
     ensures taken { TakenIsTaking }
     ensures freed { FreedIsFreeing }
     ensures cut { CutIsFreeing }
+{}
+
+/// A table in which no number is named twice and no free one is named stays so while sectors are taken and freed, and its
+/// pointers are numbers of it.
+pub fn tables_stay_clean()
+    ensures within { CleanPointsWithin }
+    ensures taken { TakenIsClean }
+    ensures extended { ExtendedIsClean }
+    ensures freed { FreedIsClean }
+    ensures cut { CutIsClean }
 {}

@@ -296,11 +296,11 @@ impl<A: Allocator> Lists<A> {
     }
 
     /// Makes a sector in use the last one of its chain.
-    pub fn end(&mut self, sector: u32)
-        requires busy { value self.old.state.fat sector ≢ free_sector }
-        ensures { self.new ≡ record self.old { state = record self.old.state { fat = slice_set self.old.state.fat sector end_of_chain } } }
+    pub fn end(&mut self, last: u32)
+        requires busy { value self.old.state.fat last ≢ free_sector }
+        ensures { self.new ≡ record self.old { state = record self.old.state { fat = slice_set self.old.state.fat last end_of_chain } } }
     {
-        self.fat[sector as usize] = END_OF_CHAIN;
+        self.fat[last as usize] = END_OF_CHAIN;
     }
 
     /// Reserves the memory that freeing so many sectors needs. `Memory`.

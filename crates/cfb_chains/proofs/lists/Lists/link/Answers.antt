@@ -10,4 +10,4 @@ invariant_of-self g c =
     let s = c.self.inside in
     let t = tables_of s.version s.max_sectors s.fat.items s.fat_sectors.items s.difat_sectors.items in
     let ended : value s.fat.items c.args.last ≡ end_of_chain = rw (← c.self.view_is) at c.requires.ended in
-    kept-link t s.free.items c.args.last c.args.next (λ e. omega (arith, e, ended)) (λ e. omega (arith, e, c.requires.regular)) c.self.invariant
+    kept-link t s.free.items c.args.last _ (λ e. omega (arith, e, ended)) (λ e. omega (arith, e, c.requires.regular)) c.self.invariant
