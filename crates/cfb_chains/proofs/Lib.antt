@@ -18,3 +18,4 @@ pub mod PreparedLemmas
 pub mod AttachLemmas
 pub mod UseLemmas
 pub mod FullLemmas
+pub mod DifatWords

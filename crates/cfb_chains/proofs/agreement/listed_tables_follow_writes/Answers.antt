@@ -1,0 +1,8 @@
+use Rattle.cfb_chains.proofs.DifatWords.{fresh_fat_words, fresh_difat_words}
+use Rattle.cfb_chains.proofs.agreement.listed_tables_follow_writes.Goals as goal
+
+pub returns-clause-fresh_fat : goal.returns-clause-fresh_fat
+returns-clause-fresh_fat c = fresh_fat_words
+
+pub returns-clause-fresh_difat : goal.returns-clause-fresh_difat
+returns-clause-fresh_difat c = fresh_difat_words
