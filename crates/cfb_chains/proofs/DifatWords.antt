@@ -13,7 +13,7 @@ use Rattle.cfb_format.specs.Medium.{written}
 use Rattle.cfb_format.proofs.ByteLemmas.{written_at}
 use Rattle.cfb_format.proofs.HeaderStart.{words-same}
 use Rattle.cfb_format.proofs.Words.{sector_words-length, sector_words-at, four-words}
-use Rattle.cfb_chains.specs.Words.{Apart, with_word}
+use Rattle.cfb_chains.specs.Words.{with_word}
 use Rattle.cfb_chains.specs.Sectors.{SectorStays, init_bytes}
 use Rattle.cfb_chains.specs.declared.sector.SectorInit.TheVariants.{Fat, Difat}
 use Rattle.cfb_chains.proofs.WordLemmas.{word_with_word, word_with_word_apart}
@@ -78,13 +78,6 @@ module _ (v : Version) (i : ℕ) (a b : List ℕ) where
   pub stays_words : SectorStays v i a b → sector_start v i + sector_len v ≤ length a → sector_words v b i ≡ sector_words v a i
   stays_words stays whole =
       same_sector_words (λ j low. let fit : 4 * j + 4 ≤ sector_len v = omega (arith, four-words v) in word_in_sector v i (4 * j) a b stays fit (omega arith))
-
--- a word is written apart from a sector
-pub words_apart : (v : Version) (i : ℕ) (b : List ℕ) (at w : ℕ) → Apart (sector_start v i) (sector_len v) at 4 → sector_words v (with_word b at w) i ≡ sector_words v b i
-words_apart v i b at w apart =
-    same_sector_words v i b (with_word b at w)
-    (λ j low. let fit : 4 * j + 4 ≤ sector_len v = omega (arith, four-words v) in word_with_word_apart b at w (sector_start v i + 4 * j)
-    (λ before. let out = apart (omega (arith, before, fit)) in omega (arith, out)))
 
 -- a word of a sector is written
 pub words_set : (v : Version) (i : ℕ) (b : List ℕ) (r w : ℕ) → r < words_per_sector v → w < 2 ^ 32 → sector_words v (with_word b (sector_start v i + 4 * r) w) i ≡ set (sector_words v b i) r w

@@ -19,3 +19,7 @@ pub mod AttachLemmas
 pub mod UseLemmas
 pub mod FullLemmas
 pub mod DifatWords
+pub mod DifatHeader
+pub mod DifatEntries
+pub mod DifatWalk
+pub mod DifatLemmas
