@@ -1,10 +1,10 @@
 -- The list of FAT sectors as it is cut out of all entries of the DIFAT, and how it grows (MS-CFB 2.5).
-use Rattle.std.proofs.Common.{◌≡◌, ◌≢◌, ◌⊎◌, inl, inr, ℕ, zero, suc, ◌+◌, ◌-◌, ◌<◌, ◌≤◌, max, min, List, [], ◌∷◌, ◌++◌, Bool, true, false, length, take, drop, replicate, set, refl, sym, ◌∙◌, ap, subst, arith, lit<, length-append, length-take, get_or-take}
+use Rattle.std.proofs.Common.{◌≡◌, ◌≢◌, ◌⊎◌, inl, inr, ℕ, zero, suc, ◌+◌, ◌-◌, ◌<◌, ◌≤◌, max, min, List, [], ◌∷◌, ◌++◌, Bool, true, false, length, take, replicate, set, refl, sym, ◌∙◌, ap, subst, arith, length-append, length-take, get_or-take}
 use Rattle.std.specs.Prelude.{slice_index, ◌==◌}
 use Rattle.std.specs.List.{suffix_len}
 use Rattle.std.proofs.lemmas.Bool.{cases_eq, cases_lt, eqb-true, eqb-false, eq-eqb, ne_eqb}
-use Rattle.std.proofs.lemmas.List.{length-replicate, length-set, get_or-set_same, get_or-set_other, get_or_append_left, get_or-append_right, get_or-replicate, take-take, take_more_set, take-append-le, take_all}
-use Rattle.std.proofs.lemmas.List.Sums.{suffix_len_is, suffix_len-le-length}
+use Rattle.std.proofs.lemmas.List.{length-replicate, length-set, get_or-set_same, get_or-set_other, get_or_append_left, get_or-append_right, get_or-replicate, take-take, take_more_set, take-append-le}
+use Rattle.std.proofs.lemmas.List.Sums.{suffix_len_is}
 use Rattle.cfb_format.specs.Bytes.{free_sector}
 use Rattle.cfb_format.specs.Fat.{without_end}
 
@@ -35,10 +35,12 @@ ends_at p xs =
 
 -- ---- the list in all entries
 
+-- a place that may be padding
 abbrev is_zero : ℕ → Bool
 is_zero word = word == 0
 
-abbrev is_free : ℕ → Bool
+-- a place where none is listed
+abbrev pub is_free : ℕ → Bool
 is_free word = word == free_sector
 
 -- the entries without padding, where they are kept up to the m-th

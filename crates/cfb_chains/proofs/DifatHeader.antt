@@ -1,10 +1,10 @@
 -- The header after words of it are written that list FAT sectors and DIFAT sectors (MS-CFB 2.2).
-use Rattle.std.proofs.Common.{◌≡◌, ◌≢◌, ◌⊎◌, inl, inr, ℕ, suc, ◌+◌, ◌-◌, ◌*◌, ◌<◌, ◌≤◌, min, List, [], ◌∷◌, ◌++◌, Bool, true, false, length, take, drop, replicate, set, refl, sym, ◌∙◌, ap, subst, arith, lit<, lit≤, append_assoc, length-append, length-take, get_or-take, get_or-drop}
-use Rattle.std.specs.Prelude.{slice_index, if◌then◌else◌, ◌==◌, ◌&&◌}
+use Rattle.std.proofs.Common.{◌≡◌, ◌≢◌, ◌⊎◌, inl, inr, ℕ, suc, ◌+◌, ◌-◌, ◌*◌, ◌<◌, ◌≤◌, List, [], ◌∷◌, ◌++◌, Bool, true, false, length, take, drop, replicate, set, refl, sym, ◌∙◌, ap, subst, arith, lit≤, append_assoc, length-append, length-take, get_or-take, get_or-drop}
+use Rattle.std.specs.Prelude.{slice_index, if◌then◌else◌, ◌&&◌}
 use Rattle.std.specs.List.{list_all, position_or_len}
 use Rattle.std.specs.Int.{to_le_bytes, w32}
 use Rattle.std.proofs.Math.Seq.{set-append_seam}
-use Rattle.std.proofs.lemmas.Bool.{cases_eq, cases_lt, eq-eqb, ne_eqb}
+use Rattle.std.proofs.lemmas.Bool.{cases_eq, eq-eqb, ne_eqb}
 use Rattle.std.proofs.lemmas.Grind.{same_number_lists}
 use Rattle.std.proofs.lemmas.List.{get_or_append_left, get_or-append_right, length-replicate}
 use Rattle.std.proofs.lemmas.List.Folds.{list_all-append}
@@ -12,15 +12,15 @@ use Rattle.std.proofs.lemmas.List.Sums.{position_or_len_is, fails_before_first}
 use Rattle.cfb_format.specs.declared.header.Header.{Header}
 use Rattle.cfb_format.specs.declared.version.Version.{Version}
 use Rattle.cfb_format.specs.declared.validate.Validation.TheVariants.{Permissive}
-use Rattle.cfb_format.specs.Bytes.{u16_at, u32_at, words, sector_len, sector_start, sector_words, words_per_sector, is_regular, free_sector}
-use Rattle.cfb_format.specs.Header.{HasFixedFields, IsHeader, dir_sectors_of, first_difat_of, header_difat_len, padded_difat, stored_difat}
-use Rattle.cfb_format.specs.Medium.{written}
+use Rattle.cfb_format.specs.Bytes.{u16_at, u32_at, words, sector_len, sector_start, sector_words, is_regular, free_sector}
+use Rattle.cfb_format.specs.Header.{IsHeader, dir_sectors_of, first_difat_of, header_difat_len, padded_difat, stored_difat}
 use Rattle.cfb_format.proofs.ByteLemmas.{written_below}
 use Rattle.cfb_format.proofs.HeaderDifat.{word-there}
 use Rattle.cfb_format.proofs.HeaderStart.{u16-same, header_at_start}
 use Rattle.cfb_format.proofs.Words.{words-length, four-words}
 use Rattle.cfb_chains.specs.Difat.{header_place}
 use Rattle.cfb_chains.specs.Words.{with_word, Stays}
+use Rattle.cfb_chains.proofs.DifatEntries.{is_free}
 use Rattle.cfb_chains.proofs.DifatWords.{same_sector_words}
 use Rattle.cfb_chains.proofs.WordLemmas.{word_with_word_apart, length-with_word}
 
@@ -64,7 +64,7 @@ pub count_changed : {a b : List ℕ} → Within 44 48 a b → SameFields a b
 count_changed change = record {
   longer = change.longer;
   start = λ i low. change.below i (omega (arith, low));
-  field = λ p where_. elim where_ [
+  field = λ p here. elim here [
     | inl early ↦ change.word p (λ before. absurd (omega (arith, early, before)))
     | inr late ↦ change.word p (λ before. late.0)
   ];
@@ -74,7 +74,7 @@ pub later_changed : {from to : ℕ} {a b : List ℕ} → 68 ≤ from → Within 
 later_changed far change = record {
   longer = change.longer;
   start = λ i low. change.below i (omega (arith, low, far));
-  field = λ p where_. elim where_ [
+  field = λ p here. elim here [
     | inl early ↦ change.word p (λ before. absurd (omega (arith, early, before, far)))
     | inr late ↦ change.word p (λ before. absurd (let high = late.1 in omega (arith, high, before, far)))
   ];
@@ -84,7 +84,7 @@ pub then_changed : {a b c : List ℕ} → SameFields a b → SameFields b c → 
 then_changed first second = record {
   longer = let l = first.longer in let m = second.longer in omega (arith, l, m);
   start = λ i low. second.start i low ∙ first.start i low;
-  field = λ p where_. second.field p where_ ∙ first.field p where_;
+  field = λ p here. second.field p here ∙ first.field p here;
 }
 
 -- ---- the header
@@ -142,9 +142,6 @@ header_stays a b h long stays is =
 abbrev entries_of : List ℕ → List ℕ
 entries_of bytes = words header_difat_len (drop 76 bytes)
 
-abbrev passes_free : ℕ → Bool
-passes_free word = word == free_sector
-
 entry_there : (bytes : List ℕ) (j : ℕ) → j < header_difat_len → slice_index (entries_of bytes) j ≡ u32_at bytes (header_place j)
 entry_there bytes j low = word-there bytes j low
 
@@ -153,7 +150,7 @@ entries_length bytes = words-length header_difat_len (drop 76 bytes)
 
 pub stored_short : (bytes : List ℕ) → length (stored_difat bytes) ≤ header_difat_len
 stored_short bytes =
-    let short = length-take (position_or_len passes_free (entries_of bytes)) (entries_of bytes) in
+    let short = length-take (position_or_len is_free (entries_of bytes)) (entries_of bytes) in
     let all = entries_length bytes in
     omega (arith, short, all)
 
@@ -162,7 +159,7 @@ pub stored_same : (a b : List ℕ) → ((j : ℕ) → j < header_difat_len → u
 stored_same a b each =
     let same : entries_of b ≡ entries_of a = same_number_lists (entries_of b) (entries_of a) (entries_length b ∙ sym (entries_length a))
     (λ j low. let small : j < header_difat_len = omega (arith, low, entries_length b) in entry_there b j small ∙ each j small ∙ sym (entry_there a j small)) in
-    ap (λ (xs : List ℕ). take (position_or_len passes_free xs) xs) same
+    ap (λ (xs : List ℕ). take (position_or_len is_free xs) xs) same
 
 -- one more is stored
 pub stored_more : (a b : List ℕ) (k sector : ℕ) → length (stored_difat a) ≡ k → k < header_difat_len → sector ≢ free_sector
@@ -170,20 +167,20 @@ pub stored_more : (a b : List ℕ) (k sector : ℕ) → length (stored_difat a) 
     → u32_at b (header_place k) ≡ sector → (k + 1 < header_difat_len → u32_at b (header_place (k + 1)) ≡ free_sector)
     → stored_difat b ≡ stored_difat a ++ sector ∷ []
 stored_more a b k sector len room regular before here after =
-    let n = position_or_len passes_free (entries_of a) in
+    let n = position_or_len is_free (entries_of a) in
     let all = entries_length a in
     let all' = entries_length b in
     let is_k : n ≡ k = omega (arith, length-take n (entries_of a), all, len, room) in
     let old : (j : ℕ) → j < k → slice_index (entries_of b) j ≡ slice_index (entries_of a) j = λ j low.
     entry_there b j (omega (arith, low, room)) ∙ before j low ∙ sym (entry_there a j (omega (arith, low, room))) in
     let new : slice_index (entries_of b) k ≡ sector = entry_there b k room ∙ here in
-    let found : position_or_len passes_free (entries_of b) ≡ k + 1 =
-    position_or_len_is passes_free (entries_of b) (k + 1) 0 (omega (arith, room, all'))
+    let found : position_or_len is_free (entries_of b) ≡ k + 1 =
+    position_or_len_is is_free (entries_of b) (k + 1) 0 (omega (arith, room, all'))
     (λ j low. elim (cases_eq j k) [
       | inl same ↦ ne_eqb (slice_index (entries_of b) j) free_sector (λ e. regular (sym new ∙ ap (slice_index (entries_of b)) (sym same) ∙ e))
       | inr other ↦
           let small : j < k = omega (arith, low, other) in
-          ap passes_free (old j small) ∙ fails_before_first passes_free (entries_of a) j 0 (omega (arith, small, is_k))
+          ap is_free (old j small) ∙ fails_before_first is_free (entries_of a) j 0 (omega (arith, small, is_k))
     ])
     (λ more. eq-eqb (slice_index (entries_of b) (k + 1)) free_sector
     (let small : k + 1 < header_difat_len = omega (arith, more, all') in entry_there b (k + 1) small ∙ after small)) in

@@ -23,3 +23,4 @@ pub mod DifatHeader
 pub mod DifatEntries
 pub mod DifatWalk
 pub mod DifatLemmas
+pub mod DifatLinked

@@ -1,6 +1,6 @@
 //! Laws about the FAT in memory and the words of the FAT sectors (MS-CFB 2.3).
 ghost use Rattle.cfb_chains.specs.Agreement.{WordsAtHome, AgreeingIsRead, AgreeingIsFat, WordIsWritten, ChangedIsLate, AppendedIsLate, AgreementStays};
-ghost use Rattle.cfb_chains.specs.Difat.{ListingStays, ListedInHeader, FreshFatWords, FreshDifatWords};
+ghost use Rattle.cfb_chains.specs.Difat.{ListingStays, ListedInHeader, ListedInSector, DifatSectorLinked, FreshFatWords, FreshDifatWords};
 
 /// A table that agrees with the bytes, word by word, is the FAT that opening reads. It goes on
 /// agreeing when each word that a change made late is written, and other sectors may be written
@@ -21,6 +21,8 @@ pub fn tables_agree_with_bytes()
 pub fn listed_tables_follow_writes()
     ensures stays { ListingStays }
     ensures in_header { ListedInHeader }
+    ensures in_sector { ListedInSector }
+    ensures linked { DifatSectorLinked }
     ensures fresh_fat { FreshFatWords }
     ensures fresh_difat { FreshDifatWords }
 {}
