@@ -2,7 +2,6 @@ pub mod WordLemmas
 pub mod FrameLemmas
 pub mod HeldLemmas
 pub mod Answering
-pub mod DifatStub
 pub mod SectorLemmas
 pub mod CountLemmas
 pub mod FreshLemmas
@@ -24,3 +23,9 @@ pub mod AttachLemmas
 pub mod UseLemmas
 pub mod FullLemmas
 pub mod CleanLemmas
+pub mod DifatWords
+pub mod DifatHeader
+pub mod DifatEntries
+pub mod DifatWalk
+pub mod DifatLemmas
+pub mod DifatLinked

@@ -3,7 +3,7 @@ use Rattle.std.specs.Prelude.{ℕ, ◌+◌, ◌-◌, ◌*◌, ◌/◌, ◌%◌, 
 use Rattle.cfb_format.specs.declared.version.Version.{Version}
 use Rattle.cfb_format.specs.declared.validate.Validation.{Validation}
 use Rattle.cfb_format.specs.declared.header.Header.{Header}
-use Rattle.cfb_format.specs.Bytes.{sector_len, sector_start, sector_words, words_per_sector, is_whole_sector, max_regular_sector, end_of_chain, free_sector}
+use Rattle.cfb_format.specs.Bytes.{sector_start, sector_words, words_per_sector, is_whole_sector, max_regular_sector, end_of_chain, free_sector}
 use Rattle.cfb_format.specs.Header.{IsHeader, IfStrict, header_difat_len}
 use Rattle.cfb_format.specs.Fat.{IsDifat, IsStrictDifat}
 use Rattle.cfb_format.specs.Medium.{written}

@@ -9,7 +9,9 @@ use Rattle.cfb_chains.specs.Sectors.{SectorFile}
 use Rattle.cfb_chains.proofs.Answering.{on_ok}
 use Rattle.cfb_chains.proofs.FrameLemmas.{changes_more, changes_trans}
 use Rattle.cfb_chains.proofs.HeldLemmas.{header_long, listed_fill, filled_difat, filled_whole}
-use Rattle.cfb_chains.proofs.DifatStub.{listing_stays, difat_linked, fresh_difat}
+use Rattle.cfb_chains.proofs.DifatLemmas.{listing_stays}
+use Rattle.cfb_chains.proofs.DifatLinked.{difat_sector_linked}
+use Rattle.cfb_chains.proofs.DifatWords.{fresh_difat_words}
 use Rattle.cfb_chains.proofs.Members.{Contains-one}
 use Rattle.cfb_chains.proofs.writing.add_difat_sector.Goals as goal
 
@@ -51,6 +53,6 @@ returns-clause-listed g c told validation list l measured full apart =
     (λ i m n. apart (subst (Contains own) (sym (Contains-one x i n)) m)) l in
     on_ok _ _ c.link_difat_sector.result
     (λ is. subst (λ (b : List ℕ). ListsTables validation old.version b list (own ++ x ∷ [])) (ap (λ (v : Version). linked v mid.bytes own x) (sym same) ∙ sym is)
-    (difat_linked validation old.version mid.bytes list own x stays (omega (arith, long, longer)) full c.requires.short (omega (arith, c.requires.there, s.most)) apart
-    (filled_whole old.version Difat mid.bytes x filled) (filled_difat fresh_difat old.version mid.bytes x filled)))
+    (difat_sector_linked validation old.version mid.bytes list own x stays (omega (arith, long, longer)) full c.requires.short (omega (arith, c.requires.there, s.most)) apart
+    (filled_whole old.version Difat mid.bytes x filled) (filled_difat fresh_difat_words old.version mid.bytes x filled)))
     (c.link_difat_sector.ensures.ok told)

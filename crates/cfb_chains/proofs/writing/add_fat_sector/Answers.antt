@@ -10,7 +10,7 @@ use Rattle.cfb_chains.specs.Difat.{ListsTables, difat_places}
 use Rattle.cfb_chains.specs.Sectors.{SectorFile}
 use Rattle.cfb_chains.proofs.FrameLemmas.{changes_more, changes_trans}
 use Rattle.cfb_chains.proofs.HeldLemmas.{in_taken, listed_fill, filled_whole, stays_filled, header_long}
-use Rattle.cfb_chains.proofs.DifatStub.{listing_stays}
+use Rattle.cfb_chains.proofs.DifatLemmas.{listing_stays}
 use Rattle.cfb_chains.proofs.Listed.{in_rest}
 use Rattle.cfb_chains.proofs.Members.{Contains-one}
 use Rattle.cfb_chains.proofs.writing.add_fat_sector.Goals as goal

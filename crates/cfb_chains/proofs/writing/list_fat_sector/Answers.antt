@@ -2,7 +2,7 @@ use Rattle.std.proofs.Common.{arith, ap, ◌∙◌, sym, subst, ◌≡◌, ◌++
 use Rattle.cfb_chains.specs.Difat.{ListsTables, listed_in_header, listed_in_sector}
 use Rattle.cfb_chains.proofs.Answering.{on_ok}
 use Rattle.cfb_chains.proofs.HeldLemmas.{header_long}
-use Rattle.cfb_chains.proofs.DifatStub.{listed_header, listed_sector}
+use Rattle.cfb_chains.proofs.DifatLemmas.{listed_into_header, listed_into_sector}
 use Rattle.cfb_chains.proofs.writing.list_fat_sector.Goals as goal
 
 pub returns-then-index-lt-NUM_DIFAT_ENTRIES_IN_HEADER-clause-listed : goal.returns-then-index-lt-NUM_DIFAT_ENTRIES_IN_HEADER-clause-listed
@@ -14,7 +14,7 @@ returns-then-index-lt-NUM_DIFAT_ENTRIES_IN_HEADER-clause-listed g c told validat
     let long = header_long old.version old.len s.header in
     on_ok _ _ c.list_in_header.result
     (λ is. subst (λ (b : List ℕ). ListsTables validation old.version b (list ++ x ∷ []) own) (ap (λ k. listed_in_header old.bytes k x) len ∙ sym is)
-    (listed_header validation old.version old.bytes list own x l (omega (arith, long, measured)) (omega (arith, len, c.if-index-lt-NUM_DIFAT_ENTRIES_IN_HEADER.true)) (omega (arith, c.requires.there, s.most)) whole))
+    (listed_into_header validation old.version old.bytes list own x l (omega (arith, long, measured)) (omega (arith, len, c.if-index-lt-NUM_DIFAT_ENTRIES_IN_HEADER.true)) (omega (arith, c.requires.there, s.most)) whole))
     (c.list_in_header.ensures.ok told)
 
 pub returns-else-index-lt-NUM_DIFAT_ENTRIES_IN_HEADER-clause-listed : goal.returns-else-index-lt-NUM_DIFAT_ENTRIES_IN_HEADER-clause-listed
@@ -26,6 +26,6 @@ returns-else-index-lt-NUM_DIFAT_ENTRIES_IN_HEADER-clause-listed g c told validat
     let long = header_long old.version old.len s.header in
     on_ok _ _ c.list_in_difat_sector.result
     (λ is. subst (λ (b : List ℕ). ListsTables validation old.version b (list ++ x ∷ []) own) (ap (λ k. listed_in_sector old.version old.bytes own k x) len ∙ sym is)
-    (listed_sector validation old.version old.bytes list own x l (omega (arith, long, measured)) (omega (arith, len, c.if-index-lt-NUM_DIFAT_ENTRIES_IN_HEADER.false))
+    (listed_into_sector validation old.version old.bytes list own x l (omega (arith, long, measured)) (omega (arith, len, c.if-index-lt-NUM_DIFAT_ENTRIES_IN_HEADER.false))
     (omega (arith, len, c.requires.place)) (omega (arith, len, c.requires.short)) (omega (arith, c.requires.there, s.most)) whole))
     (c.list_in_difat_sector.ensures.ok told)

@@ -8,7 +8,7 @@ use Rattle.cfb_chains.specs.Tables.{TableState}
 use Rattle.cfb_chains.specs.Words.{with_word}
 use Rattle.cfb_chains.proofs.Answering.{on_both}
 use Rattle.cfb_chains.proofs.HeldLemmas.{held_word, header_long}
-use Rattle.cfb_chains.proofs.DifatStub.{listing_stays}
+use Rattle.cfb_chains.proofs.DifatLemmas.{listing_stays}
 use Rattle.cfb_chains.proofs.writing.write_value.Goals as goal
 
 pub write_fat_word-requires-clause-below : goal.write_fat_word-requires-clause-below
