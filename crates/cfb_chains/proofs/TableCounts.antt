@@ -25,7 +25,7 @@ fats-suffice : (v : Version) (n f : ℕ) → n ≤ f * words_per_sector v → f 
 fats-suffice V3 n f h = omega (arith, h)
 fats-suffice V4 n f h = omega (arith, h)
 
-difats-suffice : (v : Version) (f d : ℕ) → f ≤ header_difat_len + d * (words_per_sector v - 1) → d ≡ max d (rounded_up (f - header_difat_len) (words_per_sector v - 1))
+pub difats-suffice : (v : Version) (f d : ℕ) → f ≤ header_difat_len + d * (words_per_sector v - 1) → d ≡ max d (rounded_up (f - header_difat_len) (words_per_sector v - 1))
 difats-suffice V3 f d h = omega (arith, h)
 difats-suffice V4 f d h = omega (arith, h)
 

@@ -7,6 +7,7 @@ ghost use Rattle.cfb_format.specs.Medium.{ChangesOnly};
 ghost use Rattle.cfb_chains.specs.Agreement.{word_home};
 ghost use Rattle.cfb_chains.specs.Changes.{Apart};
 ghost use Rattle.cfb_chains.specs.Words.{Stays, with_word};
+ghost use Rattle.cfb_format.specs.Full.{rounded_up};
 ghost use Rattle.cfb_format.specs.Header.{header_difat_len};
 ghost use Rattle.cfb_format.specs.Refused.{CountsFailure};
 ghost use Rattle.cfb_chains.specs.declared.sector.SectorInit.TheVariants.{Fat};
@@ -412,4 +413,40 @@ fn add_fat_sector<F: Medium>(
     let listed = grow_difat(sectors, difat_sectors, listed, index)?;
     list_fat_sector(sectors, &difat_sectors[..listed], index, number)?;
     Ok(listed)
+}
+
+/// Adds the FAT sectors from the `fats`-th on, and the DIFAT sectors from the `difats`-th on, which are those that listing them takes
+/// (MS-CFB 2.3 and 2.5). `Medium`.
+fn write_table_sectors<F: Medium>(
+    sectors: &mut Sectors<F>,
+    fat_sectors: &[u32],
+    difat_sectors: &[u32],
+    fats: usize,
+    difats: usize,
+) -> Result<(), Error>
+    requires few { length fat_sectors.now ≤ max_regular_sector }
+    requires short { length difat_sectors.now ≤ max_regular_sector }
+    requires from { fats ≤ length fat_sectors.now }
+    requires places { fats ≤ difat_places sectors.old.version difats }
+    requires counted { length difat_sectors.now ≡ max difats (rounded_up (length fat_sectors.now - header_difat_len) (words_of sectors.old.version - 1)) }
+    requires below { (i : ℕ) → Contains difat_sectors.now i → i < sectors.old.num_sectors }
+    requires there { (i : ℕ) → Contains fat_sectors.now i → i < sectors.old.num_sectors }
+    ensures kept { sectors.new ≡ record sectors.old { len = sectors.new.len; bytes = sectors.new.bytes; failures = sectors.new.failures; begun = sectors.new.begun } }
+    ensures listed { IsTrue F.tells → (validation : Validation)
+        → ListsTables validation sectors.old.version sectors.old.bytes (take fats fat_sectors.now) (take difats difat_sectors.now)
+        → IsMeasured sectors.old → IsDistinct nat_eq difat_sectors.now → Apart fat_sectors.now difat_sectors.now
+        → OnOk result (ListsTables validation sectors.old.version sectors.new.bytes fat_sectors.now difat_sectors.now) }
+    ensures filled { IsTrue F.tells → IsDistinct nat_eq fat_sectors.now → Apart fat_sectors.now difat_sectors.now
+        → OnOk result ((k : ℕ) → fats ≤ k → k < length fat_sectors.now → IsFilled sectors.old.version Fat sectors.new.bytes (slice_index fat_sectors.now k)) }
+    ensures measured { IsTrue F.tells → IsMeasured sectors.old → OnOk result (IsMeasured sectors.new) }
+    ensures changes { IsTrue F.tells
+        → ChangesSectors (drop fats fat_sectors.now ++ difat_sectors.now) sectors.old.version sectors.old.bytes sectors.new.bytes }
+    ensures err { IfErr result (λ e. IsMediumError e × (sectors.new.begun ≡ true)) }
+    ensures counts { IsTrue F.tells → CountsFailure F.write_faults result sectors.old.failures sectors.new.failures }
+{
+    let mut listed = difats;
+    for index in fats..fat_sectors.len() {
+        listed = add_fat_sector(sectors, fat_sectors, difat_sectors, listed, index)?;
+    }
+    Ok(())
 }
