@@ -38,6 +38,7 @@ taken-pop t free x k =
       fat_marks = λ i m. absurd (Contains-nil i m);
       difat_marks = λ i m. absurd (Contains-nil i m);
       fresh = λ i m. ap (value t.fat) (sym (Contains-one x i m)) ∙ top.1;
+      past = λ i m. absurd (Contains-nil i m);
       once = one_distinct x;
       fats_once = none_distinct;
       difats_once = none_distinct;
@@ -71,6 +72,7 @@ taken-link t last next places ended regular =
       fat_marks = λ i m. absurd (Contains-nil i m);
       difat_marks = λ i m. absurd (Contains-nil i m);
       fresh = λ i m. absurd (Contains-nil i m);
+      past = λ i m. absurd (Contains-nil i m);
       once = none_distinct;
       fats_once = none_distinct;
       difats_once = none_distinct;
@@ -128,6 +130,10 @@ module _ (t : TableState) (x : ℕ) (words fats difats : List ℕ) where
         fat_marks = marks;
         difat_marks = difat_marks;
         fresh = λ i m. value-past t.fat i (new i m);
+        past = λ i m. elim (Contains-append_cases fats difats i m) [
+          | inl f ↦ new i (second_of_three (x ∷ []) fats difats i f)
+          | inr d ↦ new i (third_of_three (x ∷ []) fats difats i d)
+        ];
         once = one_distinct x;
         fats_once = fats_once;
         difats_once = difats_once;
@@ -391,6 +397,16 @@ module _ (a b c : TableState) (t m u w : List ℕ) (f : HasTaken a b t m) (s : H
       | inr x ↦ s.difat_marks i x
     ];
     fresh = fresh-then;
+    past = λ i mem. let longer = f.longer in elim (Contains-append_cases (f.fats ++ s.fats) (f.difats ++ s.difats) i mem) [
+      | inl l ↦ elim (Contains-append_cases f.fats s.fats i l) [
+        | inl x ↦ f.past i (Contains-append_left f.fats f.difats i x)
+        | inr x ↦ (let p = s.past i (Contains-append_left s.fats s.difats i x) in omega (arith, p, longer))
+      ]
+      | inr r ↦ elim (Contains-append_cases f.difats s.difats i r) [
+        | inl x ↦ f.past i (Contains-append_right f.fats f.difats i x)
+        | inr x ↦ (let p = s.past i (Contains-append_right s.fats s.difats i x) in omega (arith, p, longer))
+      ]
+    ];
     once = distinct-join m w f.once s.once (λ i x y. apart-then i (first_of_three (t ++ m) f.fats f.difats i (Contains-append_right t m i x)) (first_of_three w s.fats s.difats i y));
     fats_once = distinct-join f.fats s.fats f.fats_once s.fats_once (λ i x y. apart-then i (second_of_three (t ++ m) f.fats f.difats i x) (second_of_three w s.fats s.difats i y));
     difats_once = distinct-join f.difats s.difats f.difats_once s.difats_once (λ i x y. apart-then i (third_of_three (t ++ m) f.fats f.difats i x) (third_of_three w s.fats s.difats i y));
@@ -424,6 +440,7 @@ taken-none t last places ended = record {
   fat_marks = λ i m. absurd (Contains-nil i m);
   difat_marks = λ i m. absurd (Contains-nil i m);
   fresh = λ i m. absurd (Contains-nil i m);
+  past = λ i m. absurd (Contains-nil i m);
   once = none_distinct;
   fats_once = none_distinct;
   difats_once = none_distinct;

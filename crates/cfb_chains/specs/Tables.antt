@@ -113,6 +113,8 @@ pub record HasTaken (old new : TableState) (touched more : List ℕ) : Type 0 wh
   pub difat_marks : (i : ℕ) → Contains difats i → value new.fat i ≡ difat_sector
   -- all of them were free or are new
   pub fresh : (i : ℕ) → Contains (more ++ fats ++ difats) i → value old.fat i ≡ free_sector
+  -- and the table sectors are new
+  pub past : (i : ℕ) → Contains (fats ++ difats) i → length old.fat ≤ i
   pub once : IsDistinct nat_eq more
   pub fats_once : IsDistinct nat_eq fats
   pub difats_once : IsDistinct nat_eq difats
