@@ -1,6 +1,7 @@
 pub mod WordLemmas
 pub mod FrameLemmas
 pub mod HeldLemmas
+pub mod GrowthLemmas
 pub mod Answering
 pub mod SectorLemmas
 pub mod CountLemmas
