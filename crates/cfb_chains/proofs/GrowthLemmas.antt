@@ -175,21 +175,21 @@ module _ (t0 t : TableState) (touched more : List ℕ) (taken : HasTaken t0 t to
         (λ i m. absurd (not_in_nil i m))
         (λ i ge lt. last_taken late cover i ge (omega (arith, lt, big_len)))
         (λ i past from below. subst (λ (xs : List ℕ). IsTrue (is_fat_padding (word_of v bytes' xs i))) lists
-            (padding i (omega (arith, past, big_len)) from (subst (λ (xs : List ℕ). i < length xs * words_per_sector v) (sym lists) below))) in
+        (padding i (omega (arith, past, big_len)) from (subst (λ (xs : List ℕ). i < length xs * words_per_sector v) (sym lists) below))) in
         let two : AgreesBut late v bytes' t.fat_sectors t.difat_sectors big =
         subst (λ (xs : List ℕ). AgreesBut late v bytes' xs t.difat_sectors big) (sym lists) (subst (λ (ys : List ℕ). AgreesBut late v bytes' (t0.fat_sectors ++ taken.fats) ys big) (sym owns) one) in
         agrees_more (late ++ late) late v bytes' t.fat_sectors t.difat_sectors t.fat
         (λ i m. elim (Contains-append_cases late late i m) [ inl x ↦ x | inr x ↦ x ])
         (changed_late v bytes' t.fat_sectors t.difat_sectors big t.fat late late (sym big_len) grown_value within
-            (λ i m. elim (Contains-append_cases t0.fat_sectors taken.fats i (subst (λ (xs : List ℕ). Contains xs i) lists m)) [
-              | inl l ↦ old_fat i (a.fat_marks i l)
-              | inr r ↦ (new_fat i r).2
-            ])
-            (λ i m out. elim (Contains-append_cases t0.difat_sectors taken.difats i (subst (λ (xs : List ℕ). Contains xs i) owns m)) [
-              | inl l ↦ old_difat i (a.difat_marks i l (λ n. out (subst (λ (xs : List ℕ). Contains xs i) (sym lists) (Contains-append_left t0.fat_sectors taken.fats i n))))
-              | inr r ↦ (new_difat i r).2
-            ])
-            two)
+        (λ i m. elim (Contains-append_cases t0.fat_sectors taken.fats i (subst (λ (xs : List ℕ). Contains xs i) lists m)) [
+          | inl l ↦ old_fat i (a.fat_marks i l)
+          | inr r ↦ (new_fat i r).2
+        ])
+        (λ i m out. elim (Contains-append_cases t0.difat_sectors taken.difats i (subst (λ (xs : List ℕ). Contains xs i) owns m)) [
+          | inl l ↦ old_difat i (a.difat_marks i l (λ n. out (subst (λ (xs : List ℕ). Contains xs i) (sym lists) (Contains-append_left t0.fat_sectors taken.fats i n))))
+          | inr r ↦ (new_difat i r).2
+        ])
+        two)
 
   -- ---- the lists of table sectors
 

@@ -11,7 +11,7 @@ ghost use Rattle.cfb_format.specs.Full.{rounded_up};
 ghost use Rattle.cfb_format.specs.Header.{header_difat_len};
 ghost use Rattle.cfb_format.specs.Refused.{CountsFailure};
 ghost use Rattle.cfb_chains.specs.declared.sector.SectorInit.TheVariants.{Fat};
-ghost use Rattle.cfb_chains.specs.Sectors.{IsMediumError};
+ghost use Rattle.cfb_chains.specs.Sectors.{IsMediumError, sectors_end};
 ghost use Rattle.cfb_chains.specs.Tables.{IsCovered};
 ghost use Rattle.cfb_chains.specs.Difat.{ListsTables, difat_places, difat_place, freed_behind, listed_in_header, listed_in_sector, linked, link_place};
 ghost use Rattle.cfb_chains.specs.Alloc.{IsPlaced, IsMeasured, HoldsBut, IsFilled, IsTablesWord, ChangesSectors};
@@ -449,4 +449,57 @@ fn write_table_sectors<F: Medium>(
         listed = add_fat_sector(sectors, fat_sectors, difat_sectors, listed, index)?;
     }
     Ok(())
+}
+
+/// Adds the table sectors of a change as `write_table_sectors` does, and fills the sectors that it took for chains. `Medium`.
+fn add_sectors<F: Medium>(
+    sectors: &mut Sectors<F>,
+    fat_sectors: &[u32],
+    difat_sectors: &[u32],
+    before: TableSizes,
+    more: &[u32],
+    init: SectorInit,
+) -> Result<(), Error>
+    requires few { length fat_sectors.now ≤ max_regular_sector }
+    requires short { length difat_sectors.now ≤ max_regular_sector }
+    requires from { before.fats ≤ length fat_sectors.now }
+    requires places { before.fats ≤ difat_places sectors.old.version before.difats }
+    requires counted { length difat_sectors.now ≡ max before.difats (rounded_up (length fat_sectors.now - header_difat_len) (words_of sectors.old.version - 1)) }
+    requires below { (i : ℕ) → Contains difat_sectors.now i → i < sectors.old.num_sectors }
+    requires there { (i : ℕ) → Contains fat_sectors.now i → i < sectors.old.num_sectors }
+    requires more { (i : ℕ) → Contains more.now i → i < sectors.old.num_sectors }
+    ensures kept { sectors.new ≡ record sectors.old { len = sectors.new.len; bytes = sectors.new.bytes; failures = sectors.new.failures; begun = sectors.new.begun } }
+    ensures listed { IsTrue F.tells → (validation : Validation)
+        → ListsTables validation sectors.old.version sectors.old.bytes (take before.fats fat_sectors.now) (take before.difats difat_sectors.now)
+        → IsMeasured sectors.old → IsDistinct nat_eq difat_sectors.now → Apart fat_sectors.now difat_sectors.now → Apart difat_sectors.now more.now
+        → OnOk result (ListsTables validation sectors.old.version sectors.new.bytes fat_sectors.now difat_sectors.now) }
+    ensures fats { IsTrue F.tells → IsDistinct nat_eq fat_sectors.now → Apart fat_sectors.now difat_sectors.now → Apart fat_sectors.now more.now
+        → OnOk result ((k : ℕ) → before.fats ≤ k → k < length fat_sectors.now → IsFilled sectors.old.version Fat sectors.new.bytes (slice_index fat_sectors.now k)) }
+    ensures filled { IsTrue F.tells → OnOk result ((i : ℕ) → Contains more.now i → IsFilled sectors.old.version init sectors.new.bytes i) }
+    ensures measured { IsTrue F.tells → IsMeasured sectors.old → OnOk result (IsMeasured sectors.new) }
+    ensures changes { IsTrue F.tells
+        → ChangesSectors (drop before.fats fat_sectors.now ++ difat_sectors.now ++ more.now) sectors.old.version sectors.old.bytes sectors.new.bytes }
+    ensures end { OnOk result (sectors.new.len ≤ sectors_end sectors.new) }
+    ensures long { sector_len_of sectors.old.version ≤ sectors.old.len }
+    ensures err { IfErr result (λ e. IsMediumError e × (sectors.new.begun ≡ true)) }
+    ensures counts { IsTrue F.tells → CountsFailure F.write_faults result sectors.old.failures sectors.new.failures }
+{
+    let _count = sectors.num_sectors();
+    write_table_sectors(
+        sectors,
+        fat_sectors,
+        difat_sectors,
+        before.fats,
+        before.difats,
+    )?;
+    fill_sectors(sectors, more, init)?;
+    let _count = sectors.num_sectors();
+    Ok(())
+}
+
+/// How many FAT sectors and DIFAT sectors there were before a change.
+#[derive(Clone, Copy)]
+pub struct TableSizes {
+    pub fats: usize,
+    pub difats: usize,
 }

@@ -55,11 +55,11 @@ change : (list own : List ℕ) (from k : ℕ) (v w : Version) (a b c : List ℕ)
 change list own from k v w a b c le lt same first second =
     changes_trans (drop from list ++ own) v a b c first
     (changes_more (get_or list k 0 ∷ own) (drop from list ++ own) v b c
-        (λ i m. elim (in_cons (get_or list k 0) own i m) [
-          | inl e ↦ Contains-append_left (drop from list) own i (subst (Contains (drop from list)) e (in_drop list from k le lt))
-          | inr r ↦ Contains-append_right (drop from list) own i r
-        ])
-        (subst (λ (u : Version). ChangesSectors (get_or list k 0 ∷ own) u b c) same second))
+    (λ i m. elim (in_cons (get_or list k 0) own i m) [
+      | inl e ↦ Contains-append_left (drop from list) own i (subst (Contains (drop from list)) e (in_drop list from k le lt))
+      | inr r ↦ Contains-append_right (drop from list) own i r
+    ])
+    (subst (λ (u : Version). ChangesSectors (get_or list k 0 ∷ own) u b c) same second))
 
 -- how many DIFAT sectors are listed after one more FAT sector
 counted_next : (v : Version) (k d n : ℕ) → n ≡ max d (rounded_up (k - header_difat_len) (words_per_sector v - 1))
@@ -133,4 +133,4 @@ returns-clause-listed g c told validation t measured once apart =
     let all = all_listed v (length list) l.index c.args.difats l.listed (length own) c.loop-index-test.false c.requires.counted l.invariant.counted in
     subst (λ (ys : List ℕ). ListsTables validation v l.sectors.bytes list ys) (take_all l.listed own all)
     (subst (λ (xs : List ℕ). ListsTables validation v l.sectors.bytes xs (take l.listed own)) (take_all l.index list c.loop-index-test.false)
-        (l.invariant.listed told validation t measured once apart))
+    (l.invariant.listed told validation t measured once apart))
