@@ -9,3 +9,8 @@ on_ok P Q (Err e) f p = tt
 pub on_both : {T E : Type 0} (P Q R : Type 0) (r : Result T E) → (P → Q → R) → OnOk r P → OnOk r Q → OnOk r R
 on_both P Q R (Ok x) f p q = f p q
 on_both P Q R (Err e) f p q = tt
+
+-- what holds anyway holds of an answer
+pub all_ok : {T E : Type 0} {P : Type 0} (r : Result T E) → P → OnOk r P
+all_ok (Ok x) p = p
+all_ok (Err e) p = tt

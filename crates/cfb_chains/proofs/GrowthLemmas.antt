@@ -1,24 +1,33 @@
 -- The tables after sectors were taken, and the bytes once the new table sectors are there.
-use Rattle.std.proofs.Common.{refl, inl, inr, ◌≡◌, ◌≢◌, ◌⊎◌, ℕ, suc, ◌+◌, ◌-◌, ◌*◌, ◌/◌, ◌%◌, ◌<◌, ◌≤◌, max, Bool, true, false, List, [], ◌∷◌, ◌++◌, length, drop, take, slice_index, sym, ◌∙◌, ap, subst, arith, length-append, length-drop, get_or-drop}
+use Rattle.std.proofs.Common.{refl, inl, inr, ◌≡◌, ◌≢◌, ◌⊎◌, ℕ, suc, ◌+◌, ◌-◌, ◌*◌, ◌/◌, ◌%◌, ◌<◌, ◌≤◌, max, Bool, true, false, List, [], ◌∷◌, ◌++◌, length, drop, take, slice_index, sym, ◌∙◌, ap, subst, arith, length-append, length-drop, get_or-drop, mod-lt}
 use Rattle.std.specs.Prelude.{Contains, IsTrue, nat_eq, slice_index_or}
 use Rattle.std.specs.List.{IsDistinct}
 use Rattle.std.proofs.lemmas.Bool.{cases_eq, cases_lt}
-use Rattle.std.proofs.lemmas.List.{get_or_append_left, get_or-append_right, get_or_default, get_or_past}
+use Rattle.std.proofs.lemmas.List.{get_or_append_left, get_or-append_right, get_or_default, get_or_past, get_or-replicate}
 use Rattle.std.proofs.lemmas.List.Elements.{Contains-append_left, Contains-append_right, Contains-append_cases}
 use Rattle.cfb_format.specs.declared.version.Version.{Version}
 use Rattle.cfb_format.specs.declared.version.Version.TheVariants.{V3, V4}
 use Rattle.cfb_format.specs.declared.validate.Validation.{Validation}
-use Rattle.cfb_format.specs.Bytes.{sector_len, sector_start, sector_count, words_per_sector, free_sector, end_of_chain, fat_sector, difat_sector, is_regular}
+use Rattle.cfb_format.specs.Bytes.{is_whole_sector, sector_len, sector_start, sector_count, words_per_sector, free_sector, end_of_chain, fat_sector, difat_sector, is_regular}
 use Rattle.cfb_format.specs.Chain.{value}
 use Rattle.cfb_format.specs.Fat.{is_fat_padding}
 use Rattle.cfb_chains.specs.Agreement.{AgreesBut, PointsWithin, HasSectors, KeepsSectors, word_of}
-use Rattle.cfb_chains.specs.Alloc.{HoldsBut, IsMeasured}
+use Rattle.cfb_chains.specs.Alloc.{HoldsBut, IsMeasured, IsFilled, ChangesSectors}
+use Rattle.std.proofs.Math.Seq.{drop-append_seam}
 use Rattle.cfb_chains.specs.Changes.{Apart}
+use Rattle.cfb_chains.specs.Clean.{IsClean}
+use Rattle.cfb_chains.proofs.CleanLemmas.{clean-within}
 use Rattle.cfb_chains.specs.Difat.{ListsTables}
 use Rattle.cfb_chains.specs.Sectors.{SectorFile}
 use Rattle.cfb_chains.specs.Tables.{TableState, HasTaken}
 use Rattle.cfb_chains.proofs.AgreementLemmas.{appended_late, changed_late}
-use Rattle.cfb_chains.proofs.HeldLemmas.{listed_whole}
+use Rattle.cfb_format.proofs.Words.{sector_words-at, whole-end}
+use Rattle.cfb_chains.specs.declared.sector.SectorInit.{SectorInit}
+use Rattle.cfb_chains.specs.declared.sector.SectorInit.TheVariants.{Fat}
+use Rattle.cfb_chains.proofs.DifatWalk.{member_whole}
+use Rattle.cfb_chains.proofs.DifatWords.{fresh_fat_words}
+use Rattle.cfb_chains.proofs.TableWords.{home_sector, some_words}
+use Rattle.cfb_chains.proofs.HeldLemmas.{listed_whole, filled_fat}
 use Rattle.cfb_chains.proofs.Listed.{joined_distinct, not_in_nil}
 use Rattle.cfb_chains.proofs.Members.{value-below, value-past, Contains-or}
 
@@ -218,3 +227,141 @@ module _ (t0 t : TableState) (touched more : List ℕ) (taken : HasTaken t0 t to
         | inr y ↦ (let f = (new_fat i x).2 in let d = (new_difat i y).2 in omega (arith, f, d))
       ]
     ]
+
+-- ---- the whole of it
+
+-- words of padding in a fresh FAT sector are free
+fresh_padding : (v : Version) (bytes list : List ℕ) (from i : ℕ) → ((k : ℕ) → from ≤ k → k < length list → IsFilled v Fat bytes (slice_index list k))
+    → from * words_per_sector v ≤ i → i < length list * words_per_sector v → IsTrue (is_fat_padding (word_of v bytes list i))
+fresh_padding v bytes list from i filled low high =
+    let k = i / words_per_sector v in
+    let r : i % words_per_sector v < words_per_sector v = mod-lt i (some_words v) in
+    let f = filled k (div_from v i from low) (home_sector v i (length list) high) in
+    let word : word_of v bytes list i ≡ free_sector =
+    sym (sector_words-at v bytes (slice_index list k) (i % words_per_sector v) r)
+    ∙ ap (λ (xs : List ℕ). slice_index xs (i % words_per_sector v)) (filled_fat fresh_fat_words v bytes (slice_index list k) f)
+    ∙ get_or-replicate (words_per_sector v) (i % words_per_sector v) free_sector 0 r in
+    subst (λ w. IsTrue (is_fat_padding w)) (sym word) refl
+  where
+    div_from : (w : Version) (j f : ℕ) → f * words_per_sector w ≤ j → f ≤ j / words_per_sector w
+    div_from V3 j f h = omega (arith, h)
+    div_from V4 j f h = omega (arith, h)
+
+module _ (validation : Validation) (t0 t : TableState) (touched more : List ℕ) (taken : HasTaken t0 t touched more) (s0 s2 : SectorFile) (init : SectorInit) where
+  same_v : t.version ≡ t0.version
+  same_v = taken.same_version
+
+  -- how many sectors there are then
+  grown_count : HoldsBut validation [] s0 t0 → 512 ≤ length s0.bytes → length s0.bytes ≤ length s2.bytes → s2.len ≡ length s2.bytes → s2.len ≤ sector_start t.version (length t.fat)
+      → ListsTables validation t.version s2.bytes t.fat_sectors t.difat_sectors → ((i : ℕ) → Contains more i → IsFilled t.version init s2.bytes i)
+      → length t.fat ≡ sector_count t.version s2.bytes
+  grown_count h long longer measured end listed filled = elim (cases_lt (length t0.fat) (length t.fat)) [
+    | inr same ↦
+        let eq : length t.fat ≡ length t0.fat = let l = taken.longer in omega (arith, l, same) in
+        let low = count_low t0.version (length t0.fat) (length s0.bytes) h.agrees.count long in
+        let low' : length t.fat * sector_len t.version < length s0.bytes = subst (λ n. n * sector_len t.version < length s0.bytes) (sym eq)
+        (subst (λ (w : Version). length t0.fat * sector_len w < length s0.bytes) (sym same_v) low) in
+        count_is t.version (length t.fat) (length s2.bytes) (omega (arith, low', longer)) (omega (arith, end, measured))
+    | inl grown ↦
+        let i = length t.fat - 1 in
+        let at : i + 1 ≡ length t.fat = omega (arith, grown) in
+        let ge : length t0.fat ≤ i = omega (arith, grown) in
+        let lt : i < length t.fat = omega (arith, grown) in
+        let there : sector_start t.version i + sector_len t.version ≤ length s2.bytes = go i ge (last_taken t0 t touched more taken (all t0 t touched more taken) (λ j m. m) i ge lt) in
+        let low : length t.fat * sector_len t.version < length s2.bytes = subst (λ n. n * sector_len t.version < length s2.bytes) at (end_low t.version i (length s2.bytes) there) in
+        count_is t.version (length t.fat) (length s2.bytes) low (omega (arith, end, measured))
+  ]
+    where
+      go : (i : ℕ) → length t0.fat ≤ i → Contains (touched ++ more ++ taken.fats ++ taken.difats) i → sector_start t.version i + sector_len t.version ≤ length s2.bytes
+      go i ge m = elim (Contains-append_cases (touched ++ more ++ taken.fats) taken.difats i m) [
+        | inr d ↦ whole-end t.version s2.bytes i (subst (λ (w : Version). is_whole_sector w s2.bytes i ≡ true) listed.same_version
+            (member_whole listed.header.version s2.bytes listed.header.first_difat_sector t.difat_sectors listed.difat.sectors i
+                (subst (λ (xs : List ℕ). Contains xs i) (sym taken.difat_sectors) (Contains-append_right t0.difat_sectors taken.difats i d))))
+        | inl l ↦ elim (Contains-append_cases (touched ++ more) taken.fats i l) [
+          | inr f ↦ listed_whole validation t.version s2.bytes t.fat_sectors t.difat_sectors listed i
+              (subst (λ (xs : List ℕ). Contains xs i) (sym taken.fat_sectors) (Contains-append_right t0.fat_sectors taken.fats i f))
+          | inl r ↦ elim (Contains-append_cases touched more i r) [
+            | inl x ↦ absurd (let e = taken.ends i x in let p = value-past t0.fat i ge in omega (arith, e, p))
+            | inr x ↦ (filled i x).whole
+          ]
+        ]
+      ]
+
+  -- the tables are those that the bytes hold once the new sectors are there, but for the words of what changed
+  pub grown_holds : (late : List ℕ) → ((i : ℕ) → Contains (touched ++ more ++ taken.fats ++ taken.difats) i → Contains late i)
+      → HoldsBut validation [] s0 t0 → 512 ≤ length s0.bytes → length s0.bytes ≤ length s2.bytes → IsMeasured s2 → s2.len ≤ sector_start t.version (length t.fat)
+      → ListsTables validation t.version s2.bytes t.fat_sectors t.difat_sectors → IsClean t.fat
+      → ((k : ℕ) → length t0.fat_sectors ≤ k → k < length t.fat_sectors → IsFilled t.version Fat s2.bytes (slice_index t.fat_sectors k))
+      → ((i : ℕ) → Contains more i → IsFilled t.version init s2.bytes i) → KeepsSectors t.version t0.fat_sectors s0.bytes s2.bytes
+      → HoldsBut validation late s2 t
+  grown_holds late cover h long longer measured end listed clean fats filled keeps =
+      let here = subst (λ (w : Version). AgreesBut [] w s0.bytes t0.fat_sectors t0.difat_sectors t0.fat) (sym same_v) h.agrees in
+      let whole = subst (λ (w : Version). HasSectors w s0.bytes t0.fat_sectors) (sym same_v) (listed_whole validation t0.version s0.bytes t0.fat_sectors t0.difat_sectors h.listed) in
+      record {
+        measured = measured;
+        listed = listed;
+        agrees = grown_agrees t0 t touched more taken late cover s0.bytes s2.bytes here whole keeps
+            (grown_count h long longer measured end listed filled)
+            (clean-within t.fat clean)
+            (λ i past from below. fresh_padding t.version s2.bytes t.fat_sectors (length t0.fat_sectors) i fats from below);
+        apart = grown_apart t0 t touched more taken validation s0 h;
+      }
+
+-- ---- chains' sectors are apart from the table sectors
+
+module _ (validation : Validation) (t0 t : TableState) (touched more : List ℕ) (taken : HasTaken t0 t touched more) (file : SectorFile) (h : HoldsBut validation [] file t0) where
+  pub fat_marked : (i : ℕ) → Contains t.fat_sectors i → value t.fat i ≡ fat_sector
+  fat_marked i m = elim (Contains-append_cases t0.fat_sectors taken.fats i (subst (λ (xs : List ℕ). Contains xs i) taken.fat_sectors m)) [
+    | inl l ↦ (let was = h.agrees.fat_marks i l in let longer = taken.longer in
+        is_value t.fat i fat_sector (let lt = was.0 in omega (arith, lt, longer)) (old_fat t0 t touched more taken i was))
+    | inr r ↦ taken.fat_marks i r
+  ]
+
+  pub difat_marked : (i : ℕ) → Contains t.difat_sectors i → value t.fat i ≡ difat_sector
+  difat_marked i m = elim (Contains-append_cases t0.difat_sectors taken.difats i (subst (λ (xs : List ℕ). Contains xs i) taken.difat_sectors m)) [
+    | inl l ↦ (let low = difat_low t0 t touched more taken validation file h i l in let longer = taken.longer in
+        is_value t.fat i difat_sector (omega (arith, low, longer)) (old_difat t0 t touched more taken i (h.agrees.difat_marks i l (λ n. h.apart i n l))))
+    | inr r ↦ taken.difat_marks i r
+  ]
+
+  pub fats_apart_more : Apart t.fat_sectors more
+  fats_apart_more i m n =
+      let mark = fat_marked i m in
+      elim (taken.busy i (Contains-append_right touched more i n)) [ inl le ↦ omega (arith, le, mark) | inr is ↦ omega (arith, is, mark) ]
+
+  pub difats_apart_more : Apart t.difat_sectors more
+  difats_apart_more i m n =
+      let mark = difat_marked i m in
+      elim (taken.busy i (Contains-append_right touched more i n)) [ inl le ↦ omega (arith, le, mark) | inr is ↦ omega (arith, is, mark) ]
+
+  -- what changes is late, in the order in which it is written
+  pub late_covers : (k j : ℕ) → k ≡ length t0.fat_sectors → j ≡ length t0.difat_sectors → (i : ℕ) → Contains (touched ++ more ++ taken.fats ++ taken.difats) i
+      → Contains (drop j t.difat_sectors ++ (drop k t.fat_sectors ++ (more ++ (touched ++ [])))) i
+  late_covers k j ek ej i m =
+      let fats : drop k t.fat_sectors ≡ taken.fats = ap (λ n. drop n t.fat_sectors) ek ∙ ap (drop (length t0.fat_sectors)) taken.fat_sectors ∙ drop-append_seam t0.fat_sectors taken.fats in
+      let difats : drop j t.difat_sectors ≡ taken.difats = ap (λ n. drop n t.difat_sectors) ej ∙ ap (drop (length t0.difat_sectors)) taken.difat_sectors ∙ drop-append_seam t0.difat_sectors taken.difats in
+      let last = drop k t.fat_sectors ++ (more ++ (touched ++ [])) in
+      elim (Contains-append_cases (touched ++ more ++ taken.fats) taken.difats i m) [
+        | inr d ↦ Contains-append_left (drop j t.difat_sectors) last i (subst (λ (xs : List ℕ). Contains xs i) (sym difats) d)
+        | inl l ↦ Contains-append_right (drop j t.difat_sectors) last i (elim (Contains-append_cases (touched ++ more) taken.fats i l) [
+          | inr f ↦ Contains-append_left (drop k t.fat_sectors) (more ++ (touched ++ [])) i (subst (λ (xs : List ℕ). Contains xs i) (sym fats) f)
+          | inl r ↦ Contains-append_right (drop k t.fat_sectors) (more ++ (touched ++ [])) i (elim (Contains-append_cases touched more i r) [
+            | inl x ↦ Contains-append_right more (touched ++ []) i (Contains-append_left touched [] i x)
+            | inr x ↦ Contains-append_left more (touched ++ []) i x
+          ])
+        ])
+      ]
+
+  -- the old FAT sectors stay where the new ones, the DIFAT sectors and the chains' new sectors change
+  pub old_fats_kept : (k : ℕ) (v : Version) (a b : List ℕ) → k ≡ length t0.fat_sectors → ChangesSectors (drop k t.fat_sectors ++ t.difat_sectors ++ more) v a b
+      → KeepsSectors v t0.fat_sectors a b
+  old_fats_kept k v a b ek change i m =
+      let fats : drop k t.fat_sectors ≡ taken.fats = ap (λ n. drop n t.fat_sectors) ek ∙ ap (drop (length t0.fat_sectors)) taken.fat_sectors ∙ drop-append_seam t0.fat_sectors taken.fats in
+      let mine : Contains t.fat_sectors i = subst (λ (xs : List ℕ). Contains xs i) (sym taken.fat_sectors) (Contains-append_left t0.fat_sectors taken.fats i m) in
+      change.sectors i (λ n. elim (Contains-append_cases (drop k t.fat_sectors ++ t.difat_sectors) more i n) [
+        | inr x ↦ fats_apart_more i mine x
+        | inl l ↦ elim (Contains-append_cases (drop k t.fat_sectors) t.difat_sectors i l) [
+          | inr d ↦ grown_apart t0 t touched more taken validation file h i mine d
+          | inl f ↦ (let was = (h.agrees.fat_marks i m).0 in let p = (new_fat t0 t touched more taken i (subst (λ (xs : List ℕ). Contains xs i) fats f)).0 in omega (arith, was, p))
+        ]
+      ])

@@ -1,5 +1,5 @@
 -- The tables in memory and the bytes that hold them, under single writes.
-use Rattle.std.proofs.Common.{refl, inl, inr, ◌≡◌, ◌≢◌, ◌⊎◌, ℕ, ◌+◌, ◌*◌, ◌/◌, ◌%◌, ◌^◌, ◌<◌, ◌≤◌, max, min, ◌-◌, Bool, true, false, List, [], ◌∷◌, ◌++◌, replicate, length, drop, take, slice_index, sym, ◌∙◌, ap, subst, arith, add-zero, le-leb, get_or-take, length-take}
+use Rattle.std.proofs.Common.{refl, inl, inr, ◌≡◌, ◌≢◌, ◌⊎◌, ℕ, ◌+◌, ◌*◌, ◌/◌, ◌%◌, ◌^◌, ◌<◌, ◌≤◌, max, min, ◌-◌, Bool, true, false, List, [], ◌∷◌, ◌++◌, replicate, length, drop, take, slice_index, sym, ◌∙◌, ap, subst, arith, add-zero, le-leb, get_or-take, length-take, get_or-drop, length-drop}
 use Rattle.std.specs.Prelude.{Contains, IsTrue, nat_le, nat_eq, ◌&&◌}
 use Rattle.std.specs.List.{list_all, IsDistinct}
 use Rattle.std.proofs.lemmas.List.{get_or_default}
@@ -159,6 +159,11 @@ pub in_taken : (list : List ℕ) (k i : ℕ) → Contains (take k list) i → Co
 in_taken list k i (j, low, is) =
     let cut = length-take k list in
     (j, omega (arith, low, cut), sym (get_or-take k list j i (omega (arith, low, cut))) ∙ is)
+
+pub in_dropped : (list : List ℕ) (k i : ℕ) → Contains (drop k list) i → Contains list i
+in_dropped list k i (j, low, is) =
+    let cut = length-drop k list in
+    (k + j, omega (arith, low, cut), sym (get_or-drop k list j i) ∙ is)
 
 module _ (validation : Validation) (late : List ℕ) (old new : SectorFile) (t : TableState) (x : ℕ) where
   abbrev v : Version

@@ -12,7 +12,8 @@ ghost use Rattle.cfb_format.specs.Header.{header_difat_len};
 ghost use Rattle.cfb_format.specs.Refused.{CountsFailure};
 ghost use Rattle.cfb_chains.specs.declared.sector.SectorInit.TheVariants.{Fat};
 ghost use Rattle.cfb_chains.specs.Sectors.{IsMediumError, sectors_end};
-ghost use Rattle.cfb_chains.specs.Tables.{IsCovered};
+ghost use Rattle.cfb_chains.specs.Clean.{IsClean};
+ghost use Rattle.cfb_chains.specs.Tables.{TableState, HasTaken, IsCovered};
 ghost use Rattle.cfb_chains.specs.Difat.{ListsTables, difat_places, difat_place, freed_behind, listed_in_header, listed_in_sector, linked, link_place};
 ghost use Rattle.cfb_chains.specs.Alloc.{IsPlaced, IsMeasured, HoldsBut, IsFilled, IsTablesWord, ChangesSectors};
 
@@ -502,4 +503,74 @@ fn add_sectors<F: Medium>(
 pub struct TableSizes {
     pub fats: usize,
     pub difats: usize,
+}
+
+/// Writes the values of all sectors that a change took, of the table sectors that came with them, and of the chains' last members so
+/// far (MS-CFB 2.3). `Medium`.
+fn write_late<F: Medium, A: Allocator>(
+    sectors: &mut Sectors<F>,
+    tables: &Tables<A>,
+    before: TableSizes,
+    touched: &[u32],
+    more: &[u32],
+) -> Result<(), Error>
+    requires placed { IsPlaced sectors.old tables.now }
+    requires covered { IsCovered tables.now }
+    requires from { before.fats ≤ length tables.now.fat_sectors }
+    requires difats { before.difats ≤ length tables.now.difat_sectors }
+    requires touched { (i : ℕ) → Contains touched.now i → i < length tables.now.fat }
+    requires more { (i : ℕ) → Contains more.now i → i < length tables.now.fat }
+    ensures kept { sectors.new ≡ record sectors.old { len = sectors.new.len; bytes = sectors.new.bytes; failures = sectors.new.failures; begun = sectors.new.begun } }
+    ensures ok { IsTrue F.tells → (validation : Validation) (late : List ℕ)
+        → HoldsBut validation (drop before.difats tables.now.difat_sectors ++ (drop before.fats tables.now.fat_sectors ++ (more.now ++ (touched.now ++ late)))) sectors.old tables.now
+        → OnOk result (HoldsBut validation late sectors.new tables.now) }
+    ensures changes { IsTrue F.tells → ChangesSectors tables.now.fat_sectors sectors.old.version sectors.old.bytes sectors.new.bytes }
+    ensures err { IfErr result (λ e. IsMediumError e × (sectors.new.begun ≡ true)) }
+    ensures counts { IsTrue F.tells → CountsFailure F.write_faults result sectors.old.failures sectors.new.failures }
+{
+    write_values(sectors, tables, &tables.difat_sectors()[before.difats..])?;
+    write_values(sectors, tables, &tables.fat_sectors()[before.fats..])?;
+    write_values(sectors, tables, more)?;
+    write_values(sectors, tables, touched)
+}
+
+/// Writes what taking sectors changed: the new table sectors and where they are listed, what the new sectors hold, and the values in
+/// the FAT (MS-CFB 2.3 and 2.5). `Medium`.
+pub fn write_taken<F: Medium, A: Allocator>(
+    sectors: &mut Sectors<F>,
+    tables: &Tables<A>,
+    before: TableSizes,
+    touched: &[u32],
+    more: &[u32],
+    init: SectorInit,
+) -> Result<(), Error>
+    requires placed { IsPlaced sectors.old tables.now }
+    requires covered { IsCovered tables.now }
+    requires few { length tables.now.fat_sectors ≤ length tables.now.fat }
+    requires from { before.fats ≤ length tables.now.fat_sectors }
+    requires places { before.fats ≤ difat_places tables.now.version before.difats }
+    requires counted { length tables.now.difat_sectors ≡ max before.difats (rounded_up (length tables.now.fat_sectors - header_difat_len) (words_of tables.now.version - 1)) }
+    requires touched { (i : ℕ) → Contains touched.now i → i < length tables.now.fat }
+    requires more { (i : ℕ) → Contains more.now i → i < length tables.now.fat }
+    ensures kept { sectors.new ≡ record sectors.old { len = sectors.new.len; bytes = sectors.new.bytes; failures = sectors.new.failures; begun = sectors.new.begun } }
+    ensures holds { IsTrue F.tells → (validation : Validation) (old : TableState) → HasTaken old tables.now touched.now more.now → IsClean tables.now.fat
+        → before.fats ≡ length old.fat_sectors → before.difats ≡ length old.difat_sectors → HoldsBut validation [] sectors.old old
+        → OnOk result (HoldsBut validation [] sectors.new tables.now) }
+    ensures filled { IsTrue F.tells → Apart tables.now.fat_sectors more.now
+        → OnOk result ((i : ℕ) → Contains more.now i → IsFilled tables.now.version init sectors.new.bytes i) }
+    ensures changes { IsTrue F.tells
+        → ChangesSectors (tables.now.fat_sectors ++ tables.now.difat_sectors ++ more.now) tables.now.version sectors.old.bytes sectors.new.bytes }
+    ensures err { IfErr result (λ e. IsMediumError e × (sectors.new.begun ≡ true)) }
+    ensures counts { IsTrue F.tells → CountsFailure F.write_faults result sectors.old.failures sectors.new.failures }
+{
+    let _sizes = tables.len();
+    add_sectors(
+        sectors,
+        tables.fat_sectors(),
+        tables.difat_sectors(),
+        before,
+        more,
+        init,
+    )?;
+    write_late(sectors, tables, before, touched, more)
 }

@@ -12,9 +12,11 @@ use Rattle.cfb_chains.proofs.writing.add_sectors.Given as given
 use Rattle.cfb_chains.proofs.writing.add_sectors.Goals as goal
 
 pub fill_sectors-requires : goal.fill_sectors-requires
-fill_sectors-requires g c = record { below = λ i m.
-    let same = ap (λ (f : SectorFile). f.num_sectors) c.write_table_sectors.ensures.kept in
-    omega (arith, c.requires.more i m, same) }
+fill_sectors-requires g c = record {
+  below = λ i m.
+      let same = ap (λ (f : SectorFile). f.num_sectors) c.write_table_sectors.ensures.kept in
+      omega (arith, c.requires.more i m, same);
+}
 
 both : (fats own more : List ℕ) (v w : Version) (a b c : List ℕ) → w ≡ v → ChangesSectors (fats ++ own) v a b → ChangesSectors more w b c
     → ChangesSectors (fats ++ own ++ more) v a c
