@@ -7,7 +7,7 @@ use Rattle.std.proofs.lemmas.List.Elements.{Contains-append_left, Contains-push}
 use Rattle.cfb_format.specs.Bytes.{free_sector, end_of_chain, max_regular_sector}
 use Rattle.cfb_format.specs.Chain.{value, IsChain}
 use Rattle.cfb_chains.specs.Changes.{IsFreed, IsCut}
-use Rattle.cfb_chains.specs.Tables.{TableState, Kept, HasTaken, Extended, sizes_of, wiped}
+use Rattle.cfb_chains.specs.Tables.{TableState, Kept, HasTaken, Added, Extended, sizes_of, start_of, wiped}
 use Rattle.cfb_chains.proofs.Members.{Contains-nil, Contains-here, Contains-there, Contains-cases, Contains-one, Contains-or, in_three, first_of_three, second_of_three, third_of_three, value-below, value-set, value-set_other, distinct-apart, distinct-left}
 use Rattle.cfb_chains.proofs.ChainLemmas.{chain-stays, chain-turn, chain-rest, chain-apart, members-busy, regular-le, le-regular}
 use Rattle.cfb_chains.proofs.TableCounts.{HasPlaces, taken-places}
@@ -206,3 +206,27 @@ attached-one old mid last x places ended regular taken chain =
 
 pub attached-ended : (old mid : TableState) (last x : ℕ) → value old.fat last ≡ end_of_chain → HasTaken old mid [] (x ∷ []) → value mid.fat last ≡ end_of_chain
 attached-ended old mid last x ended taken = taken-keeps old mid (x ∷ []) taken last (λ e. omega (arith, e, ended)) ∙ ended
+
+-- ---- sectors that were appended to a list
+
+-- the list had none before
+module _ (old new : TableState) (last : ℕ) (before after : List ℕ) (none : before ≡ []) (added : Added old new last before after) where
+  alone : added.more ≡ after
+  alone = sym (added.listed ∙ ap (λ (z : List ℕ). z ++ added.more) none)
+
+  pub added-taken : HasTaken old new (last ∷ []) after
+  added-taken = subst (HasTaken old new (last ∷ [])) alone added.taken
+
+  pub added-chain : IsChain new.fat last (last ∷ after)
+  added-chain = subst (λ (z : List ℕ). IsChain new.fat last (last ∷ z)) alone added.chain
+
+-- the list had the first sector of a new chain
+module _ (old mid new : TableState) (first : ℕ) (before after : List ℕ) (one : before ≡ first ∷ []) (taken : HasTaken old mid [] (first ∷ [])) (added : Added mid new first before after) where
+  whole_list : first ∷ added.more ≡ after
+  whole_list = sym (added.listed ∙ ap (λ (z : List ℕ). z ++ added.more) one)
+
+  pub begun-taken : HasTaken old new [] after
+  begun-taken = subst (HasTaken old new []) whole_list (taken-then old mid new [] (first ∷ []) (first ∷ []) added.more taken added.taken (λ i m. m))
+
+  pub begun-chain : IsChain new.fat (start_of after) after
+  begun-chain = subst (λ (z : List ℕ). IsChain new.fat (start_of z) z) whole_list added.chain

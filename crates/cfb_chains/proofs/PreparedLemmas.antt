@@ -7,7 +7,7 @@ use Rattle.cfb_chains.specs.declared.lists.Sizes.{Sizes}
 use Rattle.cfb_chains.specs.Tables.{TableState, Kept, IsKept, IsPrepared, CanHold, AreSizes, HasTaken, TakesNext, sizes_of, sizes_after, grown_sizes, numbers_needed, grown_state}
 use Rattle.cfb_chains.proofs.Members.{value-at, value-below, value-set}
 use Rattle.cfb_chains.proofs.ChainLemmas.{chain_of, le-regular}
-use Rattle.cfb_chains.proofs.SizeLemmas.{after-one, sizes-rise}
+use Rattle.cfb_chains.proofs.SizeLemmas.{after-one, sizes-rise, are-sizes-grown}
 use Rattle.cfb_chains.proofs.KeptLemmas.{sizes-grown}
 use Rattle.cfb_chains.proofs.TakenLemmas.{taken-pop, taken-grown, grown-ended}
 
@@ -87,6 +87,17 @@ prepared-next old new x n p (inr c) =
     ((λ i. sizes_after (version i) (n - length new.free) (sizes i))
     ∙ sym (after-one old.state.version (suc n - length old.free) (n - length new.free) (sizes_of old.state) count))
     p
+
+pub sizes-next : (old new : Kept) (x n : ℕ) → AreSizes old.state.version (sizes_of old.state) → IsPrepared old (suc n) → TakesNext old new x
+    → AreSizes new.state.version (sizes_of new.state)
+sizes-next old new x n are p (inl c) =
+    let state : new.state ≡ record old.state { fat = set old.state.fat x end_of_chain } = ap (λ (z : Kept). z.state) c.1 in
+    let same = length-set old.state.fat x end_of_chain in
+    subst (λ (z : TableState). AreSizes z.version (sizes_of z)) (sym state) (rw same are)
+sizes-next old new x n are p (inr c) =
+    let state : new.state ≡ grown_state old.state (numbers_needed old.state.version (sizes_of old.state)) = ap (λ (z : Kept). z.state) c.2 in
+    let more = are-sizes-grown old.state.version (sizes_of old.state) (prepared-short old n p c.0) are in
+    subst (λ (z : TableState). AreSizes z.version (sizes_of z)) (sym state) (subst (AreSizes old.state.version) (sym (sizes-grown old.state)) more)
 
 -- a sector whose value is the end is a chain
 pub chain-one : (table : List ℕ) (x : ℕ) → value table x ≡ end_of_chain → x ≤ max_regular_sector → IsChain table x (x ∷ [])

@@ -431,8 +431,9 @@ module _ (a b c : TableState) (t m u w : List ℕ) (f : HasTaken a b t m) (s : H
   }
 
 -- nothing changes
-pub taken-none : (t : TableState) (last : ℕ) → HasPlaces t.version (sizes_of t) → value t.fat last ≡ end_of_chain → HasTaken t t (last ∷ []) []
-taken-none t last places ended = record {
+taken-still : (t : TableState) (touched : List ℕ) → HasPlaces t.version (sizes_of t) → ((i : ℕ) → Contains touched i → value t.fat i ≡ end_of_chain)
+    → HasTaken t t touched []
+taken-still t touched places ended = record {
   fats = [];
   difats = [];
   fat_sectors = sym (append-nil t.fat_sectors);
@@ -444,8 +445,8 @@ taken-none t last places ended = record {
   once = none_distinct;
   fats_once = none_distinct;
   difats_once = none_distinct;
-  ends = λ i m. ap (value t.fat) (sym (Contains-one last i m)) ∙ ended;
-  busy = λ i m. inr (ap (value t.fat) (sym (Contains-one last i m)) ∙ ended);
+  ends = ended;
+  busy = λ i m. inr (ended i (subst (λ (z : List ℕ). Contains z i) (append-nil touched) m));
   only = λ i out. refl;
   longer = omega arith;
   none_free = λ more. absurd (omega (arith, more));
@@ -457,6 +458,12 @@ taken-none t last places ended = record {
   same_version = refl;
   same_max = refl;
 }
+
+pub taken-nothing : (t : TableState) → HasPlaces t.version (sizes_of t) → HasTaken t t [] []
+taken-nothing t places = taken-still t [] places (λ i m. absurd (Contains-nil i m))
+
+pub taken-none : (t : TableState) (last : ℕ) → HasPlaces t.version (sizes_of t) → value t.fat last ≡ end_of_chain → HasTaken t t (last ∷ []) []
+taken-none t last places ended = taken-still t (last ∷ []) places (λ i m. ap (value t.fat) (sym (Contains-one last i m)) ∙ ended)
 
 -- where no chain goes on, all that is in use stays
 pub taken-keeps : (a b : TableState) (more : List ℕ) → HasTaken a b [] more → (i : ℕ) → value a.fat i ≢ free_sector → value b.fat i ≡ value a.fat i

@@ -135,6 +135,18 @@ pub record HasTaken (old new : TableState) (touched more : List ℕ) : Type 0 wh
   pub same_version : new.version ≡ old.version
   pub same_max : new.max_sectors ≡ old.max_sectors
 
+-- where the chain of these sectors starts
+abbrev pub start_of : List ℕ → ℕ
+start_of [] = end_of_chain
+start_of (x ∷ list) = x
+
+-- sectors were added behind the last one of a chain, and appended to a list
+pub record Added (old new : TableState) (last : ℕ) (before after : List ℕ) : Type 0 where
+  pub more : List ℕ
+  pub listed : after ≡ before ++ more
+  pub taken : HasTaken old new (last ∷ []) more
+  pub chain : IsChain new.fat last (last ∷ more)
+
 -- the chain from the start goes on by these sectors
 pub record Extended (old new : TableState) (start : ℕ) (more : List ℕ) : Type 0 where
   pub front : List ℕ

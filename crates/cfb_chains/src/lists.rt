@@ -6,7 +6,7 @@ ghost use Rattle.cfb_format.specs.Chain.{value, IsChain};
 ghost use Rattle.cfb_format.specs.Full.{free_count};
 ghost use Rattle.std.specs.List.{IsDistinct};
 ghost use Rattle.cfb_chains.specs.Changes.{IsNextOf, ListsFree, IsFreed, IsCut};
-ghost use Rattle.cfb_chains.specs.Tables.{TableState, Kept, IsKept, AreSizes, CanHold, TakesNext, IsPrepared, IsTooFew, PassesLimit, HasTaken, Extended, wiped, tables_of, sizes_of, sizes_after, grown_sizes, numbers_needed as needed, grown, grown_fats, grown_difats};
+ghost use Rattle.cfb_chains.specs.Tables.{TableState, Kept, IsKept, AreSizes, CanHold, TakesNext, IsPrepared, IsTooFew, PassesLimit, HasTaken, Added, Extended, start_of, wiped, tables_of, sizes_of, sizes_after, grown_sizes, numbers_needed as needed, grown, grown_fats, grown_difats};
 ghost use Rattle.cfb_chains.specs.Refused.{Refused, WalkRefused, LastRefused, NextRefused, ExtendRefused};
 
 use crate::walk::{last_of, next_in, walk};
@@ -323,17 +323,15 @@ impl<A: Allocator> Lists<A> {
         self.free.push_reserved(sector);
     }
 
-    /// Adds so many sectors at the end of a chain, with the memory that was prepared for them, and lists them.
+    /// Adds so many sectors at the end of a chain, with the memory that was prepared for them, and appends them to the list.
     pub fn attach_prepared(&mut self, last: u32, count: usize, list: &mut Vec<u32, A>)
         requires prepared { IsPrepared self.old count }
         requires sizes { AreSizes self.old.state.version (sizes_of self.old.state) }
         requires ended { value self.old.state.fat last ≡ end_of_chain }
         requires regular { last ≤ max_regular_sector }
         requires room { vec_len list.old + count ≤ vec_capacity list.old }
-        requires empty { list.old.items ≡ [] }
-        ensures taken { HasTaken self.old.state self.new.state (last ∷ []) list.new.items }
-        ensures chain { IsChain self.new.state.fat last (last ∷ list.new.items) }
-        ensures count { vec_len list.new ≡ count }
+        ensures added { Added self.old.state self.new.state last list.old.items list.new.items }
+        ensures count { vec_len list.new ≡ vec_len list.old + count }
     {
         let mut end = last;
         for turn in 0..count {
@@ -342,6 +340,23 @@ impl<A: Allocator> Lists<A> {
             self.link(end, next);
             list.push_reserved(next);
             end = next;
+        }
+    }
+
+    /// Takes so many sectors as a new chain, with the memory that was prepared for them, and lists them.
+    fn take_all_prepared(&mut self, count: usize, list: &mut Vec<u32, A>)
+        requires prepared { IsPrepared self.old count }
+        requires sizes { AreSizes self.old.state.version (sizes_of self.old.state) }
+        requires room { count ≤ vec_capacity list.old }
+        requires empty { list.old.items ≡ [] }
+        ensures taken { HasTaken self.old.state self.new.state [] list.new.items }
+        ensures chain { IsChain self.new.state.fat (start_of list.new.items) list.new.items }
+        ensures count { vec_len list.new ≡ count }
+    {
+        if count > 0 {
+            let first = self.take_prepared();
+            list.push_reserved(first);
+            self.attach_prepared(first, count - 1, list);
         }
     }
 
@@ -421,6 +436,21 @@ impl<A: Allocator> Lists<A> {
         let mut list = Vec::with_capacity(alloc, count)?;
         self.prepare(count)?;
         self.attach_prepared(last, count, &mut list);
+        Ok(list)
+    }
+
+    /// Takes so many sectors, as a new chain, and gives their numbers. `Full` and `Memory`.
+    pub fn take_by(&mut self, alloc: A, count: usize) -> Result<Vec<u32, A>, Error>
+        ensures taken { IfOk result (λ list. HasTaken self.old.state self.new.state [] list.items) }
+        ensures chain { IfOk result (λ list. IsChain self.new.state.fat (start_of list.items) list.items) }
+        ensures count { IfOk result (λ list. vec_len list ≡ count) }
+        ensures enough { OnOk result (IsTooFew self.old.state count → ⊥) }
+        ensures unchanged { OnErr result (self.new.state ≡ self.old.state) }
+        ensures err { IfErr result (Refused ⊥ Unit (IsTooFew self.old.state count)) }
+    {
+        let mut list = Vec::with_capacity(alloc, count)?;
+        self.prepare(count)?;
+        self.take_all_prepared(count, &mut list);
         Ok(list)
     }
 

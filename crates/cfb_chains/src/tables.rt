@@ -4,7 +4,7 @@ ghost use Rattle.std.specs.Prelude.{◌≡◌, ◌≢◌, ℕ, ◌-◌, ◌<◌,
 ghost use Rattle.cfb_format.specs.Bytes.{max_regular_sector, end_of_chain};
 ghost use Rattle.cfb_format.specs.Chain.{IsChain, value};
 ghost use Rattle.cfb_chains.specs.Changes.{IsNextOf, IsFreed, IsCut};
-ghost use Rattle.cfb_chains.specs.Tables.{AreSizes, HasTaken, Extended, IsTooFew, sizes_of, tables_of};
+ghost use Rattle.cfb_chains.specs.Tables.{AreSizes, HasTaken, Extended, IsTooFew, sizes_of, start_of, tables_of};
 ghost use Rattle.cfb_chains.specs.Refused.{Refused, WalkRefused, LastRefused, NextRefused, ExtendRefused};
 
 use crate::lists::Lists;
@@ -122,6 +122,19 @@ impl<A: Allocator> Tables<A> {
         ensures err { IfErr result (Refused ⊥ Unit (IsTooFew self.old 1)) }
     {
         self.lists.take()
+    }
+
+    /// Takes so many sectors, as a new chain, and gives their numbers: none for 0, and then nothing changes. `Full` where there
+    /// are too few numbers, and `Memory`; the tables then stay as they were.
+    pub fn take_by(&mut self, alloc: A, count: usize) -> Result<Vec<u32, A>, Error>
+        ensures taken { IfOk result (λ list. HasTaken self.old self.new [] list.items) }
+        ensures chain { IfOk result (λ list. IsChain self.new.fat (start_of list.items) list.items) }
+        ensures count { IfOk result (λ list. vec_len list ≡ count) }
+        ensures enough { OnOk result (IsTooFew self.old count → ⊥) }
+        ensures unchanged { OnErr result (self.new ≡ self.old) }
+        ensures err { IfErr result (Refused ⊥ Unit (IsTooFew self.old count)) }
+    {
+        self.lists.take_by(alloc, count)
     }
 
     /// Adds a sector behind the last one of a chain. `Full` where there is no number for it, and `Memory`; the tables then stay
@@ -277,6 +290,23 @@ mod tests {
         let behind = tables.free_after(rt.alloc(), 2)?;
         assert_eq!(rt; behind.as_slice(), [3, 7, 6, 5, 4, 8, 9].as_slice());
         assert!(rt; tables.chain(rt.alloc(), 3).is_err());
+        Ok(())
+    }
+
+    #[test]
+    fn a_new_chain_of_many_sectors(rt: HostRuntime) -> Result<(), Fail> {
+        let mut tables = one_sector(rt.alloc())?;
+        let none = tables.take_by(rt.alloc(), 0)?;
+        assert_eq!(rt; none.len(), 0);
+        assert_eq!(rt; tables.len(), 1);
+        let list = tables.take_by(rt.alloc(), 128)?;
+        let want = numbers(rt.alloc(), &[(1, 127), (129, 129)])?;
+        assert_eq!(rt; list.as_slice(), want.as_slice());
+        let chain = tables.chain(rt.alloc(), 1)?;
+        assert_eq!(rt; chain.as_slice(), want.as_slice());
+        tables.set_max_sectors(131);
+        assert_eq!(rt; refusal(tables.take_by(rt.alloc(), 2)), 7);
+        assert_eq!(rt; tables.len(), 130);
         Ok(())
     }
 
