@@ -276,7 +276,7 @@ module _ (validation : Validation) (t0 t : TableState) (touched more : List ℕ)
       go i ge m = elim (Contains-append_cases (touched ++ more ++ taken.fats) taken.difats i m) [
         | inr d ↦ whole-end t.version s2.bytes i (subst (λ (w : Version). is_whole_sector w s2.bytes i ≡ true) listed.same_version
             (member_whole listed.header.version s2.bytes listed.header.first_difat_sector t.difat_sectors listed.difat.sectors i
-                (subst (λ (xs : List ℕ). Contains xs i) (sym taken.difat_sectors) (Contains-append_right t0.difat_sectors taken.difats i d))))
+            (subst (λ (xs : List ℕ). Contains xs i) (sym taken.difat_sectors) (Contains-append_right t0.difat_sectors taken.difats i d))))
         | inl l ↦ elim (Contains-append_cases (touched ++ more) taken.fats i l) [
           | inr f ↦ listed_whole validation t.version s2.bytes t.fat_sectors t.difat_sectors listed i
               (subst (λ (xs : List ℕ). Contains xs i) (sym taken.fat_sectors) (Contains-append_right t0.fat_sectors taken.fats i f))

@@ -2,6 +2,7 @@ pub mod WordLemmas
 pub mod FrameLemmas
 pub mod HeldLemmas
 pub mod GrowthLemmas
+pub mod AllocLemmas
 pub mod Answering
 pub mod SectorLemmas
 pub mod CountLemmas

@@ -10,7 +10,7 @@ use Rattle.cfb_chains.specs.Changes.{Apart}
 use Rattle.cfb_chains.specs.Clean.{IsClean}
 use Rattle.cfb_chains.specs.Difat.{ListsTables}
 use Rattle.cfb_chains.specs.Sectors.{SectorFile, SectorStays, init_bytes}
-use Rattle.cfb_chains.specs.Tables.{TableState}
+use Rattle.cfb_chains.specs.Tables.{TableState, IsCovered}
 
 -- what an allocator keeps
 pub record AllocatorState : Type 0 where
@@ -69,3 +69,8 @@ pub record OthersStay (old new : AllocatorState) : Type 0 where
   pub sectors : (i : ℕ) → (value old.tables.fat i ≡ free_sector → ⊥) → (Contains (old.tables.fat_sectors ++ old.tables.difat_sectors) i → ⊥)
       → SectorStays old.tables.version i old.file.bytes new.file.bytes
   pub header : (i : ℕ) → i < length old.file.bytes → IsOtherHeaderByte old.tables.version i → slice_index new.file.bytes i ≡ slice_index old.file.bytes i
+
+-- the FAT sectors have a place for each sector's value, and are not more than the sectors
+pub record IsUsable (t : TableState) : Type 0 where
+  pub covered : IsCovered t
+  pub few : length t.fat_sectors ≤ length t.fat

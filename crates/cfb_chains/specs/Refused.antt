@@ -1,10 +1,11 @@
 -- Why a call on the tables was refused: what holds at each error, and which errors the call can give.
-use Rattle.std.specs.Prelude.{ℕ, ◌≢◌, List, []}
+use Rattle.std.specs.Prelude.{ℕ, ◌≡◌, ◌≢◌, List, [], true}
 use Rattle.cfb_format.specs.declared.error.Error.{Error}
 use Rattle.cfb_format.specs.declared.error.Error.TheVariants.{NotFound, AlreadyExists, InvalidInput, InvalidData, Medium, Memory, Full, Unsound, Failed, Unsupported}
 use Rattle.cfb_format.specs.Chain.{IsChain}
 use Rattle.cfb_chains.specs.Changes.{NoChain, IsNextOf}
-use Rattle.cfb_chains.specs.Tables.{TableState, IsTooFew}
+use Rattle.cfb_chains.specs.Tables.{TableState, IsTooFew, HasTaken}
+use Rattle.cfb_chains.specs.Alloc.{AllocatorState}
 
 -- the error is one of these three, and so much holds of each
 abbrev pub Refused : Type 0 → Type 0 → Type 0 → Error → Type 0
@@ -34,3 +35,30 @@ ExtendRefused t start count = Refused (NoLast t.fat start) Unit (IsTooFew t coun
 
 abbrev pub NextRefused : List ℕ → ℕ → Error → Type 0
 NextRefused table i = Refused ((next : ℕ) → IsNextOf table i next → ⊥) ⊥ ⊥
+
+-- a change was refused: so much holds of each error
+abbrev pub ChangeRefused : Type 0 → Type 0 → Type 0 → Type 0 → Error → Type 0
+ChangeRefused invalid memory full medium (InvalidData d) = invalid
+ChangeRefused invalid memory full medium Memory = memory
+ChangeRefused invalid memory full medium Full = full
+ChangeRefused invalid memory full medium (Medium f) = medium
+ChangeRefused invalid memory full medium (NotFound d) = ⊥
+ChangeRefused invalid memory full medium (AlreadyExists d) = ⊥
+ChangeRefused invalid memory full medium (InvalidInput d) = ⊥
+ChangeRefused invalid memory full medium Unsound = ⊥
+ChangeRefused invalid memory full medium Failed = ⊥
+ChangeRefused invalid memory full medium Unsupported = ⊥
+
+-- a change that takes sectors broke off: after any error but the medium's nothing has changed; after that one the change was begun, and in
+-- memory sectors were taken for the chain of `touched` alone
+abbrev pub BreaksOff : List ℕ → AllocatorState → AllocatorState → Error → Type 0
+BreaksOff touched old new (Medium f) = (new.file.begun ≡ true) × (more : List ℕ) × HasTaken old.tables new.tables touched more
+BreaksOff touched old new (InvalidData d) = new ≡ old
+BreaksOff touched old new Memory = new ≡ old
+BreaksOff touched old new Full = new ≡ old
+BreaksOff touched old new (NotFound d) = new ≡ old
+BreaksOff touched old new (AlreadyExists d) = new ≡ old
+BreaksOff touched old new (InvalidInput d) = new ≡ old
+BreaksOff touched old new Unsound = new ≡ old
+BreaksOff touched old new Failed = new ≡ old
+BreaksOff touched old new Unsupported = new ≡ old

@@ -39,7 +39,7 @@ returns-in_err-write_values-3-clause-changes g c told =
     let two = ap (λ (f : SectorFile). f.version) c.write_values-2.ensures.kept ∙ one in
     next list old.version c.write_values-2.new.sectors.version old.bytes c.write_values-2.new.sectors.bytes c.write_values-3.new.sectors.bytes two
     (next list old.version c.write_values.new.sectors.version old.bytes c.write_values.new.sectors.bytes c.write_values-2.new.sectors.bytes one
-        (c.write_values.ensures.changes told) (c.write_values-2.ensures.changes told))
+    (c.write_values.ensures.changes told) (c.write_values-2.ensures.changes told))
     (c.write_values-3.ensures.changes told)
 
 pub returns-clause-changes : goal.returns-clause-changes
@@ -51,9 +51,9 @@ returns-clause-changes g c told =
     let three = ap (λ (f : SectorFile). f.version) c.write_values-3.ensures.kept ∙ two in
     next list old.version c.write_values-3.new.sectors.version old.bytes c.write_values-3.new.sectors.bytes c.write_values-4.new.sectors.bytes three
     (next list old.version c.write_values-2.new.sectors.version old.bytes c.write_values-2.new.sectors.bytes c.write_values-3.new.sectors.bytes two
-        (next list old.version c.write_values.new.sectors.version old.bytes c.write_values.new.sectors.bytes c.write_values-2.new.sectors.bytes one
-            (c.write_values.ensures.changes told) (c.write_values-2.ensures.changes told))
-        (c.write_values-3.ensures.changes told))
+    (next list old.version c.write_values.new.sectors.version old.bytes c.write_values.new.sectors.bytes c.write_values-2.new.sectors.bytes one
+    (c.write_values.ensures.changes told) (c.write_values-2.ensures.changes told))
+    (c.write_values-3.ensures.changes told))
     (c.write_values-4.ensures.changes told)
 
 pub returns-clause-ok : goal.returns-clause-ok

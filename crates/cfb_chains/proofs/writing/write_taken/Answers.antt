@@ -43,7 +43,7 @@ added k list own list' own' more v w a b e1 e2 same change =
       ])
     ])
     (subst (λ (u : Version). ChangesSectors (drop k list ++ own ++ more) u a b) same
-        (subst (λ (xs : List ℕ). ChangesSectors (drop k xs ++ own ++ more) w a b) e1 (subst (λ (ys : List ℕ). ChangesSectors (drop k list' ++ ys ++ more) w a b) e2 change)))
+    (subst (λ (xs : List ℕ). ChangesSectors (drop k xs ++ own ++ more) w a b) e1 (subst (λ (ys : List ℕ). ChangesSectors (drop k list' ++ ys ++ more) w a b) e2 change)))
 
 pub returns-in_err-add_sectors-clause-changes : goal.returns-in_err-add_sectors-clause-changes
 returns-in_err-add_sectors-clause-changes g c told =
@@ -61,10 +61,10 @@ returns-clause-changes g c told =
     let same = ap (λ (f : SectorFile). f.version) c.add_sectors.ensures.kept ∙ c.requires.placed.same_version in
     changes_trans all t.version old.bytes mid.bytes new.bytes
     (added c.args.before.fats t.fat_sectors t.difat_sectors c.fat_sectors.result.now c.difat_sectors.result.now c.args.more.now t.version old.version
-        old.bytes mid.bytes c.fat_sectors.ensures c.difat_sectors.ensures c.requires.placed.same_version (c.add_sectors.ensures.changes told))
+    old.bytes mid.bytes c.fat_sectors.ensures c.difat_sectors.ensures c.requires.placed.same_version (c.add_sectors.ensures.changes told))
     (changes_more t.fat_sectors all t.version mid.bytes new.bytes
-        (λ i m. Contains-append_left (t.fat_sectors ++ t.difat_sectors) c.args.more.now i (Contains-append_left t.fat_sectors t.difat_sectors i m))
-        (subst (λ (u : Version). ChangesSectors t.fat_sectors u mid.bytes new.bytes) same (c.write_late.ensures.changes told)))
+    (λ i m. Contains-append_left (t.fat_sectors ++ t.difat_sectors) c.args.more.now i (Contains-append_left t.fat_sectors t.difat_sectors i m))
+    (subst (λ (u : Version). ChangesSectors t.fat_sectors u mid.bytes new.bytes) same (c.write_late.ensures.changes told)))
 
 pub returns-clause-filled : goal.returns-clause-filled
 returns-clause-filled g c told apart =
@@ -75,7 +75,7 @@ returns-clause-filled g c told apart =
     let same = ap (λ (f : SectorFile). f.version) c.add_sectors.ensures.kept ∙ first in
     let change = subst (λ (u : Version). ChangesSectors t.fat_sectors u mid.bytes new.bytes) same (c.write_late.ensures.changes told) in
     all_ok c.write_late.result (λ i m. stays_filled t.version c.args.init i mid.bytes new.bytes (change.sectors i (λ n. apart i n m))
-        (subst (λ (u : Version). IsFilled u c.args.init mid.bytes i) first (c.in_ok-add_sectors.ensures.filled told i m)))
+    (subst (λ (u : Version). IsFilled u c.args.init mid.bytes i) first (c.in_ok-add_sectors.ensures.filled told i m)))
 
 pub returns-clause-holds : goal.returns-clause-holds
 returns-clause-holds g c told validation old taken clean fats difats h =
@@ -100,7 +100,7 @@ returns-clause-holds g c told validation old taken clean fats difats h =
     let takes2 : take c.args.before.difats r2 ≡ old.difat_sectors = ap (take c.args.before.difats) (e2 ∙ taken.difat_sectors) ∙ ap (λ n. take n (old.difat_sectors ++ taken.difats)) difats ∙ take-append_seam old.difat_sectors taken.difats in
     let start = subst (λ (ys : List ℕ). ListsTables validation s0.version s0.bytes (take c.args.before.fats r1) ys) (sym takes2)
     (subst (λ (xs : List ℕ). ListsTables validation s0.version s0.bytes xs old.difat_sectors) (sym takes1)
-        (subst (λ (u : Version). ListsTables validation u s0.bytes old.fat_sectors old.difat_sectors) was_v h.listed)) in
+    (subst (λ (u : Version). ListsTables validation u s0.bytes old.fat_sectors old.difat_sectors) was_v h.listed)) in
     let listed = c.in_ok-add_sectors.ensures.listed told validation start h.measured own_once apart own_more in
     let listed' : ListsTables validation v s2.bytes t.fat_sectors t.difat_sectors =
     subst (λ (u : Version). ListsTables validation u s2.bytes t.fat_sectors t.difat_sectors) first
@@ -113,14 +113,14 @@ returns-clause-holds g c told validation old taken clean fats difats h =
     let long : 512 ≤ length s0.bytes = let l = header_long s0.version s0.len c.add_sectors.ensures.long in omega (arith, l, h.measured) in
     let change = subst (λ (u : Version). ChangesSectors (drop c.args.before.fats t.fat_sectors ++ t.difat_sectors ++ more) u s0.bytes s2.bytes) first
     (subst (λ (xs : List ℕ). ChangesSectors (drop c.args.before.fats xs ++ t.difat_sectors ++ more) s0.version s0.bytes s2.bytes) e1
-        (subst (λ (ys : List ℕ). ChangesSectors (drop c.args.before.fats r1 ++ ys ++ more) s0.version s0.bytes s2.bytes) e2 (c.add_sectors.ensures.changes told))) in
+    (subst (λ (ys : List ℕ). ChangesSectors (drop c.args.before.fats r1 ++ ys ++ more) s0.version s0.bytes s2.bytes) e2 (c.add_sectors.ensures.changes told))) in
     let full = c.in_ok-add_sectors.ensures.fats told list_once apart list_more in
     let mid : HoldsBut validation (drop c.args.before.difats t.difat_sectors ++ (drop c.args.before.fats t.fat_sectors ++ (more ++ (touched ++ [])))) s2 t =
     grown_holds validation old t touched more taken s0 s2 c.args.init _ (late_covers validation old t touched more taken s0 h c.args.before.fats c.args.before.difats fats difats)
     h long change.no_shorter measured end listed' clean
     (λ k from lt. subst (λ (u : Version). IsFilled u Fat s2.bytes (slice_index t.fat_sectors k)) first
-        (subst (λ (xs : List ℕ). IsFilled s0.version Fat s2.bytes (slice_index xs k)) e1
-            (full k (omega (arith, from, fats)) (subst (λ (xs : List ℕ). k < length xs) (sym e1) lt))))
+    (subst (λ (xs : List ℕ). IsFilled s0.version Fat s2.bytes (slice_index xs k)) e1
+    (full k (omega (arith, from, fats)) (subst (λ (xs : List ℕ). k < length xs) (sym e1) lt))))
     (λ i m. subst (λ (u : Version). IsFilled u c.args.init s2.bytes i) first (c.in_ok-add_sectors.ensures.filled told i m))
     (old_fats_kept validation old t touched more taken s0 h c.args.before.fats v s0.bytes s2.bytes fats change) in
     c.write_late.ensures.ok told validation [] mid

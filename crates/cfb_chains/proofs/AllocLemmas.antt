@@ -1,0 +1,87 @@
+-- The allocator's state after sectors were taken, and what stays then.
+use Rattle.std.proofs.Common.{refl, inl, inr, ◌≡◌, ℕ, ◌+◌, ◌-◌, ◌*◌, ◌<◌, ◌≤◌, List, [], ◌∷◌, ◌++◌, length, sym, ◌∙◌, ap, subst, arith, length-append}
+use Rattle.std.specs.Prelude.{Contains}
+use Rattle.std.proofs.lemmas.List.Elements.{Contains-append_left, Contains-append_right, Contains-append_cases}
+use Rattle.cfb_format.specs.declared.error.Error.{Error}
+use Rattle.cfb_format.specs.declared.error.Error.TheVariants.{NotFound, AlreadyExists, InvalidInput, InvalidData, Medium, Memory, Full, Unsound, Failed, Unsupported}
+use Rattle.cfb_format.specs.declared.version.Version.{Version}
+use Rattle.cfb_format.specs.Bytes.{free_sector, fat_sector, difat_sector}
+use Rattle.cfb_format.specs.Chain.{value}
+use Rattle.cfb_format.specs.declared.validate.Validation.{Validation}
+use Rattle.cfb_chains.specs.Alloc.{AllocatorState, HoldsBut, IsPlaced, OthersStay, ChangesSectors, IsOtherHeaderByte}
+use Rattle.cfb_chains.specs.Difat.{difat_places}
+use Rattle.cfb_chains.specs.Refused.{Refused, ChangeRefused}
+use Rattle.cfb_chains.specs.Sectors.{SectorFile, SectorStays}
+use Rattle.cfb_chains.specs.Tables.{TableState, HasTaken, AreSizes, sizes_of}
+use Rattle.cfb_chains.proofs.Members.{value-below}
+use Rattle.cfb_chains.proofs.SectorLemmas.{SectorStays_refl}
+
+pub refused_changed : (invalid memory full medium : Type 0) (e : Error) → Refused ⊥ memory full e → ChangeRefused invalid memory full medium e
+refused_changed invalid memory full medium Memory r = r
+refused_changed invalid memory full medium Full r = r
+refused_changed invalid memory full medium (InvalidData d) r = absurd r
+refused_changed invalid memory full medium (NotFound d) r = absurd r
+refused_changed invalid memory full medium (AlreadyExists d) r = absurd r
+refused_changed invalid memory full medium (InvalidInput d) r = absurd r
+refused_changed invalid memory full medium (Medium f) r = absurd r
+refused_changed invalid memory full medium Unsound r = absurd r
+refused_changed invalid memory full medium Failed r = absurd r
+refused_changed invalid memory full medium Unsupported r = absurd r
+
+pub others_refl : (a : AllocatorState) → OthersStay a a
+others_refl a = record { no_shorter = omega arith; sectors = λ i busy out. SectorStays_refl a.tables.version i a.file.bytes; header = λ i lt other. refl }
+
+module _ (t0 t : TableState) (touched more : List ℕ) (taken : HasTaken t0 t touched more) where
+  -- the table sectors are among the sectors
+  pub placed_after : (s0 s1 : SectorFile) → IsPlaced s0 t0 → s1.version ≡ s0.version → s1.num_sectors ≡ length t.fat → IsPlaced s1 t
+  placed_after s0 s1 p version count = record {
+    same_version = version ∙ p.same_version ∙ sym taken.same_version;
+    count = count;
+    fats = λ i m. elim (Contains-append_cases t0.fat_sectors taken.fats i (subst (λ (xs : List ℕ). Contains xs i) taken.fat_sectors m)) [
+      | inl l ↦ (let lt = p.fats i l in let longer = taken.longer in omega (arith, lt, longer))
+      | inr r ↦ (let w = taken.fat_marks i r in value-below t.fat i (λ e. omega (arith, w, e)))
+    ];
+    difats = λ i m. elim (Contains-append_cases t0.difat_sectors taken.difats i (subst (λ (xs : List ℕ). Contains xs i) taken.difat_sectors m)) [
+      | inl l ↦ (let lt = p.difats i l in let longer = taken.longer in omega (arith, lt, longer))
+      | inr r ↦ (let w = taken.difat_marks i r in value-below t.fat i (λ e. omega (arith, w, e)))
+    ];
+  }
+
+  pub places_after : (fats difats : ℕ) → fats ≡ length t0.fat_sectors → difats ≡ length t0.difat_sectors → AreSizes t0.version (sizes_of t0) → fats ≤ difat_places t.version difats
+  places_after fats difats e1 e2 sizes =
+      let places : length t0.fat_sectors ≤ difat_places t.version (length t0.difat_sectors) =
+      subst (λ (v : Version). length t0.fat_sectors ≤ difat_places v (length t0.difat_sectors)) (sym taken.same_version) sizes.places in
+      subst (λ n. n ≤ difat_places t.version difats) (sym e1) (subst (λ n. length t0.fat_sectors ≤ difat_places t.version n) (sym e2) places)
+
+  -- sectors in use, but for the old table sectors, are none of those that changed
+  pub others_taken : (a b : AllocatorState) → a.tables ≡ t0 → ChangesSectors (t.fat_sectors ++ t.difat_sectors ++ more) t.version a.file.bytes b.file.bytes → OthersStay a b
+  others_taken a b same change = record {
+    no_shorter = change.no_shorter;
+    sectors = λ i busy out.
+        let version = ap (λ (z : TableState). z.version) same ∙ sym taken.same_version in
+        let busy' : value t0.fat i ≡ free_sector → ⊥ = λ e. busy (ap (λ (z : TableState). value z.fat i) same ∙ e) in
+        let out' : Contains (t0.fat_sectors ++ t0.difat_sectors) i → ⊥ = λ m. out (subst (λ (z : TableState). Contains (z.fat_sectors ++ z.difat_sectors) i) (sym same) m) in
+        subst (λ (v : Version). SectorStays v i a.file.bytes b.file.bytes) (sym version)
+        (change.sectors i (λ m. elim (Contains-append_cases (t.fat_sectors ++ t.difat_sectors) more i m) [
+          | inr x ↦ busy' (taken.fresh i (Contains-append_left (more ++ taken.fats) taken.difats i (Contains-append_left more taken.fats i x)))
+          | inl l ↦ elim (Contains-append_cases t.fat_sectors t.difat_sectors i l) [
+            | inl f ↦ elim (Contains-append_cases t0.fat_sectors taken.fats i (subst (λ (xs : List ℕ). Contains xs i) taken.fat_sectors f)) [
+              | inl x ↦ out' (Contains-append_left t0.fat_sectors t0.difat_sectors i x)
+              | inr x ↦ busy' (taken.fresh i (Contains-append_left (more ++ taken.fats) taken.difats i (Contains-append_right more taken.fats i x)))
+            ]
+            | inr d ↦ elim (Contains-append_cases t0.difat_sectors taken.difats i (subst (λ (xs : List ℕ). Contains xs i) taken.difat_sectors d)) [
+              | inl x ↦ out' (Contains-append_right t0.fat_sectors t0.difat_sectors i x)
+              | inr x ↦ busy' (taken.fresh i (Contains-append_right (more ++ taken.fats) taken.difats i x))
+            ]
+          ]
+        ]));
+    header = λ i lt other.
+        let version = ap (λ (z : TableState). z.version) same ∙ sym taken.same_version in
+        change.header i lt (subst (λ (v : Version). IsOtherHeaderByte v i) version other);
+  }
+
+-- counting the new sectors as there changes nothing of what the bytes hold
+pub held_reserved : (validation : Validation) (late : List ℕ) (s0 s1 : SectorFile) (t : TableState) → s1 ≡ record s0 { num_sectors = s1.num_sectors } → HoldsBut validation late s0 t
+    → HoldsBut validation late s1 t
+held_reserved validation late s0 s1 t is h =
+    subst (λ (f : SectorFile). HoldsBut validation late f t) (sym is) (record { measured = h.measured; listed = h.listed; agrees = h.agrees; apart = h.apart })
