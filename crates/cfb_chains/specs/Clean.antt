@@ -14,6 +14,10 @@ pub record IsClean (table : List ℕ) : Type 0 where
   pub busy : (i : ℕ) → i < length table → IsTrue (is_regular (value table i)) → value table (value table i) ≢ free_sector
   pub marks : list_all (λ word. not (word == invalid_sector)) table ≡ true
 
+-- no pointer of the table names this number
+abbrev pub IsUnnamed : List ℕ → ℕ → Type 0
+IsUnnamed table i = (j : ℕ) → j < length table → IsTrue (is_regular (value table j)) → value table j ≢ i
+
 -- ---- laws
 
 -- past the end all is free, so pointers stay below it

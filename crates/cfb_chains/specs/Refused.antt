@@ -62,3 +62,17 @@ BreaksOff touched old new (InvalidInput d) = new ≡ old
 BreaksOff touched old new Unsound = new ≡ old
 BreaksOff touched old new Failed = new ≡ old
 BreaksOff touched old new Unsupported = new ≡ old
+
+-- a change that gives sectors back broke off: after any error but the medium's nothing has changed; after that one the change was begun, and
+-- it is made in memory
+abbrev pub BreaksBack : (TableState → TableState → Type 0) → AllocatorState → AllocatorState → Error → Type 0
+BreaksBack made old new (Medium f) = (new.file.begun ≡ true) × made old.tables new.tables
+BreaksBack made old new (InvalidData d) = new ≡ old
+BreaksBack made old new Memory = new ≡ old
+BreaksBack made old new Full = new ≡ old
+BreaksBack made old new (NotFound d) = new ≡ old
+BreaksBack made old new (AlreadyExists d) = new ≡ old
+BreaksBack made old new (InvalidInput d) = new ≡ old
+BreaksBack made old new Unsound = new ≡ old
+BreaksBack made old new Failed = new ≡ old
+BreaksBack made old new Unsupported = new ≡ old

@@ -1,5 +1,5 @@
 -- The tables of a file in memory: the FAT, the FAT sectors and the DIFAT sectors.
-use Rattle.std.specs.Prelude.{ℕ, zero, suc, ◌≡◌, ◌+◌, ◌-◌, ◌*◌, ◌<◌, ◌≤◌, ◌⊎◌, max, List, [], ◌∷◌, ◌++◌, length, nat_eq, nat_lt, Contains, slice_set, if◌then◌else◌}
+use Rattle.std.specs.Prelude.{ℕ, zero, suc, ◌≡◌, ◌+◌, ◌-◌, ◌*◌, ◌<◌, ◌≤◌, ◌⊎◌, max, List, [], ◌∷◌, ◌++◌, length, nat_eq, nat_lt, Contains, slice_set, if◌then◌else◌, ◌==◌}
 use Rattle.std.specs.List.{IsDistinct}
 use Rattle.cfb_format.specs.declared.version.Version.{Version}
 use Rattle.cfb_format.specs.Bytes.{end_of_chain, free_sector, fat_sector, difat_sector, max_regular_sector, words_per_sector}
@@ -7,7 +7,7 @@ use Rattle.cfb_format.specs.Chain.{value, IsChain}
 use Rattle.cfb_format.specs.Full.{HasRoom, free_count, rounded_up}
 use Rattle.cfb_format.specs.Header.{header_difat_len}
 use Rattle.cfb_chains.specs.declared.lists.Sizes.{Sizes}
-use Rattle.cfb_chains.specs.Changes.{ChangesOnly, NoneFree, ListsFree}
+use Rattle.cfb_chains.specs.Changes.{ChangesOnly, NoneFree, ListsFree, IsFreed, IsCut}
 
 -- the FAT's values, the FAT sectors and the DIFAT sectors in order, and the number of sectors that the file may grow to
 pub record TableState : Type 0 where
@@ -139,6 +139,24 @@ pub record HasTaken (old new : TableState) (touched more : List ℕ) : Type 0 wh
 abbrev pub start_of : List ℕ → ℕ
 start_of [] = end_of_chain
 start_of (x ∷ list) = x
+
+-- the last member of a chain that goes on, or none for a chain that begins
+abbrev pub ending : ℕ → List ℕ
+ending last = if last == end_of_chain then [] else last ∷ []
+
+-- the chain from the start is freed, and nothing else changed
+pub record FreesChain (old new : TableState) (start : ℕ) : Type 0 where
+  pub list : List ℕ
+  pub was : IsChain old.fat start list
+  pub freed : IsFreed list old.fat new.fat
+  pub rest : new ≡ record old { fat = new.fat }
+
+-- a chain ends at this sector now, the ones behind it are freed, and nothing else changed
+pub record CutsChain (old new : TableState) (sector : ℕ) : Type 0 where
+  pub list : List ℕ
+  pub was : IsChain old.fat (value old.fat sector) list
+  pub cut : IsCut sector list old.fat new.fat
+  pub rest : new ≡ record old { fat = new.fat }
 
 -- sectors were added behind the last one of a chain, and appended to a list
 pub record Added (old new : TableState) (last : ℕ) (before after : List ℕ) : Type 0 where

@@ -1,17 +1,21 @@
 //! The allocator of sectors: chains are begun, extended, cut and freed (MS-CFB 2.3 and 2.5).
-ghost use Rattle.std.specs.Prelude.{◌≡◌, ◌≢◌, ℕ, List, [], ◌∷◌, min, length, true, false, IsTrue, IfOk, IfErr, OnOk, take, drop, ◌+◌, ◌-◌, ◌<◌, ◌≤◌};
+ghost use Rattle.std.specs.Prelude.{◌≡◌, ◌≢◌, ℕ, List, [], ◌∷◌, min, length, true, false, IsTrue, IfOk, IfErr, OnOk, take, drop, ◌++◌, ◌⊎◌, ◌+◌, ◌-◌, ◌<◌, ◌≤◌, Contains, IsErrAnd, vec_len};
 ghost use Rattle.cfb_format.specs.declared.validate.Validation.{Validation};
-ghost use Rattle.cfb_format.specs.Bytes.{sector_len as sector_len_of, max_regular_sector};
-ghost use Rattle.cfb_format.specs.Chain.{IsChain};
-ghost use Rattle.cfb_format.specs.Refused.{CountsFailure};
-ghost use Rattle.cfb_chains.specs.Alloc.{HoldsTables, IsPlaced, IsUsable, IsFilled, OthersStay};
-ghost use Rattle.cfb_chains.specs.Changes.{IsNextOf};
-ghost use Rattle.cfb_chains.specs.Refused.{NextRefused, ChangeRefused, BreaksOff};
-ghost use Rattle.cfb_chains.specs.Tables.{HasTaken, AreSizes, IsTooFew, sizes_of};
+ghost use Rattle.cfb_format.specs.Bytes.{sector_len as sector_len_of, max_regular_sector, end_of_chain};
+ghost use Rattle.cfb_format.specs.Chain.{IsChain, value};
+ghost use Rattle.cfb_format.specs.Refused.{CountsFailure, IsInvalidData};
+ghost use Rattle.cfb_chains.specs.Alloc.{ChangesSectors, HoldsTables, IsPlaced, IsUsable, IsFilled, OthersStay};
+ghost use Rattle.cfb_chains.specs.Changes.{IsNextOf, NoChain};
+ghost use Rattle.cfb_chains.specs.Refused.{NextRefused, NoLast, ChangeRefused, BreaksOff, BreaksBack};
+ghost use Rattle.cfb_chains.specs.Tables.{HasTaken, Extended, FreesChain, CutsChain, AreSizes, IsTooFew, ending, start_of, sizes_of};
+ghost use Rattle.cfb_chains.specs.Clean.{IsUnnamed};
+ghost use Rattle.cfb_chains.specs.Sectors.{IsMediumError, place, sectors_end};
+ghost use Rattle.cfb_format.specs.Medium.{part};
 
 use crate::sector::{SectorInit, Sectors};
 use crate::tables::Tables;
-use crate::writing::{TableSizes, write_taken};
+use crate::writing::{TableSizes, write_taken, write_values};
+use cfb_format::consts::END_OF_CHAIN;
 use cfb_format::error::{Detail, Error};
 use cfb_format::medium::{Medium, ReadMedium};
 use cfb_format::version::Version;
@@ -186,5 +190,198 @@ impl<F: Medium, A: Heap> Allocator<F, A> {
             init,
         )?;
         Ok(sector)
+    }
+}
+
+impl<F: Medium, A: Heap + Clone> Allocator<F, A> {
+    /// Adds a sector, which holds what `init` says, at the end of the chain from `start`, and gives its number.
+    ///
+    /// `InvalidData` where there is no such chain, where it is empty, and where the FAT sectors do not cover the file; `Medium`,
+    /// `Memory` and `Full` as in `begin_chain`.
+    #[tactic(auto, using(crate::proofs::AllocLemmas::refused_changed))]
+    pub fn extend_chain(&mut self, start: u32, init: SectorInit) -> Result<u32, Error>
+        ensures extended { IfOk result (λ x. Extended self.old.tables self.new.tables start (x ∷ [])) }
+        ensures filled { IsTrue F.tells → (validation : Validation) → HoldsTables validation self.old
+            → IfOk result (λ x. IsFilled self.new.tables.version init self.new.file.bytes x) }
+        ensures holds { IsTrue F.tells → (validation : Validation) → HoldsTables validation self.old → OnOk result (HoldsTables validation self.new) }
+        ensures others { IsTrue F.tells → OthersStay self.old self.new }
+        ensures enough { OnOk result (IsTooFew self.old.tables 1 → ⊥) }
+        ensures refused { IfErr result (λ e. (last : ℕ) × BreaksOff (last ∷ []) self.old self.new e) }
+        ensures err { IfErr result (ChangeRefused ((IsUsable self.old.tables → ⊥) ⊎ NoLast self.old.tables.fat start) Unit (IsTooFew self.old.tables 1) Unit) }
+        ensures counts { IsTrue F.tells → CountsFailure F.write_faults result self.old.file.failures self.new.file.failures }
+    {
+        let before = self.usable_sizes()?;
+        let last = self.tables.last(start)?;
+        let sector = self.tables.attach(last)?;
+        self.sectors.reserve_sectors(self.tables.len() as u32);
+        write_taken(
+            &mut self.sectors,
+            &self.tables,
+            before,
+            &[last],
+            &[sector],
+            init,
+        )?;
+        Ok(sector)
+    }
+
+    /// Adds so many sectors, which hold what `init` says, behind the last sector of a chain, or as a new chain where `last` is END,
+    /// and gives their numbers.
+    ///
+    /// `InvalidData` where `last` is neither END nor a sector that ends a chain, and where the FAT sectors do not cover the file;
+    /// `Medium`, `Memory` and `Full` as in `begin_chain`: all of them are taken or none is.
+    pub fn extend_chain_by(
+        &mut self,
+        last: u32,
+        count: usize,
+        init: SectorInit,
+    ) -> Result<Vec<u32, A>, Error>
+        ensures taken { IfOk result (λ list. HasTaken self.old.tables self.new.tables (ending last) list.items) }
+        ensures chain { IfOk result (λ list. IsChain self.new.tables.fat (start_of (ending last ++ list.items)) (ending last ++ list.items)) }
+        ensures count { IfOk result (λ list. vec_len list ≡ count) }
+        ensures filled { IsTrue F.tells → (validation : Validation) → HoldsTables validation self.old
+            → IfOk result (λ list. (i : ℕ) → Contains list.items i → IsFilled self.new.tables.version init self.new.file.bytes i) }
+        ensures holds { IsTrue F.tells → (validation : Validation) → HoldsTables validation self.old → OnOk result (HoldsTables validation self.new) }
+        ensures others { IsTrue F.tells → OthersStay self.old self.new }
+        ensures enough { OnOk result (IsTooFew self.old.tables count → ⊥) }
+        ensures refused { IfErr result (BreaksOff (ending last) self.old self.new) }
+        ensures err { IfErr result (ChangeRefused
+            ((IsUsable self.old.tables → ⊥) ⊎ ((last ≢ end_of_chain) × (value self.old.tables.fat last ≢ end_of_chain)))
+            Unit (IsTooFew self.old.tables count) Unit) }
+        ensures counts { IsTrue F.tells → CountsFailure F.write_faults result self.old.file.failures self.new.file.failures }
+    {
+        if last == END_OF_CHAIN {
+            return self.begin_chain_by(count, init);
+        }
+        self.append_by(last, count, init)
+    }
+
+    /// Frees the chain from `start`.
+    ///
+    /// `InvalidData` where there is no such chain, and where the FAT sectors do not cover the file; `Medium` where the medium fails,
+    /// and `Memory`. Nothing has changed where it is refused, but after `Medium`: then the chain is free in memory, and of the
+    /// file's bytes the FAT sectors alone have changed.
+    pub fn free_chain(&mut self, start: u32) -> Result<(), Error>
+        ensures freed { OnOk result (FreesChain self.old.tables self.new.tables start) }
+        ensures holds { IsTrue F.tells → (validation : Validation) → HoldsTables validation self.old → IsUnnamed self.old.tables.fat start
+            → OnOk result (HoldsTables validation self.new) }
+        ensures changes { IsTrue F.tells → ChangesSectors self.old.tables.fat_sectors self.old.tables.version self.old.file.bytes self.new.file.bytes }
+        ensures refused { IfErr result (BreaksBack (λ old new. FreesChain old new start) self.old self.new) }
+        ensures err { IfErr result (ChangeRefused ((IsUsable self.old.tables → ⊥) ⊎ NoChain self.old.tables.fat start) Unit ⊥ Unit) }
+        ensures counts { IsTrue F.tells → CountsFailure F.write_faults result self.old.file.failures self.new.file.failures }
+    {
+        self.usable_sizes()?;
+        let freed = self.tables.free(self.heap.clone()?, start)?;
+        write_values(&mut self.sectors, &self.tables, &freed)
+    }
+
+    /// Ends a chain at this sector, and frees the ones behind it.
+    ///
+    /// `InvalidData` where no chain goes on from the sector, and where the FAT sectors do not cover the file; `Medium` and `Memory`
+    /// as in `free_chain`.
+    pub fn free_chain_after(&mut self, sector: u32) -> Result<(), Error>
+        ensures cut { OnOk result (CutsChain self.old.tables self.new.tables sector) }
+        ensures holds { IsTrue F.tells → (validation : Validation) → HoldsTables validation self.old → OnOk result (HoldsTables validation self.new) }
+        ensures changes { IsTrue F.tells → ChangesSectors self.old.tables.fat_sectors self.old.tables.version self.old.file.bytes self.new.file.bytes }
+        ensures refused { IfErr result (BreaksBack (λ old new. CutsChain old new sector) self.old self.new) }
+        ensures err { IfErr result (ChangeRefused ((IsUsable self.old.tables → ⊥) ⊎ NoChain self.old.tables.fat (value self.old.tables.fat sector)) Unit ⊥ Unit) }
+        ensures counts { IsTrue F.tells → CountsFailure F.write_faults result self.old.file.failures self.new.file.failures }
+    {
+        self.usable_sizes()?;
+        self.tables.next(sector)?;
+        let freed = self.tables.free_after(self.heap.clone()?, sector)?;
+        write_values(&mut self.sectors, &self.tables, &freed)?;
+        write_values(&mut self.sectors, &self.tables, &[sector])
+    }
+
+    /// Takes so many sectors as a new chain.
+    #[tactic(auto, using(crate::proofs::AllocLemmas::refused_changed))]
+    fn begin_chain_by(&mut self, count: usize, init: SectorInit) -> Result<Vec<u32, A>, Error>
+        ensures taken { IfOk result (λ list. HasTaken self.old.tables self.new.tables [] list.items) }
+        ensures chain { IfOk result (λ list. IsChain self.new.tables.fat (start_of list.items) list.items) }
+        ensures count { IfOk result (λ list. vec_len list ≡ count) }
+        ensures filled { IsTrue F.tells → (validation : Validation) → HoldsTables validation self.old
+            → IfOk result (λ list. (i : ℕ) → Contains list.items i → IsFilled self.new.tables.version init self.new.file.bytes i) }
+        ensures holds { IsTrue F.tells → (validation : Validation) → HoldsTables validation self.old → OnOk result (HoldsTables validation self.new) }
+        ensures others { IsTrue F.tells → OthersStay self.old self.new }
+        ensures enough { OnOk result (IsTooFew self.old.tables count → ⊥) }
+        ensures refused { IfErr result (BreaksOff [] self.old self.new) }
+        ensures err { IfErr result (ChangeRefused (IsUsable self.old.tables → ⊥) Unit (IsTooFew self.old.tables count) Unit) }
+        ensures counts { IsTrue F.tells → CountsFailure F.write_faults result self.old.file.failures self.new.file.failures }
+    {
+        let before = self.usable_sizes()?;
+        let list = self.tables.take_by(self.heap.clone()?, count)?;
+        self.sectors.reserve_sectors(self.tables.len() as u32);
+        write_taken(&mut self.sectors, &self.tables, before, &[], &list, init)?;
+        Ok(list)
+    }
+
+    /// Adds so many sectors behind the last one of a chain.
+    #[tactic(auto, using(crate::proofs::AllocLemmas::refused_changed))]
+    fn append_by(&mut self, last: u32, count: usize, init: SectorInit) -> Result<Vec<u32, A>, Error>
+        ensures taken { IfOk result (λ list. HasTaken self.old.tables self.new.tables (last ∷ []) list.items) }
+        ensures chain { IfOk result (λ list. IsChain self.new.tables.fat last (last ∷ list.items)) }
+        ensures count { IfOk result (λ list. vec_len list ≡ count) }
+        ensures filled { IsTrue F.tells → (validation : Validation) → HoldsTables validation self.old
+            → IfOk result (λ list. (i : ℕ) → Contains list.items i → IsFilled self.new.tables.version init self.new.file.bytes i) }
+        ensures holds { IsTrue F.tells → (validation : Validation) → HoldsTables validation self.old → OnOk result (HoldsTables validation self.new) }
+        ensures others { IsTrue F.tells → OthersStay self.old self.new }
+        ensures enough { OnOk result (IsTooFew self.old.tables count → ⊥) }
+        ensures refused { IfErr result (BreaksOff (last ∷ []) self.old self.new) }
+        ensures err { IfErr result (ChangeRefused ((IsUsable self.old.tables → ⊥) ⊎ (value self.old.tables.fat last ≢ end_of_chain))
+            Unit (IsTooFew self.old.tables count) Unit) }
+        ensures counts { IsTrue F.tells → CountsFailure F.write_faults result self.old.file.failures self.new.file.failures }
+    {
+        let before = self.usable_sizes()?;
+        if self.tables.next(last)? != END_OF_CHAIN {
+            return Err(goes_on(last));
+        }
+        let list = self.tables.attach_by(self.heap.clone()?, last, count)?;
+        self.sectors.reserve_sectors(self.tables.len() as u32);
+        write_taken(
+            &mut self.sectors,
+            &self.tables,
+            before,
+            &[last],
+            &list,
+            init,
+        )?;
+        Ok(list)
+    }
+}
+
+/// A refusal to go on from a sector that does not end its chain.
+fn goes_on(sector: u32) -> Error
+    ensures { ChangeRefused Unit ⊥ ⊥ ⊥ result }
+{
+    Error::InvalidData(Detail {
+        text: "chain goes on from there",
+        numbers: [sector as u64, 0],
+    })
+}
+
+impl<F: ReadMedium, A: Heap> Allocator<F, A> {
+    /// Reads from a sector on and through those that follow it in the file, as far as `into` has room and the file goes, and answers
+    /// how many bytes that is. `InvalidData` exactly where `into` has room for more than the sectors have, and `Medium` where the
+    /// medium fails.
+    pub fn read_contiguous(
+        &mut self,
+        sector: u32,
+        offset: usize,
+        into: &mut [u8],
+    ) -> Result<usize, Error>
+        requires { offset ≤ sector_len_of self.old.tables.version }
+        ensures tables { self.new.tables ≡ self.old.tables }
+        ensures kept { self.new.file ≡ record self.old.file { bytes = self.new.file.bytes; failures = self.new.file.failures } }
+        ensures count { IfOk result (λ n. n ≡ min (length into.old) (self.old.file.len - place self.old.file sector offset)) }
+        ensures ok { IsTrue F.tells → IfOk result (λ n. take n into.new ≡ part self.old.file.bytes (place self.old.file sector offset) n) }
+        ensures rest { IfOk result (λ n. drop n into.new ≡ drop n into.old) }
+        ensures past { sectors_end self.old.file < place self.old.file sector offset + length into.old → IsErrAnd result IsInvalidData × (self.new ≡ self.old) }
+        ensures inside { place self.old.file sector offset + length into.old ≤ sectors_end self.old.file → IfErr result IsMediumError }
+        ensures same { IsTrue F.tells → OnOk result (self.new ≡ self.old) }
+        ensures bytes { IsTrue F.tells → self.new.file.bytes ≡ self.old.file.bytes }
+        ensures counts { IsTrue F.tells → CountsFailure F.read_faults result self.old.file.failures self.new.file.failures }
+    {
+        self.sectors.read_contiguous(sector, offset, into)
     }
 }

@@ -19,7 +19,7 @@ returns-in_err-sector-clause-others g c told =
     let same = c.in_err-sector.ensures.unchanged in
     subst (λ (a : AllocatorState). OthersStay a (record { file = c.self.inside.sectors; tables = c.take.new.self })) c.self.view_is
     (subst (λ (t : TableState). OthersStay (record { file = c.self.inside.sectors; tables = c.self.inside.tables }) (record { file = c.self.inside.sectors; tables = t })) (sym same)
-        (others_refl (record { file = c.self.inside.sectors; tables = c.self.inside.tables })))
+    (others_refl (record { file = c.self.inside.sectors; tables = c.self.inside.tables })))
 
 pub write_taken-requires-clause-placed : goal.write_taken-requires-clause-placed
 write_taken-requires-clause-placed g c =
