@@ -2,6 +2,7 @@
 #![tactic(auto)]
 
 pub mod agreement;
+pub mod fat;
 pub mod laws;
 mod lists;
 pub mod sector;
