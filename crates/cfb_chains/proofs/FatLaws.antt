@@ -1,5 +1,5 @@
 -- The FAT out of words is the file's FAT.
-use Rattle.std.proofs.Common.{◌≡◌, ℕ, Bool, true, List, refl, sym, subst, ap, ◌∙◌, drop}
+use Rattle.std.proofs.Common.{◌≡◌, ℕ, true, List, sym, subst, ap}
 use Rattle.std.specs.Prelude.{◌==◌}
 use Rattle.std.specs.List.{list_all}
 use Rattle.std.proofs.lemmas.Bool.{eqb-true}
@@ -10,7 +10,7 @@ use Rattle.cfb_format.specs.declared.version.Version.{Version}
 use Rattle.cfb_format.specs.Bytes.{sector_count, free_sector}
 use Rattle.cfb_format.specs.Fat.{fat_of, fat_words, fat_padding, is_fat_padding, IsFat, IsStrictFat}
 use Rattle.cfb_format.specs.Header.{IfStrict}
-use Rattle.cfb_chains.specs.ReadFat.{AcceptsFat, HasStrictWords, is_padding_in, ReadIsTheFilesFat, FilesFatIsRead}
+use Rattle.cfb_chains.specs.ReadFat.{AcceptsFat, is_padding_in, ReadIsTheFilesFat, FilesFatIsRead}
 
 -- what strict opening takes as padding, permissive opening does
 padding-may : (v : Validation) (ws : List ℕ) → list_all (is_padding_in v) ws ≡ true → list_all is_fat_padding ws ≡ true

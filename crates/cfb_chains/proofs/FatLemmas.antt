@@ -1,13 +1,11 @@
 -- The FAT as it is made out of words, step by step.
-use Rattle.std.proofs.Common.{◌≡◌, ◌≢◌, ℕ, zero, suc, ◌+◌, ◌-◌, ◌<◌, ◌≤◌, inl, inr, Bool, true, false, cond, List, [], ◌∷◌, ◌++◌, length, map, set, take, drop, get_or, refl, sym, ◌∙◌, ap, subst, arith, eq-eqb, ne_eqb, length-set, take-append-drop, append-nil}
-use Rattle.std.specs.Prelude.{Contains, nat_eq, nat_le, not, ◌||◌, ◌&&◌, ◌==◌, if◌then◌else◌, slice_index, slice_index_or, replicate, IsTrue}
-use Rattle.std.specs.List.{IsDistinct, filter, list_all, list_any, range_with_len}
-use Rattle.std.proofs.Math.Bool.{or-true, or-false}
+use Rattle.std.proofs.Common.{◌≡◌, ℕ, ◌+◌, ◌-◌, ◌<◌, inl, inr, Bool, true, false, cond, List, [], ◌∷◌, ◌++◌, length, map, set, take, drop, get_or, refl, sym, ◌∙◌, ap, subst, arith, length-set, take-append-drop, append-nil}
+use Rattle.std.specs.Prelude.{Contains, nat_eq, nat_le, ◌&&◌, if◌then◌else◌, slice_index, slice_index_or, replicate, IsTrue}
+use Rattle.std.specs.List.{IsDistinct, filter, range_with_len}
 use Rattle.std.proofs.Math.Seq.{get_or-append_right}
 use Rattle.std.proofs.lemmas.Bool.{cases_eq, cases_lt, leb-false, lt-leb}
-use Rattle.std.proofs.lemmas.List.{get_or_default, get_or_past, get_or-set_same, get_or-set_other, get_or-replicate, get_or-map, get_or_append_left, length-map, length-replicate, take_all, drop_all}
+use Rattle.std.proofs.lemmas.List.{get_or_past, get_or-set_same, get_or-set_other, get_or-replicate, get_or-map, get_or_append_left, length-map, length-replicate, take_all, drop_all}
 use Rattle.std.proofs.lemmas.List.Elements.{Contains-append_left, Contains-append_right, Contains-append_cases, filter_more, filter-append}
-use Rattle.std.proofs.lemmas.List.Folds.{list_any_more}
 use Rattle.std.proofs.lemmas.List.FromFn.{fill_by_all, length-map-range_with_len, get_or-map-range_with_len}
 use Rattle.cfb_format.specs.Bytes.{is_regular, max_regular_sector, free_sector, end_of_chain, fat_sector, difat_sector}
 use Rattle.cfb_format.specs.Fat.{fat_value, is_among, within_file, HasDistinctPointers}
@@ -89,9 +87,6 @@ module _ (fat : List ℕ) (i x : ℕ) (named : List Bool) (lt : i < length fat) 
       let front = distinct-left (seen ++ x ∷ []) (filter is_regular (drop (i + 1) fat)) (subst (IsDistinct nat_eq) whole distinct) in
       distinct-apart seen (x ∷ []) front x (so_far.sound x known) (Contains-here x [])
 
-pub named-all : (fat : List ℕ) (i : ℕ) (named : List Bool) → length fat ≤ i → NamedSoFar fat i named → HasDistinctPointers fat
-named-all fat i named end so_far = subst (λ (z : List ℕ). IsDistinct nat_eq (filter is_regular z)) (take_all i fat end) so_far.once
-
 pub no-pointer : (w : ℕ) → max_regular_sector < w → is_regular w ≡ false
 no-pointer w above = lt-leb w max_regular_sector above
 
@@ -100,23 +95,6 @@ no-pointer w above = lt-leb w max_regular_sector above
 -- each of these sectors has the mark, and any other one its value
 abbrev pub Marked : List ℕ → List ℕ → List ℕ → ℕ → Type 0
 Marked old now listed m = (i : ℕ) → i < length old → get_or now i 0 ≡ cond (is_among listed i) m (get_or old i 0)
-
-module _ (old now listed : List ℕ) (m j x : ℕ) (lt : j < length listed) (is : x ≡ get_or listed j 0) (len : length now ≡ length old) (so_far : Marked old now (take j listed) m) where
-  among-next : (i : ℕ) (b : Bool) → nat_eq x i ≡ b → is_among (take (j + 1) listed) i ≡ (is_among (take j listed) i || b)
-  among-next i b e = list_any_more (λ k. k == i) listed j 0 lt ∙ ap (λ z. is_among (take j listed) i || nat_eq z i) (sym is) ∙ ap (λ z. is_among (take j listed) i || z) e
-
-  others : (i : ℕ) → i < length old → x ≢ i → get_or now i 0 ≡ cond (is_among (take (j + 1) listed) i) m (get_or old i 0)
-  others i below ne = so_far i below ∙ ap (λ z. cond z m (get_or old i 0)) (sym (among-next i false (ne_eqb x i ne) ∙ or-false (is_among (take j listed) i)))
-
-  pub marked-more : x < length now → Marked old (set now x m) (take (j + 1) listed) m
-  marked-more within i below = elim (cases_eq x i) [
-    | inl e ↦ ap (λ z. get_or (set now x m) z 0) (sym e) ∙ get_or-set_same now x m 0 within
-        ∙ ap (λ z. cond z m (get_or old i 0)) (sym (among-next i true (eq-eqb x i e) ∙ or-true (is_among (take j listed) i)))
-    | inr ne ↦ get_or-set_other now x i m 0 (λ e. ne (sym e)) ∙ others i below ne
-  ]
-
-  pub marked-skip : length now ≤ x → Marked old now (take (j + 1) listed) m
-  marked-skip past i below = others i below (λ e. omega (arith, past, below, len, e))
 
 -- ---- values
 

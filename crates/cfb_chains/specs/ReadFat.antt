@@ -1,5 +1,5 @@
 -- The FAT as it is read out of the words of the FAT sectors (MS-CFB 2.3).
-use Rattle.std.specs.Prelude.{ℕ, ◌≡◌, List, Bool, true, not, ◌==◌, length, take, drop, map, slice_index_or}
+use Rattle.std.specs.Prelude.{ℕ, ◌≡◌, List, Bool, true, not, ◌==◌, take, drop, map, slice_index_or}
 use Rattle.std.specs.List.{list_all, range_with_len}
 use Rattle.cfb_format.specs.declared.validate.Validation.{Validation}
 use Rattle.cfb_format.specs.declared.validate.Validation.TheVariants.{Permissive, Strict}
