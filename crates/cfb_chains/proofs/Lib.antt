@@ -31,3 +31,5 @@ pub mod DifatEntries
 pub mod DifatWalk
 pub mod DifatLemmas
 pub mod DifatLinked
+pub mod FatLemmas
+pub mod FatLaws

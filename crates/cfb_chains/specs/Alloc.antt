@@ -10,7 +10,8 @@ use Rattle.cfb_chains.specs.Changes.{Apart}
 use Rattle.cfb_chains.specs.Clean.{IsClean}
 use Rattle.cfb_chains.specs.Difat.{ListsTables}
 use Rattle.cfb_chains.specs.Sectors.{SectorFile, SectorStays, init_bytes}
-use Rattle.cfb_chains.specs.Tables.{TableState, IsCovered}
+use Rattle.cfb_chains.specs.Tables.{TableState, AreSizes, IsCovered}
+use Rattle.cfb_chains.specs.declared.lists.Sizes.{Sizes}
 
 -- what an allocator keeps
 pub record AllocatorState : Type 0 where
@@ -23,6 +24,12 @@ pub record IsPlaced (file : SectorFile) (t : TableState) : Type 0 where
   pub count : file.num_sectors ≡ length t.fat
   pub fats : (i : ℕ) → Contains t.fat_sectors i → i < length t.fat
   pub difats : (i : ℕ) → Contains t.difat_sectors i → i < length t.fat
+
+-- the table sectors are among so many sectors, and the DIFAT has a place for each FAT sector
+pub record AreListed (version : Version) (count : ℕ) (list own : List ℕ) : Type 0 where
+  pub sizes : AreSizes version (record { sectors = count; fats = length list; difats = length own })
+  pub fats : (i : ℕ) → Contains list i → i < count
+  pub difats : (i : ℕ) → Contains own i → i < count
 
 -- the length that is kept is that of the medium
 abbrev pub IsMeasured : SectorFile → Type 0

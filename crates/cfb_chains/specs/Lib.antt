@@ -9,3 +9,4 @@ pub mod Changes
 pub mod Tables
 pub mod Refused
 pub mod Owners
+pub mod ReadFat

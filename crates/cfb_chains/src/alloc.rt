@@ -1,23 +1,27 @@
 //! The allocator of sectors: chains are begun, extended, cut and freed (MS-CFB 2.3 and 2.5).
-ghost use Rattle.std.specs.Prelude.{◌≡◌, ◌≢◌, ℕ, List, [], ◌∷◌, min, length, true, false, IsTrue, IfOk, IfErr, OnOk, take, drop, ◌++◌, ◌⊎◌, ◌+◌, ◌-◌, ◌<◌, ◌≤◌, Contains, IsErrAnd, vec_len};
+ghost use Rattle.std.specs.Prelude.{◌≡◌, ◌≢◌, ℕ, List, [], ◌∷◌, min, length, true, false, IsTrue, IfOk, IfErr, OnOk, take, drop, ◌++◌, ◌⊎◌, ◌+◌, ◌-◌, ◌<◌, ◌≤◌, Contains, IsErrAnd, vec_len, nat_lt};
 ghost use Rattle.cfb_format.specs.declared.validate.Validation.{Validation};
 ghost use Rattle.cfb_format.specs.Bytes.{sector_len as sector_len_of, max_regular_sector, end_of_chain};
 ghost use Rattle.cfb_format.specs.Chain.{IsChain, value};
 ghost use Rattle.cfb_format.specs.Refused.{CountsFailure, IsInvalidData};
-ghost use Rattle.cfb_chains.specs.Alloc.{ChangesSectors, HoldsTables, IsPlaced, IsUsable, IsFilled, OthersStay};
+ghost use Rattle.cfb_chains.specs.Alloc.{AreListed, ChangesSectors, HoldsTables, IsPlaced, IsUsable, IsFilled, OthersStay};
+ghost use Rattle.std.specs.List.{list_all};
+ghost use Rattle.cfb_chains.specs.ReadFat.{AcceptsFat, AcceptsNoFat};
 ghost use Rattle.cfb_chains.specs.Changes.{IsNextOf, NoChain};
-ghost use Rattle.cfb_chains.specs.Refused.{NextRefused, NoLast, ChangeRefused, BreaksOff, BreaksBack};
-ghost use Rattle.cfb_chains.specs.Tables.{HasTaken, Extended, FreesChain, CutsChain, AreSizes, IsTooFew, ending, start_of, sizes_of};
+ghost use Rattle.cfb_chains.specs.Refused.{Refused, NextRefused, NoLast, ChangeRefused, BreaksOff, BreaksBack};
+ghost use Rattle.cfb_chains.specs.Tables.{HasTaken, Extended, FreesChain, CutsChain, AreSizes, IsTooFew, ending, start_of, sizes_of, tables_of};
 ghost use Rattle.cfb_chains.specs.Clean.{IsUnnamed};
 ghost use Rattle.cfb_chains.specs.Sectors.{IsMediumError, place, sectors_end};
 ghost use Rattle.cfb_format.specs.Medium.{part};
 
+use crate::fat::read_fat;
 use crate::sector::{SectorInit, Sectors};
 use crate::tables::Tables;
 use crate::writing::{TableSizes, write_taken, write_values};
-use cfb_format::consts::END_OF_CHAIN;
+use cfb_format::consts::{END_OF_CHAIN, NUM_DIFAT_ENTRIES_IN_HEADER};
 use cfb_format::error::{Detail, Error};
 use cfb_format::medium::{Medium, ReadMedium};
+use cfb_format::validate::Validation;
 use cfb_format::version::Version;
 use std::alloc::{Allocator as Heap, Global};
 use std::marker::Model;
@@ -38,6 +42,80 @@ impl<F: ReadMedium, A: Heap> Model for Allocator<F, A> {
     ghost view = { λ a. record { file = a.sectors; tables = a.tables } };
 
     ghost invariant = { λ a. IsPlaced a.sectors a.tables };
+}
+
+impl<F: ReadMedium, A: Heap + Clone> Allocator<F, A> {
+    /// The allocator over the sectors of a file: its DIFAT sectors and its FAT sectors in order, and the words that stand in the
+    /// latter (MS-CFB 2.3 and 2.5). The file may grow to the greatest number of sectors.
+    ///
+    /// `InvalidData` where a listed sector is none of the file's or more FAT sectors are listed than there are places for, and where
+    /// `read_fat` refuses the words in this mode; `Memory`.
+    pub fn new(
+        heap: A,
+        sectors: Sectors<F>,
+        difat_sectors: Vec<u32, A>,
+        fat_sectors: Vec<u32, A>,
+        words: Vec<u32, A>,
+        validation: Validation,
+    ) -> Result<Allocator<F, A>, Error>
+        ensures file { IfOk result (λ a. a.file ≡ sectors) }
+        ensures tables { IfOk result (λ a. a.tables ≡ tables_of sectors.version max_regular_sector a.tables.fat fat_sectors.items difat_sectors.items) }
+        ensures fat { IfOk result (λ a. AcceptsFat validation sectors.num_sectors words.items fat_sectors.items difat_sectors.items a.tables.fat) }
+        ensures err { IfErr result (Refused
+            (AreListed sectors.version sectors.num_sectors fat_sectors.items difat_sectors.items
+            → AcceptsNoFat validation sectors.num_sectors words.items fat_sectors.items difat_sectors.items)
+            Unit ⊥) }
+    {
+        let count = sectors.num_sectors();
+        let version = sectors.version();
+        if !are_listed(version, count, &fat_sectors, &difat_sectors) {
+            return Err(unlisted(count));
+        }
+        let fat = read_fat(
+            heap.clone()?,
+            count,
+            words,
+            &fat_sectors,
+            &difat_sectors,
+            validation,
+        )?;
+        let tables = Tables::new(heap.clone()?, version, fat, fat_sectors, difat_sectors)?;
+        Ok(Allocator {
+            sectors,
+            tables,
+            heap,
+        })
+    }
+}
+
+/// Whether the FAT sectors and DIFAT sectors are sectors of the file, and all of them have places.
+fn are_listed(version: Version, count: u32, fat_sectors: &[u32], difat_sectors: &[u32]) -> bool
+    requires { count ≤ max_regular_sector }
+    ensures listed { IsTrue result → AreListed version count fat_sectors.now difat_sectors.now }
+    ensures not_listed { result ≡ false → AreListed version count fat_sectors.now difat_sectors.now → ⊥ }
+{
+    let entries = version.sector_len() / 4 - 1;
+    difat_sectors.len() <= count as usize
+        && fat_sectors.len() <= NUM_DIFAT_ENTRIES_IN_HEADER + difat_sectors.len() * entries
+        && are_below(fat_sectors, count)
+        && are_below(difat_sectors, count)
+}
+
+/// Whether all of these numbers are below this one.
+fn are_below(numbers: &[u32], count: u32) -> bool
+    ensures { result ≡ list_all (λ number. nat_lt number count) numbers.now }
+{
+    numbers.iter().all(|number| *number < count)
+}
+
+/// A refusal of table sectors that the file does not have.
+fn unlisted(count: u32) -> Error
+    ensures { ChangeRefused Unit ⊥ ⊥ ⊥ result }
+{
+    Error::InvalidData(Detail {
+        text: "table sector beyond the sectors of the file",
+        numbers: [count as u64, 0],
+    })
 }
 
 impl<F: ReadMedium, A: Heap> Allocator<F, A> {

@@ -3,6 +3,7 @@
 
 pub mod agreement;
 pub mod alloc;
+pub mod fat;
 pub mod laws;
 mod lists;
 pub mod sector;
