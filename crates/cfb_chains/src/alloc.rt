@@ -1,11 +1,10 @@
 //! The allocator of sectors: chains are begun, extended, cut and freed (MS-CFB 2.3 and 2.5).
-ghost use Rattle.std.specs.Prelude.{◌≡◌, ◌≢◌, ℕ, List, [], ◌∷◌, min, length, true, false, IsTrue, IfOk, IfErr, OnOk, take, drop, ◌++◌, ◌⊎◌, ◌+◌, ◌-◌, ◌<◌, ◌≤◌, Contains, IsErrAnd, vec_len, nat_lt};
+ghost use Rattle.std.specs.Prelude.{◌≡◌, ◌≢◌, ℕ, List, [], ◌∷◌, min, length, true, false, IsTrue, IfOk, IfErr, OnOk, take, drop, ◌++◌, ◌⊎◌, ◌+◌, ◌-◌, ◌<◌, ◌≤◌, Contains, IsErrAnd, vec_len};
 ghost use Rattle.cfb_format.specs.declared.validate.Validation.{Validation};
 ghost use Rattle.cfb_format.specs.Bytes.{sector_len as sector_len_of, max_regular_sector, end_of_chain};
 ghost use Rattle.cfb_format.specs.Chain.{IsChain, value};
 ghost use Rattle.cfb_format.specs.Refused.{CountsFailure, IsInvalidData};
 ghost use Rattle.cfb_chains.specs.Alloc.{AreListed, ChangesSectors, HoldsTables, IsPlaced, IsUsable, IsFilled, OthersStay};
-ghost use Rattle.std.specs.List.{list_all};
 ghost use Rattle.cfb_chains.specs.ReadFat.{AcceptsFat, AcceptsNoFat};
 ghost use Rattle.cfb_chains.specs.Changes.{IsNextOf, NoChain};
 ghost use Rattle.cfb_chains.specs.Refused.{Refused, NextRefused, NoLast, ChangeRefused, BreaksOff, BreaksBack};
@@ -15,6 +14,7 @@ ghost use Rattle.cfb_chains.specs.Sectors.{IsMediumError, place, sectors_end};
 ghost use Rattle.cfb_format.specs.Medium.{part};
 
 use crate::fat::read_fat;
+use crate::lists::words_per_sector;
 use crate::sector::{SectorInit, Sectors};
 use crate::tables::Tables;
 use crate::writing::{TableSizes, write_taken, write_values};
@@ -94,18 +94,30 @@ fn are_listed(version: Version, count: u32, fat_sectors: &[u32], difat_sectors: 
     ensures listed { IsTrue result → AreListed version count fat_sectors.now difat_sectors.now }
     ensures not_listed { result ≡ false → AreListed version count fat_sectors.now difat_sectors.now → ⊥ }
 {
-    let entries = version.sector_len() / 4 - 1;
-    difat_sectors.len() <= count as usize
-        && fat_sectors.len() <= NUM_DIFAT_ENTRIES_IN_HEADER + difat_sectors.len() * entries
-        && are_below(fat_sectors, count)
-        && are_below(difat_sectors, count)
+    if difat_sectors.len() > count as usize {
+        return false;
+    }
+    let entries = words_per_sector(version) - 1;
+    if fat_sectors.len() > NUM_DIFAT_ENTRIES_IN_HEADER + difat_sectors.len() * entries {
+        return false;
+    }
+    if !are_below(fat_sectors, count) {
+        return false;
+    }
+    are_below(difat_sectors, count)
 }
 
 /// Whether all of these numbers are below this one.
 fn are_below(numbers: &[u32], count: u32) -> bool
-    ensures { result ≡ list_all (λ number. nat_lt number count) numbers.now }
+    ensures below { IsTrue result → (i : ℕ) → Contains numbers.now i → i < count }
+    ensures not_below { result ≡ false → ((i : ℕ) → Contains numbers.now i → i < count) → ⊥ }
 {
-    numbers.iter().all(|number| *number < count)
+    for number in numbers {
+        if *number >= count {
+            return false;
+        }
+    }
+    true
 }
 
 /// A refusal of table sectors that the file does not have.
