@@ -21,7 +21,7 @@ listed_as : (v w : Version) (n m : ℕ) (list list' own own' : List ℕ) → w �
 listed_as v w n m list list' own own' ev en el eo l =
     subst (λ (u : Version). AreListed u n list own) ev
     (subst (λ k. AreListed w k list own) en
-        (subst (λ (xs : List ℕ). AreListed w m xs own) el (subst (λ (ys : List ℕ). AreListed w m list' ys) eo l)))
+    (subst (λ (xs : List ℕ). AreListed w m xs own) el (subst (λ (ys : List ℕ). AreListed w m list' ys) eo l)))
 
 pub new-requires : goal.new-requires
 new-requires g c =
@@ -36,7 +36,7 @@ new-requires g c =
     record {
       sizes = subst (λ n. AreSizes v (record { sectors = n; fats = vec_len c.args.fat_sectors; difats = vec_len c.args.difat_sectors })) (sym e0)
           (subst (λ n. AreSizes v (record { sectors = c.args.sectors.num_sectors; fats = n; difats = vec_len c.args.difat_sectors })) (sym e1)
-              (subst (λ n. AreSizes v (record { sectors = c.args.sectors.num_sectors; fats = length c.args.fat_sectors.items; difats = n })) (sym e2) l.sizes));
+          (subst (λ n. AreSizes v (record { sectors = c.args.sectors.num_sectors; fats = length c.args.fat_sectors.items; difats = n })) (sym e2) l.sizes));
     }
 
 pub invariant_of-result : goal.invariant_of-result
