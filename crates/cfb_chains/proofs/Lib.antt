@@ -3,6 +3,7 @@ pub mod FrameLemmas
 pub mod HeldLemmas
 pub mod GrowthLemmas
 pub mod AllocLemmas
+pub mod FreeingLemmas
 pub mod Answering
 pub mod SectorLemmas
 pub mod CountLemmas
