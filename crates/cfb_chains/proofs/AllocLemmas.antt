@@ -1,20 +1,20 @@
 -- The allocator's state after sectors were taken, and what stays then.
-use Rattle.std.proofs.Common.{refl, inl, inr, ◌≡◌, ℕ, ◌+◌, ◌-◌, ◌*◌, ◌<◌, ◌≤◌, List, [], ◌∷◌, ◌++◌, length, sym, ◌∙◌, ap, subst, arith, length-append}
-use Rattle.std.specs.Prelude.{Contains}
+use Rattle.std.proofs.Common.{refl, inl, inr, ◌≡◌, ◌≢◌, ◌⊎◌, ℕ, ◌+◌, ◌-◌, ◌*◌, ◌<◌, ◌≤◌, Bool, true, ne_eqb, List, [], ◌∷◌, ◌++◌, length, sym, ◌∙◌, ap, subst, arith, length-append}
+use Rattle.std.specs.Prelude.{Contains, if◌then◌else◌}
 use Rattle.std.proofs.lemmas.List.Elements.{Contains-append_left, Contains-append_right, Contains-append_cases}
 use Rattle.cfb_format.specs.declared.error.Error.{Error}
 use Rattle.cfb_format.specs.declared.error.Error.TheVariants.{NotFound, AlreadyExists, InvalidInput, InvalidData, Medium, Memory, Full, Unsound, Failed, Unsupported}
 use Rattle.cfb_format.specs.declared.version.Version.{Version}
-use Rattle.cfb_format.specs.Bytes.{free_sector, fat_sector, difat_sector}
+use Rattle.cfb_format.specs.Bytes.{end_of_chain, free_sector, fat_sector, difat_sector}
 use Rattle.cfb_format.specs.Chain.{value, IsChain}
 use Rattle.cfb_format.specs.declared.validate.Validation.{Validation}
 use Rattle.cfb_chains.specs.Alloc.{AllocatorState, HoldsTables, HoldsBut, IsPlaced, OthersStay, ChangesSectors, IsOtherHeaderByte}
 use Rattle.cfb_chains.specs.Changes.{Apart}
 use Rattle.cfb_chains.specs.Clean.{IsClean}
 use Rattle.cfb_chains.specs.Difat.{difat_places}
-use Rattle.cfb_chains.specs.Refused.{Refused, ChangeRefused}
-use Rattle.cfb_chains.specs.Sectors.{SectorFile, SectorStays}
-use Rattle.cfb_chains.specs.Tables.{TableState, HasTaken, AreSizes, sizes_of}
+use Rattle.cfb_chains.specs.Refused.{Refused, ChangeRefused, NextRefused, BreaksOff}
+use Rattle.cfb_chains.specs.Sectors.{SectorFile, SectorStays, IsMediumError}
+use Rattle.cfb_chains.specs.Tables.{TableState, HasTaken, AreSizes, sizes_of, ending}
 use Rattle.cfb_chains.proofs.CleanLemmas.{taken-clean}
 use Rattle.cfb_chains.proofs.GrowthLemmas.{fats_apart_more}
 use Rattle.cfb_chains.proofs.Members.{value-below}
@@ -31,6 +31,39 @@ refused_changed invalid memory full medium (Medium f) r = absurd r
 refused_changed invalid memory full medium Unsound r = absurd r
 refused_changed invalid memory full medium Failed r = absurd r
 refused_changed invalid memory full medium Unsupported r = absurd r
+
+-- a sector with no next one does not end a chain
+pub next_refused : (invalid memory full medium : Type 0) (table : List ℕ) (i : ℕ) (e : Error) → NextRefused table i e
+    → ChangeRefused (invalid ⊎ (value table i ≢ end_of_chain)) memory full medium e
+next_refused invalid memory full medium table i (InvalidData d) r =
+    inr (λ ended. r end_of_chain (value-below table i (λ free. omega (arith, free, ended)), sym ended, inl refl))
+next_refused invalid memory full medium table i Memory r = absurd r
+next_refused invalid memory full medium table i Full r = absurd r
+next_refused invalid memory full medium table i (NotFound d) r = absurd r
+next_refused invalid memory full medium table i (AlreadyExists d) r = absurd r
+next_refused invalid memory full medium table i (InvalidInput d) r = absurd r
+next_refused invalid memory full medium table i (Medium f) r = absurd r
+next_refused invalid memory full medium table i Unsound r = absurd r
+next_refused invalid memory full medium table i Failed r = absurd r
+next_refused invalid memory full medium table i Unsupported r = absurd r
+
+-- the medium failed while sectors that were taken were written
+pub broke_off : (touched more : List ℕ) (old new : AllocatorState) (e : Error) → IsMediumError e → new.file.begun ≡ true → HasTaken old.tables new.tables touched more
+    → BreaksOff touched old new e
+broke_off touched more old new (Medium f) is begun taken = (begun, more, taken)
+broke_off touched more old new (InvalidData d) is begun taken = absurd (omega (arith, is))
+broke_off touched more old new (NotFound d) is begun taken = absurd (omega (arith, is))
+broke_off touched more old new (AlreadyExists d) is begun taken = absurd (omega (arith, is))
+broke_off touched more old new (InvalidInput d) is begun taken = absurd (omega (arith, is))
+broke_off touched more old new Memory is begun taken = absurd (omega (arith, is))
+broke_off touched more old new Full is begun taken = absurd (omega (arith, is))
+broke_off touched more old new Unsound is begun taken = absurd (omega (arith, is))
+broke_off touched more old new Failed is begun taken = absurd (omega (arith, is))
+broke_off touched more old new Unsupported is begun taken = absurd (omega (arith, is))
+
+-- a sector that goes on is the last member so far
+pub ending_other : (last : ℕ) → last ≢ end_of_chain → ending last ≡ last ∷ []
+ending_other last ne = ap (λ (b : Bool). if b then [] else last ∷ []) (ne_eqb last end_of_chain ne)
 
 pub others_refl : (a : AllocatorState) → OthersStay a a
 others_refl a = record { no_shorter = omega arith; sectors = λ i busy out. SectorStays_refl a.tables.version i a.file.bytes; header = λ i lt other. refl }
