@@ -1,0 +1,73 @@
+use Rattle.std.proofs.Common.{arith, sym, subst, refl, ℕ, List}
+use Rattle.std.specs.Prelude.{Contains}
+use Rattle.std.proofs.lemmas.Result.{err_from_is_err_and}
+use Rattle.cfb_chains.proofs.AllocLemmas.{others_refl, others_unchanged, placed_reserved, placed_written, shown_below, shown_taken, others_written, held_counted, fats_apart_shown, clean_taken, fats_known, difats_known, next_refused}
+use Rattle.cfb_chains.proofs.alloc.Allocator.append_by.Goals as goal
+
+pub returns-in_err-before-clause-others : goal.returns-in_err-before-clause-others
+returns-in_err-before-clause-others g c told = others_refl c.args.self.now
+
+pub returns-in_err-next-clause-others : goal.returns-in_err-next-clause-others
+returns-in_err-next-clause-others g c told = others_refl c.args.self.now
+
+pub returns-in_err-next-clause-err : goal.returns-in_err-next-clause-err
+returns-in_err-next-clause-err g c =
+    let p = err_from_is_err_and c.from_residual-in_err-next.result c.from_residual-in_err-next.ensures.1 in
+    rw (p.1, p.2) (next_refused _ _ _ _ c.args.self.now.tables.fat c.args.last c.in_err-next.field-0.0 (rw (← c.self.view_is) c.in_err-next.ensures.err))
+
+pub returns-then-branch-clause-others : goal.returns-then-branch-clause-others
+returns-then-branch-clause-others g c told = others_refl c.args.self.now
+
+pub returns-in_err-clone-clause-others : goal.returns-in_err-clone-clause-others
+returns-in_err-clone-clause-others g c told = others_unchanged c.self.view_is c.self.inside.tables refl
+
+pub returns-in_err-list-clause-others : goal.returns-in_err-list-clause-others
+returns-in_err-list-clause-others g c told = others_unchanged c.self.view_is c.attach_by.new.self c.in_err-list.ensures.unchanged
+
+pub write_taken-requires-clause-placed : goal.write_taken-requires-clause-placed
+write_taken-requires-clause-placed g c =
+    placed_reserved c.deref.result.now c.deref.ensures.value c.self.view_is c.in_ok-list.ensures.taken
+    c.reserve_sectors.new.self c.len.result c.reserve_sectors.ensures c.len.ensures.len c.self.invariant
+
+pub write_taken-requires-clause-more : goal.write_taken-requires-clause-more
+write_taken-requires-clause-more g c = shown_below c.deref.result.now c.deref.ensures.value c.self.view_is c.in_ok-list.ensures.taken
+
+pub invariant_of-self-in_err-write_taken : goal.invariant_of-self-in_err-write_taken
+invariant_of-self-in_err-write_taken g c =
+    placed_written c.deref.result.now c.deref.ensures.value c.self.view_is c.in_ok-list.ensures.taken
+    c.reserve_sectors.new.self c.write_taken.new.sectors c.len.result c.reserve_sectors.ensures c.write_taken.ensures.kept c.len.ensures.len c.self.invariant
+
+pub returns-in_err-write_taken-clause-others : goal.returns-in_err-write_taken-clause-others
+returns-in_err-write_taken-clause-others g c told =
+    others_written c.deref.result.now c.deref.ensures.value c.self.view_is c.in_ok-list.ensures.taken
+    c.reserve_sectors.new.self c.write_taken.new.sectors c.len.result c.reserve_sectors.ensures (c.write_taken.ensures.changes told)
+
+pub invariant_of-self-2 : goal.invariant_of-self-2
+invariant_of-self-2 g c =
+    placed_written c.deref.result.now c.deref.ensures.value c.self.view_is c.in_ok-list.ensures.taken
+    c.reserve_sectors.new.self c.write_taken.new.sectors c.len.result c.reserve_sectors.ensures c.write_taken.ensures.kept c.len.ensures.len c.self.invariant
+
+pub returns-clause-filled : goal.returns-clause-filled
+returns-clause-filled g c told validation h i m =
+    c.in_ok-write_taken.ensures.filled told
+    (fats_apart_shown c.deref.result.now c.deref.ensures.value c.self.view_is c.in_ok-list.ensures.taken validation h) i
+    (subst (λ (xs : List ℕ). Contains xs i) (sym c.deref.ensures.value) m)
+
+pub returns-clause-holds : goal.returns-clause-holds
+returns-clause-holds g c told validation h =
+    let now = c.deref.result.now in
+    let same = c.deref.ensures.value in
+    let taken = c.in_ok-list.ensures.taken in
+    let clean = clean_taken now same c.self.view_is taken validation h c.args.last c.in_ok-list.ensures.chain (omega arith) in
+    record {
+      holds = c.in_ok-write_taken.ensures.holds told validation c.self.inside.tables (shown_taken now same c.self.view_is taken) clean
+          (fats_known now same c.self.view_is taken c.in_ok-before.before.fats c.in_ok-before.ensures.ok.0)
+          (difats_known now same c.self.view_is taken c.in_ok-before.before.difats c.in_ok-before.ensures.ok.1)
+          (held_counted now same c.self.view_is taken validation h c.reserve_sectors.new.self c.len.result c.reserve_sectors.ensures);
+      clean = clean;
+    }
+
+pub returns-clause-others : goal.returns-clause-others
+returns-clause-others g c told =
+    others_written c.deref.result.now c.deref.ensures.value c.self.view_is c.in_ok-list.ensures.taken
+    c.reserve_sectors.new.self c.write_taken.new.sectors c.len.result c.reserve_sectors.ensures (c.write_taken.ensures.changes told)
