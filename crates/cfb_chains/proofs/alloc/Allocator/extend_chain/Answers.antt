@@ -52,8 +52,11 @@ returns-in_err-write_taken-clause-refused g c =
     let more = c.in_ok-sector.sector ∷ [] in
     let p = err_from_is_err_and c.from_residual-in_err-write_taken.result c.from_residual-in_err-write_taken.ensures.1 in
     let e = c.in_err-write_taken.ensures.err in
-    rw (p.1, p.2) (last, broke_off (last ∷ []) more c.args.self.now (record { file = c.write_taken.new.sectors; tables = c.attach.new.self }) c.in_err-write_taken.field-0.0 e.0 e.1
-    (subst (λ (a : AllocatorState). HasTaken a.tables c.attach.new.self (last ∷ []) more) c.self.view_is c.in_ok-sector.ensures.taken))
+    rw (p.1, p.2) (
+      last,
+      broke_off (last ∷ []) more c.args.self.now (record { file = c.write_taken.new.sectors; tables = c.attach.new.self }) c.in_err-write_taken.field-0.0 e.0 e.1
+          (subst (λ (a : AllocatorState). HasTaken a.tables c.attach.new.self (last ∷ []) more) c.self.view_is c.in_ok-sector.ensures.taken),
+    )
 
 pub invariant_of-self-2 : goal.invariant_of-self-2
 invariant_of-self-2 g c =
