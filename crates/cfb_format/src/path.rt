@@ -146,14 +146,11 @@ pub fn name_key<A: Allocator>(
     ensures letters { IfOk result (λ key. key.letters.items ≡ (key_of cases.now (chars name.now)).1) }
     ensures refused { IfErr result IsMemory }
 {
-    let letters = name
-        .chars()
-        .map(|letter| cases.upper_case(letter))
-        .collect(alloc)?;
-    Ok(NameKey {
-        units: unit_count(name),
-        letters,
-    })
+    let units = unit_count(name);
+    // One request for all of them: `collect` takes a refusal for a wrong guess and asks again.
+    let mut letters = Vec::with_capacity(alloc, units)?;
+    letters.extend(name.chars().map(|letter| cases.upper_case(letter)))?;
+    Ok(NameKey { units, letters })
 }
 
 /// The order of two names: fewer UTF-16 units first, then by the characters in upper case
@@ -191,13 +188,17 @@ pub fn validate_name<A: Allocator>(alloc: A, name: &str) -> Result<Vec<u16, A>, 
     ensures valid { OnOk result (is_valid_name (chars name.now) ≡ true) }
     ensures refused { IfErr result (RefusesInput (not (is_valid_name (chars name.now)))) }
 {
-    if unit_count(name) > MAX_NAME_LEN {
+    let count = unit_count(name);
+    if count > MAX_NAME_LEN {
         return Err(Error::InvalidInput(Detail::text("a name has at most 31 UTF-16 units")));
     }
     if has_forbidden(name) {
         return Err(Error::InvalidInput(Detail::text("a name has none of the characters / \\ : !")));
     }
-    Ok(name.encode_utf16().collect(alloc)?)
+    // One request, as in `name_key`.
+    let mut units = Vec::with_capacity(alloc, count)?;
+    units.extend(name.encode_utf16())?;
+    Ok(units)
 }
 
 /// Whether `/`, `\`, `:` or `!` stands in the name.
