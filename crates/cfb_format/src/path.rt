@@ -9,7 +9,7 @@ ghost use Rattle.cfb_format.specs.Path.{says_nothing as nothing, says_parent as 
 ghost use Rattle.cfb_format.specs.Refused.{IsMemory, RefusesInput};
 
 use crate::error::{Detail, Error};
-use std::alloc::{Allocator, Global};
+use std::alloc::{AllocError, Allocator, Global};
 use std::cmp::Ordering;
 use std::marker::Model;
 
@@ -55,7 +55,9 @@ const DEFAULT_PAIRS: [(char, char); 32] = [
 /// What stands for upper case where names are compared (MS-CFB 2.6.4): `a` to `z` become `A` to
 /// `Z` always, the letters of a table become what it says, and any other character stands for
 /// itself.
-#[derive(Clone, Debug, Drop)]
+///
+/// A letter past ASCII is looked up along the whole table, pair by pair: the time grows with it.
+#[derive(Debug, Drop)]
 pub struct CaseMapper<A: Allocator = Global> {
     pairs: Vec<(char, char), A>,
 }
@@ -66,6 +68,16 @@ impl<A: Allocator> Model for CaseMapper<A> {
     ghost Value = { Cases };
 
     ghost view = { λ mapper. mapper.pairs.items };
+}
+
+impl<A: Allocator + Clone> Clone for CaseMapper<A> {
+    ghost is_clone = { λ cases copy. copy ≡ cases };
+
+    /// The same table. It answers `AllocError` where memory for it is refused.
+    fn clone(&self) -> Result<CaseMapper<A>, AllocError> {
+        let pairs = self.pairs.clone()?;
+        Ok(CaseMapper { pairs })
+    }
 }
 
 impl<A: Allocator> CaseMapper<A> {
