@@ -1,5 +1,5 @@
-use Rattle.std.proofs.Common.{◌≡◌, ◌∙◌, ap, rules, List, ℕ, ◌++◌}
-use Rattle.std.specs.Prelude.{map, OnOk}
+use Rattle.std.proofs.Common.{◌∙◌, ap, rules, List, ℕ, ◌++◌}
+use Rattle.std.specs.Prelude.{map}
 use Rattle.std.specs.Str.{chars}
 use Rattle.std.proofs.lemmas.Iterator.{YieldsList-from_chars, YieldsList-from_map}
 use Rattle.std.proofs.lemmas.Iterator.Adapters.{items_from_extend}
