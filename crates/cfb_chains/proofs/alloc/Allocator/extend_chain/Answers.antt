@@ -1,8 +1,8 @@
-use Rattle.std.proofs.Common.{arith, sym, subst, refl, [], ◌∷◌, ℕ}
+use Rattle.std.proofs.Common.{arith, sym, subst, refl, [], ◌∷◌}
 use Rattle.std.proofs.lemmas.Result.{err_from_is_err_and}
 use Rattle.cfb_chains.specs.Alloc.{AllocatorState}
 use Rattle.cfb_chains.specs.Tables.{IsTooFew, Extended, HasTaken}
-use Rattle.cfb_chains.proofs.AllocLemmas.{others_refl, others_unchanged, placed_reserved, placed_written, shown_taken, others_written, held_counted, fats_apart_shown, clean_taken, fats_known, difats_known, refused_changed, broke_off}
+use Rattle.cfb_chains.proofs.AllocLemmas.{others_refl, others_unchanged, placed_reserved, placed_written, others_written, held_counted, fats_apart_shown, clean_taken, fats_known, difats_known, refused_changed, broke_off}
 use Rattle.cfb_chains.proofs.AttachLemmas.{last-known, extended}
 use Rattle.cfb_chains.proofs.Members.{Contains-here}
 use Rattle.cfb_chains.proofs.alloc.Allocator.extend_chain.Goals as goal
@@ -52,8 +52,11 @@ returns-in_err-write_taken-clause-refused g c =
     let more = c.in_ok-sector.sector ∷ [] in
     let p = err_from_is_err_and c.from_residual-in_err-write_taken.result c.from_residual-in_err-write_taken.ensures.1 in
     let e = c.in_err-write_taken.ensures.err in
-    rw (p.1, p.2) (last, broke_off (last ∷ []) more c.args.self.now (record { file = c.write_taken.new.sectors; tables = c.attach.new.self }) c.in_err-write_taken.field-0.0 e.0 e.1
-    (subst (λ (a : AllocatorState). HasTaken a.tables c.attach.new.self (last ∷ []) more) c.self.view_is c.in_ok-sector.ensures.taken))
+    rw (p.1, p.2) (
+      last,
+      broke_off (last ∷ []) more c.args.self.now (record { file = c.write_taken.new.sectors; tables = c.attach.new.self }) c.in_err-write_taken.field-0.0 e.0 e.1
+          (subst (λ (a : AllocatorState). HasTaken a.tables c.attach.new.self (last ∷ []) more) c.self.view_is c.in_ok-sector.ensures.taken),
+    )
 
 pub invariant_of-self-2 : goal.invariant_of-self-2
 invariant_of-self-2 g c =
