@@ -1,8 +1,8 @@
-use Rattle.std.proofs.Common.{arith, sym, subst, refl, [], ◌∷◌, ℕ}
+use Rattle.std.proofs.Common.{arith, sym, subst, refl, [], ◌∷◌}
 use Rattle.std.proofs.lemmas.Result.{err_from_is_err_and}
 use Rattle.cfb_chains.specs.Alloc.{AllocatorState}
 use Rattle.cfb_chains.specs.Tables.{IsTooFew, Extended, HasTaken}
-use Rattle.cfb_chains.proofs.AllocLemmas.{others_refl, others_unchanged, placed_reserved, placed_written, shown_taken, others_written, held_counted, fats_apart_shown, clean_taken, fats_known, difats_known, refused_changed, broke_off}
+use Rattle.cfb_chains.proofs.AllocLemmas.{others_refl, others_unchanged, placed_reserved, placed_written, others_written, held_counted, fats_apart_shown, clean_taken, fats_known, difats_known, refused_changed, broke_off}
 use Rattle.cfb_chains.proofs.AttachLemmas.{last-known, extended}
 use Rattle.cfb_chains.proofs.Members.{Contains-here}
 use Rattle.cfb_chains.proofs.alloc.Allocator.extend_chain.Goals as goal
