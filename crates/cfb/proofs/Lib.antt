@@ -1,3 +1,7 @@
+pub mod ChainedFat
+pub mod OneStreamFacts
+pub mod OneStreamReads
+pub mod OneStreamMeans
 pub mod Pieces
 pub mod Refusing
 pub mod CallFacts

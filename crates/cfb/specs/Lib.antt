@@ -1,3 +1,4 @@
+pub mod OneStream
 pub mod Files
 pub mod Opening
 pub mod Head
