@@ -1,16 +1,13 @@
 -- A FAT whose sectors behind the directory's form one chain.
-use Rattle.std.proofs.Common.{◌≡◌, ◌≢◌, ◌+◌, ◌-◌, ◌*◌, ◌<◌, ◌≤◌, ◌^◌, ℕ, zero, suc, List, [], ◌∷◌, ◌++◌, Bool, true, false, not, refl, sym, ◌∙◌, ap, subst, length, map, take, drop, replicate, arith, lit<, ◌||◌, ◌&&◌, get_or, length-append, append_assoc}
-use Rattle.std.specs.Prelude.{IsTrue, nat_eq, nat_le, filter, slice_index, slice_index_or, Contains, if◌then◌else◌, ◌==◌}
+use Rattle.std.proofs.Common.{◌≡◌, ◌≢◌, ◌+◌, ◌*◌, ◌<◌, ◌≤◌, ◌^◌, ℕ, zero, suc, List, [], ◌∷◌, ◌++◌, Bool, true, false, not, refl, sym, ◌∙◌, ap, subst, length, map, replicate, arith, lit<, ◌||◌, ◌&&◌, get_or}
+use Rattle.std.specs.Prelude.{IsTrue, nat_eq, filter, slice_index, if◌then◌else◌, ◌==◌}
 use Rattle.std.specs.List.{AllByRecursion, IsDistinct, list_all, range_with_len}
-use Rattle.std.specs.Int.{to_le_bytes, from_le_bytes, w32}
 use Rattle.std.proofs.lemmas.Nat.{from_le_bytes-to_le_bytes_4}
 use Rattle.std.proofs.lemmas.Bool.{ne_eqb, eqb-false, eq-eqb, eqb-true, le-leb, lt-leb, lt-ltb}
-use Rattle.std.proofs.lemmas.Map.Views.{exact_unsigned_eq}
-use Rattle.std.proofs.lemmas.List.FromFn.{get_or-map-range_with_len, length-map-range_with_len, length-range_with_len}
-use Rattle.std.proofs.lemmas.List.{length-replicate, take-append-le, take_all}
+use Rattle.std.proofs.lemmas.List.FromFn.{get_or-map-range_with_len, length-map-range_with_len}
 use Rattle.cfb_format.specs.Bytes.{words, word_bytes, is_regular, points_below, end_of_chain, free_sector, fat_sector, invalid_sector}
-use Rattle.cfb_format.specs.Chain.{Follows, IsChain, value}
-use Rattle.cfb_format.specs.Fat.{fat_value, within_file, is_fat_padding, HasDistinctPointers}
+use Rattle.cfb_format.specs.Chain.{Follows, IsChain}
+use Rattle.cfb_format.specs.Fat.{fat_value, within_file, HasDistinctPointers}
 use Rattle.cfb_format.proofs.Chains.{Follows-distinct}
 use Rattle.cfb.specs.OneStream.{fat_word, used_fat}
 

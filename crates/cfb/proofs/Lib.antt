@@ -2,6 +2,9 @@ pub mod ChainedFat
 pub mod OneStreamFacts
 pub mod OneStreamReads
 pub mod OneStreamMeans
+pub mod LayoutLemmas
+pub mod Running
+pub mod CallRunning
 pub mod Pieces
 pub mod Refusing
 pub mod CallFacts

@@ -1,41 +1,24 @@
 -- A file with at most one stream means the root with that stream, is strict and sound.
-use Rattle.std.proofs.Common.{◌≡◌, ◌≢◌, ◌⊎◌, inl, inr, ◌+◌, ◌-◌, ◌*◌, ◌/◌, ◌%◌, ◌<◌, ◌≤◌, ◌^◌, ℕ, zero, suc, List, [], ◌∷◌, ◌++◌, Bool, true, false, not, refl, sym, ◌∙◌, ap, subst, length, map, take, drop, replicate, arith, lit<, lit≤, ◌||◌, ◌&&◌, get_or, length-append, append_assoc, append-nil, length-drop, zero-mul}
-use Rattle.std.specs.Prelude.{IsTrue, IsSome, nat_eq, nat_le, nat_lt, cond, filter, flat_map, slice_index, slice_index_or, Contains, Option, Some, None, unwrap_or, if◌then◌else◌, ◌==◌}
-use Rattle.std.specs.List.{AllByRecursion, AllZip, IsDistinct, list_all, list_any, range_with_len}
+use Rattle.std.proofs.Common.{◌≡◌, inl, inr, ◌+◌, ◌-◌, ◌*◌, ◌<◌, ◌≤◌, ◌^◌, ℕ, zero, suc, List, [], ◌∷◌, ◌++◌, Bool, true, false, not, refl, ◌∙◌, ap, length, map, take, drop, replicate, arith, lit<, lit≤, ◌||◌, ◌&&◌, get_or, length-append}
+use Rattle.std.specs.Prelude.{IsTrue, nat_le, nat_lt, cond, flat_map, Option, Some, None, if◌then◌else◌, ◌==◌}
+use Rattle.std.specs.List.{AllByRecursion, AllZip, list_all, list_any}
 use Rattle.std.specs.Str.{all_scalars}
-use Rattle.std.specs.Int.{to_le_bytes, w16, w32, w64}
-use Rattle.std.proofs.Math.Seq.{drop-append_seam, drop-append-add}
-use Rattle.std.proofs.lemmas.Bool.{ne_eqb, eqb-false, eq-eqb, eqb-true, le-leb, lt-leb, leb-true, lt-ltb}
-use Rattle.std.proofs.lemmas.List.{length-replicate, length-take, take-append-le, take_all, ext_get_or, drop-drop, get_or_past, get_or-map}
-use Rattle.std.proofs.lemmas.List.FromFn.{get_or-map-range_with_len, length-map-range_with_len, length-range_with_len, get_or-range_with_len}
+use Rattle.std.proofs.Math.Seq.{drop-append-add}
+use Rattle.std.proofs.lemmas.Bool.{leb-true, lt-ltb}
+use Rattle.std.proofs.lemmas.List.{length-replicate, take-append-le, take_all}
 use Rattle.cfb_format.specs.declared.version.Version.{Version}
 use Rattle.cfb_format.specs.declared.version.Version.TheVariants.{V3, V4}
 use Rattle.cfb_format.specs.declared.validate.Validation.TheVariants.{Strict}
-use Rattle.cfb_format.specs.declared.objtype.ObjType.TheVariants.{Stream}
-use Rattle.cfb_format.specs.Bytes.{u16_at, u32_at, u64_at, words, word_bytes, unit_bytes, sector_len, sector_start, sector_bytes, sector_words, sector_count, words_per_sector, entries_per_sector, stream_len_modulus, is_whole_sector, is_regular, points_below, end_of_chain, free_sector, fat_sector, no_stream}
-use Rattle.cfb_format.specs.Medium.{part}
-use Rattle.cfb_format.specs.Header.{IsHeader, AcceptsHeader, header_bytes}
-use Rattle.cfb_format.specs.Names.{Cases, utf16_units, is_forbidden, is_valid_name}
-use Rattle.cfb_format.specs.Fat.{IsDifat, IsFat, IsStrictDifat, IsStrictFat, fat_of, fat_words, fat_padding, raw_fat, fat_value, is_fat_padding}
-use Rattle.cfb_format.specs.Chain.{Follows, IsChain, chain_from, chain_within, value}
-use Rattle.cfb_format.specs.DirectoryEntry.{Entry, EntryFits, IsValidEntry, IsEntry, IsStrictEntry, AcceptsEntry, entry_bytes, slot_at, slots, slots_of_sector, empty_root_entry, unallocated_entry}
-use Rattle.cfb_format.specs.Siblings.{entry_at, leaf, node}
-use Rattle.cfb_format.specs.Reading.{Reading, IsDirectory, IsOutline, IsMinifat, HasLength, Reads, IsStrict, IsStrictCount, Outline, no_more, stream_at}
-use Rattle.cfb_format.specs.Content.{readable, placed_from, place, is_large, bytes_along, sector_chain, mini_chain, content_chain, mini_stream_cutoff}
-use Rattle.cfb_format.specs.Meaning.{Means, objects_from, tree_of}
-use Rattle.cfb_format.specs.Soundness.{IsSound, IsLoose, used_sectors, sectors_of}
-use Rattle.cfb_format.specs.Tree.{Objects, nothing, stream}
-use Rattle.cfb_format.specs.Created.{created_bytes, created_header, empty_tree}
-use Rattle.cfb_format.proofs.Chains.{chain_from-IsChain}
-use Rattle.cfb_format.proofs.Along.{readable-large}
-use Rattle.cfb_format.proofs.ByteLemmas.{part_more}
+use Rattle.cfb_format.specs.Bytes.{word_bytes, unit_bytes, sector_len, words_per_sector, entries_per_sector, stream_len_modulus, end_of_chain, free_sector, no_stream}
+use Rattle.cfb_format.specs.Header.{header_bytes}
+use Rattle.cfb_format.specs.Names.{utf16_units, is_forbidden, is_valid_name}
+use Rattle.cfb_format.specs.DirectoryEntry.{Entry, EntryFits, IsValidEntry, IsEntry, IsStrictEntry, AcceptsEntry, entry_bytes, slot_at, unallocated_entry}
+use Rattle.cfb_format.specs.Reading.{Reading, Outline, no_more, stream_at}
+use Rattle.cfb_format.specs.Created.{created_header}
 use Rattle.cfb_format.proofs.EntryBack.{entry_read_back}
-use Rattle.cfb_format.proofs.HeaderStart.{header_at_start}
-use Rattle.cfb_format.proofs.CreatedFacts.{header3}
-use Rattle.cfb_format.proofs.CreatedFacts4.{header4}
 use Rattle.cfb_format.proofs.Utf16Back.{length-unit_bytes}
-use Rattle.cfb.specs.OneStream.{OneStream, sectors_for, content_sectors, start_for, fat_word, used_fat, all_fat_words, stream_entry, second_entry, child_of, root_with, entries_with, header_sector, fat_bytes, directory_bytes, tables_with, IsServedName, IsServedLen, IsServed, HoldsOne, content_of, tree_with}
-use Rattle.cfb.proofs.ChainedFat.{words-written, length-word_bytes, all-append, all-replicate, tests-made, tests-replicate, same-made, word-is, used-length, used-at, used-fits, values-are, marks-are, pointers-are, word-inside, content-chain, directory-chain}
+use Rattle.cfb.specs.OneStream.{OneStream, sectors_for, content_sectors, start_for, used_fat, all_fat_words, stream_entry, second_entry, child_of, root_with, entries_with, header_sector, fat_bytes, directory_bytes, IsServedLen, IsServed}
+use Rattle.cfb.proofs.ChainedFat.{length-word_bytes, all-replicate, used-length}
 
 -- ---- the parts
 

@@ -1,31 +1,30 @@
 -- A file with at most one stream means the root with that stream, and is sound.
-use Rattle.std.proofs.Common.{◌≡◌, ◌≢◌, ◌⊎◌, inl, inr, ◌+◌, ◌-◌, ◌*◌, ◌/◌, ◌<◌, ◌≤◌, ℕ, zero, suc, List, [], ◌∷◌, ◌++◌, Bool, true, false, not, refl, sym, ◌∙◌, ap, subst, length, take, drop, replicate, arith, lit<, lit≤, ◌||◌, get_or, append-nil, zero-mul, length-drop}
-use Rattle.std.specs.Prelude.{IsTrue, IsSome, nat_eq, nat_le, filter, flat_map, slice_index, slice_index_or, Contains, Option, Some, None, unwrap_or, is_some, if◌then◌else◌, ◌==◌}
-use Rattle.std.specs.List.{AllByRecursion, IsDistinct, range_with_len, list_any}
-use Rattle.std.proofs.lemmas.Bool.{ne_eqb, eqb-false, le-leb, leb-true, cases_lt}
-use Rattle.std.proofs.lemmas.List.{length-take, get_or_past, take_all}
+use Rattle.std.proofs.Common.{◌≡◌, ◌≢◌, inl, inr, ◌+◌, ◌*◌, ◌<◌, ◌≤◌, ℕ, zero, suc, List, [], ◌∷◌, ◌++◌, true, false, not, refl, sym, ◌∙◌, ap, subst, length, take, drop, arith, append-nil, zero-mul}
+use Rattle.std.specs.Prelude.{IsTrue, IsSome, nat_eq, flat_map, slice_index, Contains, Option, Some, None, unwrap_or, is_some, if◌then◌else◌}
+use Rattle.std.specs.List.{AllByRecursion, IsDistinct, range_with_len}
+use Rattle.std.proofs.lemmas.Bool.{ne_eqb, le-leb, cases_lt}
+use Rattle.std.proofs.lemmas.List.{get_or_past}
 use Rattle.std.proofs.lemmas.List.FromFn.{length-range_with_len, get_or-range_with_len}
 use Rattle.cfb_format.specs.declared.version.Version.{Version}
 use Rattle.cfb_format.specs.declared.version.Version.TheVariants.{V3, V4}
 use Rattle.cfb_format.specs.Bytes.{sector_len, sector_start, sector_bytes, sector_count, words_per_sector, is_whole_sector, is_regular, end_of_chain, free_sector}
 use Rattle.cfb_format.specs.Medium.{part}
 use Rattle.cfb_format.specs.Names.{Cases}
-use Rattle.cfb_format.specs.Fat.{raw_fat, is_among}
-use Rattle.cfb_format.specs.Chain.{IsChain, chain_from, chain_within, value}
+use Rattle.cfb_format.specs.Fat.{raw_fat}
+use Rattle.cfb_format.specs.Chain.{IsChain, value}
 use Rattle.cfb_format.specs.Siblings.{entry_at}
-use Rattle.cfb_format.specs.Reading.{Reading, Reads}
 use Rattle.cfb_format.specs.Content.{readable, placed_from, place, is_large, bytes_along, sector_chain, mini_chain, content_chain, mini_stream_chain}
-use Rattle.cfb_format.specs.Meaning.{Means, objects_from, tree_of}
-use Rattle.cfb_format.specs.Soundness.{IsSound, IsLoose, used_sectors, used_mini_sectors, sectors_of, mini_sectors_of, streams}
-use Rattle.cfb_format.specs.Tree.{Objects, nothing, stream}
+use Rattle.cfb_format.specs.Meaning.{Means, objects_from}
+use Rattle.cfb_format.specs.Soundness.{IsSound, used_sectors, used_mini_sectors, sectors_of, mini_sectors_of, streams}
+use Rattle.cfb_format.specs.Tree.{nothing, stream}
 use Rattle.cfb_format.specs.Created.{empty_tree}
 use Rattle.cfb_format.proofs.Chains.{chain_from-IsChain}
 use Rattle.cfb_format.proofs.Along.{readable-large}
 use Rattle.cfb_format.proofs.ByteLemmas.{part_more, length-part}
-use Rattle.cfb.specs.OneStream.{OneStream, sectors_for, content_sectors, start_for, fat_word, used_fat, stream_entry, entries_with, IsServedLen, IsServed, HoldsOne, content_of, tree_with}
+use Rattle.cfb.specs.OneStream.{OneStream, sectors_for, content_sectors, start_for, fat_word, used_fat, stream_entry, entries_with, HoldsOne, content_of, tree_with}
 use Rattle.cfb.proofs.ChainedFat.{used-length, used-at, word-inside, content-chain}
-use Rattle.cfb.proofs.OneStreamFacts.{outline_with, reading_with, few-sectors, few-words, sectors-hold, some-sectors}
-use Rattle.cfb.proofs.OneStreamReads.{few-content, whole-length, count-is, is-whole, raw-is, reads-one, strict-one}
+use Rattle.cfb.proofs.OneStreamFacts.{outline_with, reading_with, few-sectors, sectors-hold, some-sectors}
+use Rattle.cfb.proofs.OneStreamReads.{few-content, whole-length, count-is, is-whole, raw-is, reads-one}
 
 -- ---- the bytes along consecutive sectors
 

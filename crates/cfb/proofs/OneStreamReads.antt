@@ -1,32 +1,28 @@
 -- The parts of a file with at most one stream.
-use Rattle.std.proofs.Common.{◌≡◌, ◌≢◌, ◌⊎◌, inl, inr, ◌+◌, ◌-◌, ◌*◌, ◌/◌, ◌%◌, ◌<◌, ◌≤◌, ◌^◌, ℕ, zero, suc, List, [], ◌∷◌, ◌++◌, Bool, true, false, not, refl, sym, ◌∙◌, ap, subst, length, map, take, drop, replicate, arith, lit<, lit≤, ◌||◌, ◌&&◌, get_or, length-append, append_assoc, append-nil, length-drop, zero-mul}
-use Rattle.std.specs.Prelude.{IsTrue, IsSome, nat_eq, nat_le, filter, flat_map, slice_index, slice_index_or, Contains, Option, Some, None, unwrap_or, if◌then◌else◌, ◌==◌}
-use Rattle.std.specs.List.{AllByRecursion, AllZip, IsDistinct, list_all, range_with_len}
-use Rattle.std.proofs.Math.Seq.{drop-append_seam, drop-append-add}
-use Rattle.std.proofs.lemmas.Bool.{ne_eqb, eqb-false, eq-eqb, eqb-true, le-leb, lt-leb, leb-true}
-use Rattle.std.proofs.lemmas.List.{length-replicate, length-take, take-append-le, take_all, ext_get_or, drop-drop, get_or_past, get_or-map, length-map}
-use Rattle.std.proofs.lemmas.List.FromFn.{get_or-map-range_with_len, length-map-range_with_len, length-range_with_len, get_or-range_with_len}
+use Rattle.std.proofs.Common.{◌≡◌, ◌+◌, ◌-◌, ◌*◌, ◌/◌, ◌<◌, ◌≤◌, ◌^◌, ℕ, List, [], ◌∷◌, ◌++◌, true, refl, sym, ◌∙◌, ap, subst, length, map, take, drop, replicate, arith, lit<, lit≤, ◌&&◌, length-append, append_assoc, append-nil}
+use Rattle.std.specs.Prelude.{nat_le, slice_index_or, Option, Some, None, ◌==◌}
+use Rattle.std.specs.List.{AllZip, IsDistinct, list_all, range_with_len}
+use Rattle.std.proofs.Math.Seq.{drop-append_seam}
+use Rattle.std.proofs.lemmas.Bool.{le-leb}
+use Rattle.std.proofs.lemmas.List.{length-replicate, take-append-le, take_all, ext_get_or, drop-drop, get_or-map, length-map}
+use Rattle.std.proofs.lemmas.List.FromFn.{get_or-map-range_with_len, length-map-range_with_len}
 use Rattle.cfb_format.specs.declared.version.Version.{Version}
 use Rattle.cfb_format.specs.declared.version.Version.TheVariants.{V3, V4}
-use Rattle.cfb_format.specs.declared.validate.Validation.{Validation}
-use Rattle.cfb_format.specs.declared.validate.Validation.TheVariants.{Permissive, Strict}
-use Rattle.cfb_format.specs.Bytes.{u16_at, u32_at, u64_at, words, word_bytes, unit_bytes, sector_len, sector_start, sector_bytes, sector_words, sector_count, words_per_sector, entries_per_sector, is_whole_sector, is_regular, points_below, end_of_chain, free_sector, fat_sector, no_stream}
-use Rattle.cfb_format.specs.Medium.{part}
-use Rattle.cfb_format.specs.Header.{IsHeader, AcceptsHeader, IsStrictHeader, header_bytes}
+use Rattle.cfb_format.specs.declared.validate.Validation.TheVariants.{Strict}
+use Rattle.cfb_format.specs.Bytes.{u32_at, words, word_bytes, unit_bytes, sector_len, sector_start, sector_bytes, sector_words, sector_count, words_per_sector, entries_per_sector, is_whole_sector, points_below, end_of_chain, free_sector, fat_sector}
+use Rattle.cfb_format.specs.Header.{AcceptsHeader, header_bytes}
 use Rattle.cfb_format.specs.Names.{Cases}
-use Rattle.cfb_format.specs.Fat.{IsDifat, IsFat, IsStrictDifat, IsStrictFat, fat_of, fat_words, fat_padding, raw_fat, fat_value, is_fat_padding}
-use Rattle.cfb_format.specs.Chain.{IsChain}
-use Rattle.cfb_format.specs.DirectoryEntry.{Entry, IsEntry, IsStrictEntry, entry_bytes, slot_at, slots, slots_of_sector, unallocated_entry}
+use Rattle.cfb_format.specs.Fat.{IsDifat, IsFat, IsStrictFat, fat_of, fat_words, fat_padding, raw_fat, fat_value, is_fat_padding}
+use Rattle.cfb_format.specs.DirectoryEntry.{IsEntry, IsStrictEntry, entry_bytes, slot_at, slots, slots_of_sector, unallocated_entry}
 use Rattle.cfb_format.specs.Siblings.{entry_at, is_red_apart, leaf, node}
-use Rattle.cfb_format.specs.Reading.{Reading, IsDirectory, IsOutline, IsMinifat, HasLength, Reads, IsStrict, IsStrictCount, numbers, no_more, stream_at}
-use Rattle.cfb_format.specs.Created.{created_bytes, created_header, empty_tree}
-use Rattle.cfb_format.proofs.ByteLemmas.{part_more}
+use Rattle.cfb_format.specs.Reading.{IsDirectory, IsOutline, IsMinifat, HasLength, Reads, IsStrict, IsStrictCount, numbers}
+use Rattle.cfb_format.specs.Created.{created_bytes, created_header}
 use Rattle.cfb_format.proofs.HeaderStart.{header_at_start}
 use Rattle.cfb_format.proofs.CreatedFacts.{header3}
 use Rattle.cfb_format.proofs.CreatedFacts4.{header4}
-use Rattle.cfb.specs.OneStream.{OneStream, content_sectors, used_fat, all_fat_words, second_entry, child_of, entries_with, header_sector, fat_bytes, directory_bytes, tables_with, IsServed, HoldsOne}
-use Rattle.cfb.proofs.ChainedFat.{words-written, all-append, all-replicate, tests-made, tests-replicate, word-is, used-points, used-length, used-at, used-fits, values-are, marks-are, pointers-are, word-inside, directory-chain}
-use Rattle.cfb.proofs.OneStreamFacts.{outline_with, reading_with, few-sectors, few-words, length-header_sector, length-fat_bytes, length-directory_bytes, IsBlock, block-at, entries-blocks, entries-kept, entries-length, zip-each, zip-strict}
+use Rattle.cfb.specs.OneStream.{OneStream, content_sectors, used_fat, all_fat_words, entries_with, header_sector, fat_bytes, directory_bytes, HoldsOne}
+use Rattle.cfb.proofs.ChainedFat.{words-written, all-append, all-replicate, tests-replicate, used-points, used-length, used-at, used-fits, values-are, marks-are, pointers-are, directory-chain}
+use Rattle.cfb.proofs.OneStreamFacts.{outline_with, reading_with, few-sectors, few-words, length-header_sector, length-fat_bytes, length-directory_bytes, block-at, entries-blocks, entries-kept, entries-length, zip-each, zip-strict}
 
 drop-behind : (n : ℕ) (xs ys : List ℕ) → n ≡ length xs → drop n (xs ++ ys) ≡ ys
 drop-behind n xs ys e = ap (λ k. drop k (xs ++ ys)) e ∙ drop-append_seam xs ys
@@ -60,7 +56,7 @@ three-long : (v : Version) → 3 * sector_len v ≡ sector_len v + (sector_len v
 three-long V3 = refl
 three-long V4 = refl
 
-words-all : (v : Version) (m : ℕ) → m + 2 ≤ words_per_sector v → length (all_fat_words v m) ≡ words_per_sector v
+pub words-all : (v : Version) (m : ℕ) → m + 2 ≤ words_per_sector v → length (all_fat_words v m) ≡ words_per_sector v
 words-all v m h =
     length-append (used_fat m) (replicate (words_per_sector v - (m + 2)) free_sector)
     ∙ (let a = used-length m (few-words v m h) in let b = length-replicate {A = ℕ} (words_per_sector v - (m + 2)) free_sector in omega (arith, a, b, h))

@@ -11,7 +11,7 @@ use Rattle.cfb.specs.OneStream.{OneStream, HoldsOne, tree_with}
 use Rattle.cfb.specs.Refusal.{Refusal}
 use Rattle.cfb.specs.Calls.{Call, Reply, refused}
 use Rattle.cfb.specs.Steps.{Step}
-use Rattle.cfb.specs.StreamCalls.{StreamSetting, StreamState, StreamCall, StreamReply, not_done, StreamStep}
+use Rattle.cfb.specs.StreamCalls.{StreamSetting, StreamState, StreamCall, not_done, StreamStep}
 
 -- a refused call changes no tree
 abbrev pub RefusedCallsChangeNothing : Type 0

@@ -11,4 +11,6 @@ pub mod CallReplies
 pub mod Steps
 pub mod StreamCalls
 pub mod Runs
+pub mod Answers
+pub mod Streams
 pub mod Laws

@@ -11,7 +11,7 @@ use Rattle.cfb_format.specs.DirectoryEntry.{Entry, entry_bytes, empty_root_entry
 use Rattle.cfb_format.specs.Content.{mini_stream_cutoff}
 use Rattle.cfb_format.specs.Medium.{part}
 use Rattle.cfb_format.specs.Created.{created_header, empty_tree}
-use Rattle.cfb_format.specs.Tree.{Tree, Objects, nothing, stream}
+use Rattle.cfb_format.specs.Tree.{Tree, nothing, stream}
 
 -- the stream: its name and its length
 pub record OneStream : Type 0 where
@@ -60,6 +60,10 @@ stream_entry s = record {
   stream_len = s.len;
 }
 
+-- the stream of an entry
+abbrev pub stream_of : Entry → OneStream
+stream_of e = record { name = e.name; len = e.stream_len }
+
 -- what stands in slot 1
 abbrev pub second_entry : Option OneStream → Entry
 second_entry None = unallocated_entry
@@ -88,6 +92,10 @@ fat_bytes version m = word_bytes (all_fat_words version m)
 
 unfoldable pub directory_bytes : Version → Option OneStream → List ℕ
 directory_bytes version held = flat_map entry_bytes (entries_with version held)
+
+-- the directory's sector with these two entries
+unfoldable pub directory_with : Version → Entry → Entry → List ℕ
+directory_with version root second = flat_map entry_bytes (root ∷ second ∷ replicate (entries_per_sector version - 2) unallocated_entry)
 
 -- the bytes before the content
 abbrev pub tables_with : Version → Option OneStream → List ℕ

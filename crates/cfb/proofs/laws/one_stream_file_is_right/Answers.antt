@@ -1,4 +1,4 @@
-use Rattle.std.proofs.Common.{◌≡◌, refl, append-nil, sym, ◌∙◌, List, []}
+use Rattle.std.proofs.Common.{◌≡◌, refl, append-nil, sym, ◌∙◌, []}
 use Rattle.std.specs.Prelude.{None}
 use Rattle.cfb_format.specs.declared.version.Version.{Version}
 use Rattle.cfb_format.specs.declared.version.Version.TheVariants.{V3, V4}

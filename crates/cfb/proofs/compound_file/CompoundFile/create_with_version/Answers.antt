@@ -1,4 +1,4 @@
-use Rattle.std.proofs.Common.{◌≡◌, sym, subst}
+use Rattle.std.proofs.Common.{sym, subst}
 use Rattle.cfb_format.specs.Created.{created_bytes}
 use Rattle.cfb.specs.Files.{IsEmptyFile}
 use Rattle.cfb.proofs.compound_file.CompoundFile.create_with_version.Goals as goal
