@@ -3,8 +3,10 @@ pub mod OneStreamFacts
 pub mod OneStreamReads
 pub mod OneStreamMeans
 pub mod LayoutLemmas
+pub mod ContentLemmas
 pub mod Running
 pub mod CallRunning
+pub mod StreamRunning
 pub mod Pieces
 pub mod Refusing
 pub mod CallFacts

@@ -1,9 +1,10 @@
 -- What calls answer on a file, by the rules of calls.
-use Rattle.std.specs.Prelude.{◌≡◌, ◌≤◌, ◌*◌, ◌⊎◌, ℕ, List, [], ◌∷◌, Bool, true, false, Option, Some, None, is_some, unwrap_or, Result, Ok, Err, ⊤}
+use Rattle.std.specs.Prelude.{◌≡◌, ◌<◌, ◌≤◌, ◌+◌, ◌-◌, ◌++◌, length, replicate, ◌*◌, ◌⊎◌, ℕ, List, [], ◌∷◌, Bool, true, false, Option, Some, None, is_some, unwrap_or, Result, Ok, Err, ⊤}
 use Rattle.cfb_format.specs.declared.error.Error.{Error}
 use Rattle.cfb_format.specs.declared.error.Error.TheVariants.{NotFound, AlreadyExists, InvalidInput, InvalidData, Medium, Memory, Full, Unsound, Failed, Unsupported}
 use Rattle.cfb_format.specs.declared.medium.MediumFault.{MediumFault}
-use Rattle.cfb_format.specs.Bytes.{max_stream_len, sector_len}
+use Rattle.cfb_format.specs.Bytes.{max_stream_len, sector_len, words_per_sector}
+use Rattle.cfb_format.specs.Content.{mini_stream_cutoff}
 use Rattle.cfb_format.specs.Medium.{Rises, FailsBy, written}
 use Rattle.cfb_format.specs.Names.{Cases, is_valid_name}
 use Rattle.cfb_format.specs.Path.{names_of_path}
@@ -14,7 +15,7 @@ use Rattle.cfb_format.specs.Meaning.{Means}
 use Rattle.cfb.specs.Refusal.{Refusal, IsRefusal, not_found, already_exists, invalid_input, failed_earlier}
 use Rattle.cfb.specs.Calls.{Call, Reply, refused, create_stream, create_new_stream}
 use Rattle.cfb.specs.CallRefusals.{refusal_of, creation_refusal, is_a_stream, never}
-use Rattle.cfb.specs.OneStream.{directory_bytes}
+use Rattle.cfb.specs.OneStream.{fat_bytes, directory_bytes, sectors_for}
 use Rattle.cfb.specs.Runs.{Causes, Setting, CallRuns, StreamRun, StreamCallRuns}
 use Rattle.cfb.specs.StreamCalls.{StreamState, StreamCall, StreamReply, not_done, opened}
 use Rattle.cfb.specs.OneStream.{OneStream, IsServedName, tree_with, content_of}
@@ -212,3 +213,44 @@ pub record IsStreamRefusedBy (can_give : MediumFault → Bool) (old : FileState)
 abbrev pub closing : {T : Type 0} → Result T Error → Option Refusal
 closing (Ok x) = None
 closing (Err e) = Some failed_earlier
+
+-- a write that is not served yet: into a stream with content, or of a length that one FAT sector and sectors of their own don't serve
+pub record IsNotYetWritten (old : FileState) (wanted : ℕ) (e : Error) : Type 0 where
+  pub error : e ≡ Unsupported
+  pub unfailed : old.is_failed ≡ false
+  pub beyond : (0 < held_len old.held) ⊎ ((wanted < mini_stream_cutoff) ⊎ ((words_per_sector old.version - 2) * sector_len old.version < wanted))
+
+-- the stream is empty, and this many bytes can be written
+pub record IsFillable (file : FileState) (wanted : ℕ) (name : List ℕ) : Type 0 where
+  pub unfailed : file.is_failed ≡ false
+  pub held : file.held ≡ Some (record { name = name; len = 0 })
+  pub named : IsServedName name
+  pub least : mini_stream_cutoff ≤ wanted
+  pub most : wanted ≤ (words_per_sector file.version - 2) * sector_len file.version
+
+-- why nothing is written
+abbrev pub IsNotFillable : FileState → ℕ → Error → Type 0
+IsNotFillable file wanted Failed = file.is_failed ≡ true
+IsNotFillable file wanted Unsupported = (file.is_failed ≡ false) × ((is_some file.held ≡ false) ⊎ ((0 < held_len file.held)
+    ⊎ ((wanted < mini_stream_cutoff) ⊎ ((words_per_sector file.version - 2) * sector_len file.version < wanted))))
+IsNotFillable file wanted Memory = file.is_failed ≡ false
+IsNotFillable file wanted (NotFound d) = ⊥
+IsNotFillable file wanted (AlreadyExists d) = ⊥
+IsNotFillable file wanted (InvalidInput d) = ⊥
+IsNotFillable file wanted (InvalidData d) = ⊥
+IsNotFillable file wanted (Medium fault) = ⊥
+IsNotFillable file wanted Full = ⊥
+IsNotFillable file wanted Unsound = ⊥
+
+-- the stream's sectors were written, and then the FAT and the directory
+pub record IsFilled (old new : FileState) (s : OneStream) (bytes : List ℕ) : Type 0 where
+  pub padding : ℕ
+  pub padded : length bytes + padding ≡ sectors_for old.version (length bytes) * sector_len old.version
+  pub bytes_are : new.bytes ≡ written (written ((old.bytes ++ bytes) ++ replicate padding 0) (sector_len old.version)
+      (fat_bytes old.version (sectors_for old.version (length bytes)))) (2 * sector_len old.version) (directory_bytes old.version (Some s))
+  pub version : new.version ≡ old.version
+  pub sound : new.is_sound ≡ old.is_sound
+  pub cases : new.cases ≡ old.cases
+  pub held : new.held ≡ Some s
+  pub unfailed : new.is_failed ≡ false
+  pub failures : new.failures ≡ old.failures

@@ -1,14 +1,16 @@
 //! Compound files.
-ghost use Rattle.std.specs.Prelude.{◌≡◌, ◌≤◌, ◌&&◌, ◌==◌, [], ◌∷◌, true, false, not, nat_le, length, IsTrue, IfOk, IfErr, OnOk, chars, string_bytes};
+ghost use Rattle.std.specs.Prelude.{◌≡◌, ◌<◌, ◌≤◌, ◌+◌, ◌*◌, ◌-◌, ◌&&◌, ◌==◌, [], ◌∷◌, true, false, not, nat_le, length, IsTrue, IfOk, IfErr, OnOk, chars, string_bytes};
 ghost use Rattle.std.specs.List.{list_all};
+ghost use Rattle.cfb_format.specs.Bytes.{sector_len, words_per_sector};
 ghost use Rattle.cfb_format.specs.Names.{is_valid_name};
 ghost use Rattle.cfb_format.specs.Path.{names_left};
 ghost use Rattle.cfb.specs.Finding.{last_name};
 ghost use Rattle.cfb.specs.Answers.{is_nil, IsInvalidName};
 
+use crate::content::{Sectors, write_stream};
 use crate::created::{EmptySlots, write_created};
 use crate::held::HeldStream;
-use crate::layout::{directory_sector, sector_buffer};
+use crate::layout::{directory_sector, fat_sector, padding, sector_buffer, sectors_for};
 use crate::opening::{is_as_created, read_head};
 use cfb_format::error::{Detail, Error};
 use cfb_format::laws;
@@ -386,8 +388,10 @@ impl<F: Medium, A: Allocator + Clone> CompoundFile<F, A> {
 impl<F: Medium, A: Allocator + Clone> CompoundFile<F, A> {
     ghost use Rattle.std.specs.Prelude.{None, Some};
     ghost use Rattle.cfb.specs.Calls.{done};
+    ghost use Rattle.cfb.specs.StreamCalls.{write, count};
+    ghost use Rattle.cfb.specs.Answers.{StreamRunsOn, IsStreamRefusedBy, IsNotYetWritten};
     ghost use Rattle.cfb.specs.Files.{Agrees};
-    ghost use Rattle.cfb.specs.Answers.{IsPut, IsNotPut, IsNotYet, IsOpen, IsRefusedBy, RunsOn, causes_of, creation};
+    ghost use Rattle.cfb.specs.Answers.{IsPut, IsNotPut, IsFillable, IsNotFillable, IsFilled, IsNotYet, IsOpen, IsRefusedBy, RunsOn, causes_of, creation};
 
     /// Writes the directory's sector with a stream. `Medium` where the medium failed, and the file has
     /// failed then; `Memory`.
@@ -430,6 +434,94 @@ impl<F: Medium, A: Allocator + Clone> CompoundFile<F, A> {
             Ok(()) => Ok(()),
             Err(e) => Err(e),
         }
+    }
+
+    /// The name of the stream, if it is empty and this many bytes can be written into it. `Failed` on
+    /// a failed file, `Unsupported` where that is not built yet; `Memory`.
+    fn name_to_fill(&self, wanted: usize) -> Result<String<A>, Error>
+        ensures ok { IfOk result (λ name. IsFillable self.now wanted (chars (string_bytes name))) }
+        ensures refused { IfErr result (IsNotFillable self.now wanted) }
+    {
+        if self.is_failed() {
+            return Err(Error::Failed);
+        }
+        let Some(stream) = &self.held else {
+            return Err(Error::Unsupported);
+        };
+        if stream.len() > 0 || wanted < 4096 || wanted > max_len(self.version) {
+            return Err(Error::Unsupported);
+        }
+        match own_name(&self.alloc, stream.name()) {
+            Ok(name) => Ok(name),
+            Err(e) => Err(e),
+        }
+    }
+
+    /// Writes bytes into the stream at this position, and answers how many: all of them. `Failed` on a
+    /// failed file. Writing no byte does nothing. `Unsupported` where the stream has content, or the
+    /// bytes are fewer than 4096 or more than one FAT sector covers: that is not built yet. `Medium`
+    /// where the medium failed, and the file has failed then; `Memory`.
+    pub(crate) fn write_from(&mut self, position: u64, bytes: &[u8]) -> Result<usize, Error>
+        ensures runs { IsTrue F.tells → IsOpen self.old position → IfOk result (λ n.
+            StreamRunsOn self.old position (write bytes.now) (count n) self.new (position + n)) }
+        ensures is_open { IsTrue F.tells → IsOpen self.old position → IfOk result (λ n. IsOpen self.new (position + n)) }
+        ensures refused { IsTrue F.tells → IsOpen self.old position → IfErr result (IsStreamRefusedBy F.write_faults self.old position
+            (write bytes.now) (IsNotYetWritten self.old (length bytes.now)) self.new position) }
+    {
+        if self.is_failed() {
+            return Err(Error::Failed);
+        }
+        if bytes.is_empty() {
+            return Ok(0);
+        }
+        let name = match self.name_to_fill(bytes.len()) {
+            Ok(name) => name,
+            Err(e) => return Err(e),
+        };
+        let stream = HeldStream::with_len(name, bytes.len() as u64);
+        match self.put_content(stream, bytes) {
+            Ok(()) => Ok(bytes.len()),
+            Err(e) => Err(e),
+        }
+    }
+
+    /// Writes a stream into a file whose stream is empty. `Medium` where the medium failed, and the
+    /// file has failed then; `Memory`.
+    fn put_content(&mut self, stream: HeldStream<A>, bytes: &[u8]) -> Result<(), Error>
+        requires unfailed { self.old.is_failed ≡ false }
+        requires some { 0 < length bytes.now }
+        requires few { length bytes.now ≤ (words_per_sector self.old.version - 2) * sector_len self.old.version }
+        ensures ok { IsTrue F.tells → length self.old.bytes ≡ 3 * sector_len self.old.version → OnOk result (IsFilled self.old self.new stream bytes.now) }
+        ensures err { IsTrue F.tells → IfErr result (IsNotPut F.write_faults self.old self.new) }
+    {
+        let count = sectors_for(self.version, bytes.len());
+        let held = Some(stream);
+        let fat = fat_sector(self.alloc.clone()?, self.version, count)?;
+        let directory = directory_sector(self.alloc.clone()?, self.version, &held)?;
+        let padding = padding(self.version, bytes.len());
+        self.failed = true;
+        let sectors = Sectors {
+            bytes,
+            padding,
+            fat: &fat,
+            directory: &directory,
+        };
+        if let Err(fault) = write_stream(&mut self.medium, self.version, &sectors) {
+            return Err(Error::Medium(fault));
+        }
+        self.held = held;
+        self.failed = false;
+        Ok(())
+    }
+}
+
+/// The greatest length of a stream that one FAT sector covers.
+fn max_len(version: Version) -> usize
+    ensures { result ≡ (words_per_sector version - 2) * sector_len version }
+{
+    match version {
+        Version::V3 => 64512,
+        Version::V4 => 4186112,
     }
 }
 

@@ -1,5 +1,5 @@
 //! The one stream that a file may have, for now.
-ghost use Rattle.std.specs.Prelude.{◌≡◌, ◌≤◌, chars, string_bytes, IfErr, IfOk};
+ghost use Rattle.std.specs.Prelude.{◌≡◌, ◌<◌, ◌≤◌, chars, string_bytes, IfErr, IfOk};
 ghost use Rattle.cfb_format.specs.DirectoryEntry.{entry_bytes, unallocated_entry};
 ghost use Rattle.cfb.specs.OneStream.{IsServedName, stream_entry, second_entry, root_with, child_of};
 
@@ -44,9 +44,22 @@ impl<A: Allocator> HeldStream<A> {
         }
     }
 
+    /// A stream of this length, which begins behind the directory's sector.
+    pub fn with_len(name: String<A>, len: u64) -> HeldStream<A>
+        requires served { IsServedName (chars (string_bytes name)) }
+        requires len { (0 < len) × (len ≤ 4186112) }
+        ensures { result ≡ record { name = chars (string_bytes name); len = len } }
+    {
+        let mut entry = DirEntry::new(name, ObjType::Stream, Timestamp::zero());
+        entry.start_sector = 2;
+        entry.stream_len = len;
+        HeldStream { entry }
+    }
+
     /// Its name.
     pub fn name(&self) -> &str
-        ensures { chars result.now ≡ self.now.name }
+        ensures name { chars result.now ≡ self.now.name }
+        ensures served { IsServedName self.now.name }
     {
         self.entry.name.as_str()
     }

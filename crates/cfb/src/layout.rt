@@ -1,8 +1,8 @@
 //! The FAT sector and the directory sector of a file with at most one stream.
-ghost use Rattle.std.specs.Prelude.{◌≡◌, ◌+◌, ◌<◌, ◌≤◌, length, vec_len, IfOk, IfErr};
+ghost use Rattle.std.specs.Prelude.{◌≡◌, ◌+◌, ◌*◌, ◌<◌, ◌≤◌, length, vec_len, IfOk, IfErr};
 ghost use Rattle.cfb_format.specs.Bytes.{sector_len as len_of, words_per_sector, free_sector};
 ghost use Rattle.cfb_format.specs.DirectoryEntry.{Entry, entry_bytes, unallocated_entry};
-ghost use Rattle.cfb.specs.OneStream.{fat_word as word_of, fat_bytes, directory_bytes, directory_with};
+ghost use Rattle.cfb.specs.OneStream.{fat_word as word_of, fat_bytes, directory_bytes, directory_with, sectors_for as sectors_of};
 
 use crate::held::{HeldStream, Slots};
 use cfb_format::bytes::{put, put_words};
@@ -70,11 +70,49 @@ pub fn directory_sector<A: Allocator + Clone>(
     held: &Option<HeldStream<A>>,
 ) -> Result<Vec<u8, A>, Error>
     ensures ok { IfOk result (λ sector. sector.items ≡ directory_bytes version held.now) }
+    ensures len { IfOk result (λ sector. vec_len sector ≡ len_of version) }
     ensures some { IfOk result (λ sector. 0 < vec_len sector) }
     ensures err { IfErr result (λ e. e ≡ Error.Memory) }
 {
     let slots = Slots::new(alloc.clone()?, held)?;
     let mut sector = sector_buffer(alloc, version)?;
     lay_out_directory(version, &slots, &mut sector);
+    Ok(sector)
+}
+
+/// How many sectors a stream of this length takes.
+pub fn sectors_for(version: Version, len: usize) -> u32
+    requires { len ≤ 4186112 }
+    ensures { result ≡ sectors_of version len }
+{
+    len.div_ceil(version.sector_len()) as u32
+}
+
+/// How many zeros fill the last sector of a stream of this length.
+pub fn padding(version: Version, len: usize) -> usize
+    requires { len ≤ 4186112 }
+    ensures padded { len + result ≡ sectors_of version len * len_of version }
+    ensures most { result ≤ 4096 }
+{
+    match version {
+        Version::V3 => (512 - len % 512) % 512,
+        Version::V4 => (4096 - len % 4096) % 4096,
+    }
+}
+
+/// The FAT sector for `count` sectors behind the directory's. `Memory`.
+pub fn fat_sector<A: Allocator + Clone>(
+    alloc: A,
+    version: Version,
+    count: u32,
+) -> Result<Vec<u8, A>, Error>
+    requires few { count + 2 ≤ words_per_sector version }
+    ensures ok { IfOk result (λ sector. sector.items ≡ fat_bytes version count) }
+    ensures len { IfOk result (λ sector. vec_len sector ≡ len_of version) }
+    ensures some { IfOk result (λ sector. 0 < vec_len sector) }
+    ensures err { IfErr result (λ e. e ≡ Error.Memory) }
+{
+    let mut sector = sector_buffer(alloc, version)?;
+    lay_out_fat(version, count, &mut sector);
     Ok(sector)
 }

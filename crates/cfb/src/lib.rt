@@ -2,6 +2,7 @@
 #![tactic(auto)]
 
 mod compound_file;
+mod content;
 mod created;
 mod held;
 pub mod laws;

@@ -1,5 +1,5 @@
 //! Streams, as lists of bytes with a position.
-ghost use Rattle.std.specs.Prelude.{◌≡◌, true, false, IsTrue, IfOk, IfErr, OnOk, chars};
+ghost use Rattle.std.specs.Prelude.{◌≡◌, ◌≤◌, ◌+◌, length, true, false, IsTrue, IfOk, IfErr, OnOk, chars};
 ghost use Rattle.std.specs.Borrow.{sem};
 
 use crate::compound_file::CompoundFile;
@@ -94,7 +94,8 @@ impl<F: Medium, A: Allocator + Clone> CompoundFile<F, A> {
 
 impl<'a, F: Medium, A: Allocator> Stream<'a, F, A> {
     ghost use Rattle.cfb.specs.Runs.{Closes};
-    ghost use Rattle.cfb.specs.Answers.{held_len, causes_of, stream_run, closing};
+    ghost use Rattle.cfb.specs.StreamCalls.{write, count};
+    ghost use Rattle.cfb.specs.Answers.{held_len, causes_of, stream_run, closing, IsOpen, StreamRunsOn, IsStreamRefusedBy, IsNotYetWritten};
     ghost use Rattle.cfb.specs.Streams.{file_of, position_of};
 
     /// The length of the stream, in bytes.
@@ -102,6 +103,30 @@ impl<'a, F: Medium, A: Allocator> Stream<'a, F, A> {
         ensures { result ≡ held_len (file_of self.now).now.held }
     {
         self.file.held_len()
+    }
+
+    /// Writes bytes at the position, and answers how many. Writing no byte does nothing. `Failed` on a
+    /// failed file. `Unsupported` where the stream has content, or the bytes are fewer than 4096 or
+    /// more than one FAT sector covers: that is not built yet. `Medium` where the medium failed, and
+    /// the file has failed then; `Memory`.
+    pub fn write(&mut self, bytes: &[u8]) -> Result<usize, Error>
+    where
+        A: Clone,
+        ensures same_file { (file_of self.new).ghost_name ≡ (file_of self.old).ghost_name }
+        ensures runs { IsTrue F.tells → IsOpen (file_of self.old).now (position_of self.old) → IfOk result (λ n.
+            StreamRunsOn (file_of self.old).now (position_of self.old) (write bytes.now) (count n) (file_of self.new).now (position_of self.new)) }
+        ensures is_open { IsTrue F.tells → IsOpen (file_of self.old).now (position_of self.old)
+            → OnOk result (IsOpen (file_of self.new).now (position_of self.new)) }
+        ensures refused { IsTrue F.tells → IsOpen (file_of self.old).now (position_of self.old) → IfErr result (IsStreamRefusedBy F.write_faults
+            (file_of self.old).now (position_of self.old) (write bytes.now) (IsNotYetWritten (file_of self.old).now (length bytes.now))
+            (file_of self.new).now (position_of self.new)) }
+    {
+        let written = match self.file.write_from(self.position, bytes) {
+            Ok(written) => written,
+            Err(e) => return Err(e),
+        };
+        self.position = place_after(self.position, written, self.file.held_len());
+        Ok(written)
     }
 
     /// Ends the work on the stream. Nothing is kept back, so nothing is written; `Failed` on a failed
@@ -116,6 +141,14 @@ impl<'a, F: Medium, A: Allocator> Stream<'a, F, A> {
         let Stream { file, position: _ } = self;
         finish(file)
     }
+}
+
+/// The place `count` bytes behind a position, in a stream of this length.
+fn place_after(position: u64, count: usize, len: u64) -> u64
+    requires { len ≤ 4186112 }
+    ensures { position + count ≤ len → result ≡ position + count }
+{
+    position.saturating_add(count as u64).min(len)
 }
 
 fn finish<F: Medium, A: Allocator>(file: &mut CompoundFile<F, A>) -> Result<(), Error>
