@@ -42,20 +42,20 @@ stream-failed old position call failed refusable =
     ⊎ IsStreamBroken (causes_of old old) (state_at old old.held position) call (not_done failed_earlier) (stream_run old position))) (sym failed)
     (failed, subst (λ b. MatchBool b ⊤ (not_done failed_earlier ≡ not_done failed_earlier)) (sym refusable) refl)
 
-match-true : (b : Bool) (X Y : Type 0) → b ≡ true → X → MatchBool b X Y
+pub match-true : (b : Bool) (X Y : Type 0) → b ≡ true → X → MatchBool b X Y
 match-true true X Y e x = x
 match-true false X Y e x = cc
 
-match-false : (b : Bool) (X Y : Type 0) → b ≡ false → Y → MatchBool b X Y
+pub match-false : (b : Bool) (X Y : Type 0) → b ≡ false → Y → MatchBool b X Y
 match-false true X Y e y = cc
 match-false false X Y e y = y
 
 -- nothing is kept back
-calm : (file : FileState) (held : Option OneStream) (position : ℕ) → (state_at file held position).pending ≡ false
+pub calm : (file : FileState) (held : Option OneStream) (position : ℕ) → (state_at file held position).pending ≡ false
 calm file None position = refl
 calm file (Some s) position = refl
 
-unlent : (file : FileState) (held : Option OneStream) (position : ℕ) → state_at file held position ≡ record (state_at file held position) { ahead = 0 }
+pub unlent : (file : FileState) (held : Option OneStream) (position : ℕ) → state_at file held position ≡ record (state_at file held position) { ahead = 0 }
 unlent file None position = refl
 unlent file (Some s) position = refl
 

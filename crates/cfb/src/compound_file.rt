@@ -7,14 +7,14 @@ ghost use Rattle.cfb_format.specs.Path.{names_left};
 ghost use Rattle.cfb.specs.Finding.{last_name};
 ghost use Rattle.cfb.specs.Answers.{is_nil, IsInvalidName};
 
-use crate::content::{Sectors, write_stream};
+use crate::content::{Sectors, piece_len, read_piece, write_stream};
 use crate::created::{EmptySlots, write_created};
 use crate::held::HeldStream;
 use crate::layout::{directory_sector, fat_sector, padding, sector_buffer, sectors_for};
 use crate::opening::{is_as_created, read_head};
 use cfb_format::error::{Detail, Error};
 use cfb_format::laws;
-use cfb_format::medium::{Medium, ReadMedium};
+use cfb_format::medium::{Medium, MediumFault, ReadMedium};
 use cfb_format::path::{CaseMapper, compare_names, next_name, stays_below_root, validate_name};
 use cfb_format::transfer::write_all_at;
 use cfb_format::validate::Validation;
@@ -388,8 +388,11 @@ impl<F: Medium, A: Allocator + Clone> CompoundFile<F, A> {
 impl<F: Medium, A: Allocator + Clone> CompoundFile<F, A> {
     ghost use Rattle.std.specs.Prelude.{None, Some};
     ghost use Rattle.cfb.specs.Calls.{done};
-    ghost use Rattle.cfb.specs.StreamCalls.{write, count};
-    ghost use Rattle.cfb.specs.Answers.{StreamRunsOn, IsStreamRefusedBy, IsNotYetWritten};
+    ghost use Rattle.cfb.specs.StreamCalls.{read, write, count, got};
+    ghost use Rattle.std.specs.Prelude.{◌%◌, ℕ, take};
+    ghost use Rattle.cfb_format.specs.Medium.{part, FailsBy};
+    ghost use Rattle.cfb.specs.OneStream.{IsLinked};
+    ghost use Rattle.cfb.specs.Answers.{StreamRunsOn, IsStreamRefusedBy, IsNotYetWritten, never_yet};
     ghost use Rattle.cfb.specs.Files.{Agrees};
     ghost use Rattle.cfb.specs.Answers.{IsPut, IsNotPut, IsFillable, IsNotFillable, IsFilled, IsNotYet, IsOpen, IsRefusedBy, RunsOn, causes_of, creation};
 
@@ -454,6 +457,47 @@ impl<F: Medium, A: Allocator + Clone> CompoundFile<F, A> {
         match own_name(&self.alloc, stream.name()) {
             Ok(name) => Ok(name),
             Err(e) => Err(e),
+        }
+    }
+
+    /// Reads bytes of the stream that lie in one sector.
+    fn read_held(&mut self, position: u64, into: &mut [u8]) -> Result<(), MediumFault>
+        requires some { 0 < length into.old }
+        requires one { position % sector_len self.old.version + length into.old ≤ sector_len self.old.version }
+        ensures same { IsTrue F.tells → self.new ≡ record self.old { failures = self.new.failures } }
+        ensures ok { (m : ℕ) → IsTrue F.tells → IsLinked self.old.version self.old.bytes m → position + length into.old ≤ m * sector_len self.old.version
+            → OnOk result (into.new ≡ part self.old.bytes (3 * sector_len self.old.version + position) (length into.old)) }
+        ensures calm { IsTrue F.tells → OnOk result (self.new.failures ≡ self.old.failures) }
+        ensures err { (m : ℕ) → IsTrue F.tells → IsLinked self.old.version self.old.bytes m → position + length into.old ≤ m * sector_len self.old.version
+            → IfErr result (FailsBy F.read_faults self.old.failures self.new.failures) }
+    {
+        match read_piece(&mut self.medium, self.version, position, into) {
+            Ok(()) => Ok(()),
+            Err(fault) => Err(fault),
+        }
+    }
+
+    /// Reads bytes of the stream from this position on, up to the end of a sector, and answers how
+    /// many: at least one, unless there is no room or the position is the end. `Failed` on a failed
+    /// file; `Medium` where the medium failed, and then nothing has changed.
+    pub(crate) fn read_from(&mut self, position: u64, into: &mut [u8]) -> Result<usize, Error>
+        ensures bound { IfOk result (λ n. n ≤ length into.new) }
+        ensures runs { IsTrue F.tells → IsOpen self.old position → IfOk result (λ n.
+            StreamRunsOn self.old position (read (length into.old)) (got (take n into.new)) self.new (position + n)) }
+        ensures is_open { IsTrue F.tells → IsOpen self.old position → IfOk result (λ n. IsOpen self.new (position + n)) }
+        ensures refused { IsTrue F.tells → IsOpen self.old position → IfErr result (IsStreamRefusedBy F.read_faults self.old position
+            (read (length into.old)) never_yet self.new position) }
+    {
+        if self.is_failed() {
+            return Err(Error::Failed);
+        }
+        let wanted = piece_len(self.version, position, self.held_len(), into.len());
+        if wanted == 0 {
+            return Ok(0);
+        }
+        match self.read_held(position, &mut into[..wanted]) {
+            Ok(()) => Ok(wanted),
+            Err(fault) => Err(Error::Medium(fault)),
         }
     }
 

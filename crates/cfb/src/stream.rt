@@ -1,5 +1,5 @@
 //! Streams, as lists of bytes with a position.
-ghost use Rattle.std.specs.Prelude.{◌≡◌, ◌≤◌, ◌+◌, length, true, false, IsTrue, IfOk, IfErr, OnOk, chars};
+ghost use Rattle.std.specs.Prelude.{◌≡◌, ◌≤◌, ◌+◌, length, take, true, false, IsTrue, IfOk, IfErr, OnOk, chars};
 ghost use Rattle.std.specs.Borrow.{sem};
 
 use crate::compound_file::CompoundFile;
@@ -94,8 +94,8 @@ impl<F: Medium, A: Allocator + Clone> CompoundFile<F, A> {
 
 impl<'a, F: Medium, A: Allocator> Stream<'a, F, A> {
     ghost use Rattle.cfb.specs.Runs.{Closes};
-    ghost use Rattle.cfb.specs.StreamCalls.{write, count};
-    ghost use Rattle.cfb.specs.Answers.{held_len, causes_of, stream_run, closing, IsOpen, StreamRunsOn, IsStreamRefusedBy, IsNotYetWritten};
+    ghost use Rattle.cfb.specs.StreamCalls.{read, write, count, got};
+    ghost use Rattle.cfb.specs.Answers.{held_len, causes_of, stream_run, closing, IsOpen, StreamRunsOn, IsStreamRefusedBy, IsNotYetWritten, never_yet};
     ghost use Rattle.cfb.specs.Streams.{file_of, position_of};
 
     /// The length of the stream, in bytes.
@@ -103,6 +103,29 @@ impl<'a, F: Medium, A: Allocator> Stream<'a, F, A> {
         ensures { result ≡ held_len (file_of self.now).now.held }
     {
         self.file.held_len()
+    }
+
+    /// Reads bytes from the position on into a beginning of `into`, and answers how many: at least one,
+    /// unless there is no room or the position is the end. `Failed` on a failed file; `Medium` where
+    /// the medium failed, and then the stream is as before.
+    pub fn read(&mut self, into: &mut [u8]) -> Result<usize, Error>
+    where
+        A: Clone,
+        ensures same_file { (file_of self.new).ghost_name ≡ (file_of self.old).ghost_name }
+        ensures bound { IfOk result (λ n. n ≤ length into.new) }
+        ensures runs { IsTrue F.tells → IsOpen (file_of self.old).now (position_of self.old) → IfOk result (λ n.
+            StreamRunsOn (file_of self.old).now (position_of self.old) (read (length into.old)) (got (take n into.new)) (file_of self.new).now (position_of self.new)) }
+        ensures is_open { IsTrue F.tells → IsOpen (file_of self.old).now (position_of self.old)
+            → OnOk result (IsOpen (file_of self.new).now (position_of self.new)) }
+        ensures refused { IsTrue F.tells → IsOpen (file_of self.old).now (position_of self.old) → IfErr result (IsStreamRefusedBy F.read_faults
+            (file_of self.old).now (position_of self.old) (read (length into.old)) never_yet (file_of self.new).now (position_of self.new)) }
+    {
+        let served = match self.file.read_from(self.position, into) {
+            Ok(served) => served,
+            Err(e) => return Err(e),
+        };
+        self.position = place_after(self.position, served, self.file.held_len());
+        Ok(served)
     }
 
     /// Writes bytes at the position, and answers how many. Writing no byte does nothing. `Failed` on a
