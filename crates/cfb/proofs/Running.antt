@@ -12,9 +12,9 @@ use Rattle.cfb.specs.Finding.{object_at, found_from}
 use Rattle.cfb.specs.CallRefusals.{is_a_stream, always}
 use Rattle.cfb.specs.CallReplies.{has_object}
 use Rattle.cfb.specs.Runs.{Causes, CallRuns}
-use Rattle.cfb.specs.OneStream.{OneStream, tree_with, content_of}
-use Rattle.cfb.specs.Files.{FileState, Agrees}
-use Rattle.cfb.specs.Laws.{OneStreamMeansItsTree}
+use Rattle.cfb.specs.OneStream.{OneStream, HoldsOne, tree_with, content_of}
+use Rattle.cfb.specs.Files.{FileState, Agrees, IsAsCreated}
+use Rattle.cfb.specs.Laws.{OneStreamMeansItsTree, CreatedHoldsNone}
 use Rattle.cfb.specs.Answers.{is_nil, is_held, has_stream, setting_of, tree_now, RunsOn}
 
 -- what holds for the tree that is kept holds for the tree that the bytes mean
@@ -33,6 +33,13 @@ runs-from one right causes old new call reply agrees after runs = λ tree means.
         → CallRuns causes (setting_of old) (record { tree = tree; failed = b }) call reply (record { tree = tree_now new; failed = new.is_failed })
     go false tree same runs = subst (λ t. CallRuns causes (setting_of old) (record { tree = t; failed = false }) call reply (record { tree = tree_now new; failed = new.is_failed })) (same refl) runs
     go true tree same runs = runs
+
+-- a file that was just created, or opened as it was created
+pub created-agrees : CreatedHoldsNone → (file : FileState) → IsAsCreated file → Agrees file
+created-agrees created file made = record {
+  sound = made.sound;
+  holds = λ _. subst (λ h. HoldsOne file.version h file.bytes) (sym made.held) (subst (HoldsOne file.version None) (sym made.bytes) (created file.version));
+}
 
 -- ---- finding
 

@@ -286,7 +286,7 @@ impl<F: ReadMedium, A: Allocator> CompoundFile<F, A> {
 }
 
 impl<F: ReadMedium, A: Allocator + Clone> CompoundFile<F, A> {
-    ghost use Rattle.cfb.specs.Files.{IsEmptyFile};
+    ghost use Rattle.cfb.specs.Files.{Agrees, IsEmptyFile};
     ghost use Rattle.cfb.specs.Opening.{OpeningAnswers};
 
     /// Opens a compound file, and reads what does no harm as the value that it should have.
@@ -298,6 +298,7 @@ impl<F: ReadMedium, A: Allocator + Clone> CompoundFile<F, A> {
         ensures answer { IsTrue F.tells
             → OpeningAnswers F.read_faults Validation.Permissive (F.bytes medium) (F.failures medium) result }
         ensures empty { IsTrue F.tells → IfOk result (λ file. IsEmptyFile file.bytes) }
+        ensures agrees { IsTrue F.tells → IfOk result Agrees }
     {
         Self::open_as(alloc, medium, Validation::Permissive)
     }
@@ -308,6 +309,7 @@ impl<F: ReadMedium, A: Allocator + Clone> CompoundFile<F, A> {
         ensures answer { IsTrue F.tells
             → OpeningAnswers F.read_faults Validation.Strict (F.bytes medium) (F.failures medium) result }
         ensures empty { IsTrue F.tells → IfOk result (λ file. IsEmptyFile file.bytes) }
+        ensures agrees { IsTrue F.tells → IfOk result Agrees }
     {
         Self::open_as(alloc, medium, Validation::Strict)
     }
@@ -316,9 +318,11 @@ impl<F: ReadMedium, A: Allocator + Clone> CompoundFile<F, A> {
         ensures answer { IsTrue F.tells
             → OpeningAnswers F.read_faults validation (F.bytes medium) (F.failures medium) result }
         ensures empty { IsTrue F.tells → IfOk result (λ file. IsEmptyFile file.bytes) }
+        ensures agrees { IsTrue F.tells → IfOk result Agrees }
     {
         laws::created_file_is_right();
         laws::header_is_at_the_start();
+        crate::laws::one_stream_file_is_right();
         let head = read_head(&mut medium, validation)?;
         let cases = CaseMapper::new(alloc.clone()?)?;
         let slots = EmptySlots::new(alloc.clone()?)?;
@@ -340,7 +344,7 @@ impl<F: ReadMedium, A: Allocator + Clone> CompoundFile<F, A> {
 }
 
 impl<F: Medium, A: Allocator + Clone> CompoundFile<F, A> {
-    ghost use Rattle.cfb.specs.Files.{IsAsCreated, IsEmptyFile};
+    ghost use Rattle.cfb.specs.Files.{Agrees, IsAsCreated, IsEmptyFile};
     ghost use Rattle.cfb.specs.Opening.{CreatingRefused};
 
     /// Makes a compound file of version 4 with nothing in it. `Medium` where the medium failed,
@@ -350,6 +354,7 @@ impl<F: Medium, A: Allocator + Clone> CompoundFile<F, A> {
         ensures version { IfOk result (λ file. file.version ≡ Version.V4) }
         ensures ok { IsTrue F.tells → IfOk result (λ file. IsAsCreated file × (file.failures ≡ F.failures medium)) }
         ensures empty { IsTrue F.tells → IfOk result (λ file. IsEmptyFile file.bytes) }
+        ensures agrees { IsTrue F.tells → IfOk result Agrees }
         ensures err { IsTrue F.tells → IfErr result (CreatingRefused F.write_faults) }
     {
         Self::create_with_version(alloc, Version::V4, medium)
@@ -366,9 +371,11 @@ impl<F: Medium, A: Allocator + Clone> CompoundFile<F, A> {
         ensures version { IfOk result (λ file. file.version ≡ version) }
         ensures ok { IsTrue F.tells → IfOk result (λ file. IsAsCreated file × (file.failures ≡ F.failures medium)) }
         ensures empty { IsTrue F.tells → IfOk result (λ file. IsEmptyFile file.bytes) }
+        ensures agrees { IsTrue F.tells → IfOk result Agrees }
         ensures err { IsTrue F.tells → IfErr result (CreatingRefused F.write_faults) }
     {
         laws::created_file_is_right();
+        crate::laws::one_stream_file_is_right();
         let cases = CaseMapper::new(alloc.clone()?)?;
         let slots = EmptySlots::new(alloc.clone()?)?;
         let mut sector = sector_buffer(alloc.clone()?, version)?;
