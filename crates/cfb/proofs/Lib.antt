@@ -1,3 +1,14 @@
+pub mod ChainedFat
+pub mod OneStreamFacts
+pub mod OneStreamReads
+pub mod OneStreamMeans
+pub mod LayoutLemmas
+pub mod ContentLemmas
+pub mod LinkLemmas
+pub mod Running
+pub mod CallRunning
+pub mod StreamRunning
+pub mod ReadRunning
 pub mod Pieces
 pub mod Refusing
 pub mod CallFacts

@@ -12,7 +12,7 @@ use Rattle.cfb_format.specs.Tree.{StorageInfo, StreamInfo, Objects, nothing, sto
 use Rattle.cfb_format.proofs.NameOrder.{name_cmp-total}
 use Rattle.cfb.specs.Refusal.{Refusal, already_exists, invalid_input}
 use Rattle.cfb.specs.Calls.{Call, create_storage, create_storage_all, create_stream, create_new_stream, remove_storage, remove_storage_all, remove_stream, set_storage_clsid, set_state_bits, set_created_time, set_modified_time, touch, Reply, refused}
-use Rattle.cfb.specs.Finding.{child_named, found_from, root_of, last_name, parent_names, object_at, found_at}
+use Rattle.cfb.specs.Finding.{child_named, found_from, last_name, parent_names, object_at, found_at}
 use Rattle.cfb.specs.CallRefusals.{never, is_a_stream, place_refusal, creation_refusal, path_refusal, refusal_of}
 use Rattle.cfb.specs.CallChanges.{inside_changed, changed_at, with_fields, new_storage, new_stream, with_objects, fields_changed_at, content_changed_at, storage_added_at, stream_added_at, storages_added, stream_created_at, removed_at, touched_at, at_path, tree_after, same_storage, same_stream, with_content}
 use Rattle.cfb.specs.CallReplies.{reply_of}

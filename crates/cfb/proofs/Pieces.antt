@@ -1,11 +1,10 @@
 -- The pieces of a created file, and a file that is put together from pieces.
-use Rattle.std.proofs.Common.{◌≡◌, ◌+◌, ◌-◌, ◌*◌, ◌<◌, ◌≤◌, ℕ, zero, suc, List, [], ◌∷◌, ◌++◌, refl, sym, ◌∙◌, ap, length, take, drop, replicate, arith, length-drop, zero-mul, one-mul, append_assoc, append-nil}
+use Rattle.std.proofs.Common.{◌≡◌, ◌+◌, ◌-◌, ◌*◌, ◌≤◌, ℕ, zero, suc, List, [], ◌∷◌, ◌++◌, refl, sym, ◌∙◌, ap, length, take, drop, replicate, arith, length-drop, zero-mul, one-mul, append_assoc, append-nil}
 use Rattle.std.specs.List.{repeat}
-use Rattle.std.specs.Int.{to_le_bytes, w32}
 use Rattle.std.proofs.lemmas.List.{take-append-drop, drop-replicate, drop_all, take_all, length-take}
 use Rattle.cfb_format.specs.declared.version.Version.{Version}
 use Rattle.cfb_format.specs.declared.version.Version.TheVariants.{V3, V4}
-use Rattle.cfb_format.specs.Bytes.{sector_len, words_per_sector, entries_per_sector, word_bytes, unit_bytes, free_sector, fat_sector, end_of_chain}
+use Rattle.cfb_format.specs.Bytes.{sector_len, entries_per_sector, word_bytes, unit_bytes, fat_sector, end_of_chain}
 use Rattle.cfb_format.specs.Header.{header_bytes}
 use Rattle.cfb_format.specs.DirectoryEntry.{entry_bytes, empty_root_entry, unallocated_entry}
 use Rattle.cfb_format.specs.Medium.{part, written}

@@ -1,5 +1,5 @@
 -- Why opening refused.
-use Rattle.std.proofs.Common.{◌≡◌, ◌≤◌, ◌*◌, ℕ, List, Bool, length, ap, sym, subst, arith}
+use Rattle.std.proofs.Common.{ℕ, List, Bool, arith}
 use Rattle.cfb_format.specs.declared.error.Error.{Error}
 use Rattle.cfb_format.specs.declared.error.Error.TheVariants.{NotFound, AlreadyExists, InvalidInput, InvalidData, Medium, Memory, Full, Unsound, Failed, Unsupported}
 use Rattle.cfb_format.specs.declared.medium.MediumFault.{MediumFault}

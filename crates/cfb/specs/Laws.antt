@@ -1,11 +1,17 @@
 -- What the rules of calls promise.
-use Rattle.std.specs.Prelude.{ℕ, ◌≡◌, Bool}
+use Rattle.std.specs.Prelude.{ℕ, ◌≡◌, List, Bool, Option, None}
 use Rattle.cfb_format.specs.Names.{Cases}
 use Rattle.cfb_format.specs.Tree.{Tree, IsOrdered}
+use Rattle.cfb_format.specs.declared.version.Version.{Version}
+use Rattle.cfb_format.specs.Meaning.{Means}
+use Rattle.cfb_format.specs.Reading.{IsStrictFile}
+use Rattle.cfb_format.specs.Soundness.{IsSoundFile}
+use Rattle.cfb_format.specs.Created.{created_bytes}
+use Rattle.cfb.specs.OneStream.{OneStream, HoldsOne, tree_with}
 use Rattle.cfb.specs.Refusal.{Refusal}
 use Rattle.cfb.specs.Calls.{Call, Reply, refused}
 use Rattle.cfb.specs.Steps.{Step}
-use Rattle.cfb.specs.StreamCalls.{StreamSetting, StreamState, StreamCall, StreamReply, not_done, StreamStep}
+use Rattle.cfb.specs.StreamCalls.{StreamSetting, StreamState, StreamCall, not_done, StreamStep}
 
 -- a refused call changes no tree
 abbrev pub RefusedCallsChangeNothing : Type 0
@@ -30,3 +36,20 @@ OneReplyFits = (cases : Cases) (sound : Bool) (mini_stream_len : ℕ) (tree t u 
 abbrev pub RefusedStreamCallsChangeNothing : Type 0
 RefusedStreamCallsChangeNothing = (setting : StreamSetting) (old new : StreamState) (call : StreamCall) (refusal : Refusal)
     → StreamStep setting old call (not_done refusal) new → new ≡ old
+
+-- a file with at most one stream means the root with that stream, whatever the letters
+abbrev pub OneStreamMeansItsTree : Type 0
+OneStreamMeansItsTree = (cases : Cases) (version : Version) (held : Option OneStream) (bytes : List ℕ)
+    → HoldsOne version held bytes → Means cases bytes (tree_with version bytes held)
+
+-- strict opening accepts it
+abbrev pub OneStreamIsStrict : Type 0
+OneStreamIsStrict = (cases : Cases) (version : Version) (held : Option OneStream) (bytes : List ℕ) → HoldsOne version held bytes → IsStrictFile cases bytes
+
+-- it is sound
+abbrev pub OneStreamIsSound : Type 0
+OneStreamIsSound = (cases : Cases) (version : Version) (held : Option OneStream) (bytes : List ℕ) → HoldsOne version held bytes → IsSoundFile cases bytes
+
+-- a file that was just created is one without a stream
+abbrev pub CreatedHoldsNone : Type 0
+CreatedHoldsNone = (version : Version) → HoldsOne version None (created_bytes version)

@@ -1,3 +1,4 @@
+pub mod OneStream
 pub mod Files
 pub mod Opening
 pub mod Head
@@ -10,4 +11,6 @@ pub mod CallReplies
 pub mod Steps
 pub mod StreamCalls
 pub mod Runs
+pub mod Answers
+pub mod Streams
 pub mod Laws

@@ -1,5 +1,5 @@
 -- A stream as a list of bytes with a position.
-use Rattle.std.specs.Prelude.{ℕ, ◌+◌, ◌-◌, ◌^◌, ◌≡◌, ◌≤◌, min, max, ℤ, pos, negsuc, ◌+ℤ◌, List, [], ◌++◌, Bool, true, false, ◌||◌, ◌&&◌, length, take, drop, replicate, nat_lt, nat_le, IsTrue, MatchBool, MatchOption, Option, Some, None, option_and_then, if◌then◌else◌, ◌==◌}
+use Rattle.std.specs.Prelude.{ℕ, ◌+◌, ◌-◌, ◌^◌, ◌≡◌, ◌≤◌, min, max, ℤ, pos, negsuc, ◌+ℤ◌, List, [], ◌++◌, Bool, false, ◌||◌, ◌&&◌, length, take, drop, replicate, nat_lt, nat_le, IsTrue, MatchBool, MatchOption, Option, Some, None, option_and_then, if◌then◌else◌, ◌==◌}
 use Rattle.std.specs.Ordering.{int_eq}
 use Rattle.cfb.specs.Refusal.{Refusal, invalid_input, invalid_data, not_sound}
 

@@ -1,6 +1,6 @@
 //! What the rules of calls promise. None of these functions does anything: each has a law as its
 //! contract.
-ghost use Rattle.cfb.specs.Laws.{RefusedCallsChangeNothing, CallsKeepOrder, SomeReplyFits, OneReplyFits, RefusedStreamCallsChangeNothing};
+ghost use Rattle.cfb.specs.Laws.{RefusedCallsChangeNothing, CallsKeepOrder, SomeReplyFits, OneReplyFits, RefusedStreamCallsChangeNothing, OneStreamMeansItsTree, OneStreamIsStrict, OneStreamIsSound, CreatedHoldsNone};
 
 /// A refused call changes nothing.
 pub fn refused_calls_change_nothing()
@@ -17,4 +17,13 @@ pub fn rules_are_complete()
 /// A tree stays a map by name.
 pub fn calls_keep_order()
     ensures { CallsKeepOrder }
+{}
+
+/// A file with at most one stream means the root with that stream, is strict and sound; a file that
+/// was just created is one without a stream.
+pub fn one_stream_file_is_right()
+    ensures means { OneStreamMeansItsTree }
+    ensures strict { OneStreamIsStrict }
+    ensures sound { OneStreamIsSound }
+    ensures created { CreatedHoldsNone }
 {}

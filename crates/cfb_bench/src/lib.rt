@@ -5,6 +5,8 @@
 mod empty_files;
 pub mod media;
 #[cfg(test)]
+mod one_stream;
+#[cfg(test)]
 mod refusals;
 pub mod refusing;
 #[cfg(test)]

@@ -1,4 +1,4 @@
-use Rattle.std.proofs.Common.{◌≡◌, ◌+◌, ◌-◌, ◌*◌, ◌++◌, take}
+use Rattle.std.proofs.Common.{◌≡◌, ◌-◌, ◌*◌, ◌++◌, take}
 use Rattle.std.specs.List.{repeat}
 use Rattle.cfb_format.specs.DirectoryEntry.{entry_bytes, empty_root_entry, unallocated_entry}
 use Rattle.cfb.proofs.created.lay_out_directory.Given as goal

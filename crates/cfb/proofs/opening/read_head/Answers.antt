@@ -1,4 +1,4 @@
-use Rattle.std.proofs.Common.{◌≡◌, ◌≤◌, ◌∙◌, ap, subst, take, length, arith, refl, IsTrue, false}
+use Rattle.std.proofs.Common.{◌≡◌, ◌∙◌, ap, subst, take, length, arith, refl, IsTrue, false}
 use Rattle.cfb_format.specs.declared.header.Header.{Header}
 use Rattle.cfb_format.specs.Bytes.{sector_len}
 use Rattle.cfb_format.specs.Header.{AcceptsHeader}

@@ -1,7 +1,12 @@
-use Rattle.std.proofs.Common.{◌≡◌, sym, subst}
+use Rattle.std.proofs.Common.{rules, refl, sym, subst}
 use Rattle.cfb_format.specs.Created.{created_bytes}
+use Rattle.cfb.proofs.Running.{created-agrees}
 use Rattle.cfb.specs.Files.{IsEmptyFile}
 use Rattle.cfb.proofs.compound_file.CompoundFile.create_with_version.Goals as goal
+
+pub returns-clause-agrees : goal.returns-clause-agrees
+returns-clause-agrees g c told = created-agrees c.one_stream_file_is_right.ensures.created _
+    (record { bytes = c.in_ok-write_created.ensures.ok told; sound = refl; unfailed = refl; cases = search rules; held = refl })
 
 pub returns-clause-empty : goal.returns-clause-empty
 returns-clause-empty g c told =

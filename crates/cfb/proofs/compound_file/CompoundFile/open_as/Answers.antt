@@ -1,7 +1,8 @@
-use Rattle.std.proofs.Common.{◌≡◌, ◌∙◌, sym, ap, subst, IsTrue, false}
+use Rattle.std.proofs.Common.{rules, refl, ◌≡◌, ◌∙◌, sym, ap, subst, IsTrue, false}
 use Rattle.cfb_format.specs.declared.header.Header.{Header}
 use Rattle.cfb_format.specs.Header.{AcceptsHeader}
 use Rattle.cfb_format.specs.Created.{created_bytes, created_header}
+use Rattle.cfb.proofs.Running.{created-agrees}
 use Rattle.cfb.specs.Files.{IsEmptyFile}
 use Rattle.cfb.proofs.compound_file.CompoundFile.open_as.Goals as goal
 
@@ -21,6 +22,10 @@ returns-then-not-branch-clause-answer g c told =
           let yes : IsTrue c.in_ok-is_as_created.field-0 = (c.in_ok-is_as_created.ensures.ok told).1 now in
           let no : c.in_ok-is_as_created.field-0 ≡ false = c.if-not-branch.true in cc,
     )
+
+pub returns-clause-agrees : goal.returns-clause-agrees
+returns-clause-agrees g c told = created-agrees c.one_stream_file_is_right.ensures.created _
+    (record { bytes = c.in_ok-is_as_created.ensures.same told ∙ (c.in_ok-is_as_created.ensures.ok told).0 c.if-not-branch.false; sound = refl; unfailed = refl; cases = search rules; held = refl })
 
 pub returns-clause-empty : goal.returns-clause-empty
 returns-clause-empty g c told =

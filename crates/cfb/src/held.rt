@@ -1,0 +1,115 @@
+//! The one stream that a file may have, for now.
+ghost use Rattle.std.specs.Prelude.{◌≡◌, ◌<◌, ◌≤◌, chars, string_bytes, IfErr, IfOk};
+ghost use Rattle.cfb_format.specs.DirectoryEntry.{entry_bytes, unallocated_entry};
+ghost use Rattle.cfb.specs.OneStream.{IsServedName, stream_entry, second_entry, root_with, child_of};
+
+use cfb_format::consts;
+use cfb_format::direntry::DirEntry;
+use cfb_format::error::Error;
+use cfb_format::objtype::ObjType;
+use cfb_format::timestamp::Timestamp;
+use std::alloc::{Allocator, Global};
+use std::marker::Model;
+
+/// The greatest length that a stream has, for now: the sectors that one FAT sector covers.
+pub const MAX_HELD_LEN: u64 = 4186112;
+
+/// A stream in the root, with its directory entry (MS-CFB 2.6.3).
+#[derive(Drop)]
+pub struct HeldStream<A: Allocator = Global> {
+    entry: DirEntry<A>,
+}
+
+impl<A: Allocator> Model for HeldStream<A> {
+    ghost use Rattle.std.specs.Prelude.{◌≡◌, ◌≤◌};
+    ghost use Rattle.cfb_format.specs.EntryModel.{entry_of};
+    ghost use Rattle.cfb.specs.OneStream.{OneStream, IsServedName, stream_entry, stream_of};
+
+    ghost Value = { OneStream };
+
+    ghost view = { λ s. stream_of (entry_of s.entry) };
+
+    ghost invariant = { λ s. (entry_of s.entry ≡ stream_entry (stream_of (entry_of s.entry)))
+        × IsServedName (entry_of s.entry).name × (s.entry.stream_len ≤ 4186112) };
+}
+
+impl<A: Allocator> HeldStream<A> {
+    /// An empty stream.
+    pub fn new(name: String<A>) -> HeldStream<A>
+        requires served { IsServedName (chars (string_bytes name)) }
+        ensures { result ≡ record { name = chars (string_bytes name); len = 0 } }
+    {
+        HeldStream {
+            entry: DirEntry::new(name, ObjType::Stream, Timestamp::zero()),
+        }
+    }
+
+    /// A stream of this length, which begins behind the directory's sector.
+    pub fn with_len(name: String<A>, len: u64) -> HeldStream<A>
+        requires served { IsServedName (chars (string_bytes name)) }
+        requires len { (0 < len) × (len ≤ 4186112) }
+        ensures { result ≡ record { name = chars (string_bytes name); len = len } }
+    {
+        let mut entry = DirEntry::new(name, ObjType::Stream, Timestamp::zero());
+        entry.start_sector = 2;
+        entry.stream_len = len;
+        HeldStream { entry }
+    }
+
+    /// Its name.
+    pub fn name(&self) -> &str
+        ensures name { chars result.now ≡ self.now.name }
+        ensures served { IsServedName self.now.name }
+    {
+        self.entry.name.as_str()
+    }
+
+    /// Its length.
+    pub fn len(&self) -> u64
+        ensures len { result ≡ self.now.len }
+        ensures most { result ≤ 4186112 }
+    {
+        self.entry.stream_len
+    }
+
+    /// Its directory entry.
+    fn write_to(&self, slot: &mut [u8; consts::DIR_ENTRY_LEN])
+        ensures { slot.new ≡ entry_bytes (stream_entry self.now) }
+    {
+        self.entry.write_to(slot);
+    }
+}
+
+/// The slots of a directory with at most one stream, as they are written.
+#[derive(Drop)]
+pub struct Slots {
+    pub root: [u8; consts::DIR_ENTRY_LEN],
+    pub second: [u8; consts::DIR_ENTRY_LEN],
+    pub unallocated: [u8; consts::DIR_ENTRY_LEN],
+}
+
+impl Slots {
+    /// `Memory` where the root's name gets none.
+    pub fn new<A: Allocator + Clone>(alloc: A, held: &Option<HeldStream<A>>) -> Result<Slots, Error>
+        ensures root { IfOk result (λ slots. slots.root ≡ entry_bytes (root_with (child_of held.now))) }
+        ensures second { IfOk result (λ slots. slots.second ≡ entry_bytes (second_entry held.now)) }
+        ensures unallocated { IfOk result (λ slots. slots.unallocated ≡ entry_bytes unallocated_entry) }
+        ensures err { IfErr result (λ e. e ≡ Error.Memory) }
+    {
+        let mut top = DirEntry::empty_root_entry(alloc.clone()?)?;
+        let mut unallocated = [0; consts::DIR_ENTRY_LEN];
+        DirEntry::unallocated(alloc).write_to(&mut unallocated);
+        let mut root = [0; consts::DIR_ENTRY_LEN];
+        let mut second = unallocated;
+        if let Some(stream) = held {
+            top.child = 1;
+            stream.write_to(&mut second);
+        }
+        top.write_to(&mut root);
+        Ok(Slots {
+            root,
+            second,
+            unallocated,
+        })
+    }
+}
