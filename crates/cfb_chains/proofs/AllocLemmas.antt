@@ -14,7 +14,7 @@ use Rattle.cfb_chains.specs.Clean.{IsClean}
 use Rattle.cfb_chains.specs.Difat.{difat_places}
 use Rattle.cfb_chains.specs.Refused.{Refused, ChangeRefused, NextRefused, BreaksOff}
 use Rattle.cfb_chains.specs.Sectors.{SectorFile, SectorStays, IsMediumError}
-use Rattle.cfb_chains.specs.Tables.{TableState, HasTaken, AreSizes, sizes_of, ending}
+use Rattle.cfb_chains.specs.Tables.{TableState, HasTaken, TakesFor, AreSizes, sizes_of, ending}
 use Rattle.cfb_chains.proofs.CleanLemmas.{taken-clean}
 use Rattle.cfb_chains.proofs.GrowthLemmas.{fats_apart_more}
 use Rattle.cfb_chains.proofs.Members.{value-below}
@@ -49,8 +49,8 @@ next_refused invalid memory full medium table i Unsupported r = absurd r
 
 -- the medium failed while sectors that were taken were written
 pub broke_off : (touched more : List ℕ) (old new : AllocatorState) (e : Error) → IsMediumError e → new.file.begun ≡ true → HasTaken old.tables new.tables touched more
-    → BreaksOff touched old new e
-broke_off touched more old new (Medium f) is begun taken = (begun, more, taken)
+    → BreaksOff (TakesFor touched) old new e
+broke_off touched more old new (Medium f) is begun taken = (begun, (more, taken))
 broke_off touched more old new (InvalidData d) is begun taken = absurd (omega (arith, is))
 broke_off touched more old new (NotFound d) is begun taken = absurd (omega (arith, is))
 broke_off touched more old new (AlreadyExists d) is begun taken = absurd (omega (arith, is))

@@ -13,7 +13,7 @@ use Rattle.cfb_format.specs.Chain.{value, IsChain}
 use Rattle.cfb_chains.specs.Alloc.{AllocatorState, HoldsBut, IsPlaced, ChangesSectors}
 use Rattle.cfb_chains.specs.Changes.{ChangesOnly, IsFreed, IsCut, IsNextOf, NoChain}
 use Rattle.cfb_chains.specs.Clean.{IsClean}
-use Rattle.cfb_chains.specs.Refused.{Refused, ChangeRefused, BreaksBack}
+use Rattle.cfb_chains.specs.Refused.{Refused, ChangeRefused, BreaksOff}
 use Rattle.cfb_chains.specs.Sectors.{SectorFile, IsMediumError}
 use Rattle.cfb_chains.specs.Tables.{TableState}
 use Rattle.cfb_chains.proofs.AgreementLemmas.{changed_late}
@@ -51,8 +51,8 @@ invalid_changed why invalid memory full medium Unsound f r = absurd r
 invalid_changed why invalid memory full medium Failed f r = absurd r
 invalid_changed why invalid memory full medium Unsupported f r = absurd r
 
-breaks_by_medium : (made : TableState → TableState → Type 0) (old new : AllocatorState) (e : Error) → IsMediumError e → new.file.begun ≡ true → made old.tables new.tables
-    → BreaksBack made old new e
+pub breaks_by_medium : (made : TableState → TableState → Type 0) (old new : AllocatorState) (e : Error) → IsMediumError e → new.file.begun ≡ true → made old.tables new.tables
+    → BreaksOff made old new e
 breaks_by_medium made old new (Medium f) is begun m = (begun, m)
 breaks_by_medium made old new (InvalidData d) is begun m = absurd (omega (arith, is))
 breaks_by_medium made old new Memory is begun m = absurd (omega (arith, is))
@@ -66,7 +66,7 @@ breaks_by_medium made old new Unsupported is begun m = absurd (omega (arith, is)
 
 -- a change that the medium alone can refuse broke off when it was begun and made in memory
 pub breaks_back : {T : Type 0} (r : Result T Error) (made : TableState → TableState → Type 0) (old new : AllocatorState) → IfErr r IsMediumError
-    → IfErr r (λ e. new.file.begun ≡ true) → made old.tables new.tables → IfErr r (BreaksBack made old new)
+    → IfErr r (λ e. new.file.begun ≡ true) → made old.tables new.tables → IfErr r (BreaksOff made old new)
 breaks_back (Ok x) made old new is begun m = tt
 breaks_back (Err e) made old new is begun m = breaks_by_medium made old new e is begun m
 

@@ -4,7 +4,7 @@ use Rattle.cfb_format.specs.declared.error.Error.{Error}
 use Rattle.cfb_format.specs.declared.error.Error.TheVariants.{NotFound, AlreadyExists, InvalidInput, InvalidData, Medium, Memory, Full, Unsound, Failed, Unsupported}
 use Rattle.cfb_format.specs.Chain.{IsChain}
 use Rattle.cfb_chains.specs.Changes.{NoChain, IsNextOf}
-use Rattle.cfb_chains.specs.Tables.{TableState, IsTooFew, HasTaken}
+use Rattle.cfb_chains.specs.Tables.{TableState, IsTooFew}
 use Rattle.cfb_chains.specs.Alloc.{AllocatorState}
 
 -- the error is one of these three, and so much holds of each
@@ -49,30 +49,15 @@ ChangeRefused invalid memory full medium Unsound = ⊥
 ChangeRefused invalid memory full medium Failed = ⊥
 ChangeRefused invalid memory full medium Unsupported = ⊥
 
--- a change that takes sectors broke off: after any error but the medium's nothing has changed; after that one the change was begun, and in
--- memory sectors were taken for the chain of `touched` alone
-abbrev pub BreaksOff : List ℕ → AllocatorState → AllocatorState → Error → Type 0
-BreaksOff touched old new (Medium f) = (new.file.begun ≡ true) × (more : List ℕ) × HasTaken old.tables new.tables touched more
-BreaksOff touched old new (InvalidData d) = new ≡ old
-BreaksOff touched old new Memory = new ≡ old
-BreaksOff touched old new Full = new ≡ old
-BreaksOff touched old new (NotFound d) = new ≡ old
-BreaksOff touched old new (AlreadyExists d) = new ≡ old
-BreaksOff touched old new (InvalidInput d) = new ≡ old
-BreaksOff touched old new Unsound = new ≡ old
-BreaksOff touched old new Failed = new ≡ old
-BreaksOff touched old new Unsupported = new ≡ old
-
--- a change that gives sectors back broke off: after any error but the medium's nothing has changed; after that one the change was begun, and
--- it is made in memory
-abbrev pub BreaksBack : (TableState → TableState → Type 0) → AllocatorState → AllocatorState → Error → Type 0
-BreaksBack made old new (Medium f) = (new.file.begun ≡ true) × made old.tables new.tables
-BreaksBack made old new (InvalidData d) = new ≡ old
-BreaksBack made old new Memory = new ≡ old
-BreaksBack made old new Full = new ≡ old
-BreaksBack made old new (NotFound d) = new ≡ old
-BreaksBack made old new (AlreadyExists d) = new ≡ old
-BreaksBack made old new (InvalidInput d) = new ≡ old
-BreaksBack made old new Unsound = new ≡ old
-BreaksBack made old new Failed = new ≡ old
-BreaksBack made old new Unsupported = new ≡ old
+-- a change broke off: after any error but the medium's nothing has changed; after that one the change was begun, and it is made in memory
+abbrev pub BreaksOff : (TableState → TableState → Type 0) → AllocatorState → AllocatorState → Error → Type 0
+BreaksOff made old new (Medium f) = (new.file.begun ≡ true) × made old.tables new.tables
+BreaksOff made old new (InvalidData d) = new ≡ old
+BreaksOff made old new Memory = new ≡ old
+BreaksOff made old new Full = new ≡ old
+BreaksOff made old new (NotFound d) = new ≡ old
+BreaksOff made old new (AlreadyExists d) = new ≡ old
+BreaksOff made old new (InvalidInput d) = new ≡ old
+BreaksOff made old new Unsound = new ≡ old
+BreaksOff made old new Failed = new ≡ old
+BreaksOff made old new Unsupported = new ≡ old

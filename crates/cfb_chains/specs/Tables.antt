@@ -140,19 +140,23 @@ abbrev pub start_of : List ℕ → ℕ
 start_of [] = end_of_chain
 start_of (x ∷ list) = x
 
+-- some sectors were taken for the chain that these end, or for a new one
+abbrev pub TakesFor : List ℕ → TableState → TableState → Type 0
+TakesFor touched old new = (more : List ℕ) × HasTaken old new touched more
+
 -- the last member of a chain that goes on, or none for a chain that begins
 abbrev pub ending : ℕ → List ℕ
 ending last = if last == end_of_chain then [] else last ∷ []
 
 -- the chain from the start is freed, and nothing else changed
-pub record FreesChain (old new : TableState) (start : ℕ) : Type 0 where
+pub record FreesChain (start : ℕ) (old new : TableState) : Type 0 where
   pub list : List ℕ
   pub was : IsChain old.fat start list
   pub freed : IsFreed list old.fat new.fat
   pub rest : new ≡ record old { fat = new.fat }
 
 -- a chain ends at this sector now, the ones behind it are freed, and nothing else changed
-pub record CutsChain (old new : TableState) (sector : ℕ) : Type 0 where
+pub record CutsChain (sector : ℕ) (old new : TableState) : Type 0 where
   pub list : List ℕ
   pub was : IsChain old.fat (value old.fat sector) list
   pub cut : IsCut sector list old.fat new.fat
@@ -172,6 +176,10 @@ pub record Extended (old new : TableState) (start : ℕ) (more : List ℕ) : Typ
   pub was : IsChain old.fat start (front ++ last ∷ [])
   pub chain : IsChain new.fat start (front ++ last ∷ more)
   pub taken : HasTaken old new (last ∷ []) more
+
+-- the chain from the start goes on by some sectors
+abbrev pub ExtendsFrom : ℕ → TableState → TableState → Type 0
+ExtendsFrom start old new = (more : List ℕ) × Extended old new start more
 
 -- ---- the lists in memory
 

@@ -7,8 +7,8 @@ ghost use Rattle.cfb_format.specs.Refused.{CountsFailure, IsInvalidData};
 ghost use Rattle.cfb_chains.specs.Alloc.{AreListed, ChangesSectors, HoldsTables, IsPlaced, IsUsable, IsFilled, OthersStay};
 ghost use Rattle.cfb_chains.specs.ReadFat.{AcceptsFat, AcceptsNoFat};
 ghost use Rattle.cfb_chains.specs.Changes.{IsNextOf, NoChain};
-ghost use Rattle.cfb_chains.specs.Refused.{Refused, NextRefused, NoLast, ChangeRefused, BreaksOff, BreaksBack};
-ghost use Rattle.cfb_chains.specs.Tables.{HasTaken, Extended, FreesChain, CutsChain, AreSizes, IsTooFew, ending, start_of, sizes_of, tables_of};
+ghost use Rattle.cfb_chains.specs.Refused.{Refused, NextRefused, NoLast, ChangeRefused, BreaksOff};
+ghost use Rattle.cfb_chains.specs.Tables.{HasTaken, TakesFor, Extended, ExtendsFrom, FreesChain, CutsChain, AreSizes, IsTooFew, ending, start_of, sizes_of, tables_of};
 ghost use Rattle.cfb_chains.specs.Clean.{IsUnnamed};
 ghost use Rattle.cfb_chains.specs.Sectors.{IsMediumError, OtherSectorsStay, place, sectors_end};
 ghost use Rattle.cfb_format.specs.Medium.{ChangesOnly, part, written};
@@ -264,7 +264,7 @@ impl<F: Medium, A: Heap> Allocator<F, A> {
         ensures holds { IsTrue F.tells → (validation : Validation) → HoldsTables validation self.old → OnOk result (HoldsTables validation self.new) }
         ensures others { IsTrue F.tells → OthersStay self.old self.new }
         ensures enough { OnOk result (IsTooFew self.old.tables 1 → ⊥) }
-        ensures refused { IfErr result (BreaksOff [] self.old self.new) }
+        ensures refused { IfErr result (BreaksOff (TakesFor []) self.old self.new) }
         ensures err { IfErr result (ChangeRefused (IsUsable self.old.tables → ⊥) Unit (IsTooFew self.old.tables 1) Unit) }
         ensures counts { IsTrue F.tells → CountsFailure F.write_faults result self.old.file.failures self.new.file.failures }
     {
@@ -296,7 +296,7 @@ impl<F: Medium, A: Heap + Clone> Allocator<F, A> {
         ensures holds { IsTrue F.tells → (validation : Validation) → HoldsTables validation self.old → OnOk result (HoldsTables validation self.new) }
         ensures others { IsTrue F.tells → OthersStay self.old self.new }
         ensures enough { OnOk result (IsTooFew self.old.tables 1 → ⊥) }
-        ensures refused { IfErr result (λ e. (last : ℕ) × BreaksOff (last ∷ []) self.old self.new e) }
+        ensures refused { IfErr result (BreaksOff (ExtendsFrom start) self.old self.new) }
         ensures err { IfErr result (ChangeRefused ((IsUsable self.old.tables → ⊥) ⊎ NoLast self.old.tables.fat start) Unit (IsTooFew self.old.tables 1) Unit) }
         ensures counts { IsTrue F.tells → CountsFailure F.write_faults result self.old.file.failures self.new.file.failures }
     {
@@ -334,7 +334,7 @@ impl<F: Medium, A: Heap + Clone> Allocator<F, A> {
         ensures holds { IsTrue F.tells → (validation : Validation) → HoldsTables validation self.old → OnOk result (HoldsTables validation self.new) }
         ensures others { IsTrue F.tells → OthersStay self.old self.new }
         ensures enough { OnOk result (IsTooFew self.old.tables count → ⊥) }
-        ensures refused { IfErr result (BreaksOff (ending last) self.old self.new) }
+        ensures refused { IfErr result (BreaksOff (TakesFor (ending last)) self.old self.new) }
         ensures err { IfErr result (ChangeRefused
             ((IsUsable self.old.tables → ⊥) ⊎ ((last ≢ end_of_chain) × (value self.old.tables.fat last ≢ end_of_chain)))
             Unit (IsTooFew self.old.tables count) Unit) }
@@ -352,11 +352,11 @@ impl<F: Medium, A: Heap + Clone> Allocator<F, A> {
     /// and `Memory`. Nothing has changed where it is refused, but after `Medium`: then the chain is free in memory, and of the
     /// file's bytes the FAT sectors alone have changed.
     pub fn free_chain(&mut self, start: u32) -> Result<(), Error>
-        ensures freed { OnOk result (FreesChain self.old.tables self.new.tables start) }
+        ensures freed { OnOk result (FreesChain start self.old.tables self.new.tables) }
         ensures holds { IsTrue F.tells → (validation : Validation) → HoldsTables validation self.old → IsUnnamed self.old.tables.fat start
             → OnOk result (HoldsTables validation self.new) }
         ensures changes { IsTrue F.tells → ChangesSectors self.old.tables.fat_sectors self.old.tables.version self.old.file.bytes self.new.file.bytes }
-        ensures refused { IfErr result (BreaksBack (λ old new. FreesChain old new start) self.old self.new) }
+        ensures refused { IfErr result (BreaksOff (FreesChain start) self.old self.new) }
         ensures err { IfErr result (ChangeRefused ((IsUsable self.old.tables → ⊥) ⊎ NoChain self.old.tables.fat start) Unit ⊥ Unit) }
         ensures counts { IsTrue F.tells → CountsFailure F.write_faults result self.old.file.failures self.new.file.failures }
     {
@@ -370,10 +370,10 @@ impl<F: Medium, A: Heap + Clone> Allocator<F, A> {
     /// `InvalidData` where no chain goes on from the sector, and where the FAT sectors do not cover the file; `Medium` and `Memory`
     /// as in `free_chain`.
     pub fn free_chain_after(&mut self, sector: u32) -> Result<(), Error>
-        ensures cut { OnOk result (CutsChain self.old.tables self.new.tables sector) }
+        ensures cut { OnOk result (CutsChain sector self.old.tables self.new.tables) }
         ensures holds { IsTrue F.tells → (validation : Validation) → HoldsTables validation self.old → OnOk result (HoldsTables validation self.new) }
         ensures changes { IsTrue F.tells → ChangesSectors self.old.tables.fat_sectors self.old.tables.version self.old.file.bytes self.new.file.bytes }
-        ensures refused { IfErr result (BreaksBack (λ old new. CutsChain old new sector) self.old self.new) }
+        ensures refused { IfErr result (BreaksOff (CutsChain sector) self.old self.new) }
         ensures err { IfErr result (ChangeRefused ((IsUsable self.old.tables → ⊥) ⊎ NoChain self.old.tables.fat (value self.old.tables.fat sector)) Unit ⊥ Unit) }
         ensures counts { IsTrue F.tells → CountsFailure F.write_faults result self.old.file.failures self.new.file.failures }
     {
@@ -395,7 +395,7 @@ impl<F: Medium, A: Heap + Clone> Allocator<F, A> {
         ensures holds { IsTrue F.tells → (validation : Validation) → HoldsTables validation self.old → OnOk result (HoldsTables validation self.new) }
         ensures others { IsTrue F.tells → OthersStay self.old self.new }
         ensures enough { OnOk result (IsTooFew self.old.tables count → ⊥) }
-        ensures refused { IfErr result (BreaksOff [] self.old self.new) }
+        ensures refused { IfErr result (BreaksOff (TakesFor []) self.old self.new) }
         ensures err { IfErr result (ChangeRefused (IsUsable self.old.tables → ⊥) Unit (IsTooFew self.old.tables count) Unit) }
         ensures counts { IsTrue F.tells → CountsFailure F.write_faults result self.old.file.failures self.new.file.failures }
     {
@@ -417,7 +417,7 @@ impl<F: Medium, A: Heap + Clone> Allocator<F, A> {
         ensures holds { IsTrue F.tells → (validation : Validation) → HoldsTables validation self.old → OnOk result (HoldsTables validation self.new) }
         ensures others { IsTrue F.tells → OthersStay self.old self.new }
         ensures enough { OnOk result (IsTooFew self.old.tables count → ⊥) }
-        ensures refused { IfErr result (BreaksOff (last ∷ []) self.old self.new) }
+        ensures refused { IfErr result (BreaksOff (TakesFor (last ∷ [])) self.old self.new) }
         ensures err { IfErr result (ChangeRefused ((IsUsable self.old.tables → ⊥) ⊎ (value self.old.tables.fat last ≢ end_of_chain))
             Unit (IsTooFew self.old.tables count) Unit) }
         ensures counts { IsTrue F.tells → CountsFailure F.write_faults result self.old.file.failures self.new.file.failures }

@@ -1,8 +1,9 @@
 use Rattle.std.proofs.Common.{arith, sym, subst, refl, [], ◌∷◌}
 use Rattle.std.proofs.lemmas.Result.{err_from_is_err_and}
 use Rattle.cfb_chains.specs.Alloc.{AllocatorState}
-use Rattle.cfb_chains.specs.Tables.{IsTooFew, Extended, HasTaken}
-use Rattle.cfb_chains.proofs.AllocLemmas.{others_refl, others_unchanged, placed_reserved, placed_written, others_written, held_counted, fats_apart_shown, clean_taken, fats_known, difats_known, refused_changed, broke_off}
+use Rattle.cfb_chains.specs.Tables.{IsTooFew, Extended, ExtendsFrom}
+use Rattle.cfb_chains.proofs.AllocLemmas.{others_refl, others_unchanged, placed_reserved, placed_written, others_written, held_counted, fats_apart_shown, clean_taken, fats_known, difats_known, refused_changed}
+use Rattle.cfb_chains.proofs.FreeingLemmas.{breaks_by_medium}
 use Rattle.cfb_chains.proofs.AttachLemmas.{last-known, extended}
 use Rattle.cfb_chains.proofs.Members.{Contains-here}
 use Rattle.cfb_chains.proofs.alloc.Allocator.extend_chain.Goals as goal
@@ -48,15 +49,14 @@ returns-in_err-write_taken-clause-others g c told =
 
 pub returns-in_err-write_taken-clause-refused : goal.returns-in_err-write_taken-clause-refused
 returns-in_err-write_taken-clause-refused g c =
+    let k = c.in_ok-last.ensures.ok in
     let last = c.in_ok-last.last in
     let more = c.in_ok-sector.sector ∷ [] in
     let p = err_from_is_err_and c.from_residual-in_err-write_taken.result c.from_residual-in_err-write_taken.ensures.1 in
     let e = c.in_err-write_taken.ensures.err in
-    rw (p.1, p.2) (
-      last,
-      broke_off (last ∷ []) more c.args.self.now (record { file = c.write_taken.new.sectors; tables = c.attach.new.self }) c.in_err-write_taken.field-0.0 e.0 e.1
-          (subst (λ (a : AllocatorState). HasTaken a.tables c.attach.new.self (last ∷ []) more) c.self.view_is c.in_ok-sector.ensures.taken),
-    )
+    rw (p.1, p.2) (breaks_by_medium (ExtendsFrom c.args.start) c.args.self.now (record { file = c.write_taken.new.sectors; tables = c.attach.new.self }) c.in_err-write_taken.field-0.0 e.0 e.1
+    (more, subst (λ (a : AllocatorState). Extended a.tables c.attach.new.self c.args.start more) c.self.view_is
+        (extended c.self.inside.tables c.attach.new.self c.args.start k.0 last more k.1 c.in_ok-sector.ensures.taken c.in_ok-sector.ensures.chain)))
 
 pub invariant_of-self-2 : goal.invariant_of-self-2
 invariant_of-self-2 g c =

@@ -97,7 +97,7 @@ returns-clause-refused g c =
     let x = c.args.sector in
     let t = c.free_after.new.self in
     let e = c.in_ok-freed.ensures in
-    let cuts = subst (λ (a : AllocatorState). CutsChain a.tables t x) c.self.view_is
+    let cuts = subst (λ (a : AllocatorState). CutsChain x a.tables t) c.self.view_is
     (record { list = c.in_ok-freed.freed.items; was = e.ok; cut = e.cut; rest = c.free_after.ensures.rest }) in
-    breaks_back c.write_values-2.result (λ (old : TableState) (new : TableState). CutsChain old new x) c.args.self.now
+    breaks_back c.write_values-2.result (CutsChain x) c.args.self.now
     (record { file = c.write_values-2.new.sectors; tables = t }) c.write_values-2.ensures.err c.write_values-2.ensures.begun cuts
