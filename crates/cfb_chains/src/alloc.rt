@@ -6,7 +6,7 @@ ghost use Rattle.cfb_format.specs.Chain.{IsChain, value};
 ghost use Rattle.cfb_format.specs.Refused.{CountsFailure, IsInvalidData};
 ghost use Rattle.cfb_chains.specs.Alloc.{ChangesSectors, HoldsTables, IsPlaced, IsUsable, IsFilled, OthersStay};
 ghost use Rattle.cfb_chains.specs.Changes.{IsNextOf, NoChain};
-ghost use Rattle.cfb_chains.specs.Refused.{NextRefused, NoLast, ChangeRefused, BreaksOff, BreaksBack};
+ghost use Rattle.cfb_chains.specs.Refused.{NextRefused, NoLast, WalkRefused, ChangeRefused, BreaksOff, BreaksBack};
 ghost use Rattle.cfb_chains.specs.Tables.{HasTaken, Extended, FreesChain, CutsChain, AreSizes, IsTooFew, ending, start_of, sizes_of};
 ghost use Rattle.cfb_chains.specs.Clean.{IsUnnamed};
 ghost use Rattle.cfb_chains.specs.Sectors.{IsMediumError, place, sectors_end};
@@ -190,6 +190,20 @@ impl<F: Medium, A: Heap> Allocator<F, A> {
             init,
         )?;
         Ok(sector)
+    }
+}
+
+impl<F: ReadMedium, A: Heap + Clone> Allocator<F, A> {
+    /// The sectors of the chain from `start`, in order (MS-CFB 2.3). `InvalidData` where there is no such chain, and `Memory`.
+    pub fn chain(&self, start: u32) -> Result<Vec<u32, A>, Error>
+        ensures ok { IfOk result (λ list. IsChain self.now.tables.fat start list.items) }
+        ensures few { IfOk result (λ list. vec_len list ≤ max_regular_sector) }
+        ensures err { IfErr result (WalkRefused self.now.tables.fat start) }
+    {
+        let sectors = self.tables.len();
+        let list = self.tables.chain(self.heap.clone()?, start)?;
+        let _met = sectors;
+        Ok(list)
     }
 }
 

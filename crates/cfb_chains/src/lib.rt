@@ -3,6 +3,7 @@
 
 pub mod agreement;
 pub mod alloc;
+pub mod chain;
 pub mod laws;
 mod lists;
 pub mod sector;
