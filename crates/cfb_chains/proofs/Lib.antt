@@ -8,6 +8,7 @@ pub mod SectorLemmas
 pub mod CountLemmas
 pub mod FreshLemmas
 pub mod ReadLemmas
+pub mod ChainBytes
 pub mod Listed
 pub mod TableWords
 pub mod AgreementLemmas

@@ -1,8 +1,8 @@
 -- What is seen of a chain whose allocator is lent: one list of bytes with a position (MS-CFB 2.3).
-use Rattle.std.specs.Prelude.{◌≡◌, ℕ, ◌*◌, List, length, Result, Vec}
+use Rattle.std.specs.Prelude.{◌≡◌, ℕ, ◌+◌, ◌-◌, ◌*◌, ◌/◌, ◌%◌, List, length, Result, Vec, slice_index, nat_lt, if◌then◌else◌}
 use Rattle.std.specs.Borrow.{RattleType, MutBor, Fml, RestsIfErr}
 use Rattle.std.specs.declared.alloc.Allocator as heap
-use Rattle.cfb_format.specs.Bytes.{sector_len}
+use Rattle.cfb_format.specs.Bytes.{sector_len, sector_start}
 use Rattle.cfb_format.specs.declared.error.Error.{Error}
 use Rattle.cfb_format.specs.declared.medium.ReadMedium as medium
 use Rattle.cfb_format.specs.declared.version.Version.{Version}
@@ -36,6 +36,13 @@ module _ {F A : Type 0} {g : medium.Ghosts F} {n : numbers.Ghosts (Vec ℕ A)} w
 
   abbrev pub position_of : Chain F A (Vec ℕ A) g n → ℕ
   position_of c = c.position
+
+  -- how many bytes the sector at the position has from there on, none past the end, and where in the file they begin
+  abbrev pub room_of : Chain F A (Vec ℕ A) g n → ℕ
+  room_of c = if nat_lt (position_of c) (len_of c) then sector_len (version_of c) - position_of c % sector_len (version_of c) else 0
+
+  abbrev pub place_of : Chain F A (Vec ℕ A) g n → ℕ
+  place_of c = sector_start (version_of c) (slice_index (ids_of c) (position_of c / sector_len (version_of c))) + position_of c % sector_len (version_of c)
 
 module _ (F A : RattleType) (g : medium.Ghosts F.Denot) (h : heap.Ghosts A.Denot) {n : numbers.Ghosts (Vec ℕ A.Denot)} where
   -- the allocator is as before where no chain was opened

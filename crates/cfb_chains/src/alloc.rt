@@ -63,6 +63,16 @@ impl<F: ReadMedium, A: Heap> Allocator<F, A> {
         self.sectors.inner()
     }
 
+    /// How long the file is known to be, in bytes.
+    pub(crate) fn file_len(&self) -> u64
+        ensures len { result ≡ self.now.file.len }
+        ensures end { self.now.file.len ≤ sectors_end self.now.file }
+        ensures placed { IsPlaced self.now.file self.now.tables }
+    {
+        let _ = self.sectors.num_sectors();
+        self.sectors.len()
+    }
+
     /// Gives the medium back.
     pub fn into_inner(self) -> F
         ensures bytes { F.bytes result ≡ self.file.bytes }

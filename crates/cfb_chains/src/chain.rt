@@ -1,7 +1,11 @@
 //! A chain of sectors as one list of bytes with a position (MS-CFB 2.3).
-ghost use Rattle.std.specs.Prelude.{◌≡◌, ℕ, List, ◌+◌, ◌*◌, ◌<◌, ◌≤◌, length, IfOk, IfErr, IsErrAnd, OnOk, OnErr};
-ghost use Rattle.cfb_format.specs.Bytes.{sector_len as sector_len_of, max_regular_sector};
+ghost use Rattle.std.specs.Prelude.{◌≡◌, ℕ, List, ◌+◌, ◌-◌, ◌*◌, ◌/◌, ◌%◌, ◌<◌, ◌≤◌, min, length, take, drop, slice_index, IsTrue, IfOk, IfErr, IsErrAnd, OnOk, OnErr, MatchResult};
+ghost use Rattle.cfb_format.specs.Bytes.{sector_len as sector_len_of, sector_start, max_regular_sector};
 ghost use Rattle.cfb_format.specs.Chain.{IsChain};
+ghost use Rattle.cfb_format.specs.Content.{place_in_chain, placed_from};
+ghost use Rattle.cfb_format.specs.Medium.{part};
+ghost use Rattle.cfb_format.specs.Refused.{CountsFailure, IsInvalidData};
+ghost use Rattle.cfb_chains.specs.Sectors.{IsMediumError};
 ghost use Rattle.cfb_chains.specs.Refused.{WalkRefused, IsInvalidInput};
 
 use crate::alloc::Allocator;
@@ -68,7 +72,7 @@ impl<F: ReadMedium, A: Heap + Clone> Allocator<F, A> {
 }
 
 impl<'a, F: ReadMedium, A: Heap> Chain<'a, F, A> {
-    ghost use Rattle.cfb_chains.specs.LentChain.{allocator_of, start_of, ids_of, init_of, len_of, position_of};
+    ghost use Rattle.cfb_chains.specs.LentChain.{allocator_of, start_of, ids_of, init_of, version_of, len_of, position_of, room_of, place_of};
 
     /// The number of its first sector, or END where it has none.
     pub fn start_sector_id(&self) -> u32
@@ -120,6 +124,97 @@ impl<'a, F: ReadMedium, A: Heap> Chain<'a, F, A> {
         Ok(())
     }
 
+    /// The sector where the next byte lies, and 0 at the end.
+    fn sector_here(&self) -> u32
+        ensures { result ≡ slice_index (ids_of self.now) (position_of self.now / sector_len_of (version_of self.now)) }
+    {
+        let index = self.position / self.allocator.sector_len() as u64;
+        self.ids.numbers().get(index as usize).copied().unwrap_or(0)
+    }
+
+    /// How far into its sector the next byte lies.
+    fn offset_here(&self) -> usize
+        ensures offset { result ≡ position_of self.now % sector_len_of (version_of self.now) }
+        ensures short { result < sector_len_of (version_of self.now) }
+    {
+        (self.position % self.allocator.sector_len() as u64) as usize
+    }
+
+    /// How many bytes its sector has from the next byte on, and 0 at the end.
+    fn room_here(&self) -> usize
+        ensures room { result ≡ room_of self.now }
+        ensures inside { 0 < result → position_of self.now < len_of self.now }
+        ensures within { 0 < result → position_of self.now % sector_len_of (version_of self.now) + result ≤ sector_len_of (version_of self.now) }
+    {
+        if self.position >= self.len() {
+            return 0;
+        }
+        self.allocator.sector_len() - self.offset_here()
+    }
+
+    /// Reads what is there of the sector at the position from there on, as far as `into` has room, goes on behind it, and answers
+    /// how many bytes that is: none exactly where `into` is empty or the end is reached. `InvalidData` exactly where the file ends
+    /// before the byte at the position, and `Medium` where the medium fails: the position then stays.
+    pub fn read(&mut self, into: &mut [u8]) -> Result<usize, Error>
+        ensures same_allocator { (allocator_of self.new).ghost_name ≡ (allocator_of self.old).ghost_name }
+        ensures tables { (allocator_of self.new).now.tables ≡ (allocator_of self.old).now.tables }
+        ensures kept { (allocator_of self.new).now.file ≡ record (allocator_of self.old).now.file {
+          bytes = (allocator_of self.new).now.file.bytes;
+          failures = (allocator_of self.new).now.file.failures;
+        } }
+        ensures chain { (ids_of self.new ≡ ids_of self.old) × (start_of self.new ≡ start_of self.old) × (init_of self.new ≡ init_of self.old) }
+        ensures count { IfOk result (λ n. n ≡ min (min (length into.old) (room_of self.old)) ((allocator_of self.old).now.file.len - place_of self.old)) }
+        ensures some { IfOk result (λ n. 0 < min (length into.old) (room_of self.old) → 0 < n) }
+        ensures position { MatchResult result (λ n. position_of self.new ≡ position_of self.old + n) (λ _. position_of self.new ≡ position_of self.old) }
+        ensures ok { IsTrue F.tells → IfOk result (λ n. take n into.new
+            ≡ placed_from (allocator_of self.old).now.file.bytes (place_in_chain (version_of self.old) (allocator_of self.old).now.file.bytes (ids_of self.old)) (position_of self.old) n) }
+        ensures rest { IfOk result (λ n. drop n into.new ≡ drop n into.old) }
+        ensures cut { 0 < min (length into.old) (room_of self.old) → (allocator_of self.old).now.file.len ≤ place_of self.old → IsErrAnd result IsInvalidData }
+        ensures there { min (length into.old) (room_of self.old) ≡ 0 → OnErr result ⊥ }
+        ensures err { place_of self.old < (allocator_of self.old).now.file.len → IfErr result IsMediumError }
+        ensures same { IsTrue F.tells → OnOk result ((allocator_of self.new).now ≡ (allocator_of self.old).now) }
+        ensures bytes { IsTrue F.tells → (allocator_of self.new).now.file.bytes ≡ (allocator_of self.old).now.file.bytes }
+        ensures counts { IsTrue F.tells → CountsFailure F.read_faults result (allocator_of self.old).now.file.failures (allocator_of self.new).now.file.failures }
+    {
+        let room = into.len().min(self.room_here());
+        if room == 0 {
+            return Ok(0);
+        }
+        let count = self.read_here(&mut into[..room])?;
+        Ok(count)
+    }
+
+    /// Reads what is there of the sector at the position from there on, as far as `into` has room.
+    fn read_here(&mut self, into: &mut [u8]) -> Result<usize, Error>
+        requires some { 0 < length into.old }
+        requires inside { position_of self.old < len_of self.old }
+        requires within { position_of self.old % sector_len_of (version_of self.old) + length into.old ≤ sector_len_of (version_of self.old) }
+        ensures same_allocator { (allocator_of self.new).ghost_name ≡ (allocator_of self.old).ghost_name }
+        ensures tables { (allocator_of self.new).now.tables ≡ (allocator_of self.old).now.tables }
+        ensures kept { (allocator_of self.new).now.file ≡ record (allocator_of self.old).now.file {
+          bytes = (allocator_of self.new).now.file.bytes;
+          failures = (allocator_of self.new).now.file.failures;
+        } }
+        ensures chain { (ids_of self.new ≡ ids_of self.old) × (start_of self.new ≡ start_of self.old) × (init_of self.new ≡ init_of self.old) }
+        ensures count { IfOk result (λ n. n ≡ min (length into.old) ((allocator_of self.old).now.file.len - place_of self.old)) }
+        ensures some { IfOk result (λ n. 0 < n) }
+        ensures position { MatchResult result (λ n. position_of self.new ≡ position_of self.old + n) (λ _. position_of self.new ≡ position_of self.old) }
+        ensures ok { IsTrue F.tells → IfOk result (λ n. take n into.new
+            ≡ placed_from (allocator_of self.old).now.file.bytes (place_in_chain (version_of self.old) (allocator_of self.old).now.file.bytes (ids_of self.old)) (position_of self.old) n) }
+        ensures rest { IfOk result (λ n. drop n into.new ≡ drop n into.old) }
+        ensures cut { (allocator_of self.old).now.file.len ≤ place_of self.old → IsErrAnd result IsInvalidData }
+        ensures err { place_of self.old < (allocator_of self.old).now.file.len → IfErr result IsMediumError }
+        ensures same { IsTrue F.tells → OnOk result ((allocator_of self.new).now ≡ (allocator_of self.old).now) }
+        ensures bytes { IsTrue F.tells → (allocator_of self.new).now.file.bytes ≡ (allocator_of self.old).now.file.bytes }
+        ensures counts { IsTrue F.tells → CountsFailure F.read_faults result (allocator_of self.old).now.file.failures (allocator_of self.new).now.file.failures }
+    {
+        let sector = self.sector_here();
+        let offset = self.offset_here();
+        let count = read_sector(self.allocator, sector, offset, into)?;
+        self.position += count as u64;
+        Ok(count)
+    }
+
     /// Gives the allocator back.
     pub fn end(self)
         ensures { self.exit.0.now ≡ (allocator_of self.entry).now }
@@ -132,6 +227,46 @@ impl<'a, F: ReadMedium, A: Heap> Chain<'a, F, A> {
             position: _,
         } = self;
     }
+}
+
+/// Reads what is there of a sector from `offset` on, and answers how many bytes that is. `InvalidData` exactly where the file ends
+/// before that, and `Medium` where the medium fails.
+fn read_sector<F: ReadMedium, A: Heap>(
+    allocator: &mut Allocator<F, A>,
+    sector: u32,
+    offset: usize,
+    into: &mut [u8],
+) -> Result<usize, Error>
+    requires some { 0 < length into.old }
+    requires within { offset + length into.old ≤ sector_len_of allocator.old.tables.version }
+    ensures tables { allocator.new.tables ≡ allocator.old.tables }
+    ensures kept { allocator.new.file ≡ record allocator.old.file { bytes = allocator.new.file.bytes; failures = allocator.new.file.failures } }
+    ensures count { IfOk result (λ n. n ≡ min (length into.old) (allocator.old.file.len - (sector_start allocator.old.tables.version sector + offset))) }
+    ensures some { IfOk result (λ n. 0 < n) }
+    ensures ok { IsTrue F.tells → IfOk result (λ n. take n into.new ≡ part allocator.old.file.bytes (sector_start allocator.old.tables.version sector + offset) n) }
+    ensures rest { IfOk result (λ n. drop n into.new ≡ drop n into.old) }
+    ensures cut { allocator.old.file.len ≤ sector_start allocator.old.tables.version sector + offset → IsErrAnd result IsInvalidData }
+    ensures there { sector_start allocator.old.tables.version sector + offset < allocator.old.file.len → IfErr result IsMediumError }
+    ensures same { IsTrue F.tells → OnOk result (allocator.new ≡ allocator.old) }
+    ensures bytes { IsTrue F.tells → allocator.new.file.bytes ≡ allocator.old.file.bytes }
+    ensures counts { IsTrue F.tells → CountsFailure F.read_faults result allocator.old.file.failures allocator.new.file.failures }
+{
+    let at = (sector as u64 + 1) * allocator.sector_len() as u64 + offset as u64;
+    if at >= allocator.file_len() {
+        return Err(cut_off(sector, at));
+    }
+    let count = allocator.read_contiguous(sector, offset, into)?;
+    Ok(count)
+}
+
+/// A refusal of what the file ends before.
+fn cut_off(sector: u32, at: u64) -> Error
+    ensures { IsInvalidData result }
+{
+    Error::InvalidData(Detail {
+        text: "file ends inside the sector",
+        numbers: [sector as u64, at],
+    })
 }
 
 /// A refusal of a place past the end of a chain.
