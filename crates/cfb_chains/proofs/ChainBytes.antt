@@ -1,6 +1,6 @@
 -- The bytes of a chain of sectors, by their places.
-use Rattle.std.proofs.Common.{◌≡◌, ◌≤◌, ◌<◌, ◌+◌, ◌-◌, ◌*◌, ◌/◌, ◌%◌, min, ℕ, zero, suc, List, ◌∷◌, [], refl, sym, ◌∙◌, ap, subst, length, take, drop, arith, drop-cons, add-one, length-take, length-drop}
-use Rattle.std.specs.Prelude.{if◌then◌else◌, Option, Some, None, option_and_then, slice_get, slice_index, nat_lt}
+use Rattle.std.proofs.Common.{◌≡◌, ◌≤◌, ◌<◌, ◌+◌, ◌*◌, ◌/◌, ◌%◌, ℕ, zero, suc, List, ◌∷◌, [], refl, sym, ◌∙◌, ap, subst, length, take, drop, arith, drop-cons, add-one, length-take, length-drop}
+use Rattle.std.specs.Prelude.{if◌then◌else◌, Option, Some, None, option_and_then, slice_get, slice_index}
 use Rattle.std.specs.Option.{option_map_or}
 use Rattle.std.proofs.lemmas.Bool.{lt-ltb}
 use Rattle.std.proofs.lemmas.Option.{slice_get-get_or}
@@ -9,6 +9,7 @@ use Rattle.cfb_format.specs.declared.version.Version.TheVariants.{V3, V4}
 use Rattle.cfb_format.specs.Bytes.{byte_at, sector_len, sector_start}
 use Rattle.cfb_format.specs.Content.{in_file, place_in_chain, placed_from}
 use Rattle.cfb_format.specs.Medium.{part}
+use Rattle.cfb_chains.specs.Sectors.{SectorFile, place, sectors_end}
 
 -- ---- places within a sector
 
@@ -95,8 +96,20 @@ step_within V4 k m n inside short = omega arith
 pub step_inside : (v w : Version) (k m n : ℕ) → w ≡ v → k < m * sector_len v → k % sector_len v + n ≤ sector_len v → k + n ≤ m * sector_len w
 step_inside v w k m n same inside short = subst (λ u. k + n ≤ m * sector_len u) (sym same) (step_within v k m n inside short)
 
--- where a part of a sector goes on past the last sector, the file ends before it
-pub past_file : (v : Version) (sector offset n sectors len : ℕ) → offset + n ≤ sector_len v → sector_start v sectors < sector_start v sector + offset + n
-    → len ≤ sector_start v sectors → len ≤ sector_start v sector + offset
-past_file V3 sector offset n sectors len short past end = omega arith
-past_file V4 sector offset n sectors len short past end = omega arith
+-- ---- a part of a sector, which is one of the file or none
+
+start_past : (v : Version) (m sector offset n : ℕ) → 0 < n → m ≤ sector → sector_start v m < sector_start v sector + offset + n
+start_past V3 m sector offset n some past = omega arith
+start_past V4 m sector offset n some past = omega arith
+
+pub past_place : (f : SectorFile) (m sector offset n : ℕ) → f.num_sectors ≡ m → 0 < n → m ≤ sector → sectors_end f < place f sector offset + n
+past_place f m sector offset n count some past = start_past f.version f.num_sectors sector offset n some (omega (arith, count))
+
+start_inside : (v : Version) (m sector offset n : ℕ) → offset + n ≤ sector_len v → sector < m → sector_start v sector + offset + n ≤ sector_start v m
+start_inside V3 m sector offset n short below = omega arith
+start_inside V4 m sector offset n short below = omega arith
+
+pub inside_place : (f : SectorFile) (v : Version) (m sector offset n : ℕ) → f.version ≡ v → f.num_sectors ≡ m → offset + n ≤ sector_len v → sector < m
+    → place f sector offset + n ≤ sectors_end f
+inside_place f v m sector offset n same count short below =
+    start_inside f.version f.num_sectors sector offset n (subst (λ w. offset + n ≤ sector_len w) (sym same) short) (omega (arith, count))

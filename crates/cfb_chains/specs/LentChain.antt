@@ -37,12 +37,15 @@ module _ {F A : Type 0} {g : medium.Ghosts F} {n : numbers.Ghosts (Vec ℕ A)} w
   abbrev pub position_of : Chain F A (Vec ℕ A) g n → ℕ
   position_of c = c.position
 
-  -- how many bytes the sector at the position has from there on, none past the end, and where in the file they begin
+  -- how many bytes the sector at the position has from there on, none past the end, which sector that is, and where in the file they begin
   abbrev pub room_of : Chain F A (Vec ℕ A) g n → ℕ
   room_of c = if nat_lt (position_of c) (len_of c) then sector_len (version_of c) - position_of c % sector_len (version_of c) else 0
 
+  abbrev pub sector_of : Chain F A (Vec ℕ A) g n → ℕ
+  sector_of c = slice_index (ids_of c) (position_of c / sector_len (version_of c))
+
   abbrev pub place_of : Chain F A (Vec ℕ A) g n → ℕ
-  place_of c = sector_start (version_of c) (slice_index (ids_of c) (position_of c / sector_len (version_of c))) + position_of c % sector_len (version_of c)
+  place_of c = sector_start (version_of c) (sector_of c) + position_of c % sector_len (version_of c)
 
 module _ (F A : RattleType) (g : medium.Ghosts F.Denot) (h : heap.Ghosts A.Denot) {n : numbers.Ghosts (Vec ℕ A.Denot)} where
   -- the allocator is as before where no chain was opened

@@ -1,5 +1,5 @@
 //! The allocator of sectors: chains are begun, extended, cut and freed (MS-CFB 2.3 and 2.5).
-ghost use Rattle.std.specs.Prelude.{◌≡◌, ◌≢◌, ℕ, List, [], ◌∷◌, min, length, true, false, IsTrue, IfOk, IfErr, OnOk, take, drop, ◌++◌, ◌⊎◌, ◌+◌, ◌-◌, ◌<◌, ◌≤◌, Contains, IsErrAnd, vec_len};
+ghost use Rattle.std.specs.Prelude.{◌≡◌, ◌≢◌, ℕ, List, [], ◌∷◌, max, min, length, true, false, IsTrue, IfOk, IfErr, OnOk, take, drop, ◌++◌, ◌⊎◌, ◌+◌, ◌-◌, ◌<◌, ◌≤◌, Contains, IsErrAnd, MatchResult, vec_len};
 ghost use Rattle.cfb_format.specs.declared.validate.Validation.{Validation};
 ghost use Rattle.cfb_format.specs.Bytes.{sector_len as sector_len_of, max_regular_sector, end_of_chain};
 ghost use Rattle.cfb_format.specs.Chain.{IsChain, value};
@@ -9,8 +9,8 @@ ghost use Rattle.cfb_chains.specs.Changes.{IsNextOf, NoChain};
 ghost use Rattle.cfb_chains.specs.Refused.{NextRefused, NoLast, WalkRefused, ChangeRefused, BreaksOff, BreaksBack};
 ghost use Rattle.cfb_chains.specs.Tables.{HasTaken, Extended, FreesChain, CutsChain, AreSizes, IsTooFew, ending, start_of, sizes_of};
 ghost use Rattle.cfb_chains.specs.Clean.{IsUnnamed};
-ghost use Rattle.cfb_chains.specs.Sectors.{IsMediumError, place, sectors_end};
-ghost use Rattle.cfb_format.specs.Medium.{part};
+ghost use Rattle.cfb_chains.specs.Sectors.{IsMediumError, OtherSectorsStay, place, sectors_end};
+ghost use Rattle.cfb_format.specs.Medium.{ChangesOnly, part, written};
 
 use crate::sector::{SectorInit, Sectors};
 use crate::tables::Tables;
@@ -407,5 +407,37 @@ impl<F: ReadMedium, A: Heap> Allocator<F, A> {
         ensures counts { IsTrue F.tells → CountsFailure F.read_faults result self.old.file.failures self.new.file.failures }
     {
         self.sectors.read_contiguous(sector, offset, into)
+    }
+}
+
+impl<F: Medium, A: Heap> Allocator<F, A> {
+    /// Writes all of `from` from a sector on and through those that follow it in the file. Where the file ends before `offset`, zeros
+    /// fill the gap. `InvalidData` exactly where the sectors have no room for all of it, and `Medium` where the medium fails: then no
+    /// byte has changed but where `from` was to go, and past the old end.
+    pub fn write_contiguous(&mut self, sector: u32, offset: usize, from: &[u8]) -> Result<(), Error>
+        requires within { offset ≤ sector_len_of self.old.tables.version }
+        requires some { 0 < length from.now }
+        ensures tables { self.new.tables ≡ self.old.tables }
+        ensures ok { IsTrue F.tells → OnOk result (self.new.file ≡ record self.old.file {
+          bytes = written self.old.file.bytes (place self.old.file sector offset) from.now;
+          len = max self.old.file.len (place self.old.file sector offset + length from.now);
+          begun = true;
+        }) }
+        ensures kept { self.new.file ≡ record self.old.file {
+          len = self.new.file.len;
+          bytes = self.new.file.bytes;
+          failures = self.new.file.failures;
+          begun = self.new.file.begun;
+        } }
+        ensures len { MatchResult result
+            (λ _. self.new.file.len ≡ max self.old.file.len (place self.old.file sector offset + length from.now))
+            (λ _. self.new.file.len ≡ self.old.file.len) }
+        ensures past { sectors_end self.old.file < place self.old.file sector offset + length from.now → IsErrAnd result IsInvalidData × (self.new ≡ self.old) }
+        ensures inside { place self.old.file sector offset + length from.now ≤ sectors_end self.old.file → IfErr result IsMediumError × (self.new.file.begun ≡ true) }
+        ensures others { IsTrue F.tells → ChangesOnly (place self.old.file sector offset) (length from.now) self.old.file.bytes self.new.file.bytes }
+        ensures sectors { IsTrue F.tells → OtherSectorsStay self.old.file.version (place self.old.file sector offset) (length from.now) self.old.file.bytes self.new.file.bytes }
+        ensures counts { IsTrue F.tells → CountsFailure F.write_faults result self.old.file.failures self.new.file.failures }
+    {
+        self.sectors.write_contiguous(sector, offset, from)
     }
 }

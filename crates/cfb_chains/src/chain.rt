@@ -1,17 +1,17 @@
 //! A chain of sectors as one list of bytes with a position (MS-CFB 2.3).
-ghost use Rattle.std.specs.Prelude.{◌≡◌, ℕ, List, ◌+◌, ◌-◌, ◌*◌, ◌/◌, ◌%◌, ◌<◌, ◌≤◌, min, length, take, drop, slice_index, IsTrue, IfOk, IfErr, IsErrAnd, OnOk, OnErr, MatchResult};
+ghost use Rattle.std.specs.Prelude.{◌≡◌, ◌≢◌, ℕ, List, ◌+◌, ◌-◌, ◌*◌, ◌/◌, ◌%◌, ◌<◌, ◌≤◌, max, min, length, true, take, drop, slice_index, IsTrue, IfOk, IfErr, IsErrAnd, OnOk, OnErr, MatchResult};
 ghost use Rattle.cfb_format.specs.Bytes.{sector_len as sector_len_of, sector_start, max_regular_sector};
 ghost use Rattle.cfb_format.specs.Chain.{IsChain};
 ghost use Rattle.cfb_format.specs.Content.{place_in_chain, placed_from};
-ghost use Rattle.cfb_format.specs.Medium.{part};
+ghost use Rattle.cfb_format.specs.Medium.{ChangesOnly, part, written};
 ghost use Rattle.cfb_format.specs.Refused.{CountsFailure, IsInvalidData};
-ghost use Rattle.cfb_chains.specs.Sectors.{IsMediumError};
+ghost use Rattle.cfb_chains.specs.Sectors.{IsMediumError, SectorStays};
 ghost use Rattle.cfb_chains.specs.Refused.{WalkRefused, IsInvalidInput};
 
 use crate::alloc::Allocator;
 use crate::sector::SectorInit;
 use cfb_format::error::{Detail, Error};
-use cfb_format::medium::ReadMedium;
+use cfb_format::medium::{Medium, ReadMedium};
 use std::alloc::{Allocator as Heap, Global};
 
 /// A list of numbers of sectors.
@@ -229,6 +229,87 @@ impl<'a, F: ReadMedium, A: Heap> Chain<'a, F, A> {
     }
 }
 
+impl<'a, F: Medium, A: Heap> Chain<'a, F, A> {
+    ghost use Rattle.cfb_chains.specs.LentChain.{allocator_of, start_of, ids_of, init_of, version_of, len_of, position_of, room_of, sector_of, place_of};
+
+    /// Writes a beginning of `from` over what the sector at the position has from there on, goes on behind it, and answers how many
+    /// bytes that is: none exactly where `from` is empty or the end is reached. `InvalidData` exactly where the sector is none of the
+    /// file, and `Medium` where the medium fails: the position then stays, and of the sectors that one alone has changed.
+    pub fn write_within(&mut self, from: &[u8]) -> Result<usize, Error>
+        ensures same_allocator { (allocator_of self.new).ghost_name ≡ (allocator_of self.old).ghost_name }
+        ensures tables { (allocator_of self.new).now.tables ≡ (allocator_of self.old).now.tables }
+        ensures kept { (allocator_of self.new).now.file ≡ record (allocator_of self.old).now.file {
+          len = (allocator_of self.new).now.file.len;
+          bytes = (allocator_of self.new).now.file.bytes;
+          failures = (allocator_of self.new).now.file.failures;
+          begun = (allocator_of self.new).now.file.begun;
+        } }
+        ensures chain { (ids_of self.new ≡ ids_of self.old) × (start_of self.new ≡ start_of self.old) × (init_of self.new ≡ init_of self.old) }
+        ensures count { IfOk result (λ n. n ≡ min (length from.now) (room_of self.old)) }
+        ensures none { min (length from.now) (room_of self.old) ≡ 0 → OnErr result ⊥ × ((allocator_of self.new).now ≡ (allocator_of self.old).now) }
+        ensures position { MatchResult result (λ n. position_of self.new ≡ position_of self.old + n) (λ _. position_of self.new ≡ position_of self.old) }
+        ensures ok { IsTrue F.tells → IfOk result (λ n. 0 < n → (allocator_of self.new).now.file ≡ record (allocator_of self.old).now.file {
+          bytes = written (allocator_of self.old).now.file.bytes (place_of self.old) (take n from.now);
+          len = max (allocator_of self.old).now.file.len (place_of self.old + n);
+          begun = true;
+        }) }
+        ensures past { 0 < min (length from.now) (room_of self.old) → length (allocator_of self.old).now.tables.fat ≤ sector_of self.old
+            → IsErrAnd result IsInvalidData × ((allocator_of self.new).now ≡ (allocator_of self.old).now) }
+        ensures inside { sector_of self.old < length (allocator_of self.old).now.tables.fat → IfErr result IsMediumError }
+        ensures begun { 0 < min (length from.now) (room_of self.old) → sector_of self.old < length (allocator_of self.old).now.tables.fat
+            → (allocator_of self.new).now.file.begun ≡ true }
+        ensures sectors { IsTrue F.tells → (i : ℕ) → i ≢ sector_of self.old
+            → SectorStays (version_of self.old) i (allocator_of self.old).now.file.bytes (allocator_of self.new).now.file.bytes }
+        ensures others { IsTrue F.tells → ChangesOnly (place_of self.old) (min (length from.now) (room_of self.old))
+            (allocator_of self.old).now.file.bytes (allocator_of self.new).now.file.bytes }
+        ensures counts { IsTrue F.tells → CountsFailure F.write_faults result (allocator_of self.old).now.file.failures (allocator_of self.new).now.file.failures }
+    {
+        let room = from.len().min(self.room_here());
+        if room == 0 {
+            return Ok(0);
+        }
+        self.write_here(&from[..room])?;
+        Ok(room)
+    }
+
+    /// Writes all of `from` over what the sector at the position has from there on.
+    fn write_here(&mut self, from: &[u8]) -> Result<(), Error>
+        requires some { 0 < length from.now }
+        requires inside { position_of self.old < len_of self.old }
+        requires within { position_of self.old % sector_len_of (version_of self.old) + length from.now ≤ sector_len_of (version_of self.old) }
+        ensures same_allocator { (allocator_of self.new).ghost_name ≡ (allocator_of self.old).ghost_name }
+        ensures tables { (allocator_of self.new).now.tables ≡ (allocator_of self.old).now.tables }
+        ensures kept { (allocator_of self.new).now.file ≡ record (allocator_of self.old).now.file {
+          len = (allocator_of self.new).now.file.len;
+          bytes = (allocator_of self.new).now.file.bytes;
+          failures = (allocator_of self.new).now.file.failures;
+          begun = (allocator_of self.new).now.file.begun;
+        } }
+        ensures chain { (ids_of self.new ≡ ids_of self.old) × (start_of self.new ≡ start_of self.old) × (init_of self.new ≡ init_of self.old) }
+        ensures position { MatchResult result (λ _. position_of self.new ≡ position_of self.old + length from.now) (λ _. position_of self.new ≡ position_of self.old) }
+        ensures ok { IsTrue F.tells → OnOk result ((allocator_of self.new).now.file ≡ record (allocator_of self.old).now.file {
+          bytes = written (allocator_of self.old).now.file.bytes (place_of self.old) from.now;
+          len = max (allocator_of self.old).now.file.len (place_of self.old + length from.now);
+          begun = true;
+        }) }
+        ensures past { length (allocator_of self.old).now.tables.fat ≤ sector_of self.old
+            → IsErrAnd result IsInvalidData × ((allocator_of self.new).now ≡ (allocator_of self.old).now) }
+        ensures inside { sector_of self.old < length (allocator_of self.old).now.tables.fat
+            → IfErr result IsMediumError × ((allocator_of self.new).now.file.begun ≡ true) }
+        ensures sectors { IsTrue F.tells → (i : ℕ) → i ≢ sector_of self.old
+            → SectorStays (version_of self.old) i (allocator_of self.old).now.file.bytes (allocator_of self.new).now.file.bytes }
+        ensures others { IsTrue F.tells → ChangesOnly (place_of self.old) (length from.now)
+            (allocator_of self.old).now.file.bytes (allocator_of self.new).now.file.bytes }
+        ensures counts { IsTrue F.tells → CountsFailure F.write_faults result (allocator_of self.old).now.file.failures (allocator_of self.new).now.file.failures }
+    {
+        let sector = self.sector_here();
+        let offset = self.offset_here();
+        write_sector(self.allocator, sector, offset, from)?;
+        self.position += from.len() as u64;
+        Ok(())
+    }
+}
+
 /// Reads what is there of a sector from `offset` on, and answers how many bytes that is. `InvalidData` exactly where the file ends
 /// before that, and `Medium` where the medium fails.
 fn read_sector<F: ReadMedium, A: Heap>(
@@ -257,6 +338,38 @@ fn read_sector<F: ReadMedium, A: Heap>(
     }
     let count = allocator.read_contiguous(sector, offset, into)?;
     Ok(count)
+}
+
+/// Writes all of `from` into a sector. `InvalidData` exactly where it is none of the file, and `Medium` where the medium fails.
+fn write_sector<F: Medium, A: Heap>(
+    allocator: &mut Allocator<F, A>,
+    sector: u32,
+    offset: usize,
+    from: &[u8],
+) -> Result<(), Error>
+    requires some { 0 < length from.now }
+    requires within { offset + length from.now ≤ sector_len_of allocator.old.tables.version }
+    ensures tables { allocator.new.tables ≡ allocator.old.tables }
+    ensures kept { allocator.new.file ≡ record allocator.old.file {
+      len = allocator.new.file.len;
+      bytes = allocator.new.file.bytes;
+      failures = allocator.new.file.failures;
+      begun = allocator.new.file.begun;
+    } }
+    ensures ok { IsTrue F.tells → OnOk result (allocator.new.file ≡ record allocator.old.file {
+      bytes = written allocator.old.file.bytes (sector_start allocator.old.tables.version sector + offset) from.now;
+      len = max allocator.old.file.len (sector_start allocator.old.tables.version sector + offset + length from.now);
+      begun = true;
+    }) }
+    ensures past { length allocator.old.tables.fat ≤ sector → IsErrAnd result IsInvalidData × (allocator.new ≡ allocator.old) }
+    ensures inside { sector < length allocator.old.tables.fat → IfErr result IsMediumError × (allocator.new.file.begun ≡ true) }
+    ensures sectors { IsTrue F.tells → (i : ℕ) → i ≢ sector → SectorStays allocator.old.tables.version i allocator.old.file.bytes allocator.new.file.bytes }
+    ensures others { IsTrue F.tells → ChangesOnly (sector_start allocator.old.tables.version sector + offset) (length from.now) allocator.old.file.bytes allocator.new.file.bytes }
+    ensures counts { IsTrue F.tells → CountsFailure F.write_faults result allocator.old.file.failures allocator.new.file.failures }
+{
+    let len = allocator.file_len();
+    let _met = len;
+    allocator.write_contiguous(sector, offset, from)
 }
 
 /// A refusal of what the file ends before.
