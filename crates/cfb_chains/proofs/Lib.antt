@@ -9,6 +9,7 @@ pub mod CountLemmas
 pub mod FreshLemmas
 pub mod ReadLemmas
 pub mod ChainBytes
+pub mod FreedLemmas
 pub mod Listed
 pub mod TableWords
 pub mod AgreementLemmas

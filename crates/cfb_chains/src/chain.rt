@@ -1,12 +1,17 @@
 //! A chain of sectors as one list of bytes with a position (MS-CFB 2.3).
-ghost use Rattle.std.specs.Prelude.{◌≡◌, ◌≢◌, ℕ, List, ◌+◌, ◌-◌, ◌*◌, ◌/◌, ◌%◌, ◌<◌, ◌≤◌, max, min, length, true, take, drop, slice_index, IsTrue, IfOk, IfErr, IsErrAnd, OnOk, OnErr, MatchResult};
+ghost use Rattle.std.specs.Prelude.{◌≡◌, ◌≢◌, ℕ, List, ◌+◌, ◌-◌, ◌*◌, ◌/◌, ◌%◌, ◌<◌, ◌≤◌, max, min, length, true, take, drop, slice_index, ◌⊎◌, IsTrue, IfOk, IfErr, IsErrAnd, OnOk, OnErr, MatchResult};
+ghost use Rattle.cfb_format.specs.declared.validate.Validation.{Validation};
 ghost use Rattle.cfb_format.specs.Bytes.{sector_len as sector_len_of, sector_start, max_regular_sector};
 ghost use Rattle.cfb_format.specs.Chain.{IsChain};
 ghost use Rattle.cfb_format.specs.Content.{place_in_chain, placed_from};
 ghost use Rattle.cfb_format.specs.Medium.{ChangesOnly, part, written};
 ghost use Rattle.cfb_format.specs.Refused.{CountsFailure, IsInvalidData};
+ghost use Rattle.cfb_chains.specs.Alloc.{ChangesSectors, HoldsTables, IsUsable};
+ghost use Rattle.cfb_chains.specs.Changes.{NoChain};
+ghost use Rattle.cfb_chains.specs.Clean.{IsUnnamed};
 ghost use Rattle.cfb_chains.specs.Sectors.{IsMediumError, SectorStays};
-ghost use Rattle.cfb_chains.specs.Refused.{WalkRefused, IsInvalidInput};
+ghost use Rattle.cfb_chains.specs.Refused.{WalkRefused, ChangeRefused, BreaksBack, IsInvalidInput};
+ghost use Rattle.cfb_chains.specs.Tables.{FreesChain};
 
 use crate::alloc::Allocator;
 use crate::sector::SectorInit;
@@ -68,6 +73,27 @@ impl<F: ReadMedium, A: Heap + Clone> Allocator<F, A> {
             init,
             position: 0,
         })
+    }
+}
+
+impl<'a, F: ReadMedium, A: Heap + Clone> Chain<'a, F, A> {
+    ghost use Rattle.std.specs.Borrow.{sem};
+    ghost use Rattle.cfb_chains.specs.LentChain.{allocator_of, start_of, ids_of, init_of, position_of, allocator_rests};
+
+    /// The chain from `start`, as `Allocator::open_chain` lends it.
+    pub fn new(
+        allocator: &'a mut Allocator<F, A>,
+        start: u32,
+        init: SectorInit,
+    ) -> Result<Chain<'a, F, A>, Error>
+        ensures* refused { sem 𝓛 (allocator_rests F.row A.row F.ReadMedium A.Allocator allocator.entry result) }
+        ensures same_allocator { IfOk result (λ c. (allocator_of c).ghost_name ≡ allocator.entry.ghost_name) }
+        ensures allocator { IfOk result (λ c. (allocator_of c).now ≡ allocator.old) }
+        ensures chain { IfOk result (λ c. IsChain allocator.old.tables.fat start (ids_of c)) }
+        ensures there { IfOk result (λ c. (start_of c ≡ start) × (init_of c ≡ init) × (position_of c ≡ 0)) }
+        ensures err { IfErr result (WalkRefused allocator.old.tables.fat start) }
+    {
+        allocator.open_chain(start, init)
     }
 }
 
@@ -308,6 +334,53 @@ impl<'a, F: Medium, A: Heap> Chain<'a, F, A> {
         self.position += from.len() as u64;
         Ok(())
     }
+}
+
+impl<'a, F: Medium, A: Heap + Clone> Chain<'a, F, A> {
+    ghost use Rattle.cfb_chains.specs.LentChain.{allocator_of, start_of};
+
+    /// Frees its sectors, and gives the allocator back.
+    ///
+    /// `InvalidData` where there is no chain from its start any more, and where the FAT sectors do not cover the file; `Medium` where
+    /// the medium fails, and `Memory`. Nothing has changed where it is refused, but after `Medium`: then the chain is free in memory,
+    /// and of the file's bytes the FAT sectors alone have changed.
+    pub fn free(self) -> Result<(), Error>
+        ensures freed { OnOk result (FreesChain (allocator_of self.entry).now.tables self.exit.0.now.tables (start_of self.entry)) }
+        ensures holds { IsTrue F.tells → (validation : Validation) → HoldsTables validation (allocator_of self.entry).now
+            → IsUnnamed (allocator_of self.entry).now.tables.fat (start_of self.entry) → OnOk result (HoldsTables validation self.exit.0.now) }
+        ensures changes { IsTrue F.tells → ChangesSectors (allocator_of self.entry).now.tables.fat_sectors (allocator_of self.entry).now.tables.version
+            (allocator_of self.entry).now.file.bytes self.exit.0.now.file.bytes }
+        ensures refused { IfErr result (BreaksBack (λ old new. FreesChain old new (start_of self.entry)) (allocator_of self.entry).now self.exit.0.now) }
+        ensures err { IfErr result (ChangeRefused ((IsUsable (allocator_of self.entry).now.tables → ⊥) ⊎ NoChain (allocator_of self.entry).now.tables.fat (start_of self.entry))
+            Unit ⊥ Unit) }
+        ensures counts { IsTrue F.tells → CountsFailure F.write_faults result (allocator_of self.entry).now.file.failures self.exit.0.now.file.failures }
+    {
+        let Chain {
+            allocator,
+            ids: _,
+            start,
+            init: _,
+            position: _,
+        } = self;
+        free_from(allocator, start)
+    }
+}
+
+/// Frees the chain from `start`.
+fn free_from<F: Medium, A: Heap + Clone>(
+    allocator: &mut Allocator<F, A>,
+    start: u32,
+) -> Result<(), Error>
+    ensures freed { OnOk result (FreesChain allocator.old.tables allocator.new.tables start) }
+    ensures holds { IsTrue F.tells → (validation : Validation) → HoldsTables validation allocator.old → IsUnnamed allocator.old.tables.fat start
+        → OnOk result (HoldsTables validation allocator.new) }
+    ensures changes { IsTrue F.tells → ChangesSectors allocator.old.tables.fat_sectors allocator.old.tables.version allocator.old.file.bytes allocator.new.file.bytes }
+    ensures refused { IfErr result (BreaksBack (λ old new. FreesChain old new start) allocator.old allocator.new) }
+    ensures err { IfErr result (ChangeRefused ((IsUsable allocator.old.tables → ⊥) ⊎ NoChain allocator.old.tables.fat start) Unit ⊥ Unit) }
+    ensures counts { IsTrue F.tells → CountsFailure F.write_faults result allocator.old.file.failures allocator.new.file.failures }
+    ensures version { allocator.new.tables.version ≡ allocator.old.tables.version }
+{
+    allocator.free_chain(start)
 }
 
 /// Reads what is there of a sector from `offset` on, and answers how many bytes that is. `InvalidData` exactly where the file ends
