@@ -9,6 +9,8 @@ pub mod SectorLemmas
 pub mod CountLemmas
 pub mod FreshLemmas
 pub mod ReadLemmas
+pub mod ChainBytes
+pub mod FreedLemmas
 pub mod Listed
 pub mod TableWords
 pub mod AgreementLemmas

@@ -3,6 +3,7 @@ use Rattle.std.specs.Prelude.{ℕ, ◌≡◌, ◌≢◌, List, [], true}
 use Rattle.cfb_format.specs.declared.error.Error.{Error}
 use Rattle.cfb_format.specs.declared.error.Error.TheVariants.{NotFound, AlreadyExists, InvalidInput, InvalidData, Medium, Memory, Full, Unsound, Failed, Unsupported}
 use Rattle.cfb_format.specs.Chain.{IsChain}
+use Rattle.cfb_format.specs.Refused.{number_of}
 use Rattle.cfb_chains.specs.Changes.{NoChain, IsNextOf}
 use Rattle.cfb_chains.specs.Tables.{TableState, IsTooFew}
 use Rattle.cfb_chains.specs.Alloc.{AllocatorState}
@@ -61,3 +62,7 @@ BreaksOff made old new (InvalidInput d) = new ≡ old
 BreaksOff made old new Unsound = new ≡ old
 BreaksOff made old new Failed = new ≡ old
 BreaksOff made old new Unsupported = new ≡ old
+
+-- the input is wrong
+abbrev pub IsInvalidInput : Error → Type 0
+IsInvalidInput e = number_of e ≡ 3

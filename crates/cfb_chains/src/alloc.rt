@@ -1,5 +1,5 @@
 //! The allocator of sectors: chains are begun, extended, cut and freed (MS-CFB 2.3 and 2.5).
-ghost use Rattle.std.specs.Prelude.{◌≡◌, ◌≢◌, ℕ, List, [], ◌∷◌, max, min, length, true, false, IsTrue, IfOk, IfErr, OnOk, take, drop, ◌++◌, ◌⊎◌, ◌+◌, ◌-◌, ◌<◌, ◌≤◌, Contains, IsErrAnd, vec_len};
+ghost use Rattle.std.specs.Prelude.{◌≡◌, ◌≢◌, ℕ, List, [], ◌∷◌, max, min, length, true, false, IsTrue, IfOk, IfErr, OnOk, take, drop, ◌++◌, ◌⊎◌, ◌+◌, ◌-◌, ◌<◌, ◌≤◌, Contains, IsErrAnd, MatchResult, vec_len};
 ghost use Rattle.cfb_format.specs.declared.validate.Validation.{Validation};
 ghost use Rattle.cfb_format.specs.Bytes.{sector_len as sector_len_of, max_regular_sector, end_of_chain};
 ghost use Rattle.cfb_format.specs.Chain.{IsChain, value};
@@ -7,7 +7,7 @@ ghost use Rattle.cfb_format.specs.Refused.{CountsFailure, IsInvalidData};
 ghost use Rattle.cfb_chains.specs.Alloc.{AreListed, ChangesSectors, HoldsTables, IsPlaced, IsUsable, IsFilled, OthersStay};
 ghost use Rattle.cfb_chains.specs.ReadFat.{AcceptsFat, AcceptsNoFat};
 ghost use Rattle.cfb_chains.specs.Changes.{IsNextOf, NoChain};
-ghost use Rattle.cfb_chains.specs.Refused.{Refused, NextRefused, NoLast, ChangeRefused, BreaksOff};
+ghost use Rattle.cfb_chains.specs.Refused.{Refused, NextRefused, NoLast, WalkRefused, ChangeRefused, BreaksOff};
 ghost use Rattle.cfb_chains.specs.Tables.{HasTaken, TakesFor, Extended, ExtendsFrom, FreesChain, CutsChain, AreSizes, IsTooFew, ending, start_of, sizes_of, tables_of};
 ghost use Rattle.cfb_chains.specs.Clean.{IsUnnamed};
 ghost use Rattle.cfb_chains.specs.Sectors.{IsMediumError, OtherSectorsStay, place, sectors_end};
@@ -153,6 +153,16 @@ impl<F: ReadMedium, A: Heap> Allocator<F, A> {
         self.sectors.inner()
     }
 
+    /// How long the file is known to be, in bytes.
+    pub(crate) fn file_len(&self) -> u64
+        ensures len { result ≡ self.now.file.len }
+        ensures end { self.now.file.len ≤ sectors_end self.now.file }
+        ensures placed { IsPlaced self.now.file self.now.tables }
+    {
+        let _ = self.sectors.num_sectors();
+        self.sectors.len()
+    }
+
     /// Gives the medium back.
     pub fn into_inner(self) -> F
         ensures bytes { F.bytes result ≡ self.file.bytes }
@@ -280,6 +290,20 @@ impl<F: Medium, A: Heap> Allocator<F, A> {
             init,
         )?;
         Ok(sector)
+    }
+}
+
+impl<F: ReadMedium, A: Heap + Clone> Allocator<F, A> {
+    /// The sectors of the chain from `start`, in order (MS-CFB 2.3). `InvalidData` where there is no such chain, and `Memory`.
+    pub fn chain(&self, start: u32) -> Result<Vec<u32, A>, Error>
+        ensures ok { IfOk result (λ list. IsChain self.now.tables.fat start list.items) }
+        ensures few { IfOk result (λ list. vec_len list ≤ max_regular_sector) }
+        ensures err { IfErr result (WalkRefused self.now.tables.fat start) }
+    {
+        let sectors = self.tables.len();
+        let list = self.tables.chain(self.heap.clone()?, start)?;
+        let _met = sectors;
+        Ok(list)
     }
 }
 
@@ -489,12 +513,19 @@ impl<F: Medium, A: Heap> Allocator<F, A> {
           len = max self.old.file.len (place self.old.file sector offset + length from.now);
           begun = true;
         }) }
-        ensures kept { self.new.file ≡ record self.old.file { len = self.new.file.len; bytes = self.new.file.bytes; failures = self.new.file.failures; begun = self.new.file.begun } }
+        ensures kept { self.new.file ≡ record self.old.file {
+          len = self.new.file.len;
+          bytes = self.new.file.bytes;
+          failures = self.new.file.failures;
+          begun = self.new.file.begun;
+        } }
+        ensures len { MatchResult result
+            (λ _. self.new.file.len ≡ max self.old.file.len (place self.old.file sector offset + length from.now))
+            (λ _. self.new.file.len ≡ self.old.file.len) }
         ensures past { sectors_end self.old.file < place self.old.file sector offset + length from.now → IsErrAnd result IsInvalidData × (self.new ≡ self.old) }
         ensures inside { place self.old.file sector offset + length from.now ≤ sectors_end self.old.file → IfErr result IsMediumError × (self.new.file.begun ≡ true) }
         ensures others { IsTrue F.tells → ChangesOnly (place self.old.file sector offset) (length from.now) self.old.file.bytes self.new.file.bytes }
-        ensures sectors { IsTrue F.tells
-            → OtherSectorsStay self.old.tables.version (place self.old.file sector offset) (length from.now) self.old.file.bytes self.new.file.bytes }
+        ensures sectors { IsTrue F.tells → OtherSectorsStay self.old.file.version (place self.old.file sector offset) (length from.now) self.old.file.bytes self.new.file.bytes }
         ensures counts { IsTrue F.tells → CountsFailure F.write_faults result self.old.file.failures self.new.file.failures }
     {
         self.sectors.write_contiguous(sector, offset, from)

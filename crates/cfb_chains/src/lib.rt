@@ -4,6 +4,7 @@
 pub mod agreement;
 pub mod alloc;
 pub mod fat;
+pub mod chain;
 pub mod laws;
 mod lists;
 pub mod sector;

@@ -95,6 +95,13 @@ impl<F: ReadMedium> Sectors<F> {
         self.num_sectors
     }
 
+    /// How long the file is known to be, in bytes.
+    pub(crate) fn len(&self) -> u64
+        ensures { result ≡ self.now.len }
+    {
+        self.len
+    }
+
     /// The medium.
     pub fn inner(&self) -> &F
         ensures bytes { F.bytes result.now ≡ self.now.bytes }

@@ -1,0 +1,5 @@
+use Rattle.cfb_chains.proofs.SectorLemmas.{SectorStays_refl}
+use Rattle.cfb_chains.proofs.chain.Chain+F+A.write_within.Goals as goal
+
+pub returns-then-room-eq0-clause-sectors : goal.returns-then-room-eq0-clause-sectors
+returns-then-room-eq0-clause-sectors g c told i other = SectorStays_refl _ i _

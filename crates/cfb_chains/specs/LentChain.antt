@@ -1,0 +1,53 @@
+-- What is seen of a chain whose allocator is lent: one list of bytes with a position (MS-CFB 2.3).
+use Rattle.std.specs.Prelude.{◌≡◌, ℕ, ◌+◌, ◌-◌, ◌*◌, ◌/◌, ◌%◌, List, length, Result, Vec, slice_index, nat_lt, if◌then◌else◌}
+use Rattle.std.specs.Borrow.{RattleType, MutBor, Fml, RestsIfErr}
+use Rattle.std.specs.declared.alloc.Allocator as heap
+use Rattle.cfb_format.specs.Bytes.{sector_len, sector_start}
+use Rattle.cfb_format.specs.declared.error.Error.{Error}
+use Rattle.cfb_format.specs.declared.medium.ReadMedium as medium
+use Rattle.cfb_format.specs.declared.version.Version.{Version}
+use Rattle.cfb_chains.specs.Alloc.{AllocatorState}
+use Rattle.cfb_chains.specs.declared.chain.Chain.{Chain}
+use Rattle.cfb_chains.specs.declared.chain.Numbers as numbers
+use Rattle.cfb_chains.specs.declared.sector.SectorInit.{SectorInit}
+use Rattle.cfb_chains.specs.contracts.alloc.Allocator.{the_row}
+
+module _ {F A : Type 0} {g : medium.Ghosts F} {n : numbers.Ghosts (Vec ℕ A)} where
+  -- the allocator that it is borrowed from
+  abbrev pub allocator_of : Chain F A (Vec ℕ A) g n → MutBor AllocatorState
+  allocator_of c = c.allocator
+
+  -- the number that it starts with, its sectors in order, and what a sector that it gains holds
+  abbrev pub start_of : Chain F A (Vec ℕ A) g n → ℕ
+  start_of c = c.start
+
+  abbrev pub ids_of : Chain F A (Vec ℕ A) g n → List ℕ
+  ids_of c = c.ids.items
+
+  abbrev pub init_of : Chain F A (Vec ℕ A) g n → SectorInit
+  init_of c = c.init
+
+  abbrev pub version_of : Chain F A (Vec ℕ A) g n → Version
+  version_of c = c.allocator.now.tables.version
+
+  -- how many bytes it has, and which of them is the next
+  abbrev pub len_of : Chain F A (Vec ℕ A) g n → ℕ
+  len_of c = length (ids_of c) * sector_len (version_of c)
+
+  abbrev pub position_of : Chain F A (Vec ℕ A) g n → ℕ
+  position_of c = c.position
+
+  -- how many bytes the sector at the position has from there on, none past the end, which sector that is, and where in the file they begin
+  abbrev pub room_of : Chain F A (Vec ℕ A) g n → ℕ
+  room_of c = if nat_lt (position_of c) (len_of c) then sector_len (version_of c) - position_of c % sector_len (version_of c) else 0
+
+  abbrev pub sector_of : Chain F A (Vec ℕ A) g n → ℕ
+  sector_of c = slice_index (ids_of c) (position_of c / sector_len (version_of c))
+
+  abbrev pub place_of : Chain F A (Vec ℕ A) g n → ℕ
+  place_of c = sector_start (version_of c) (sector_of c) + position_of c % sector_len (version_of c)
+
+module _ (F A : RattleType) (g : medium.Ghosts F.Denot) (h : heap.Ghosts A.Denot) {n : numbers.Ghosts (Vec ℕ A.Denot)} where
+  -- the allocator is as before where no chain was opened
+  abbrev pub allocator_rests : MutBor AllocatorState → Result (Chain F.Denot A.Denot (Vec ℕ A.Denot) g n) Error → Fml
+  allocator_rests a r = RestsIfErr (the_row F A g h) a (λ c. (allocator_of c).ghost_name) r (λ last. last ≡ a.now)

@@ -1,0 +1,466 @@
+//! A chain of sectors as one list of bytes with a position (MS-CFB 2.3).
+ghost use Rattle.std.specs.Prelude.{◌≡◌, ◌≢◌, ℕ, List, ◌+◌, ◌-◌, ◌*◌, ◌/◌, ◌%◌, ◌<◌, ◌≤◌, max, min, length, true, take, drop, slice_index, ◌⊎◌, IsTrue, IfOk, IfErr, IsErrAnd, OnOk, OnErr, MatchResult};
+ghost use Rattle.cfb_format.specs.declared.validate.Validation.{Validation};
+ghost use Rattle.cfb_format.specs.Bytes.{sector_len as sector_len_of, sector_start, max_regular_sector};
+ghost use Rattle.cfb_format.specs.Chain.{IsChain};
+ghost use Rattle.cfb_format.specs.Content.{place_in_chain, placed_from};
+ghost use Rattle.cfb_format.specs.Medium.{ChangesOnly, part, written};
+ghost use Rattle.cfb_format.specs.Refused.{CountsFailure, IsInvalidData};
+ghost use Rattle.cfb_chains.specs.Alloc.{ChangesSectors, HoldsTables, IsUsable};
+ghost use Rattle.cfb_chains.specs.Changes.{NoChain};
+ghost use Rattle.cfb_chains.specs.Clean.{IsUnnamed};
+ghost use Rattle.cfb_chains.specs.Sectors.{IsMediumError, SectorStays};
+ghost use Rattle.cfb_chains.specs.Refused.{WalkRefused, ChangeRefused, BreaksOff, IsInvalidInput};
+ghost use Rattle.cfb_chains.specs.Tables.{FreesChain};
+
+use crate::alloc::Allocator;
+use crate::sector::SectorInit;
+use cfb_format::error::{Detail, Error};
+use cfb_format::medium::{Medium, ReadMedium};
+use std::alloc::{Allocator as Heap, Global};
+
+/// A list of numbers of sectors.
+pub trait Numbers {
+    ghost use Rattle.std.specs.Prelude.{ℕ, List};
+
+    /// The numbers, in order.
+    ghost list: { Self → List ℕ };
+
+    /// The numbers, in order.
+    fn numbers(&self) -> &[u32]
+        ensures { result.now ≡ list self.now };
+}
+
+impl<A: Heap> Numbers for Vec<u32, A> {
+    ghost list = { λ v. v.items };
+
+    fn numbers(&self) -> &[u32] {
+        self.as_slice()
+    }
+}
+
+/// A chain of sectors, which lie anywhere in the file, as one list of bytes that is read and written from a position on. It is
+/// lent with its allocator whole, and must be given back by `end` or `free`.
+pub struct Chain<'a, F: ReadMedium, A: Heap = Global, L: Numbers = Vec<u32, A>> {
+    allocator: &'a mut Allocator<F, A>,
+    ids: L,
+    start: u32,
+    init: SectorInit,
+    position: u64,
+    ghost few: { length (L.list ids) ≤ max_regular_sector },
+    ghost within: { position ≤ length (L.list ids) * sector_len_of allocator.now.tables.version },
+}
+
+impl<F: ReadMedium, A: Heap + Clone> Allocator<F, A> {
+    ghost use Rattle.std.specs.Borrow.{sem};
+    ghost use Rattle.cfb_chains.specs.LentChain.{allocator_of, start_of, ids_of, init_of, position_of, allocator_rests};
+
+    /// Lends the chain from `start`, at its first byte. A sector that it gains holds what `init` says. `InvalidData` where there is no
+    /// such chain, and `Memory`.
+    pub fn open_chain(&mut self, start: u32, init: SectorInit) -> Result<Chain<'_, F, A>, Error>
+        ensures* refused { sem 𝓛 (allocator_rests F.row A.row F.ReadMedium A.Allocator self.entry result) }
+        ensures same_allocator { IfOk result (λ c. (allocator_of c).ghost_name ≡ self.entry.ghost_name) }
+        ensures allocator { IfOk result (λ c. (allocator_of c).now ≡ self.old) }
+        ensures chain { IfOk result (λ c. IsChain self.old.tables.fat start (ids_of c)) }
+        ensures there { IfOk result (λ c. (start_of c ≡ start) × (init_of c ≡ init) × (position_of c ≡ 0)) }
+        ensures err { IfErr result (WalkRefused self.old.tables.fat start) }
+    {
+        let ids = self.chain(start)?;
+        Ok(Chain {
+            allocator: self,
+            ids,
+            start,
+            init,
+            position: 0,
+        })
+    }
+}
+
+impl<'a, F: ReadMedium, A: Heap + Clone> Chain<'a, F, A> {
+    ghost use Rattle.std.specs.Borrow.{sem};
+    ghost use Rattle.cfb_chains.specs.LentChain.{allocator_of, start_of, ids_of, init_of, position_of, allocator_rests};
+
+    /// The chain from `start`, as `Allocator::open_chain` lends it.
+    pub fn new(
+        allocator: &'a mut Allocator<F, A>,
+        start: u32,
+        init: SectorInit,
+    ) -> Result<Chain<'a, F, A>, Error>
+        ensures* refused { sem 𝓛 (allocator_rests F.row A.row F.ReadMedium A.Allocator allocator.entry result) }
+        ensures same_allocator { IfOk result (λ c. (allocator_of c).ghost_name ≡ allocator.entry.ghost_name) }
+        ensures allocator { IfOk result (λ c. (allocator_of c).now ≡ allocator.old) }
+        ensures chain { IfOk result (λ c. IsChain allocator.old.tables.fat start (ids_of c)) }
+        ensures there { IfOk result (λ c. (start_of c ≡ start) × (init_of c ≡ init) × (position_of c ≡ 0)) }
+        ensures err { IfErr result (WalkRefused allocator.old.tables.fat start) }
+    {
+        allocator.open_chain(start, init)
+    }
+}
+
+impl<'a, F: ReadMedium, A: Heap> Chain<'a, F, A> {
+    ghost use Rattle.cfb_chains.specs.LentChain.{allocator_of, start_of, ids_of, init_of, version_of, len_of, position_of, room_of, place_of};
+
+    /// The number of its first sector, or END where it has none.
+    pub fn start_sector_id(&self) -> u32
+        ensures { result ≡ start_of self.now }
+    {
+        self.start
+    }
+
+    /// The numbers of its sectors, in order.
+    pub fn sector_ids(&self) -> &[u32]
+        ensures { result.now ≡ ids_of self.now }
+    {
+        self.ids.numbers()
+    }
+
+    /// How many sectors it has.
+    pub fn num_sectors(&self) -> usize
+        ensures { result ≡ length (ids_of self.now) }
+    {
+        self.ids.numbers().len()
+    }
+
+    /// How many bytes its sectors have, were each of them whole.
+    pub fn len(&self) -> u64
+        ensures { result ≡ len_of self.now }
+    {
+        self.num_sectors() as u64 * self.allocator.sector_len() as u64
+    }
+
+    /// Which byte is the next.
+    pub fn position(&self) -> u64
+        ensures { result ≡ position_of self.now }
+    {
+        self.position
+    }
+
+    /// Goes to a byte, or to the end. `InvalidInput` exactly past the end: then nothing has changed.
+    pub fn seek(&mut self, position: u64) -> Result<(), Error>
+        ensures same_allocator { (allocator_of self.new).ghost_name ≡ (allocator_of self.old).ghost_name }
+        ensures allocator { (allocator_of self.new).now ≡ (allocator_of self.old).now }
+        ensures chain { (ids_of self.new ≡ ids_of self.old) × (start_of self.new ≡ start_of self.old) × (init_of self.new ≡ init_of self.old) }
+        ensures inside { position ≤ len_of self.old → OnOk result (position_of self.new ≡ position) × OnErr result ⊥ }
+        ensures past { len_of self.old < position → IsErrAnd result IsInvalidInput × (position_of self.new ≡ position_of self.old) }
+    {
+        if position > self.len() {
+            return Err(past_end(position, self.len()));
+        }
+        self.position = position;
+        Ok(())
+    }
+
+    /// The sector where the next byte lies, and 0 at the end.
+    fn sector_here(&self) -> u32
+        ensures { result ≡ slice_index (ids_of self.now) (position_of self.now / sector_len_of (version_of self.now)) }
+    {
+        let index = self.position / self.allocator.sector_len() as u64;
+        self.ids.numbers().get(index as usize).copied().unwrap_or(0)
+    }
+
+    /// How far into its sector the next byte lies.
+    fn offset_here(&self) -> usize
+        ensures offset { result ≡ position_of self.now % sector_len_of (version_of self.now) }
+        ensures short { result < sector_len_of (version_of self.now) }
+    {
+        (self.position % self.allocator.sector_len() as u64) as usize
+    }
+
+    /// How many bytes its sector has from the next byte on, and 0 at the end.
+    fn room_here(&self) -> usize
+        ensures room { result ≡ room_of self.now }
+        ensures inside { 0 < result → position_of self.now < len_of self.now }
+        ensures within { 0 < result → position_of self.now % sector_len_of (version_of self.now) + result ≤ sector_len_of (version_of self.now) }
+    {
+        if self.position >= self.len() {
+            return 0;
+        }
+        self.allocator.sector_len() - self.offset_here()
+    }
+
+    /// Reads what is there of the sector at the position from there on, as far as `into` has room, goes on behind it, and answers
+    /// how many bytes that is: none exactly where `into` is empty or the end is reached. `InvalidData` exactly where the file ends
+    /// before the byte at the position, and `Medium` where the medium fails: the position then stays.
+    pub fn read(&mut self, into: &mut [u8]) -> Result<usize, Error>
+        ensures same_allocator { (allocator_of self.new).ghost_name ≡ (allocator_of self.old).ghost_name }
+        ensures tables { (allocator_of self.new).now.tables ≡ (allocator_of self.old).now.tables }
+        ensures kept { (allocator_of self.new).now.file ≡ record (allocator_of self.old).now.file {
+          bytes = (allocator_of self.new).now.file.bytes;
+          failures = (allocator_of self.new).now.file.failures;
+        } }
+        ensures chain { (ids_of self.new ≡ ids_of self.old) × (start_of self.new ≡ start_of self.old) × (init_of self.new ≡ init_of self.old) }
+        ensures count { IfOk result (λ n. n ≡ min (min (length into.old) (room_of self.old)) ((allocator_of self.old).now.file.len - place_of self.old)) }
+        ensures some { IfOk result (λ n. 0 < min (length into.old) (room_of self.old) → 0 < n) }
+        ensures position { MatchResult result (λ n. position_of self.new ≡ position_of self.old + n) (λ _. position_of self.new ≡ position_of self.old) }
+        ensures ok { IsTrue F.tells → IfOk result (λ n. take n into.new
+            ≡ placed_from (allocator_of self.old).now.file.bytes (place_in_chain (version_of self.old) (allocator_of self.old).now.file.bytes (ids_of self.old)) (position_of self.old) n) }
+        ensures rest { IfOk result (λ n. drop n into.new ≡ drop n into.old) }
+        ensures cut { 0 < min (length into.old) (room_of self.old) → (allocator_of self.old).now.file.len ≤ place_of self.old → IsErrAnd result IsInvalidData }
+        ensures there { min (length into.old) (room_of self.old) ≡ 0 → OnErr result ⊥ }
+        ensures err { place_of self.old < (allocator_of self.old).now.file.len → IfErr result IsMediumError }
+        ensures same { IsTrue F.tells → OnOk result ((allocator_of self.new).now ≡ (allocator_of self.old).now) }
+        ensures bytes { IsTrue F.tells → (allocator_of self.new).now.file.bytes ≡ (allocator_of self.old).now.file.bytes }
+        ensures counts { IsTrue F.tells → CountsFailure F.read_faults result (allocator_of self.old).now.file.failures (allocator_of self.new).now.file.failures }
+    {
+        let room = into.len().min(self.room_here());
+        if room == 0 {
+            return Ok(0);
+        }
+        let count = self.read_here(&mut into[..room])?;
+        Ok(count)
+    }
+
+    /// Reads what is there of the sector at the position from there on, as far as `into` has room.
+    fn read_here(&mut self, into: &mut [u8]) -> Result<usize, Error>
+        requires some { 0 < length into.old }
+        requires inside { position_of self.old < len_of self.old }
+        requires within { position_of self.old % sector_len_of (version_of self.old) + length into.old ≤ sector_len_of (version_of self.old) }
+        ensures same_allocator { (allocator_of self.new).ghost_name ≡ (allocator_of self.old).ghost_name }
+        ensures tables { (allocator_of self.new).now.tables ≡ (allocator_of self.old).now.tables }
+        ensures kept { (allocator_of self.new).now.file ≡ record (allocator_of self.old).now.file {
+          bytes = (allocator_of self.new).now.file.bytes;
+          failures = (allocator_of self.new).now.file.failures;
+        } }
+        ensures chain { (ids_of self.new ≡ ids_of self.old) × (start_of self.new ≡ start_of self.old) × (init_of self.new ≡ init_of self.old) }
+        ensures count { IfOk result (λ n. n ≡ min (length into.old) ((allocator_of self.old).now.file.len - place_of self.old)) }
+        ensures some { IfOk result (λ n. 0 < n) }
+        ensures position { MatchResult result (λ n. position_of self.new ≡ position_of self.old + n) (λ _. position_of self.new ≡ position_of self.old) }
+        ensures ok { IsTrue F.tells → IfOk result (λ n. take n into.new
+            ≡ placed_from (allocator_of self.old).now.file.bytes (place_in_chain (version_of self.old) (allocator_of self.old).now.file.bytes (ids_of self.old)) (position_of self.old) n) }
+        ensures rest { IfOk result (λ n. drop n into.new ≡ drop n into.old) }
+        ensures cut { (allocator_of self.old).now.file.len ≤ place_of self.old → IsErrAnd result IsInvalidData }
+        ensures err { place_of self.old < (allocator_of self.old).now.file.len → IfErr result IsMediumError }
+        ensures same { IsTrue F.tells → OnOk result ((allocator_of self.new).now ≡ (allocator_of self.old).now) }
+        ensures bytes { IsTrue F.tells → (allocator_of self.new).now.file.bytes ≡ (allocator_of self.old).now.file.bytes }
+        ensures counts { IsTrue F.tells → CountsFailure F.read_faults result (allocator_of self.old).now.file.failures (allocator_of self.new).now.file.failures }
+    {
+        let sector = self.sector_here();
+        let offset = self.offset_here();
+        let count = read_sector(self.allocator, sector, offset, into)?;
+        self.position += count as u64;
+        Ok(count)
+    }
+
+    /// Gives the allocator back.
+    pub fn end(self)
+        ensures { self.exit.0.now ≡ (allocator_of self.entry).now }
+    {
+        let Chain {
+            allocator: _,
+            ids: _,
+            start: _,
+            init: _,
+            position: _,
+        } = self;
+    }
+}
+
+impl<'a, F: Medium, A: Heap> Chain<'a, F, A> {
+    ghost use Rattle.cfb_chains.specs.LentChain.{allocator_of, start_of, ids_of, init_of, version_of, len_of, position_of, room_of, sector_of, place_of};
+
+    /// Writes a beginning of `from` over what the sector at the position has from there on, goes on behind it, and answers how many
+    /// bytes that is: none exactly where `from` is empty or the end is reached. `InvalidData` exactly where the sector is none of the
+    /// file, and `Medium` where the medium fails: the position then stays, and of the sectors that one alone has changed.
+    pub fn write_within(&mut self, from: &[u8]) -> Result<usize, Error>
+        ensures same_allocator { (allocator_of self.new).ghost_name ≡ (allocator_of self.old).ghost_name }
+        ensures tables { (allocator_of self.new).now.tables ≡ (allocator_of self.old).now.tables }
+        ensures kept { (allocator_of self.new).now.file ≡ record (allocator_of self.old).now.file {
+          len = (allocator_of self.new).now.file.len;
+          bytes = (allocator_of self.new).now.file.bytes;
+          failures = (allocator_of self.new).now.file.failures;
+          begun = (allocator_of self.new).now.file.begun;
+        } }
+        ensures chain { (ids_of self.new ≡ ids_of self.old) × (start_of self.new ≡ start_of self.old) × (init_of self.new ≡ init_of self.old) }
+        ensures count { IfOk result (λ n. n ≡ min (length from.now) (room_of self.old)) }
+        ensures none { min (length from.now) (room_of self.old) ≡ 0 → OnErr result ⊥ × ((allocator_of self.new).now ≡ (allocator_of self.old).now) }
+        ensures position { MatchResult result (λ n. position_of self.new ≡ position_of self.old + n) (λ _. position_of self.new ≡ position_of self.old) }
+        ensures ok { IsTrue F.tells → IfOk result (λ n. 0 < n → (allocator_of self.new).now.file ≡ record (allocator_of self.old).now.file {
+          bytes = written (allocator_of self.old).now.file.bytes (place_of self.old) (take n from.now);
+          len = max (allocator_of self.old).now.file.len (place_of self.old + n);
+          begun = true;
+        }) }
+        ensures past { 0 < min (length from.now) (room_of self.old) → length (allocator_of self.old).now.tables.fat ≤ sector_of self.old
+            → IsErrAnd result IsInvalidData × ((allocator_of self.new).now ≡ (allocator_of self.old).now) }
+        ensures inside { sector_of self.old < length (allocator_of self.old).now.tables.fat → IfErr result IsMediumError }
+        ensures begun { 0 < min (length from.now) (room_of self.old) → sector_of self.old < length (allocator_of self.old).now.tables.fat
+            → (allocator_of self.new).now.file.begun ≡ true }
+        ensures sectors { IsTrue F.tells → (i : ℕ) → i ≢ sector_of self.old
+            → SectorStays (version_of self.old) i (allocator_of self.old).now.file.bytes (allocator_of self.new).now.file.bytes }
+        ensures others { IsTrue F.tells → ChangesOnly (place_of self.old) (min (length from.now) (room_of self.old))
+            (allocator_of self.old).now.file.bytes (allocator_of self.new).now.file.bytes }
+        ensures counts { IsTrue F.tells → CountsFailure F.write_faults result (allocator_of self.old).now.file.failures (allocator_of self.new).now.file.failures }
+    {
+        let room = from.len().min(self.room_here());
+        if room == 0 {
+            return Ok(0);
+        }
+        self.write_here(&from[..room])?;
+        Ok(room)
+    }
+
+    /// Writes all of `from` over what the sector at the position has from there on.
+    fn write_here(&mut self, from: &[u8]) -> Result<(), Error>
+        requires some { 0 < length from.now }
+        requires inside { position_of self.old < len_of self.old }
+        requires within { position_of self.old % sector_len_of (version_of self.old) + length from.now ≤ sector_len_of (version_of self.old) }
+        ensures same_allocator { (allocator_of self.new).ghost_name ≡ (allocator_of self.old).ghost_name }
+        ensures tables { (allocator_of self.new).now.tables ≡ (allocator_of self.old).now.tables }
+        ensures kept { (allocator_of self.new).now.file ≡ record (allocator_of self.old).now.file {
+          len = (allocator_of self.new).now.file.len;
+          bytes = (allocator_of self.new).now.file.bytes;
+          failures = (allocator_of self.new).now.file.failures;
+          begun = (allocator_of self.new).now.file.begun;
+        } }
+        ensures chain { (ids_of self.new ≡ ids_of self.old) × (start_of self.new ≡ start_of self.old) × (init_of self.new ≡ init_of self.old) }
+        ensures position { MatchResult result (λ _. position_of self.new ≡ position_of self.old + length from.now) (λ _. position_of self.new ≡ position_of self.old) }
+        ensures ok { IsTrue F.tells → OnOk result ((allocator_of self.new).now.file ≡ record (allocator_of self.old).now.file {
+          bytes = written (allocator_of self.old).now.file.bytes (place_of self.old) from.now;
+          len = max (allocator_of self.old).now.file.len (place_of self.old + length from.now);
+          begun = true;
+        }) }
+        ensures past { length (allocator_of self.old).now.tables.fat ≤ sector_of self.old
+            → IsErrAnd result IsInvalidData × ((allocator_of self.new).now ≡ (allocator_of self.old).now) }
+        ensures inside { sector_of self.old < length (allocator_of self.old).now.tables.fat
+            → IfErr result IsMediumError × ((allocator_of self.new).now.file.begun ≡ true) }
+        ensures sectors { IsTrue F.tells → (i : ℕ) → i ≢ sector_of self.old
+            → SectorStays (version_of self.old) i (allocator_of self.old).now.file.bytes (allocator_of self.new).now.file.bytes }
+        ensures others { IsTrue F.tells → ChangesOnly (place_of self.old) (length from.now)
+            (allocator_of self.old).now.file.bytes (allocator_of self.new).now.file.bytes }
+        ensures counts { IsTrue F.tells → CountsFailure F.write_faults result (allocator_of self.old).now.file.failures (allocator_of self.new).now.file.failures }
+    {
+        let sector = self.sector_here();
+        let offset = self.offset_here();
+        write_sector(self.allocator, sector, offset, from)?;
+        self.position += from.len() as u64;
+        Ok(())
+    }
+}
+
+impl<'a, F: Medium, A: Heap + Clone> Chain<'a, F, A> {
+    ghost use Rattle.cfb_chains.specs.LentChain.{allocator_of, start_of};
+
+    /// Frees its sectors, and gives the allocator back.
+    ///
+    /// `InvalidData` where there is no chain from its start any more, and where the FAT sectors do not cover the file; `Medium` where
+    /// the medium fails, and `Memory`. Nothing has changed where it is refused, but after `Medium`: then the chain is free in memory,
+    /// and of the file's bytes the FAT sectors alone have changed.
+    pub fn free(self) -> Result<(), Error>
+        ensures freed { OnOk result (FreesChain (start_of self.entry) (allocator_of self.entry).now.tables self.exit.0.now.tables) }
+        ensures holds { IsTrue F.tells → (validation : Validation) → HoldsTables validation (allocator_of self.entry).now
+            → IsUnnamed (allocator_of self.entry).now.tables.fat (start_of self.entry) → OnOk result (HoldsTables validation self.exit.0.now) }
+        ensures changes { IsTrue F.tells → ChangesSectors (allocator_of self.entry).now.tables.fat_sectors (allocator_of self.entry).now.tables.version
+            (allocator_of self.entry).now.file.bytes self.exit.0.now.file.bytes }
+        ensures refused { IfErr result (BreaksOff (FreesChain (start_of self.entry)) (allocator_of self.entry).now self.exit.0.now) }
+        ensures err { IfErr result (ChangeRefused ((IsUsable (allocator_of self.entry).now.tables → ⊥) ⊎ NoChain (allocator_of self.entry).now.tables.fat (start_of self.entry))
+            Unit ⊥ Unit) }
+        ensures counts { IsTrue F.tells → CountsFailure F.write_faults result (allocator_of self.entry).now.file.failures self.exit.0.now.file.failures }
+    {
+        let Chain {
+            allocator,
+            ids: _,
+            start,
+            init: _,
+            position: _,
+        } = self;
+        free_from(allocator, start)
+    }
+}
+
+/// Frees the chain from `start`.
+fn free_from<F: Medium, A: Heap + Clone>(
+    allocator: &mut Allocator<F, A>,
+    start: u32,
+) -> Result<(), Error>
+    ensures freed { OnOk result (FreesChain start allocator.old.tables allocator.new.tables) }
+    ensures holds { IsTrue F.tells → (validation : Validation) → HoldsTables validation allocator.old → IsUnnamed allocator.old.tables.fat start
+        → OnOk result (HoldsTables validation allocator.new) }
+    ensures changes { IsTrue F.tells → ChangesSectors allocator.old.tables.fat_sectors allocator.old.tables.version allocator.old.file.bytes allocator.new.file.bytes }
+    ensures refused { IfErr result (BreaksOff (FreesChain start) allocator.old allocator.new) }
+    ensures err { IfErr result (ChangeRefused ((IsUsable allocator.old.tables → ⊥) ⊎ NoChain allocator.old.tables.fat start) Unit ⊥ Unit) }
+    ensures counts { IsTrue F.tells → CountsFailure F.write_faults result allocator.old.file.failures allocator.new.file.failures }
+    ensures version { allocator.new.tables.version ≡ allocator.old.tables.version }
+{
+    allocator.free_chain(start)
+}
+
+/// Reads what is there of a sector from `offset` on, and answers how many bytes that is. `InvalidData` exactly where the file ends
+/// before that, and `Medium` where the medium fails.
+fn read_sector<F: ReadMedium, A: Heap>(
+    allocator: &mut Allocator<F, A>,
+    sector: u32,
+    offset: usize,
+    into: &mut [u8],
+) -> Result<usize, Error>
+    requires some { 0 < length into.old }
+    requires within { offset + length into.old ≤ sector_len_of allocator.old.tables.version }
+    ensures tables { allocator.new.tables ≡ allocator.old.tables }
+    ensures kept { allocator.new.file ≡ record allocator.old.file { bytes = allocator.new.file.bytes; failures = allocator.new.file.failures } }
+    ensures count { IfOk result (λ n. n ≡ min (length into.old) (allocator.old.file.len - (sector_start allocator.old.tables.version sector + offset))) }
+    ensures some { IfOk result (λ n. 0 < n) }
+    ensures ok { IsTrue F.tells → IfOk result (λ n. take n into.new ≡ part allocator.old.file.bytes (sector_start allocator.old.tables.version sector + offset) n) }
+    ensures rest { IfOk result (λ n. drop n into.new ≡ drop n into.old) }
+    ensures cut { allocator.old.file.len ≤ sector_start allocator.old.tables.version sector + offset → IsErrAnd result IsInvalidData }
+    ensures there { sector_start allocator.old.tables.version sector + offset < allocator.old.file.len → IfErr result IsMediumError }
+    ensures same { IsTrue F.tells → OnOk result (allocator.new ≡ allocator.old) }
+    ensures bytes { IsTrue F.tells → allocator.new.file.bytes ≡ allocator.old.file.bytes }
+    ensures counts { IsTrue F.tells → CountsFailure F.read_faults result allocator.old.file.failures allocator.new.file.failures }
+{
+    let at = (sector as u64 + 1) * allocator.sector_len() as u64 + offset as u64;
+    if at >= allocator.file_len() {
+        return Err(cut_off(sector, at));
+    }
+    let count = allocator.read_contiguous(sector, offset, into)?;
+    Ok(count)
+}
+
+/// Writes all of `from` into a sector. `InvalidData` exactly where it is none of the file, and `Medium` where the medium fails.
+fn write_sector<F: Medium, A: Heap>(
+    allocator: &mut Allocator<F, A>,
+    sector: u32,
+    offset: usize,
+    from: &[u8],
+) -> Result<(), Error>
+    requires some { 0 < length from.now }
+    requires within { offset + length from.now ≤ sector_len_of allocator.old.tables.version }
+    ensures tables { allocator.new.tables ≡ allocator.old.tables }
+    ensures kept { allocator.new.file ≡ record allocator.old.file {
+      len = allocator.new.file.len;
+      bytes = allocator.new.file.bytes;
+      failures = allocator.new.file.failures;
+      begun = allocator.new.file.begun;
+    } }
+    ensures ok { IsTrue F.tells → OnOk result (allocator.new.file ≡ record allocator.old.file {
+      bytes = written allocator.old.file.bytes (sector_start allocator.old.tables.version sector + offset) from.now;
+      len = max allocator.old.file.len (sector_start allocator.old.tables.version sector + offset + length from.now);
+      begun = true;
+    }) }
+    ensures past { length allocator.old.tables.fat ≤ sector → IsErrAnd result IsInvalidData × (allocator.new ≡ allocator.old) }
+    ensures inside { sector < length allocator.old.tables.fat → IfErr result IsMediumError × (allocator.new.file.begun ≡ true) }
+    ensures sectors { IsTrue F.tells → (i : ℕ) → i ≢ sector → SectorStays allocator.old.tables.version i allocator.old.file.bytes allocator.new.file.bytes }
+    ensures others { IsTrue F.tells → ChangesOnly (sector_start allocator.old.tables.version sector + offset) (length from.now) allocator.old.file.bytes allocator.new.file.bytes }
+    ensures counts { IsTrue F.tells → CountsFailure F.write_faults result allocator.old.file.failures allocator.new.file.failures }
+{
+    let len = allocator.file_len();
+    let _met = len;
+    allocator.write_contiguous(sector, offset, from)
+}
+
+/// A refusal of what the file ends before.
+fn cut_off(sector: u32, at: u64) -> Error
+    ensures { IsInvalidData result }
+{
+    Error::InvalidData(Detail {
+        text: "file ends inside the sector",
+        numbers: [sector as u64, at],
+    })
+}
+
+/// A refusal of a place past the end of a chain.
+fn past_end(position: u64, len: u64) -> Error
+    ensures { IsInvalidInput result }
+{
+    Error::InvalidInput(Detail {
+        text: "place past the end of the chain",
+        numbers: [position, len],
+    })
+}
