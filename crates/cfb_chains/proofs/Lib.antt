@@ -34,3 +34,4 @@ pub mod DifatLemmas
 pub mod DifatLinked
 pub mod FatLemmas
 pub mod FatLaws
+pub mod SoundTables

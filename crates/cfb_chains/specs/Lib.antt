@@ -10,3 +10,4 @@ pub mod Tables
 pub mod Refused
 pub mod Owners
 pub mod ReadFat
+pub mod Held
