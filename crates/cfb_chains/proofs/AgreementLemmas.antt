@@ -19,7 +19,7 @@ use Rattle.cfb_chains.proofs.TableWords.{raw_fat-at, fat_words-at, length-fat_wo
 
 -- ---- what agrees is what is read
 
-within-stays : (n w : ℕ) → (IsTrue (is_regular w) → w < n) → within_file n w ≡ w
+pub within-stays : (n w : ℕ) → (IsTrue (is_regular w) → w < n) → within_file n w ≡ w
 within-stays n w h = go (is_regular w) refl
   where
     go : (b : Bool) → is_regular w ≡ b → (if b && nat_le n w then end_of_chain else w) ≡ w

@@ -113,7 +113,7 @@ clean-within table c i lt r =
 -- ---- pointers along a chain
 
 -- a member's pointer names a member behind the first one
-follows-next : (table : List ℕ) (s x : ℕ) (list : List ℕ) → Follows table s (x ∷ list) → (i : ℕ) → Contains (x ∷ list) i
+pub follows-next : (table : List ℕ) (s x : ℕ) (list : List ℕ) → Follows table s (x ∷ list) → (i : ℕ) → Contains (x ∷ list) i
     → Regular (value table i) → Contains list (value table i)
 follows-next table s x [] f i m r = elim (Contains-cases x [] i m) [
   | inl e ↦ absurd (regular-goes_on (value table i) r (ap (value table) (sym e) ∙ value-at table x f.2 ∙ f.3))

@@ -36,3 +36,4 @@ pub mod DifatLemmas
 pub mod DifatLinked
 pub mod FatLemmas
 pub mod FatLaws
+pub mod SoundTables

@@ -11,3 +11,4 @@ pub mod Tables
 pub mod Refused
 pub mod Owners
 pub mod ReadFat
+pub mod Held

@@ -2,6 +2,7 @@
 //! as its contract.
 ghost use Rattle.cfb_chains.specs.Changes.{ChainsStay, OtherChainsStay, ChainsTurn, MembersAreBusy};
 ghost use Rattle.cfb_chains.specs.Clean.{CleanPointsWithin, TakenIsClean, ExtendedIsClean, FreedIsClean, CutIsClean};
+ghost use Rattle.cfb_chains.specs.Held.{SoundTablesAreHeld, StrictTablesAreHeld};
 ghost use Rattle.cfb_chains.specs.Tables.{FullIsTooFew, TooFewIsNoRoom, EnoughIsRoom};
 ghost use Rattle.cfb_chains.specs.Owners.{UsesAreKept, NothingLooseIsKept, UseChangesFollow, TakingChanges, FreeingChanges, TakenIsTaking, FreedIsFreeing, CutIsFreeing};
 
@@ -40,4 +41,11 @@ pub fn tables_stay_clean()
     ensures extended { ExtendedIsClean }
     ensures freed { FreedIsClean }
     ensures cut { CutIsClean }
+{}
+
+/// The tables that opening reads from a sound file are those that its bytes hold: an allocator with
+/// these tables over these bytes may change them (MS-CFB 2.3 and 2.5).
+pub fn sound_tables_are_held()
+    ensures sound { SoundTablesAreHeld }
+    ensures strict { StrictTablesAreHeld }
 {}

@@ -1,0 +1,8 @@
+use Rattle.cfb_chains.proofs.SoundTables.{sound-held, strict-held}
+use Rattle.cfb_chains.proofs.laws.sound_tables_are_held.Goals as goal
+
+pub returns-clause-sound : goal.returns-clause-sound
+returns-clause-sound c = sound-held
+
+pub returns-clause-strict : goal.returns-clause-strict
+returns-clause-strict c = strict-held
