@@ -3,8 +3,8 @@
 
 pub mod agreement;
 pub mod alloc;
-pub mod fat;
 pub mod chain;
+pub mod fat;
 pub mod laws;
 mod lists;
 pub mod sector;

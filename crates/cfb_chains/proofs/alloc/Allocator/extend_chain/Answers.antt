@@ -54,9 +54,11 @@ returns-in_err-write_taken-clause-refused g c =
     let more = c.in_ok-sector.sector ∷ [] in
     let p = err_from_is_err_and c.from_residual-in_err-write_taken.result c.from_residual-in_err-write_taken.ensures.1 in
     let e = c.in_err-write_taken.ensures.err in
-    rw (p.1, p.2) (breaks_by_medium (ExtendsFrom c.args.start) c.args.self.now (record { file = c.write_taken.new.sectors; tables = c.attach.new.self }) c.in_err-write_taken.field-0.0 e.0 e.1
-    (more, subst (λ (a : AllocatorState). Extended a.tables c.attach.new.self c.args.start more) c.self.view_is
-        (extended c.self.inside.tables c.attach.new.self c.args.start k.0 last more k.1 c.in_ok-sector.ensures.taken c.in_ok-sector.ensures.chain)))
+    rw (p.1, p.2) (breaks_by_medium (ExtendsFrom c.args.start) c.args.self.now (record { file = c.write_taken.new.sectors; tables = c.attach.new.self }) c.in_err-write_taken.field-0.0 e.0 e.1 (
+      more,
+      subst (λ (a : AllocatorState). Extended a.tables c.attach.new.self c.args.start more) c.self.view_is
+          (extended c.self.inside.tables c.attach.new.self c.args.start k.0 last more k.1 c.in_ok-sector.ensures.taken c.in_ok-sector.ensures.chain),
+    ))
 
 pub invariant_of-self-2 : goal.invariant_of-self-2
 invariant_of-self-2 g c =
