@@ -4,6 +4,8 @@
 #[cfg(test)]
 mod empty_files;
 pub mod media;
+#[cfg(test)]
+mod refusals;
 pub mod refusing;
 #[cfg(test)]
 mod tests;

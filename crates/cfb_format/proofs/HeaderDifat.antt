@@ -1,13 +1,13 @@
 -- The header's entries of the DIFAT, one after the other.
-use Rattle.std.proofs.Common.{◌≡◌, ℕ, ◌+◌, ◌-◌, ◌*◌, ◌<◌, ◌≤◌, List, [], ◌∷◌, ◌++◌, Bool, true, false, refl, sym, ◌∙◌, ap, subst, length, arith, get_or, take, drop, append-nil, append_assoc, cond, suc, set, replicate, length-take}
+use Rattle.std.proofs.Common.{◌≡◌, ℕ, ◌+◌, ◌-◌, ◌*◌, ◌<◌, ◌≤◌, List, [], ◌∷◌, ◌++◌, Bool, true, false, refl, sym, ◌∙◌, ap, length, arith, get_or, take, drop, append-nil, append_assoc, cond, suc, set, replicate, length-take}
 use Rattle.std.specs.Prelude.{◌&&◌, ◌==◌, not}
-use Rattle.std.specs.List.{list_all, before_first, position_or_len}
+use Rattle.std.specs.List.{list_all, position_or_len}
 use Rattle.std.specs.Int.{from_le_bytes, w32}
 use Rattle.std.proofs.lemmas.List.{drop_more, drop_all, take_more, drop-drop, set-append_right}
 use Rattle.std.proofs.lemmas.List.Folds.{list_all-append, list_all_more}
 use Rattle.cfb_format.specs.Bytes.{words, u32_at, is_regular, free_sector}
 use Rattle.cfb_format.specs.Header.{entries_before_free, padded_difat}
-use Rattle.cfb_format.proofs.Words.{words-length, words-at}
+use Rattle.cfb_format.proofs.Words.{words-at}
 
 all-more : (p : ℕ → Bool) (xs : List ℕ) (i : ℕ) → i < length xs → list_all p (take i xs) ≡ true → p (get_or xs i 0) ≡ true → list_all p (take (i + 1) xs) ≡ true
 all-more p xs i l a b = list_all_more p xs i 0 l ∙ (λ j. a j && b j)

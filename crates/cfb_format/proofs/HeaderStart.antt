@@ -1,16 +1,16 @@
 -- A header is read off the first 512 bytes alone.
-use Rattle.std.proofs.Common.{◌≡◌, ◌+◌, ◌*◌, ◌<◌, ◌≤◌, ℕ, zero, suc, List, [], ◌∷◌, true, refl, sym, ◌∙◌, ap, subst, arith, take, drop, get_or, get_or-take, get_or-drop, lit≤}
+use Rattle.std.proofs.Common.{◌≡◌, ◌+◌, ◌*◌, ◌<◌, ◌≤◌, ℕ, zero, suc, List, ◌∷◌, refl, sym, ◌∙◌, ap, arith, take, drop, get_or-take, get_or-drop, lit≤}
 use Rattle.std.specs.Prelude.{◌↔◌, slice_index}
 use Rattle.std.specs.List.{list_all}
 use Rattle.std.specs.Int.{from_le_bytes, w16, w32, byte_worth}
-use Rattle.std.proofs.lemmas.List.{drop-drop, take-take}
+use Rattle.std.proofs.lemmas.List.{take-take}
 use Rattle.cfb_format.specs.declared.header.Header.{Header}
 use Rattle.cfb_format.specs.declared.version.Version.{Version}
 use Rattle.cfb_format.specs.declared.version.Version.TheVariants.{V3, V4}
 use Rattle.cfb_format.specs.declared.validate.Validation.{Validation}
 use Rattle.cfb_format.specs.declared.validate.Validation.TheVariants.{Permissive, Strict}
 use Rattle.cfb_format.specs.Bytes.{u16_at, u32_at, words, is_regular}
-use Rattle.cfb_format.specs.Header.{AcceptsHeader, IsHeader, HasFixedFields, IsStrictHeader, IsStrictDirCount, IfStrict, dir_sectors_of, first_difat_of, padded_difat, entries_before_free, stored_difat}
+use Rattle.cfb_format.specs.Header.{AcceptsHeader, IsStrictHeader, IfStrict, dir_sectors_of, first_difat_of, padded_difat, entries_before_free, stored_difat}
 
 -- ---- numbers whose bytes are the same
 

@@ -1,12 +1,13 @@
 -- Characters are read back from their units.
-use Rattle.std.proofs.Common.{◌≡◌, ◌<◌, ◌≤◌, ◌+◌, ◌-◌, ◌*◌, ◌/◌, ◌%◌, ◌^◌, ℕ, List, [], ◌∷◌, ◌++◌, Bool, true, false, refl, ◌∙◌, ap, length, arith, inl, inr}
-use Rattle.std.specs.Prelude.{Some, map, not, ◌&&◌, is_some, unwrap_or}
+use Rattle.std.proofs.Common.{◌≡◌, ◌<◌, ◌≤◌, ◌+◌, ◌-◌, ◌*◌, ◌/◌, ◌%◌, ◌^◌, ℕ, suc, List, [], ◌∷◌, ◌++◌, Bool, true, false, refl, ◌∙◌, ap, length, arith, lit≤, length-append, inl, inr}
+use Rattle.std.specs.Prelude.{Some, None, map, not, ◌&&◌, is_some, unwrap_or, nat_le, nat_lt, if◌then◌else◌}
 use Rattle.std.specs.List.{AllByRecursion, list_any}
 use Rattle.std.specs.Str.{all_scalars}
 use Rattle.std.specs.Char.{IsScalar, InScalarRange}
 use Rattle.std.specs.Char.Escape.{encode_utf16}
-use Rattle.std.specs.Char.Utf16.{utf16_chars, lone_unit_char, surrogate_pair_char, has_unpaired_surrogate, utf16_lossy_chars}
+use Rattle.std.specs.Char.Utf16.{utf16_chars, lone_unit_char, surrogate_pair_char, is_high_surrogate, is_low_surrogate, has_unpaired_surrogate, utf16_lossy_chars}
 use Rattle.std.proofs.str.Utf16.{IsPair, one_unit, two_units, lone_unit_char_low, lone_unit_char_high}
+use Rattle.std.proofs.lemmas.List.Concat.{flat_map-cons}
 use Rattle.std.proofs.lemmas.Str.{utf16_chars-nil, utf16_chars_lone, utf16_chars_pair}
 use Rattle.std.proofs.lemmas.Bool.{cases_lt}
 use Rattle.std.proofs.lemmas.Bool.Decides.{nat_tests}
@@ -101,3 +102,41 @@ pub length-unit_bytes : (us : List ℕ) → length (unit_bytes us) ≡ 2 * lengt
 unfolding unit_bytes
 length-unit_bytes [] = refl
 length-unit_bytes (u ∷ us) = let more = length-unit_bytes us in omega (arith, more)
+
+-- ---- as many units as were read
+
+encoded_short : (c : ℕ) → length (encode_utf16 c) ≤ 2
+encoded_short c =
+    elim (cases_lt c 0x1_0000) [
+      | inl small ↦ rw (one_unit c small) (lit≤ tt)
+      | inr wide ↦ rw (two_units c wide) (lit≤ tt)
+    ]
+
+-- a unit that is in no pair spells a character of one unit
+lone_short : (u : ℕ) → u < 2 ^ 16 → length (encode_utf16 (unwrap_or (lone_unit_char u) 0xFFFD)) ≤ 1
+lone_short u fits = go (nat_le 0xD800 u && nat_lt u 0xE000)
+  where
+    go : (b : Bool) → length (encode_utf16 (unwrap_or (if b then None else Some u) 0xFFFD)) ≤ 1
+    go true = lit≤ tt
+    go false = rw (one_unit u fits) (lit≤ tt)
+
+one_more : (c : ℕ) (cs : List ℕ) → length (utf16_units (c ∷ cs)) ≡ length (encode_utf16 c) + length (utf16_units cs)
+one_more c cs = ap length (flat_map-cons encode_utf16 c cs) ∙ length-append (encode_utf16 c) (utf16_units cs)
+
+-- the characters that units spell have no more units than these
+pub spells_within : (us : List ℕ) → AllByRecursion (λ u. u < 2 ^ 16) us → length (utf16_units (utf16_lossy_chars us)) ≤ length us
+unfolding utf16_chars
+spells_within [] fit = lit≤ tt
+spells_within (u ∷ []) fit =
+    let c = unwrap_or (lone_unit_char u) 0xFFFD in
+    omega (arith, one_more c [], lone_short u fit.0)
+spells_within (u ∷ v ∷ us) fit = go (is_high_surrogate u && is_low_surrogate v) (spells_within us fit.1.1) (spells_within (v ∷ us) fit.1)
+  where
+    go : (b : Bool) → length (utf16_units (utf16_lossy_chars us)) ≤ length us → length (utf16_units (utf16_lossy_chars (v ∷ us))) ≤ suc (length us)
+        → length (utf16_units (map (λ o. unwrap_or o 0xFFFD) (if b then Some (surrogate_pair_char u v) ∷ utf16_chars us else lone_unit_char u ∷ utf16_chars (v ∷ us)))) ≤ suc (suc (length us))
+    go true behind next =
+        let c = surrogate_pair_char u v in
+        omega (arith, one_more c (utf16_lossy_chars us), encoded_short c, behind)
+    go false behind next =
+        let c = unwrap_or (lone_unit_char u) 0xFFFD in
+        omega (arith, one_more c (utf16_lossy_chars (v ∷ us)), lone_short u fit.0, next)

@@ -1,7 +1,7 @@
 //! The constants of the format, and how words of its tables are printed.
-ghost use Rattle.std.specs.Prelude.{◌≡◌, ◌++◌, ◌∷◌, [], IfOk, IfErr, IfSome, OnOk, flat_map};
+ghost use Rattle.std.specs.Prelude.{◌≡◌, ◌+◌, ◌++◌, ◌∷◌, [], IfOk, IfErr, IfSome, IfNone, OnOk, false, flat_map};
 ghost use Rattle.cfb_format.specs.declared.error.Error.TheVariants.{Memory};
-ghost use Rattle.cfb_format.specs.Runs.{run_words};
+ghost use Rattle.cfb_format.specs.Runs.{run_words, first_word, counts_on, goes_on, AreLongest};
 
 use crate::error::Error;
 use std::alloc::{AllocError, Allocator};
@@ -124,9 +124,11 @@ impl fmt::Debug for Runs<'_> {
     }
 }
 
-/// Words of a table, gathered into runs for printing. `Memory` where the list gets none.
+/// Words of a table, gathered into runs for printing, each as long as it can be. `Memory` where
+/// the list gets none.
 pub fn prettify<A: Allocator>(alloc: A, words: &[u32]) -> Result<Vec<Run, A>, Error>
     ensures ok { IfOk result (λ runs. flat_map run_words runs.items ≡ words.now) }
+    ensures longest { IfOk result (λ runs. AreLongest runs.items) }
     ensures err { IfErr result (λ e. e ≡ Memory) }
 {
     let mut runs = Vec::new(alloc);
@@ -138,22 +140,31 @@ pub fn prettify<A: Allocator>(alloc: A, words: &[u32]) -> Result<Vec<Run, A>, Er
 
 /// Puts a word behind the last run, or into it.
 fn push_word<A: Allocator>(runs: &mut Vec<Run, A>, word: u32) -> Result<(), AllocError>
-    ensures { OnOk result (flat_map run_words runs.new.items ≡ flat_map run_words runs.old.items ++ word ∷ []) }
+    ensures words { OnOk result (flat_map run_words runs.new.items ≡ flat_map run_words runs.old.items ++ word ∷ []) }
+    ensures longest { AreLongest runs.old.items → OnOk result (AreLongest runs.new.items) }
 {
-    if let Some(last) = runs.pop() {
-        if let Some(longer) = longer_run(last, word) {
-            runs.push(longer)?;
-            return Ok(());
-        }
-        runs.push(last)?;
+    match runs.pop() {
+        Some(last) => push_behind(runs, last, word),
+        None => Ok(runs.push(run_of(word))?),
     }
-    runs.push(run_of(word))?;
-    Ok(())
+}
+
+/// Puts back the last run: a word longer, or as it was with a run of the word behind it.
+fn push_behind<A: Allocator>(runs: &mut Vec<Run, A>, last: Run, word: u32) -> Result<(), AllocError>
+    ensures words { OnOk result (flat_map run_words runs.new.items ≡ flat_map run_words (runs.old.items ++ last ∷ []) ++ word ∷ []) }
+    ensures longest { AreLongest (runs.old.items ++ last ∷ []) → OnOk result (AreLongest runs.new.items) }
+{
+    let Some(longer) = longer_run(last, word) else {
+        runs.push(last)?;
+        return Ok(runs.push(run_of(word))?);
+    };
+    Ok(runs.push(longer)?)
 }
 
 /// The run of one word.
 pub fn run_of(word: u32) -> Run
-    ensures { run_words result ≡ word ∷ [] }
+    ensures words { run_words result ≡ word ∷ [] }
+    ensures first { first_word result ≡ word }
 {
     match word {
         END_OF_CHAIN => Run::End,
@@ -166,22 +177,37 @@ pub fn run_of(word: u32) -> Run
 
 /// The run with a word more, if the word goes on with it.
 fn longer_run(run: Run, word: u32) -> Option<Run>
-    ensures { IfSome result (λ longer. run_words longer ≡ run_words run ++ word ∷ []) }
+    ensures words { IfSome result (λ longer. run_words longer ≡ run_words run ++ word ∷ []) }
+    ensures first { IfSome result (λ longer. first_word longer ≡ first_word run) }
+    ensures longest { IfNone result (goes_on run word ≡ false) }
 {
-    match (run, word) {
-        (Run::Free(count), FREE_SECTOR) => Some(Run::Free(count.checked_add(1)?)),
-        (Run::Fat(count), FAT_SECTOR) => Some(Run::Fat(count.checked_add(1)?)),
-        (Run::Difat(count), DIFAT_SECTOR) => Some(Run::Difat(count.checked_add(1)?)),
-        (Run::Numbers(first, more), 0..=INVALID_SECTOR) => longer_numbers(first, more, word),
-        _ => None,
+    match run {
+        Run::End => None,
+        Run::Free(count) => Some(Run::Free(longer_count(FREE_SECTOR, count, word)?)),
+        Run::Fat(count) => Some(Run::Fat(longer_count(FAT_SECTOR, count, word)?)),
+        Run::Difat(count) => Some(Run::Difat(longer_count(DIFAT_SECTOR, count, word)?)),
+        Run::Numbers(first, more) => longer_numbers(first, more, word),
     }
 }
 
+/// One more of a mark, if the word is the mark.
+fn longer_count(mark: u32, count: u32, word: u32) -> Option<u32>
+    ensures some { IfSome result (λ more. (word ≡ mark) × (more ≡ count + 1)) }
+    ensures none { IfNone result (counts_on mark count word ≡ false) }
+{
+    if word != mark {
+        return None;
+    }
+    count.checked_add(1)
+}
+
 fn longer_numbers(first: u32, more: u32, word: u32) -> Option<Run>
-    ensures { IfSome result (λ longer. run_words longer ≡ run_words (Run.Numbers first more) ++ word ∷ []) }
+    ensures words { IfSome result (λ longer. run_words longer ≡ run_words (Run.Numbers first more) ++ word ∷ []) }
+    ensures first { IfSome result (λ longer. first_word longer ≡ first) }
+    ensures longest { IfNone result (goes_on (Run.Numbers first more) word ≡ false) }
 {
     let more = more.checked_add(1)?;
-    if u64::from(first) + u64::from(more) == u64::from(word) {
+    if word <= INVALID_SECTOR && u64::from(first) + u64::from(more) == u64::from(word) {
         Some(Run::Numbers(first, more))
     } else {
         None

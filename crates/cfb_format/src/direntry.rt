@@ -112,7 +112,7 @@ impl<A: Allocator> DirEntry<A> {
     /// The entry that a slot holds. `InvalidData` where it holds none, or where opening is strict
     /// and a name has no terminator or a field does not stand as it is read: what an object of its
     /// kind may not have is read as not there (MS-CFB 2.6.1 to 2.6.3). `Memory` where the name
-    /// gets none.
+    /// gets none. The name has at most 31 UTF-16 units, so the entry can be written again.
     pub fn read_from(
         alloc: A,
         slot: &[u8; consts::DIR_ENTRY_LEN],
@@ -120,6 +120,7 @@ impl<A: Allocator> DirEntry<A> {
         validation: Validation,
     ) -> Result<DirEntry<A>, Error>
         ensures ok { IfOk result (λ entry. AcceptsEntry validation version slot.now (entry_of entry)) }
+        ensures short { IfOk result (λ entry. length (utf16_units (entry_of entry).name) ≤ max_name_len) }
         ensures refused { IfErr result (IsInvalidOrMemory ((e : Entry) → AcceptsEntry validation version slot.now e → ⊥)) }
     {
         let Some(obj_type) = ObjType::from_byte(slot[66]) else {
@@ -294,6 +295,7 @@ fn read_name<A: Allocator>(
     validation: Validation,
 ) -> Result<String<A>, Error>
     ensures ok { IfOk result (λ name. AcceptsName validation kind slot.now (chars (string_bytes name))) }
+    ensures short { IfOk result (λ name. length (utf16_units (chars (string_bytes name))) ≤ max_name_len) }
     ensures refused { IfErr result (IsInvalidOrMemory ((name : List ℕ) → AcceptsName validation kind slot.now name → ⊥)) }
 {
     let stored = match stored_text(alloc, slot) {
@@ -312,6 +314,7 @@ fn stored_text<A: Allocator>(
     slot: &[u8; consts::DIR_ENTRY_LEN],
 ) -> Result<String<A>, Error>
     ensures ok { IfOk result (λ name. IsText slot.now × (chars (string_bytes name) ≡ stored_name slot.now)) }
+    ensures short { IfOk result (λ name. length (utf16_units (chars (string_bytes name))) ≤ max_name_len) }
     ensures refused { IfErr result (IsInvalidOrMemory (IsText slot.now → ⊥)) }
 {
     let len = u16_at(slot, 64);
@@ -325,6 +328,7 @@ fn stored_text<A: Allocator>(
 fn text_of_units<A: Allocator>(alloc: A, units: &[u16]) -> Result<String<A>, Error>
     ensures ok { IfOk result (λ text. (has_unpaired_surrogate units.now ≡ false)
         × (chars (string_bytes text) ≡ utf16_lossy_chars units.now)) }
+    ensures short { IfOk result (λ text. length (utf16_units (chars (string_bytes text))) ≤ length units.now) }
     ensures refused { IfErr result (IsInvalidOrMemory (has_unpaired_surrogate units.now ≡ false → ⊥)) }
 {
     match String::from_utf16(alloc, units)? {

@@ -9,7 +9,7 @@ ghost use Rattle.cfb_format.specs.Path.{says_nothing as nothing, says_parent as 
 ghost use Rattle.cfb_format.specs.Refused.{IsMemory, RefusesInput};
 
 use crate::error::{Detail, Error};
-use std::alloc::{Allocator, Global};
+use std::alloc::{AllocError, Allocator, Global};
 use std::cmp::Ordering;
 use std::marker::Model;
 
@@ -55,7 +55,9 @@ const DEFAULT_PAIRS: [(char, char); 32] = [
 /// What stands for upper case where names are compared (MS-CFB 2.6.4): `a` to `z` become `A` to
 /// `Z` always, the letters of a table become what it says, and any other character stands for
 /// itself.
-#[derive(Clone, Debug, Drop)]
+///
+/// A letter past ASCII is looked up along the whole table, pair by pair: the time grows with it.
+#[derive(Debug, Drop)]
 pub struct CaseMapper<A: Allocator = Global> {
     pairs: Vec<(char, char), A>,
 }
@@ -66,6 +68,16 @@ impl<A: Allocator> Model for CaseMapper<A> {
     ghost Value = { Cases };
 
     ghost view = { λ mapper. mapper.pairs.items };
+}
+
+impl<A: Allocator + Clone> Clone for CaseMapper<A> {
+    ghost is_clone = { λ cases copy. copy ≡ cases };
+
+    /// The same table. It answers `AllocError` where memory for it is refused.
+    fn clone(&self) -> Result<CaseMapper<A>, AllocError> {
+        let pairs = self.pairs.clone()?;
+        Ok(CaseMapper { pairs })
+    }
 }
 
 impl<A: Allocator> CaseMapper<A> {
@@ -146,14 +158,11 @@ pub fn name_key<A: Allocator>(
     ensures letters { IfOk result (λ key. key.letters.items ≡ (key_of cases.now (chars name.now)).1) }
     ensures refused { IfErr result IsMemory }
 {
-    let letters = name
-        .chars()
-        .map(|letter| cases.upper_case(letter))
-        .collect(alloc)?;
-    Ok(NameKey {
-        units: unit_count(name),
-        letters,
-    })
+    let units = unit_count(name);
+    // One request for all of them: `collect` takes a refusal for a wrong guess and asks again.
+    let mut letters = Vec::with_capacity(alloc, units)?;
+    letters.extend(name.chars().map(|letter| cases.upper_case(letter)))?;
+    Ok(NameKey { units, letters })
 }
 
 /// The order of two names: fewer UTF-16 units first, then by the characters in upper case
@@ -191,13 +200,17 @@ pub fn validate_name<A: Allocator>(alloc: A, name: &str) -> Result<Vec<u16, A>, 
     ensures valid { OnOk result (is_valid_name (chars name.now) ≡ true) }
     ensures refused { IfErr result (RefusesInput (not (is_valid_name (chars name.now)))) }
 {
-    if unit_count(name) > MAX_NAME_LEN {
+    let count = unit_count(name);
+    if count > MAX_NAME_LEN {
         return Err(Error::InvalidInput(Detail::text("a name has at most 31 UTF-16 units")));
     }
     if has_forbidden(name) {
         return Err(Error::InvalidInput(Detail::text("a name has none of the characters / \\ : !")));
     }
-    Ok(name.encode_utf16().collect(alloc)?)
+    // One request, as in `name_key`.
+    let mut units = Vec::with_capacity(alloc, count)?;
+    units.extend(name.encode_utf16())?;
+    Ok(units)
 }
 
 /// Whether `/`, `\`, `:` or `!` stands in the name.

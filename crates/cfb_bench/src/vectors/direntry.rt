@@ -530,6 +530,33 @@ fn what_a_kind_may_not_have_is_not_there(rt: HostRuntime) -> Result<(), Fail> {
     Ok(())
 }
 
+/// Reads a slot, and writes what was read.
+fn rewritten(alloc: Global, slot: &Slot, validation: Validation) -> Result<Slot, Error> {
+    let entry = DirEntry::read_from(alloc, slot, Version::V4, validation)?;
+    let mut written = [0xaa; DIR_ENTRY_LEN];
+    entry.write_to(&mut written);
+    Ok(written)
+}
+
+#[test]
+fn what_is_read_is_written(rt: HostRuntime) -> Result<(), Fail> {
+    let mut storage = foobar(1);
+    put(&mut storage, 80, &[7; 36]);
+    assert_eq!(rt;
+        rewritten(rt.alloc(), &storage, Validation::Strict)?,
+        storage
+    );
+    let longest = longest_slot(rt.alloc())?;
+    assert_eq!(rt;
+        rewritten(rt.alloc(), &longest, Validation::Strict)?,
+        longest
+    );
+    let root = rewritten(rt.alloc(), &foobar(5), Validation::Permissive)?;
+    assert_eq!(rt; root[..22], b"R\0o\0o\0t\0 \0E\0n\0t\0r\0y\0\0\0"[..]);
+    assert_eq!(rt; root[64..68], [22u8, 0, 5, 1][..]);
+    Ok(())
+}
+
 #[test]
 fn entries_are_printed(rt: HostRuntime) -> Result<(), Fail> {
     let entry = DirEntry::unallocated(rt.alloc());

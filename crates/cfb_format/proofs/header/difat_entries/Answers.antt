@@ -1,4 +1,4 @@
-use Rattle.std.proofs.Common.{◌≡◌, ◌<◌, ◌≤◌, ℕ, List, refl, length, sym, ◌∙◌, ap, arith, get_or, drop, take, eq-eqb}
+use Rattle.std.proofs.Common.{refl, sym, ◌∙◌, ap, arith, get_or, drop, eq-eqb}
 use Rattle.std.proofs.lemmas.Bool.{ne_eqb}
 use Rattle.std.specs.List.{list_all}
 use Rattle.cfb_format.specs.Bytes.{words, free_sector, is_regular}

@@ -1,4 +1,4 @@
-use Rattle.std.proofs.Common.{◌≡◌, ℕ, List, ◌++◌, ◌≤◌, sym, ◌∙◌, ap, arith, length, take, replicate}
+use Rattle.std.proofs.Common.{ℕ, List, ◌++◌, ◌≤◌, sym, ◌∙◌, ap, arith, length, take, replicate}
 use Rattle.std.proofs.lemmas.List.{take_all}
 use Rattle.cfb_format.specs.Bytes.{word_bytes, unit_bytes}
 use Rattle.cfb_format.specs.Header.{header_bytes, header_words, version_units}
