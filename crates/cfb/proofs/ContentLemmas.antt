@@ -1,5 +1,5 @@
 -- The content of a stream behind the directory's sector.
-use Rattle.std.proofs.Common.{◌≡◌, ◌+◌, ◌-◌, ◌*◌, ◌/◌, ◌<◌, ◌≤◌, ℕ, List, [], ◌∷◌, ◌++◌, refl, sym, ◌∙◌, ap, length, take, drop, replicate, arith, length-append, append_assoc, append-nil, lit≤}
+use Rattle.std.proofs.Common.{◌≡◌, ◌+◌, ◌-◌, ◌*◌, ◌≤◌, ℕ, List, [], ◌∷◌, ◌++◌, refl, sym, ◌∙◌, ap, length, take, drop, replicate, arith, length-append, append_assoc, append-nil, lit≤}
 use Rattle.std.specs.Prelude.{Option, Some}
 use Rattle.std.proofs.Math.Seq.{drop-append_seam, drop-append-add}
 use Rattle.std.proofs.lemmas.List.{take_at, take_all, drop_all, length-replicate}
@@ -10,7 +10,7 @@ use Rattle.cfb_format.specs.Medium.{written}
 use Rattle.cfb_format.proofs.ByteLemmas.{written_inside}
 use Rattle.cfb.specs.OneStream.{OneStream, sectors_for, content_sectors, header_sector, fat_bytes, directory_bytes, IsServed, HoldsOne, content_of}
 use Rattle.cfb.proofs.OneStreamFacts.{few-sectors, length-header_sector, length-fat_bytes, length-directory_bytes}
-use Rattle.cfb.proofs.OneStreamReads.{whole-length, bytes-in-parts, behind-directory}
+use Rattle.cfb.proofs.OneStreamReads.{bytes-in-parts, behind-directory}
 
 -- a write at the end
 pub written_at_end : (b f : List ℕ) (at : ℕ) → length b ≡ at → written b at f ≡ b ++ f

@@ -9,6 +9,7 @@ pub mod Running
 pub mod CallRunning
 pub mod StreamRunning
 pub mod ReadRunning
+pub mod RestRunning
 pub mod Pieces
 pub mod Refusing
 pub mod CallFacts

@@ -1,5 +1,5 @@
 -- Walking the stream's chain in the FAT's bytes.
-use Rattle.std.proofs.Common.{◌≡◌, ◌+◌, ◌-◌, ◌*◌, ◌/◌, ◌%◌, ◌<◌, ◌≤◌, ℕ, List, ◌++◌, refl, sym, ◌∙◌, ap, length, take, drop, replicate, arith, get_or, get_or-take}
+use Rattle.std.proofs.Common.{◌≡◌, ◌+◌, ◌-◌, ◌*◌, ◌/◌, ◌%◌, ◌<◌, ◌≤◌, ℕ, List, refl, sym, ◌∙◌, ap, length, drop, replicate, arith, get_or, get_or-take}
 use Rattle.std.specs.Int.{from_le_bytes, w32, byte_worth}
 use Rattle.cfb_format.specs.Medium.{part}
 use Rattle.std.specs.Prelude.{Option, slice_index}
@@ -7,11 +7,10 @@ use Rattle.std.proofs.lemmas.List.{get_or_append_left, append-nil}
 use Rattle.cfb_format.specs.declared.version.Version.{Version}
 use Rattle.cfb_format.specs.declared.version.Version.TheVariants.{V3, V4}
 use Rattle.cfb_format.specs.Bytes.{u32_at, sector_len, sector_start, sector_words, words_per_sector, free_sector}
-use Rattle.cfb_format.specs.Fat.{fat_words}
 use Rattle.cfb_format.proofs.Words.{sector_words-at}
-use Rattle.cfb.specs.OneStream.{OneStream, content_sectors, fat_word, used_fat, all_fat_words, HoldsOne, IsLinked}
+use Rattle.cfb.specs.OneStream.{OneStream, content_sectors, used_fat, HoldsOne, IsLinked}
 use Rattle.cfb.proofs.ChainedFat.{used-length, used-at, word-next}
-use Rattle.cfb.proofs.OneStreamFacts.{few-sectors, few-words}
+use Rattle.cfb.proofs.OneStreamFacts.{few-sectors}
 use Rattle.cfb.proofs.OneStreamReads.{words-are, whole-length, few-content}
 
 first-start : (v : Version) → sector_start v 0 ≡ sector_len v

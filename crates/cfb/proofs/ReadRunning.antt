@@ -1,28 +1,26 @@
 -- Reads of the stream follow the rules.
-use Rattle.std.proofs.Common.{◌≡◌, ◌⊎◌, inl, inr, ◌+◌, ◌-◌, ◌*◌, ◌<◌, ◌≤◌, min, ℕ, zero, suc, List, [], ◌∷◌, ◌++◌, Bool, true, false, refl, sym, ◌∙◌, ap, subst, length, take, drop, arith, ◌||◌, add-zero}
-use Rattle.std.specs.Prelude.{Option, Some, None, is_some, MatchBool, IsTrue, nat_lt, ◌==◌, slice_index}
+use Rattle.std.proofs.Common.{◌≡◌, ◌⊎◌, inl, inr, ◌+◌, ◌*◌, ◌<◌, ◌≤◌, ℕ, List, [], Bool, true, false, refl, sym, ◌∙◌, ap, subst, length, arith, ◌||◌, add-zero}
+use Rattle.std.specs.Prelude.{Option, Some, None, is_some, nat_lt, ◌==◌, slice_index}
 use Rattle.std.proofs.lemmas.Bool.{ne_eqb, eq-eqb, lt-ltb}
 use Rattle.std.proofs.lemmas.List.{ext_get_or}
-use Rattle.cfb_format.specs.declared.error.Error.{Error}
 use Rattle.cfb_format.specs.declared.error.Error.TheVariants.{Medium}
 use Rattle.cfb_format.specs.declared.medium.MediumFault.{MediumFault}
-use Rattle.cfb_format.specs.declared.version.Version.{Version}
 use Rattle.cfb_format.specs.Bytes.{sector_len}
 use Rattle.cfb_format.specs.Medium.{part, FailsBy}
 use Rattle.cfb_format.proofs.ByteLemmas.{part_at, length-part}
 use Rattle.cfb.specs.Refusal.{medium_failed}
-use Rattle.cfb.specs.StreamCalls.{StreamState, read, got, not_done, Read, Moves, Serves}
+use Rattle.cfb.specs.StreamCalls.{read, got, not_done, Read}
 use Rattle.cfb.specs.Runs.{reading, WorkMayBreak, StaysUnfailed}
-use Rattle.cfb.specs.OneStream.{OneStream, content_sectors, content_of, HoldsOne, sectors_for, IsLinked}
-use Rattle.cfb.specs.Files.{FileState, Agrees}
-use Rattle.cfb.specs.Answers.{setting_of, causes_of, state_at, stream_run, held_len, IsOpen, StreamRunsOn, IsStreamRefusedBy, never_yet}
+use Rattle.cfb.specs.OneStream.{OneStream, content_sectors, content_of, HoldsOne, IsLinked}
+use Rattle.cfb.specs.Files.{FileState}
+use Rattle.cfb.specs.Answers.{causes_of, state_at, held_len, IsOpen, StreamRunsOn, IsStreamRefusedBy, never_yet}
 use Rattle.cfb.proofs.OneStreamReads.{whole-length}
 use Rattle.cfb.proofs.OneStreamFacts.{sectors-hold}
 use Rattle.cfb.proofs.LinkLemmas.{linked}
 use Rattle.cfb.proofs.StreamRunning.{stream-done, stream-broken, match-true, match-false, calm, unlent}
 
 -- a part of a part
-part-part : (b : List ℕ) (at len p n : ℕ) → at + len ≤ length b → p + n ≤ len → part (part b at len) p n ≡ part b (at + p) n
+pub part-part : (b : List ℕ) (at len p n : ℕ) → at + len ≤ length b → p + n ≤ len → part (part b at len) p n ≡ part b (at + p) n
 part-part b at len p n whole inside =
     let first = length-part b at len in
     let left = length-part (part b at len) p n in
@@ -45,7 +43,7 @@ module _ (file : FileState) (position : ℕ) (is_open : IsOpen file position) (u
       go (Some s) = sectors-hold file.version s.len
 
   -- the whole content is there
-  content-long : (held : Option OneStream) → HoldsOne file.version held file.bytes → length (state_at file held position).content ≡ held_len held
+  pub content-long : (held : Option OneStream) → HoldsOne file.version held file.bytes → length (state_at file held position).content ≡ held_len held
   content-long None holds = refl
   content-long (Some s) holds =
       let whole = whole-length file.version (Some s) file.bytes holds in
@@ -53,7 +51,7 @@ module _ (file : FileState) (position : ℕ) (is_open : IsOpen file position) (u
       let len = length-part file.bytes (3 * sector_len file.version) s.len in
       omega (arith, whole, fits, len)
 
-  state-len : (held : Option OneStream) → (state_at file held position).len ≡ held_len held
+  pub state-len : (held : Option OneStream) → (state_at file held position).len ≡ held_len held
   state-len None = refl
   state-len (Some s) = refl
 

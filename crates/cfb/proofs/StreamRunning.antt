@@ -1,5 +1,5 @@
 -- Calls on the stream follow the rules.
-use Rattle.std.proofs.Common.{◌≡◌, ◌⊎◌, inl, inr, ◌+◌, ◌-◌, ◌*◌, ◌<◌, ◌≤◌, ℕ, zero, suc, List, [], ◌∷◌, ◌++◌, Bool, true, false, refl, sym, ◌∙◌, ap, subst, length, take, drop, arith, append-nil}
+use Rattle.std.proofs.Common.{◌≡◌, ◌⊎◌, inl, inr, ◌+◌, ◌*◌, ◌≤◌, ℕ, zero, suc, List, [], ◌++◌, Bool, true, false, refl, sym, ◌∙◌, ap, subst, length, take, drop, arith, append-nil}
 use Rattle.std.specs.Prelude.{Option, Some, None, is_some, MatchBool, IsTrue, nat_le, ◌==◌, if◌then◌else◌, ⊤}
 use Rattle.std.proofs.lemmas.Bool.{ne_eqb, lt-leb}
 use Rattle.std.proofs.lemmas.List.{take_all}
@@ -9,12 +9,11 @@ use Rattle.cfb_format.specs.declared.medium.MediumFault.{MediumFault}
 use Rattle.cfb_format.specs.declared.version.Version.{Version}
 use Rattle.cfb_format.specs.declared.version.Version.TheVariants.{V3, V4}
 use Rattle.cfb_format.specs.Bytes.{sector_len, max_stream_len}
-use Rattle.cfb_format.specs.Refused.{CountsError}
-use Rattle.cfb.specs.Refusal.{Refusal, IsRefusal, failed_earlier, out_of_memory, medium_failed}
-use Rattle.cfb.specs.StreamCalls.{StreamCall, StreamState, write, StreamReply, count, not_done, StreamStep, Write, Wrote, Moves, Becomes}
-use Rattle.cfb.specs.Runs.{Causes, StreamRun, StreamCallRuns, Work, no_work, taking, work_of, WorkMayBreak, CalmWorkMayBreak, StaysUnfailed, may_leave_failed, is_never_refused, StreamOnFailed, IsStreamBroken}
+use Rattle.cfb.specs.Refusal.{Refusal, failed_earlier, out_of_memory, medium_failed}
+use Rattle.cfb.specs.StreamCalls.{StreamCall, write, StreamReply, count, not_done, StreamStep, Write, Wrote}
+use Rattle.cfb.specs.Runs.{no_work, taking, work_of, WorkMayBreak, CalmWorkMayBreak, StaysUnfailed, may_leave_failed, is_never_refused, StreamOnFailed, IsStreamBroken}
 use Rattle.cfb.specs.OneStream.{OneStream, content_of, HoldsOne, sectors_for}
-use Rattle.cfb.specs.Files.{FileState, Agrees}
+use Rattle.cfb.specs.Files.{FileState}
 use Rattle.cfb.specs.Answers.{setting_of, causes_of, state_at, stream_run, held_len, IsOpen, StreamRunsOn, IsStreamRefusedBy, IsFillable, IsNotFillable, IsFilled, IsNotPut, IsNotYetWritten}
 use Rattle.cfb.proofs.OneStreamReads.{whole-length}
 use Rattle.cfb.proofs.ContentLemmas.{filled-holds, filled-content, sectors-fit}

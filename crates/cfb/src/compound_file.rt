@@ -7,7 +7,7 @@ ghost use Rattle.cfb_format.specs.Path.{names_left};
 ghost use Rattle.cfb.specs.Finding.{last_name};
 ghost use Rattle.cfb.specs.Answers.{is_nil, IsInvalidName};
 
-use crate::content::{Sectors, piece_len, read_piece, write_stream};
+use crate::content::{Sectors, piece_len, read_piece, read_rest, write_stream};
 use crate::created::{EmptySlots, write_created};
 use crate::held::HeldStream;
 use crate::layout::{directory_sector, fat_sector, padding, sector_buffer, sectors_for};
@@ -395,8 +395,8 @@ impl<F: Medium, A: Allocator + Clone> CompoundFile<F, A> {
 impl<F: Medium, A: Allocator + Clone> CompoundFile<F, A> {
     ghost use Rattle.std.specs.Prelude.{None, Some};
     ghost use Rattle.cfb.specs.Calls.{done};
-    ghost use Rattle.cfb.specs.StreamCalls.{read, write, count, got};
-    ghost use Rattle.std.specs.Prelude.{◌%◌, ℕ, take};
+    ghost use Rattle.cfb.specs.StreamCalls.{read, read_to_end, write, count, got};
+    ghost use Rattle.std.specs.Prelude.{◌++◌, ◌%◌, ◌^◌, ℕ, drop, take};
     ghost use Rattle.cfb_format.specs.Medium.{part, FailsBy};
     ghost use Rattle.cfb.specs.OneStream.{IsLinked};
     ghost use Rattle.cfb.specs.Answers.{StreamRunsOn, IsStreamRefusedBy, IsNotYetWritten, never_yet};
@@ -505,6 +505,59 @@ impl<F: Medium, A: Allocator + Clone> CompoundFile<F, A> {
         match self.read_held(position, &mut into[..wanted]) {
             Ok(()) => Ok(wanted),
             Err(fault) => Err(Error::Medium(fault)),
+        }
+    }
+
+    /// Reads the stream's bytes from this position on.
+    fn fill_from(&mut self, position: u64, into: &mut [u8]) -> Result<(), MediumFault>
+        requires fits { position + length into.old < 2 ^ 64 }
+        ensures same { IsTrue F.tells → self.new ≡ record self.old { failures = self.new.failures } }
+        ensures ok { (m : ℕ) → IsTrue F.tells → IsLinked self.old.version self.old.bytes m → position + length into.old ≤ m * sector_len self.old.version
+            → OnOk result (into.new ≡ part self.old.bytes (3 * sector_len self.old.version + position) (length into.old)) }
+        ensures calm { IsTrue F.tells → OnOk result (self.new.failures ≡ self.old.failures) }
+        ensures err { (m : ℕ) → IsTrue F.tells → IsLinked self.old.version self.old.bytes m → position + length into.old ≤ m * sector_len self.old.version
+            → IfErr result (FailsBy F.read_faults self.old.failures self.new.failures) }
+    {
+        match read_rest(&mut self.medium, self.version, position, into) {
+            Ok(()) => Ok(()),
+            Err(fault) => Err(fault),
+        }
+    }
+
+    /// Appends the stream's bytes from this position to its end, and answers how many. `Failed` on a
+    /// failed file; `Medium` where the medium failed, `Memory`: then nothing is appended and nothing
+    /// has changed.
+    pub(crate) fn append_from(
+        &mut self,
+        position: u64,
+        into: &mut Vec<u8, A>,
+    ) -> Result<usize, Error>
+        ensures appends { IfOk result (λ n. (length into.new.items ≡ length into.old.items + n)
+            × (into.new.items ≡ into.old.items ++ drop (length into.old.items) into.new.items)) }
+        ensures nothing { IfErr result (λ e. into.new.items ≡ into.old.items) }
+        ensures runs { IsTrue F.tells → IsOpen self.old position → IfOk result (λ n.
+            StreamRunsOn self.old position read_to_end (got (drop (length into.old.items) into.new.items)) self.new (position + n)) }
+        ensures is_open { IsTrue F.tells → IsOpen self.old position → IfOk result (λ n. IsOpen self.new (position + n)) }
+        ensures refused { IsTrue F.tells → IsOpen self.old position → IfErr result (IsStreamRefusedBy F.read_faults self.old position
+            read_to_end never_yet self.new position) }
+    {
+        if self.is_failed() {
+            return Err(Error::Failed);
+        }
+        let start = into.len();
+        let wanted = self.held_len().saturating_sub(position) as usize;
+        let Some(end) = start.checked_add(wanted) else {
+            return Err(Error::Memory);
+        };
+        if into.resize(end, 0).is_err() {
+            return Err(Error::Memory);
+        }
+        match self.fill_from(position, &mut into[start..]) {
+            Ok(()) => Ok(wanted),
+            Err(fault) => {
+                into.truncate(start);
+                Err(Error::Medium(fault))
+            }
         }
     }
 

@@ -166,6 +166,31 @@ fn left_in_sector(version: Version, place: u64) -> u64
     }
 }
 
+/// Reads the stream's bytes from this place on, sector by sector.
+pub fn read_rest<F: ReadMedium>(
+    medium: &mut F,
+    version: Version,
+    place: u64,
+    into: &mut [u8],
+) -> Result<(), MediumFault>
+    requires fits { place + length into.old < 2 ^ 64 }
+    ensures same { IsTrue F.tells → F.bytes medium.new ≡ F.bytes medium.old }
+    ensures ok { (m : ℕ) → IsTrue F.tells → IsLinked version (F.bytes medium.old) m → place + length into.old ≤ m * len_of version
+        → OnOk result (into.new ≡ part (F.bytes medium.old) (3 * len_of version + place) (length into.old)) }
+    ensures calm { IsTrue F.tells → OnOk result (F.failures medium.new ≡ F.failures medium.old) }
+    ensures err { (m : ℕ) → IsTrue F.tells → IsLinked version (F.bytes medium.old) m → place + length into.old ≤ m * len_of version
+        → IfErr result (FailsBy F.read_faults (F.failures medium.old) (F.failures medium.new)) }
+{
+    let mut done = 0;
+    while done < into.len() {
+        let at = place + done as u64;
+        let count = (left_in_sector(version, at) as usize).min(into.len() - done);
+        read_piece(medium, version, at, &mut into[done..done + count])?;
+        done += count;
+    }
+    Ok(())
+}
+
 /// How many bytes a read serves that has so much room: those of one sector, up to the stream's end.
 pub fn piece_len(version: Version, place: u64, len: u64, room: usize) -> usize
     ensures room { result ≤ room }

@@ -94,7 +94,8 @@ impl<F: Medium, A: Allocator + Clone> CompoundFile<F, A> {
 
 impl<'a, F: Medium, A: Allocator> Stream<'a, F, A> {
     ghost use Rattle.cfb.specs.Runs.{Closes};
-    ghost use Rattle.cfb.specs.StreamCalls.{read, write, count, got};
+    ghost use Rattle.std.specs.Prelude.{drop, ◌++◌};
+    ghost use Rattle.cfb.specs.StreamCalls.{read, read_to_end, write, count, got};
     ghost use Rattle.cfb.specs.Answers.{held_len, causes_of, stream_run, closing, IsOpen, StreamRunsOn, IsStreamRefusedBy, IsNotYetWritten, never_yet};
     ghost use Rattle.cfb.specs.Streams.{file_of, position_of};
 
@@ -121,6 +122,31 @@ impl<'a, F: Medium, A: Allocator> Stream<'a, F, A> {
             (file_of self.old).now (position_of self.old) (read (length into.old)) never_yet (file_of self.new).now (position_of self.new)) }
     {
         let served = match self.file.read_from(self.position, into) {
+            Ok(served) => served,
+            Err(e) => return Err(e),
+        };
+        self.position = place_after(self.position, served, self.file.held_len());
+        Ok(served)
+    }
+
+    /// Appends the bytes from the position to the end, and answers how many. `Failed` on a failed file;
+    /// `Medium` where the medium failed, `Memory`: then nothing is appended, and the stream is as before.
+    pub fn read_to_end(&mut self, into: &mut Vec<u8, A>) -> Result<usize, Error>
+    where
+        A: Clone,
+        ensures same_file { (file_of self.new).ghost_name ≡ (file_of self.old).ghost_name }
+        ensures appends { IfOk result (λ n. (length into.new.items ≡ length into.old.items + n)
+            × (into.new.items ≡ into.old.items ++ drop (length into.old.items) into.new.items)) }
+        ensures nothing { IfErr result (λ e. into.new.items ≡ into.old.items) }
+        ensures runs { IsTrue F.tells → IsOpen (file_of self.old).now (position_of self.old) → IfOk result (λ n.
+            StreamRunsOn (file_of self.old).now (position_of self.old) read_to_end (got (drop (length into.old.items) into.new.items))
+            (file_of self.new).now (position_of self.new)) }
+        ensures is_open { IsTrue F.tells → IsOpen (file_of self.old).now (position_of self.old)
+            → OnOk result (IsOpen (file_of self.new).now (position_of self.new)) }
+        ensures refused { IsTrue F.tells → IsOpen (file_of self.old).now (position_of self.old) → IfErr result (IsStreamRefusedBy F.read_faults
+            (file_of self.old).now (position_of self.old) read_to_end never_yet (file_of self.new).now (position_of self.new)) }
+    {
+        let served = match self.file.append_from(self.position, into) {
             Ok(served) => served,
             Err(e) => return Err(e),
         };

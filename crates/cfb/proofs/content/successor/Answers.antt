@@ -1,4 +1,4 @@
-use Rattle.std.proofs.Common.{◌≡◌, ◌+◌, ◌*◌, ◌∙◌, ap}
+use Rattle.std.proofs.Common.{◌+◌, ◌*◌, ◌∙◌, ap}
 use Rattle.std.specs.Int.{from_le_bytes, w32}
 use Rattle.cfb_format.specs.Bytes.{u32_at}
 use Rattle.cfb.proofs.LinkLemmas.{word-of-part}

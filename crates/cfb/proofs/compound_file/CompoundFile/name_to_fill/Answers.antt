@@ -1,6 +1,6 @@
 use Rattle.std.proofs.Common.{rules, ◌≡◌, ◌∙◌, sym, subst, arith, chars, string_bytes}
 use Rattle.std.specs.Prelude.{Some}
-use Rattle.cfb.specs.OneStream.{OneStream, IsServedName}
+use Rattle.cfb.specs.OneStream.{IsServedName}
 use Rattle.cfb.proofs.compound_file.CompoundFile.name_to_fill.Goals as goal
 
 pub returns-in-Ok-clause-ok : goal.returns-in-Ok-clause-ok

@@ -1,4 +1,4 @@
-use Rattle.std.proofs.Common.{rules, ◌≡◌, ◌≤◌, ◌-◌, ◌*◌, ◌+◌, ◌∙◌, refl, sym, ap, subst, length, replicate, arith, List, ℕ, ◌++◌}
+use Rattle.std.proofs.Common.{◌≡◌, ◌≤◌, ◌-◌, ◌*◌, ◌+◌, ◌∙◌, refl, sym, ap, subst, length, replicate, arith, ◌++◌}
 use Rattle.std.specs.Prelude.{Some}
 use Rattle.cfb_format.specs.Bytes.{sector_len, words_per_sector}
 use Rattle.cfb_format.specs.Medium.{written, FailsBy}

@@ -1,9 +1,8 @@
-use Rattle.std.proofs.Common.{rules, ◌≡◌, ◌≤◌, ◌<◌, ◌+◌, ◌*◌, ◌++◌, ◌∙◌, inl, inr, List, ℕ, sym, ap, subst, refl, length, length-take, take, drop, arith, false}
-use Rattle.std.proofs.lemmas.Bool.{eqb-true, eqb-false}
+use Rattle.std.proofs.Common.{◌≡◌, ◌≤◌, ◌<◌, ◌+◌, ◌*◌, ◌++◌, ◌∙◌, inl, inr, sym, ap, subst, refl, length, length-take, take, drop, arith, false}
 use Rattle.std.proofs.lemmas.List.{take_at}
 use Rattle.cfb_format.specs.declared.error.Error.TheVariants.{Medium}
 use Rattle.cfb_format.specs.Bytes.{sector_len}
-use Rattle.cfb_format.specs.Medium.{part, FailsBy}
+use Rattle.cfb_format.specs.Medium.{part}
 use Rattle.cfb.specs.StreamCalls.{read, got}
 use Rattle.cfb.specs.OneStream.{content_sectors}
 use Rattle.cfb.specs.Answers.{held_len, StreamRunsOn, IsStreamRefusedBy, never_yet}

@@ -1,8 +1,7 @@
-use Rattle.std.proofs.Common.{rules, ◌≡◌, ◌≤◌, ◌+◌, ◌∙◌, sym, subst, refl, length, arith, chars, string_bytes, add-zero}
+use Rattle.std.proofs.Common.{◌∙◌, sym, subst, refl, length, arith, chars, string_bytes, add-zero}
 use Rattle.std.proofs.lemmas.Bool.{eqb-true, eqb-false}
 use Rattle.cfb.specs.StreamCalls.{write, count}
 use Rattle.cfb.specs.Answers.{StreamRunsOn, IsNotYetWritten, IsFilled}
-use Rattle.cfb.specs.OneStream.{OneStream, HoldsOne}
 use Rattle.cfb.proofs.StreamRunning.{failed-before, wrote-none, wrote-open, wrote-all, not-fillable, not-filled, whole-start}
 use Rattle.cfb.proofs.compound_file.CompoundFile.write_from.Goals as goal
 
