@@ -41,6 +41,18 @@ fn first(
     served
 }
 
+/// What reading a stream to its end answers.
+fn rest(
+    file: &mut CompoundFile<MemoryMedium, Global>,
+    path: &str,
+    into: &mut Vec<u8, Global>,
+) -> Result<usize, Error> {
+    let mut stream = file.open_stream(path)?;
+    let served = stream.read_to_end(into);
+    stream.close()?;
+    served
+}
+
 /// The length of a stream.
 fn len(file: &mut CompoundFile<MemoryMedium, Global>, path: &str) -> Result<u64, Error> {
     let stream = file.open_stream(path)?;
@@ -75,6 +87,26 @@ fn written_and_read(rt: HostRuntime) -> Result<(), Fail> {
     assert_eq!(rt;
         (word(&bytes, 1268), word(&bytes, 1272), word(&bytes, 1276)),
         (2, 5000, 0)
+    );
+    Ok(())
+}
+
+/// The whole stream is appended to what is there; an empty one adds nothing.
+#[test]
+fn read_to_its_end(rt: HostRuntime) -> Result<(), Fail> {
+    let mut file = made(rt.alloc(), Version::V4)?;
+    let content = vec![in rt.alloc(); 7u8; 5000]?;
+    let mut into = vec![in rt.alloc(); 3u8; 2]?;
+    assert_eq!(rt; put(&mut file, "/a", &[]), Ok(0));
+    assert_eq!(rt; rest(&mut file, "/a", &mut into), Ok(0));
+    assert_eq!(rt; into.len(), 2);
+    let mut file = made(rt.alloc(), Version::V3)?;
+    assert_eq!(rt; put(&mut file, "/a", content.as_slice()), Ok(5000));
+    assert_eq!(rt; rest(&mut file, "/a", &mut into), Ok(5000));
+    assert_eq!(rt; into.len(), 5002);
+    assert_eq!(rt;
+        (word(&into, 1), word(&into, 512), word(&into, 4998)),
+        (0x0707_0703, 0x0707_0707, 0x0707_0707)
     );
     Ok(())
 }
