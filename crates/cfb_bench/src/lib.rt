@@ -2,6 +2,8 @@
 #![tactic(auto)]
 
 #[cfg(test)]
+mod chain_rows;
+#[cfg(test)]
 mod chains;
 #[cfg(test)]
 mod empty_files;
