@@ -37,3 +37,5 @@ pub mod DifatLinked
 pub mod FatLemmas
 pub mod FatLaws
 pub mod SoundTables
+pub mod StrictLemmas
+pub mod StrictFat
