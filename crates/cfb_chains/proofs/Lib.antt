@@ -37,3 +37,4 @@ pub mod DifatLinked
 pub mod FatLemmas
 pub mod FatLaws
 pub mod SoundTables
+pub mod ChainContent
