@@ -1,19 +1,23 @@
 -- What stands along a chain of sectors that the file has whole, as the file changes.
-use Rattle.std.proofs.Common.{◌≡◌, ◌≢◌, ◌≤◌, ◌<◌, ◌+◌, ◌-◌, ◌*◌, ◌/◌, ◌%◌, ◌⊎◌, inl, inr, min, max, ℕ, zero, suc, List, [], ◌∷◌, ◌++◌, true, refl, sym, ◌∙◌, ap, subst, length, take, drop, replicate, arith, length-append, length-take, length-drop, get_or-take, get_or-drop}
+use Rattle.std.proofs.Common.{◌≡◌, ◌≢◌, ◌≤◌, ◌<◌, ◌+◌, ◌-◌, ◌*◌, ◌/◌, ◌%◌, ◌⊎◌, inl, inr, ℕ, zero, suc, List, [], ◌∷◌, ◌++◌, refl, sym, ◌∙◌, ap, subst, length, take, drop, replicate, arith, length-append, length-take, length-drop, get_or-take, get_or-drop}
 use Rattle.std.specs.Prelude.{Contains, slice_index, nat_eq, if◌then◌else◌}
 use Rattle.std.specs.List.{IsDistinct}
 use Rattle.std.proofs.lemmas.Bool.{le-leb, cases_lt, cases_eq}
-use Rattle.std.proofs.lemmas.List.{get_or_append_left, get_or-append_right, ext_get_or, append_assoc}
-use Rattle.std.proofs.lemmas.List.Elements.{Contains-get_or, Contains-append_cases}
+use Rattle.std.proofs.lemmas.List.{get_or_append_left, get_or-append_right, ext_get_or, append_assoc, append-nil, take-append-drop, take-take, drop_all, length-replicate}
+use Rattle.std.proofs.Math.Seq.{take-append_seam}
+use Rattle.std.proofs.lemmas.List.Elements.{Contains-get_or, Contains-append_left, Contains-append_cases}
 use Rattle.cfb_format.specs.declared.version.Version.{Version}
 use Rattle.cfb_format.specs.declared.version.Version.TheVariants.{V3, V4}
-use Rattle.cfb_format.specs.Bytes.{sector_len, sector_start, sector_bytes, is_whole_sector}
+use Rattle.cfb_format.specs.Bytes.{sector_len, sector_start, sector_bytes}
 use Rattle.cfb_format.specs.Content.{bytes_along}
+use Rattle.cfb_format.specs.Medium.{part, written}
+use Rattle.cfb_format.proofs.ByteLemmas.{length-written, written_below, written_at, written_above, written_from_bytes, written_inside, part_at, length-part}
 use Rattle.cfb_chains.specs.Agreement.{HasSectors, KeepsSectors}
 use Rattle.cfb_chains.specs.Alloc.{IsFilled}
 use Rattle.cfb_chains.specs.Sectors.{SectorStays, copies, init_bytes}
 use Rattle.cfb_chains.specs.declared.sector.SectorInit.{SectorInit}
-use Rattle.cfb_chains.proofs.Listed.{in_rest, in_cons, place_once}
+use Rattle.cfb_chains.proofs.Listed.{in_rest, place_once}
+use Rattle.cfb_chains.proofs.Members.{distinct-left}
 
 -- ---- one sector and those behind it
 
@@ -176,3 +180,189 @@ pub grown_has : (v : Version) (init : SectorInit) (old new ids more : List ℕ) 
     → ((i : ℕ) → Contains more i → IsFilled v init new i) → HasSectors v new (ids ++ more)
 grown_has v init old new ids more h longer filled =
     append_has v new ids more (sectors_stay v old new ids h longer) (filled_has v init new more filled)
+
+-- ---- a write within one of its sectors
+
+same_quotient : (v : Version) (k j : ℕ) → k % sector_len v + j < sector_len v → (k + j) / sector_len v ≡ k / sector_len v
+same_quotient V3 k j h = omega arith
+same_quotient V4 k j h = omega arith
+
+later_rest : (v : Version) (k j : ℕ) → k % sector_len v + j < sector_len v → (k + j) % sector_len v ≡ k % sector_len v + j
+later_rest V3 k j h = omega arith
+later_rest V4 k j h = omega arith
+
+step_within : (v : Version) (k m n : ℕ) → k < m * sector_len v → k % sector_len v + n ≤ sector_len v → k + n ≤ m * sector_len v
+step_within V3 k m n inside short = omega arith
+step_within V4 k m n inside short = omega arith
+
+-- the places of the bytes of one sector follow each other
+pub place_later : (v : Version) (ids : List ℕ) (k j : ℕ) → k % sector_len v + j < sector_len v → place_at v ids (k + j) ≡ place_at v ids k + j
+place_later v ids k j short =
+    (λ n. sector_start v (slice_index ids (same_quotient v k j short n)) + later_rest v k j short n)
+    ∙ omega arith
+
+beside_here : (v : Version) (i k n : ℕ) → i / sector_len v ≡ k / sector_len v → (i < k) ⊎ (k + n ≤ i) → (i % sector_len v < k % sector_len v) ⊎ (k % sector_len v + n ≤ i % sector_len v)
+beside_here V3 i k n same (inl low) = inl (omega arith)
+beside_here V3 i k n same (inr high) = inr (omega arith)
+beside_here V4 i k n same (inl low) = inl (omega arith)
+beside_here V4 i k n same (inr high) = inr (omega arith)
+
+before_there : (v : Version) (s t r n : ℕ) → s < t → r < sector_len v → sector_start v s + r < sector_start v t + n
+before_there V3 s t r n less short = omega arith
+before_there V4 s t r n less short = omega arith
+
+behind_there : (v : Version) (s t r q n : ℕ) → t < s → q + n ≤ sector_len v → sector_start v t + q + n ≤ sector_start v s + r
+behind_there V3 s t r q n less short = omega arith
+behind_there V4 s t r q n less short = omega arith
+
+-- the place of another byte than those that are written lies beside them
+beside : (v : Version) (ids : List ℕ) (i k n : ℕ) → IsDistinct nat_eq ids → i < length ids * sector_len v → k < length ids * sector_len v
+    → k % sector_len v + n ≤ sector_len v → (i < k) ⊎ (k + n ≤ i) → (place_at v ids i < place_at v ids k) ⊎ (place_at v ids k + n ≤ place_at v ids i)
+beside v ids i k n once low inside short other =
+    elim (cases_eq (i / sector_len v) (k / sector_len v)) [
+      | inl same ↦
+          let start = ap (λ q. sector_start v (slice_index ids q)) same in
+          elim (beside_here v i k n same other) [ inl below ↦ inl (omega (arith, start, below)) | inr above ↦ inr (omega (arith, start, above)) ]
+      | inr differ ↦
+          elim (cases_lt (slice_index ids (i / sector_len v)) (slice_index ids (k / sector_len v))) [
+            | inl less ↦ inl (before_there v _ _ _ _ less (rest_short v i))
+            | inr more ↦
+                let other_sector : slice_index ids (i / sector_len v) ≢ slice_index ids (k / sector_len v) =
+                λ e. differ (place_once ids once (i / sector_len v) (k / sector_len v) (index_inside v i (length ids) low) (index_inside v k (length ids) inside) e) in
+                elim (cases_lt (slice_index ids (k / sector_len v)) (slice_index ids (i / sector_len v))) [
+                  | inl less ↦ inr (behind_there v _ _ _ _ _ less short)
+                  | inr not_less ↦ absurd (other_sector (omega (arith, more, not_less)))
+                ]
+          ]
+    ]
+
+beside_kept : (bytes : List ℕ) (at p : ℕ) (from : List ℕ) → (p < at) ⊎ (at + length from ≤ p) → slice_index (written bytes at from) p ≡ slice_index bytes p
+beside_kept bytes at p from (inl low) = written_below bytes at from p low
+beside_kept bytes at p from (inr high) = written_above bytes at from p high
+
+pub written_has : (v : Version) (bytes ids : List ℕ) (at : ℕ) (from : List ℕ) → HasSectors v bytes ids → HasSectors v (written bytes at from) ids
+written_has v bytes ids at from h = sectors_stay v bytes (written bytes at from) ids h (omega (arith, length-written bytes at from))
+
+pub along_written : (v : Version) (bytes ids : List ℕ) (k : ℕ) (from : List ℕ) → IsDistinct nat_eq ids → HasSectors v bytes ids → k < length ids * sector_len v
+    → k % sector_len v + length from ≤ sector_len v
+    → bytes_along v (written bytes (sector_start v (slice_index ids (k / sector_len v)) + k % sector_len v) from) ids ≡ written (bytes_along v bytes ids) k from
+along_written v bytes ids k from once h inside short =
+    let new = written bytes (place_at v ids k) from in
+    let has = written_has v bytes ids (place_at v ids k) from h in
+    let long = along_len v new ids has in
+    let before = along_len v bytes ids h in
+    written_from_bytes (bytes_along v bytes ids) k from (bytes_along v new ids)
+    (omega (arith, long, before, step_within v k (length ids) (length from) inside short))
+    (λ i less within.
+    let low : i < length ids * sector_len v = omega (arith, within, long) in
+    along_at v new ids i has low ∙ beside_kept bytes (place_at v ids k) (place_at v ids i) from (beside v ids i k (length from) once low inside short (inl less))
+    ∙ sym (along_at v bytes ids i h low))
+    (λ i less.
+    let here : k % sector_len v + i < sector_len v = omega (arith, short, less) in
+    let low : k + i < length ids * sector_len v = omega (arith, step_within v k (length ids) (length from) inside short, less) in
+    along_at v new ids (k + i) has low ∙ ap (slice_index new) (place_later v ids k i here) ∙ written_at bytes (place_at v ids k) from i less)
+    (λ i more within.
+    let low : i < length ids * sector_len v = omega (arith, within, long) in
+    along_at v new ids i has low ∙ beside_kept bytes (place_at v ids k) (place_at v ids i) from (beside v ids i k (length from) once low inside short (inr more))
+    ∙ sym (along_at v bytes ids i h low))
+
+-- ---- a read within one of its sectors
+
+place_fits : (v : Version) (bytes ids : List ℕ) (k : ℕ) → HasSectors v bytes ids → k < length ids * sector_len v
+    → sector_start v (slice_index ids (k / sector_len v)) + sector_len v ≤ length bytes
+place_fits v bytes ids k h inside = h (slice_index ids (k / sector_len v)) (Contains-get_or ids (k / sector_len v) 0 (index_inside v k (length ids) inside))
+
+pub along_read : (v : Version) (bytes ids : List ℕ) (k n : ℕ) → HasSectors v bytes ids → k < length ids * sector_len v → k % sector_len v + n ≤ sector_len v
+    → part bytes (sector_start v (slice_index ids (k / sector_len v)) + k % sector_len v) n ≡ part (bytes_along v bytes ids) k n
+along_read v bytes ids k n h inside short =
+    let at = place_at v ids k in
+    let fits = place_fits v bytes ids k h inside in
+    let step = step_within v k (length ids) n inside short in
+    let left = length-part bytes at n in
+    let right = length-part (bytes_along v bytes ids) k n in
+    let long = along_len v bytes ids h in
+    let left_full : length (part bytes at n) ≡ n = omega (arith, left, fits, short) in
+    let right_full : length (part (bytes_along v bytes ids) k n) ≡ n = omega (arith, right, long, step) in
+    ext_get_or 0 (part bytes at n) (part (bytes_along v bytes ids) k n) (left_full ∙ sym right_full)
+    (λ i within.
+    let less : i < n = omega (arith, within, left_full) in
+    part_at bytes at n i less
+    ∙ ap (slice_index bytes) (sym (place_later v ids k i (omega (arith, short, less))))
+    ∙ sym (along_at v bytes ids (k + i) h (omega (arith, step, less)))
+    ∙ sym (part_at (bytes_along v bytes ids) k n i less))
+
+-- ---- the end is cut off
+
+pub cut_has : (v : Version) (bytes ids : List ℕ) (m : ℕ) → HasSectors v bytes ids → HasSectors v bytes (take m ids)
+cut_has v bytes ids m h = λ i c. h i (subst (λ xs. Contains xs i) (take-append-drop m ids) (Contains-append_left (take m ids) (drop m ids) i c))
+
+pub along_cut : (v : Version) (bytes ids : List ℕ) (m : ℕ) → HasSectors v bytes ids → m ≤ length ids
+    → bytes_along v bytes (take m ids) ≡ take (m * sector_len v) (bytes_along v bytes ids)
+along_cut v bytes ids m h few =
+    let has = cut_has v bytes ids m h in
+    let front = bytes_along v bytes (take m ids) in
+    let back = bytes_along v bytes (drop m ids) in
+    let count : length (take m ids) ≡ m = omega (arith, length-take m ids, few) in
+    let long : length front ≡ m * sector_len v = along_len v bytes (take m ids) has ∙ ap (λ n. n * sector_len v) count in
+    let whole : bytes_along v bytes ids ≡ front ++ back =
+    ap (bytes_along v bytes) (sym (take-append-drop m ids)) ∙ along_append v bytes (take m ids) (drop m ids) has in
+    sym (take-append_seam front back) ∙ ap (λ n. take n (front ++ back)) long ∙ ap (take (m * sector_len v)) (sym whole)
+
+-- ---- zeros at the end of the last of m sectors
+
+-- a write up to the end
+written_to_end : (b : List ℕ) (k : ℕ) (f : List ℕ) → k + length f ≡ length b → written b k f ≡ take k b ++ f
+written_to_end b k f ends =
+    written_inside b k f (omega (arith, ends))
+    ∙ ap (λ (xs : List ℕ). take k b ++ (f ++ xs)) (drop_all (k + length f) b (omega (arith, ends)))
+    ∙ ap (λ (xs : List ℕ). take k b ++ xs) (append-nil f)
+
+last_index : (v : Version) (m len : ℕ) → (m - 1) * sector_len v < len → len < m * sector_len v → len / sector_len v < m
+last_index V3 m len more less = omega arith
+last_index V4 m len more less = omega arith
+
+last_room : (v : Version) (m len : ℕ) → (m - 1) * sector_len v < len → len < m * sector_len v → len % sector_len v + (m * sector_len v - len) ≡ sector_len v
+last_room V3 m len more less = omega arith
+last_room V4 m len more less = omega arith
+
+taken_index : (ids : List ℕ) (m k : ℕ) → k < m → slice_index (take m ids) k ≡ slice_index ids k
+taken_index ids m k low = get_or-take m ids k 0 low
+
+front_distinct : (ids : List ℕ) (m : ℕ) → IsDistinct nat_eq ids → IsDistinct nat_eq (take m ids)
+front_distinct ids m once = distinct-left (take m ids) (drop m ids) (subst (IsDistinct nat_eq) (sym (take-append-drop m ids)) once)
+
+-- m sectors remain, and what stands behind byte `len` of them is zeros
+pub along_zeroed : (v : Version) (bytes ids : List ℕ) (m len : ℕ) → IsDistinct nat_eq ids → HasSectors v bytes ids → m ≤ length ids
+    → (m - 1) * sector_len v < len → len < m * sector_len v
+    → bytes_along v (written bytes (sector_start v (slice_index ids (len / sector_len v)) + len % sector_len v) (replicate (m * sector_len v - len) 0)) (take m ids)
+    ≡ take len (bytes_along v bytes ids) ++ replicate (m * sector_len v - len) 0
+along_zeroed v bytes ids m len once h few more less =
+    let zeros : List ℕ = replicate (m * sector_len v - len) 0 in
+    let kept = take m ids in
+    let has = cut_has v bytes ids m h in
+    let content = bytes_along v bytes kept in
+    let count : length kept ≡ m = omega (arith, length-take m ids, few) in
+    let size : length kept * sector_len v ≡ m * sector_len v = ap (λ n. n * sector_len v) count in
+    let long = along_len v bytes kept has in
+    let there : sector_start v (slice_index ids (len / sector_len v)) + len % sector_len v ≡ place_at v kept len =
+    ap (λ n. sector_start v n + len % sector_len v) (sym (taken_index ids m (len / sector_len v) (last_index v m len more less))) in
+    let zero_count = length-replicate {A = ℕ} (m * sector_len v - len) 0 in
+    let room = last_room v m len more less in
+    let inside : len < length kept * sector_len v = omega (arith, less, size) in
+    let short : len % sector_len v + length zeros ≤ sector_len v = omega (arith, room, zero_count) in
+    let ends : len + length zeros ≡ length content = omega (arith, zero_count, long, size, less) in
+    ap (λ at. bytes_along v (written bytes at zeros) kept) there
+    ∙ along_written v bytes kept len zeros (front_distinct ids m once) has inside short
+    ∙ written_to_end content len zeros ends
+    ∙ ap (λ (xs : List ℕ). take len xs ++ zeros) (along_cut v bytes ids m h few)
+    ∙ ap (λ (xs : List ℕ). xs ++ zeros) (take-take len (m * sector_len v) (bytes_along v bytes ids) (omega (arith, less)))
+
+-- the same where byte `len` is the end of them, and nothing is written
+pub along_cut_there : (v : Version) (bytes ids : List ℕ) (m len : ℕ) → HasSectors v bytes ids → m ≤ length ids → len ≡ m * sector_len v
+    → bytes_along v bytes (take m ids) ≡ take len (bytes_along v bytes ids) ++ replicate (m * sector_len v - len) 0
+along_cut_there v bytes ids m len h few is =
+    let none : m * sector_len v - len ≡ 0 = omega (arith, is) in
+    along_cut v bytes ids m h few
+    ∙ ap (λ n. take n (bytes_along v bytes ids)) (sym is)
+    ∙ sym (append-nil (take len (bytes_along v bytes ids)))
+    ∙ ap (λ n. take len (bytes_along v bytes ids) ++ replicate n 0) (sym none)
