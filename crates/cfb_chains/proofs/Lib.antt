@@ -37,5 +37,6 @@ pub mod DifatLinked
 pub mod FatLemmas
 pub mod FatLaws
 pub mod SoundTables
-pub mod StrictLemmas
+pub mod ChainContent
 pub mod StrictFat
+pub mod StrictLemmas
