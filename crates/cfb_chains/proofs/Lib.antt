@@ -39,3 +39,4 @@ pub mod DifatLinked
 pub mod FatLemmas
 pub mod FatLaws
 pub mod SoundTables
+pub mod ChainContent
