@@ -10,6 +10,8 @@ pub mod CountLemmas
 pub mod FreshLemmas
 pub mod ReadLemmas
 pub mod ChainBytes
+pub mod ChainView
+pub mod ChainLists
 pub mod FreedLemmas
 pub mod Listed
 pub mod TableWords

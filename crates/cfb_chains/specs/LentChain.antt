@@ -3,6 +3,7 @@ use Rattle.std.specs.Prelude.{◌≡◌, ℕ, ◌+◌, ◌-◌, ◌*◌, ◌/◌
 use Rattle.std.specs.Borrow.{RattleType, MutBor, Fml, RestsIfErr}
 use Rattle.std.specs.declared.alloc.Allocator as heap
 use Rattle.cfb_format.specs.Bytes.{sector_len, sector_start}
+use Rattle.cfb_format.specs.Full.{rounded_up}
 use Rattle.cfb_format.specs.declared.error.Error.{Error}
 use Rattle.cfb_format.specs.declared.medium.ReadMedium as medium
 use Rattle.cfb_format.specs.declared.version.Version.{Version}
@@ -46,6 +47,10 @@ module _ {F A : Type 0} {g : medium.Ghosts F} {n : numbers.Ghosts (Vec ℕ A)} w
 
   abbrev pub place_of : Chain F A (Vec ℕ A) g n → ℕ
   place_of c = sector_start (version_of c) (sector_of c) + position_of c % sector_len (version_of c)
+
+  -- how many sectors are missing for so many bytes from the position on
+  abbrev pub missing_of : Chain F A (Vec ℕ A) g n → ℕ → ℕ
+  missing_of c count = rounded_up (position_of c + count - len_of c) (sector_len (version_of c))
 
 module _ (F A : RattleType) (g : medium.Ghosts F.Denot) (h : heap.Ghosts A.Denot) {n : numbers.Ghosts (Vec ℕ A.Denot)} where
   -- the allocator is as before where no chain was opened

@@ -4,6 +4,7 @@ pub mod Difat
 pub mod Clean
 pub mod Alloc
 pub mod Lent
+pub mod ChainLists
 pub mod LentChain
 pub mod Agreement
 pub mod Changes

@@ -1,20 +1,21 @@
 //! A chain of sectors as one list of bytes with a position (MS-CFB 2.3).
-ghost use Rattle.std.specs.Prelude.{◌≡◌, ◌≢◌, ℕ, List, ◌+◌, ◌-◌, ◌*◌, ◌/◌, ◌%◌, ◌<◌, ◌≤◌, max, min, length, true, take, drop, slice_index, ◌⊎◌, IsTrue, IfOk, IfErr, IsErrAnd, OnOk, OnErr, MatchResult};
+ghost use Rattle.std.specs.Prelude.{◌≡◌, ◌≢◌, ℕ, List, [], ◌++◌, ◌+◌, ◌-◌, ◌*◌, ◌/◌, ◌%◌, ◌<◌, ◌≤◌, max, min, length, replicate, true, take, drop, slice_index, ◌⊎◌, Contains, Some, IsTrue, IfOk, IfErr, IsErrAnd, OnOk, OnErr, MatchResult, vec_len, vec_capacity};
 ghost use Rattle.cfb_format.specs.declared.validate.Validation.{Validation};
-ghost use Rattle.cfb_format.specs.Bytes.{sector_len as sector_len_of, sector_start, max_regular_sector};
-ghost use Rattle.cfb_format.specs.Chain.{IsChain};
+ghost use Rattle.cfb_format.specs.Bytes.{sector_len as sector_len_of, sector_start, max_regular_sector, end_of_chain};
+ghost use Rattle.cfb_format.specs.Chain.{IsChain, chain_from};
 ghost use Rattle.cfb_format.specs.Content.{place_in_chain, placed_from};
 ghost use Rattle.cfb_format.specs.Medium.{ChangesOnly, part, written};
 ghost use Rattle.cfb_format.specs.Refused.{CountsFailure, IsInvalidData};
-ghost use Rattle.cfb_chains.specs.Alloc.{ChangesSectors, HoldsTables, IsUsable};
-ghost use Rattle.cfb_chains.specs.Changes.{NoChain};
+ghost use Rattle.cfb_chains.specs.Alloc.{ChangesSectors, HoldsTables, IsFilled, IsUsable, OthersStay};
 ghost use Rattle.cfb_chains.specs.Clean.{IsUnnamed};
 ghost use Rattle.cfb_chains.specs.Sectors.{IsMediumError, SectorStays};
 ghost use Rattle.cfb_chains.specs.Refused.{WalkRefused, ChangeRefused, BreaksOff, IsInvalidInput};
-ghost use Rattle.cfb_chains.specs.Tables.{FreesChain};
+ghost use Rattle.cfb_chains.specs.Tables.{FreesChain, HasTaken, TakesFor, IsTooFew, ending, start_of as first_of};
+ghost use Rattle.cfb_chains.specs.ChainLists.{Leaves, Shortens, gained, last_of};
 
 use crate::alloc::Allocator;
 use crate::sector::SectorInit;
+use cfb_format::consts::END_OF_CHAIN;
 use cfb_format::error::{Detail, Error};
 use cfb_format::medium::{Medium, ReadMedium};
 use std::alloc::{Allocator as Heap, Global};
@@ -40,15 +41,16 @@ impl<A: Heap> Numbers for Vec<u32, A> {
 }
 
 /// A chain of sectors, which lie anywhere in the file, as one list of bytes that is read and written from a position on. It is
-/// lent with its allocator whole, and must be given back by `end` or `free`.
+/// lent with its allocator whole, and must be given back by `end`.
 pub struct Chain<'a, F: ReadMedium, A: Heap = Global, L: Numbers = Vec<u32, A>> {
     allocator: &'a mut Allocator<F, A>,
     ids: L,
     start: u32,
     init: SectorInit,
     position: u64,
-    ghost few: { length (L.list ids) ≤ max_regular_sector },
+    ghost few: { length (L.list ids) ≤ max_regular_sector + 1 },
     ghost within: { position ≤ length (L.list ids) * sector_len_of allocator.now.tables.version },
+    ghost chained: { chain_from allocator.now.tables.fat start ≡ Some (L.list ids) },
 }
 
 impl<F: ReadMedium, A: Heap + Clone> Allocator<F, A> {
@@ -109,7 +111,8 @@ impl<'a, F: ReadMedium, A: Heap> Chain<'a, F, A> {
 
     /// The numbers of its sectors, in order.
     pub fn sector_ids(&self) -> &[u32]
-        ensures { result.now ≡ ids_of self.now }
+        ensures ids { result.now ≡ ids_of self.now }
+        ensures chained { IsChain (allocator_of self.now).now.tables.fat (start_of self.now) (ids_of self.now) }
     {
         self.ids.numbers()
     }
@@ -152,7 +155,8 @@ impl<'a, F: ReadMedium, A: Heap> Chain<'a, F, A> {
 
     /// The sector where the next byte lies, and 0 at the end.
     fn sector_here(&self) -> u32
-        ensures { result ≡ slice_index (ids_of self.now) (position_of self.now / sector_len_of (version_of self.now)) }
+        ensures sector { result ≡ slice_index (ids_of self.now) (position_of self.now / sector_len_of (version_of self.now)) }
+        ensures inside { position_of self.now < len_of self.now → result < length (allocator_of self.now).now.tables.fat }
     {
         let index = self.position / self.allocator.sector_len() as u64;
         self.ids.numbers().get(index as usize).copied().unwrap_or(0)
@@ -259,8 +263,8 @@ impl<'a, F: Medium, A: Heap> Chain<'a, F, A> {
     ghost use Rattle.cfb_chains.specs.LentChain.{allocator_of, start_of, ids_of, init_of, version_of, len_of, position_of, room_of, sector_of, place_of};
 
     /// Writes a beginning of `from` over what the sector at the position has from there on, goes on behind it, and answers how many
-    /// bytes that is: none exactly where `from` is empty or the end is reached. `InvalidData` exactly where the sector is none of the
-    /// file, and `Medium` where the medium fails: the position then stays, and of the sectors that one alone has changed.
+    /// bytes that is: none exactly where `from` is empty or the end is reached. `Medium` where the medium fails: the position then
+    /// stays, and of the sectors that one alone has changed.
     pub fn write_within(&mut self, from: &[u8]) -> Result<usize, Error>
         ensures same_allocator { (allocator_of self.new).ghost_name ≡ (allocator_of self.old).ghost_name }
         ensures tables { (allocator_of self.new).now.tables ≡ (allocator_of self.old).now.tables }
@@ -279,11 +283,8 @@ impl<'a, F: Medium, A: Heap> Chain<'a, F, A> {
           len = max (allocator_of self.old).now.file.len (place_of self.old + n);
           begun = true;
         }) }
-        ensures past { 0 < min (length from.now) (room_of self.old) → length (allocator_of self.old).now.tables.fat ≤ sector_of self.old
-            → IsErrAnd result IsInvalidData × ((allocator_of self.new).now ≡ (allocator_of self.old).now) }
-        ensures inside { sector_of self.old < length (allocator_of self.old).now.tables.fat → IfErr result IsMediumError }
-        ensures begun { 0 < min (length from.now) (room_of self.old) → sector_of self.old < length (allocator_of self.old).now.tables.fat
-            → (allocator_of self.new).now.file.begun ≡ true }
+        ensures err { IfErr result IsMediumError }
+        ensures begun { 0 < min (length from.now) (room_of self.old) → (allocator_of self.new).now.file.begun ≡ true }
         ensures sectors { IsTrue F.tells → (i : ℕ) → i ≢ sector_of self.old
             → SectorStays (version_of self.old) i (allocator_of self.old).now.file.bytes (allocator_of self.new).now.file.bytes }
         ensures others { IsTrue F.tells → ChangesOnly (place_of self.old) (min (length from.now) (room_of self.old))
@@ -318,10 +319,8 @@ impl<'a, F: Medium, A: Heap> Chain<'a, F, A> {
           len = max (allocator_of self.old).now.file.len (place_of self.old + length from.now);
           begun = true;
         }) }
-        ensures past { length (allocator_of self.old).now.tables.fat ≤ sector_of self.old
-            → IsErrAnd result IsInvalidData × ((allocator_of self.new).now ≡ (allocator_of self.old).now) }
-        ensures inside { sector_of self.old < length (allocator_of self.old).now.tables.fat
-            → IfErr result IsMediumError × ((allocator_of self.new).now.file.begun ≡ true) }
+        ensures err { IfErr result IsMediumError }
+        ensures begun { (allocator_of self.new).now.file.begun ≡ true }
         ensures sectors { IsTrue F.tells → (i : ℕ) → i ≢ sector_of self.old
             → SectorStays (version_of self.old) i (allocator_of self.old).now.file.bytes (allocator_of self.new).now.file.bytes }
         ensures others { IsTrue F.tells → ChangesOnly (place_of self.old) (length from.now)
@@ -337,50 +336,237 @@ impl<'a, F: Medium, A: Heap> Chain<'a, F, A> {
 }
 
 impl<'a, F: Medium, A: Heap + Clone> Chain<'a, F, A> {
-    ghost use Rattle.cfb_chains.specs.LentChain.{allocator_of, start_of};
+    ghost use Rattle.cfb_chains.specs.LentChain.{allocator_of, start_of, ids_of, init_of, version_of, len_of, position_of, missing_of};
 
-    /// Frees its sectors, and gives the allocator back.
+    /// Frees its sectors: then it has none.
     ///
-    /// `InvalidData` where there is no chain from its start any more, and where the FAT sectors do not cover the file; `Medium` where
-    /// the medium fails, and `Memory`. Nothing has changed where it is refused, but after `Medium`: then the chain is free in memory,
-    /// and of the file's bytes the FAT sectors alone have changed.
-    pub fn free(self) -> Result<(), Error>
-        ensures freed { OnOk result (FreesChain (start_of self.entry) (allocator_of self.entry).now.tables self.exit.0.now.tables) }
-        ensures holds { IsTrue F.tells → (validation : Validation) → HoldsTables validation (allocator_of self.entry).now
-            → IsUnnamed (allocator_of self.entry).now.tables.fat (start_of self.entry) → OnOk result (HoldsTables validation self.exit.0.now) }
-        ensures changes { IsTrue F.tells → ChangesSectors (allocator_of self.entry).now.tables.fat_sectors (allocator_of self.entry).now.tables.version
-            (allocator_of self.entry).now.file.bytes self.exit.0.now.file.bytes }
-        ensures refused { IfErr result (BreaksOff (FreesChain (start_of self.entry)) (allocator_of self.entry).now self.exit.0.now) }
-        ensures err { IfErr result (ChangeRefused ((IsUsable (allocator_of self.entry).now.tables → ⊥) ⊎ NoChain (allocator_of self.entry).now.tables.fat (start_of self.entry))
-            Unit ⊥ Unit) }
-        ensures counts { IsTrue F.tells → CountsFailure F.write_faults result (allocator_of self.entry).now.file.failures self.exit.0.now.file.failures }
+    /// `InvalidData` where the FAT sectors do not cover the file; `Medium` where the medium fails, and `Memory`. Nothing has changed
+    /// where it is refused, but after `Medium`: then the sectors are free in memory, it has none, and of the file's bytes the FAT
+    /// sectors alone have changed.
+    pub fn free(&mut self) -> Result<(), Error>
+        ensures same_allocator { (allocator_of self.new).ghost_name ≡ (allocator_of self.old).ghost_name }
+        ensures init { init_of self.new ≡ init_of self.old }
+        ensures ids { OnOk result (ids_of self.new ≡ []) }
+        ensures freed { OnOk result (FreesChain (start_of self.old) (allocator_of self.old).now.tables (allocator_of self.new).now.tables) }
+        ensures holds { IsTrue F.tells → (validation : Validation) → HoldsTables validation (allocator_of self.old).now
+            → IsUnnamed (allocator_of self.old).now.tables.fat (start_of self.old) → OnOk result (HoldsTables validation (allocator_of self.new).now) }
+        ensures changes { IsTrue F.tells → ChangesSectors (allocator_of self.old).now.tables.fat_sectors (allocator_of self.old).now.tables.version
+            (allocator_of self.old).now.file.bytes (allocator_of self.new).now.file.bytes }
+        ensures refused { IfErr result (BreaksOff (FreesChain (start_of self.old)) (allocator_of self.old).now (allocator_of self.new).now) }
+        ensures view { IfErr result (Leaves [] (ids_of self.old) (ids_of self.new)) }
+        ensures place { IfErr result (Leaves 0 (position_of self.old) (position_of self.new)) }
+        ensures err { IfErr result (ChangeRefused (IsUsable (allocator_of self.old).now.tables → ⊥) Unit ⊥ Unit) }
+        ensures counts { IsTrue F.tells → CountsFailure F.write_faults result (allocator_of self.old).now.file.failures (allocator_of self.new).now.file.failures }
     {
-        let Chain {
-            allocator,
-            ids: _,
-            start,
-            init: _,
-            position: _,
-        } = self;
-        free_from(allocator, start)
+        self.cut(0)
+    }
+
+    /// Adds so many sectors at its end: all of them or none. After `Medium` it has no sectors: what was taken is not known to be in
+    /// the file. After any other error nothing has changed.
+    fn grow(&mut self, count: usize) -> Result<(), Error>
+        ensures same_allocator { (allocator_of self.new).ghost_name ≡ (allocator_of self.old).ghost_name }
+        ensures init { init_of self.new ≡ init_of self.old }
+        ensures version { version_of self.new ≡ version_of self.old }
+        ensures ids { OnOk result (ids_of self.new ≡ ids_of self.old ++ gained (ids_of self.old) (ids_of self.new)) }
+        ensures count { OnOk result (length (gained (ids_of self.old) (ids_of self.new)) ≡ count) }
+        ensures position { OnOk result (position_of self.new ≡ position_of self.old) }
+        ensures taken { OnOk result (HasTaken (allocator_of self.old).now.tables (allocator_of self.new).now.tables (ending (last_of (ids_of self.old)))
+            (gained (ids_of self.old) (ids_of self.new))) }
+        ensures filled { IsTrue F.tells → (validation : Validation) → HoldsTables validation (allocator_of self.old).now
+            → OnOk result ((i : ℕ) → Contains (gained (ids_of self.old) (ids_of self.new)) i
+            → IsFilled (version_of self.new) (init_of self.old) (allocator_of self.new).now.file.bytes i) }
+        ensures holds { IsTrue F.tells → (validation : Validation) → HoldsTables validation (allocator_of self.old).now → OnOk result (HoldsTables validation (allocator_of self.new).now) }
+        ensures others { IsTrue F.tells → OthersStay (allocator_of self.old).now (allocator_of self.new).now }
+        ensures enough { OnOk result (IsTooFew (allocator_of self.old).now.tables count → ⊥) }
+        ensures refused { IfErr result (BreaksOff (TakesFor (ending (last_of (ids_of self.old)))) (allocator_of self.old).now (allocator_of self.new).now) }
+        ensures view { IfErr result (Leaves [] (ids_of self.old) (ids_of self.new)) }
+        ensures place { IfErr result (Leaves 0 (position_of self.old) (position_of self.new)) }
+        ensures err { IfErr result (ChangeRefused (IsUsable (allocator_of self.old).now.tables → ⊥) Unit (IsTooFew (allocator_of self.old).now.tables count) Unit) }
+        ensures counts { IsTrue F.tells → CountsFailure F.write_faults result (allocator_of self.old).now.file.failures (allocator_of self.new).now.file.failures }
+    {
+        let grown = extend_list(
+            self.allocator,
+            &mut self.ids,
+            &mut self.start,
+            count,
+            self.init,
+        );
+        let len = self.ids.len() as u64 * self.allocator.sector_len() as u64;
+        self.position = self.position.min(len);
+        grown
+    }
+
+    /// Keeps so many of its sectors and frees those behind them, and goes to its end where the position was past it. After `Medium`
+    /// it has no sectors, and after any other error nothing has changed.
+    fn cut(&mut self, count: usize) -> Result<(), Error>
+        ensures same_allocator { (allocator_of self.new).ghost_name ≡ (allocator_of self.old).ghost_name }
+        ensures init { init_of self.new ≡ init_of self.old }
+        ensures version { version_of self.new ≡ version_of self.old }
+        ensures ids { OnOk result (ids_of self.new ≡ take count (ids_of self.old)) }
+        ensures position { OnOk result (position_of self.new ≡ min (position_of self.old) (len_of self.new)) }
+        ensures none { length (ids_of self.old) ≤ count → OnErr result ⊥ × ((allocator_of self.new).now ≡ (allocator_of self.old).now) }
+        ensures cut { count < length (ids_of self.old) → OnOk result (Shortens (take count (ids_of self.old)) (drop count (ids_of self.old))
+            (allocator_of self.old).now.tables (allocator_of self.new).now.tables) }
+        ensures holds { IsTrue F.tells → (validation : Validation) → HoldsTables validation (allocator_of self.old).now
+            → (count ≡ 0 → IsUnnamed (allocator_of self.old).now.tables.fat (start_of self.old)) → OnOk result (HoldsTables validation (allocator_of self.new).now) }
+        ensures changes { IsTrue F.tells → ChangesSectors (allocator_of self.old).now.tables.fat_sectors (allocator_of self.old).now.tables.version
+            (allocator_of self.old).now.file.bytes (allocator_of self.new).now.file.bytes }
+        ensures refused { IfErr result (BreaksOff (Shortens (take count (ids_of self.old)) (drop count (ids_of self.old)))
+            (allocator_of self.old).now (allocator_of self.new).now) }
+        ensures view { IfErr result (Leaves [] (ids_of self.old) (ids_of self.new)) }
+        ensures place { IfErr result (Leaves 0 (position_of self.old) (position_of self.new)) }
+        ensures err { IfErr result (ChangeRefused (IsUsable (allocator_of self.old).now.tables → ⊥) Unit ⊥ Unit) }
+        ensures counts { IsTrue F.tells → CountsFailure F.write_faults result (allocator_of self.old).now.file.failures (allocator_of self.new).now.file.failures }
+    {
+        if count >= self.ids.len() {
+            return Ok(());
+        }
+        let cut = shorten_list(self.allocator, &mut self.ids, &mut self.start, count);
+        let len = self.ids.len() as u64 * self.allocator.sector_len() as u64;
+        self.position = self.position.min(len);
+        cut
+    }
+
+    /// How many sectors are missing for so many bytes from the position on.
+    fn missing(&self, count: usize) -> usize
+        ensures { result ≡ missing_of self.now count }
+    {
+        let more = (count as u64).saturating_sub(self.len() - self.position);
+        more.div_ceil(self.allocator.sector_len() as u64) as usize
     }
 }
 
-/// Frees the chain from `start`.
-fn free_from<F: Medium, A: Heap + Clone>(
-    allocator: &mut Allocator<F, A>,
-    start: u32,
-) -> Result<(), Error>
-    ensures freed { OnOk result (FreesChain start allocator.old.tables allocator.new.tables) }
-    ensures holds { IsTrue F.tells → (validation : Validation) → HoldsTables validation allocator.old → IsUnnamed allocator.old.tables.fat start
-        → OnOk result (HoldsTables validation allocator.new) }
-    ensures changes { IsTrue F.tells → ChangesSectors allocator.old.tables.fat_sectors allocator.old.tables.version allocator.old.file.bytes allocator.new.file.bytes }
-    ensures refused { IfErr result (BreaksOff (FreesChain start) allocator.old allocator.new) }
-    ensures err { IfErr result (ChangeRefused ((IsUsable allocator.old.tables → ⊥) ⊎ NoChain allocator.old.tables.fat start) Unit ⊥ Unit) }
-    ensures counts { IsTrue F.tells → CountsFailure F.write_faults result allocator.old.file.failures allocator.new.file.failures }
-    ensures version { allocator.new.tables.version ≡ allocator.old.tables.version }
+/// The last number of a list, or END.
+fn last_number(numbers: &[u32]) -> u32
+    ensures { result ≡ last_of numbers.now }
 {
-    allocator.free_chain(start)
+    numbers.last().copied().unwrap_or(END_OF_CHAIN)
+}
+
+/// The first number of a list, or END.
+fn first_number(numbers: &[u32]) -> u32
+    ensures { result ≡ first_of numbers.now }
+{
+    numbers.first().copied().unwrap_or(END_OF_CHAIN)
+}
+
+/// Appends numbers to a list that has room for them.
+fn append_reserved<A: Heap>(list: &mut Vec<u32, A>, more: &[u32])
+    requires { vec_len list.old + length more.now ≤ vec_capacity list.old }
+    ensures { list.new.items ≡ list.old.items ++ more.now }
+{
+    for number in more {
+        list.push_reserved(*number);
+    }
+}
+
+/// Forgets the sectors of a chain where the medium failed.
+fn forget<A: Heap>(ids: &mut Vec<u32, A>, start: &mut u32, error: &Error)
+    ensures ids { Leaves [] ids.old.items ids.new.items error.now }
+    ensures start { Leaves end_of_chain start.old start.new error.now }
+{
+    if let Error::Medium(_) = error {
+        ids.clear();
+        *start = END_OF_CHAIN;
+    }
+}
+
+/// Adds so many sectors at the end of a chain, and appends them to its list: all of them or none. After `Medium` the list is empty.
+fn extend_list<F: Medium, A: Heap + Clone>(
+    allocator: &mut Allocator<F, A>,
+    ids: &mut Vec<u32, A>,
+    start: &mut u32,
+    count: usize,
+    init: SectorInit,
+) -> Result<(), Error>
+    requires { chain_from allocator.old.tables.fat start.old ≡ Some ids.old.items }
+    ensures chained { chain_from allocator.new.tables.fat start.new ≡ Some ids.new.items }
+    ensures few { length ids.new.items ≤ max_regular_sector + 1 }
+    ensures version { allocator.new.tables.version ≡ allocator.old.tables.version }
+    ensures ids { OnOk result (ids.new.items ≡ ids.old.items ++ gained ids.old.items ids.new.items) }
+    ensures count { OnOk result (length (gained ids.old.items ids.new.items) ≡ count) }
+    ensures taken { OnOk result (HasTaken allocator.old.tables allocator.new.tables (ending (last_of ids.old.items)) (gained ids.old.items ids.new.items)) }
+    ensures filled { IsTrue F.tells → (validation : Validation) → HoldsTables validation allocator.old
+        → OnOk result ((i : ℕ) → Contains (gained ids.old.items ids.new.items) i → IsFilled allocator.new.tables.version init allocator.new.file.bytes i) }
+    ensures holds { IsTrue F.tells → (validation : Validation) → HoldsTables validation allocator.old → OnOk result (HoldsTables validation allocator.new) }
+    ensures others { IsTrue F.tells → OthersStay allocator.old allocator.new }
+    ensures enough { OnOk result (IsTooFew allocator.old.tables count → ⊥) }
+    ensures refused { IfErr result (BreaksOff (TakesFor (ending (last_of ids.old.items))) allocator.old allocator.new) }
+    ensures view { IfErr result (Leaves [] ids.old.items ids.new.items) }
+    ensures err { IfErr result (ChangeRefused (IsUsable allocator.old.tables → ⊥) Unit (IsTooFew allocator.old.tables count) Unit) }
+    ensures counts { IsTrue F.tells → CountsFailure F.write_faults result allocator.old.file.failures allocator.new.file.failures }
+{
+    let last = last_number(ids);
+    ids.reserve(count)?;
+    match allocator.extend_chain_by(last, count, init) {
+        Ok(more) => {
+            append_reserved(ids, &more);
+            *start = first_number(ids);
+            Ok(())
+        }
+        Err(error) => {
+            forget(ids, start, &error);
+            Err(error)
+        }
+    }
+}
+
+/// Frees the sectors of a chain behind so many, and takes them off its list. After `Medium` the list is empty.
+fn shorten_list<F: Medium, A: Heap + Clone>(
+    allocator: &mut Allocator<F, A>,
+    ids: &mut Vec<u32, A>,
+    start: &mut u32,
+    count: usize,
+) -> Result<(), Error>
+    requires chained { chain_from allocator.old.tables.fat start.old ≡ Some ids.old.items }
+    requires fewer { count < vec_len ids.old }
+    ensures chained { chain_from allocator.new.tables.fat start.new ≡ Some ids.new.items }
+    ensures few { length ids.new.items ≤ max_regular_sector + 1 }
+    ensures version { allocator.new.tables.version ≡ allocator.old.tables.version }
+    ensures ids { OnOk result (ids.new.items ≡ take count ids.old.items) }
+    ensures cut { OnOk result (Shortens (take count ids.old.items) (drop count ids.old.items) allocator.old.tables allocator.new.tables) }
+    ensures holds { IsTrue F.tells → (validation : Validation) → HoldsTables validation allocator.old
+        → (count ≡ 0 → IsUnnamed allocator.old.tables.fat start.old) → OnOk result (HoldsTables validation allocator.new) }
+    ensures changes { IsTrue F.tells → ChangesSectors allocator.old.tables.fat_sectors allocator.old.tables.version allocator.old.file.bytes allocator.new.file.bytes }
+    ensures refused { IfErr result (BreaksOff (Shortens (take count ids.old.items) (drop count ids.old.items)) allocator.old allocator.new) }
+    ensures view { IfErr result (Leaves [] ids.old.items ids.new.items) }
+    ensures err { IfErr result (ChangeRefused (IsUsable allocator.old.tables → ⊥) Unit ⊥ Unit) }
+    ensures counts { IsTrue F.tells → CountsFailure F.write_faults result allocator.old.file.failures allocator.new.file.failures }
+{
+    match free_behind(allocator, ids, *start, count) {
+        Ok(()) => {
+            ids.truncate(count);
+            *start = first_number(ids);
+            Ok(())
+        }
+        Err(error) => {
+            forget(ids, start, &error);
+            Err(error)
+        }
+    }
+}
+
+/// Frees the sectors of a chain behind so many.
+fn free_behind<F: Medium, A: Heap + Clone>(
+    allocator: &mut Allocator<F, A>,
+    ids: &[u32],
+    start: u32,
+    count: usize,
+) -> Result<(), Error>
+    requires chained { chain_from allocator.old.tables.fat start ≡ Some ids.now }
+    requires fewer { count < length ids.now }
+    ensures cut { OnOk result (Shortens (take count ids.now) (drop count ids.now) allocator.old.tables allocator.new.tables) }
+    ensures holds { IsTrue F.tells → (validation : Validation) → HoldsTables validation allocator.old
+        → (count ≡ 0 → IsUnnamed allocator.old.tables.fat start) → OnOk result (HoldsTables validation allocator.new) }
+    ensures changes { IsTrue F.tells → ChangesSectors allocator.old.tables.fat_sectors allocator.old.tables.version allocator.old.file.bytes allocator.new.file.bytes }
+    ensures refused { IfErr result (BreaksOff (Shortens (take count ids.now) (drop count ids.now)) allocator.old allocator.new) }
+    ensures err { IfErr result (ChangeRefused (IsUsable allocator.old.tables → ⊥) Unit ⊥ Unit) }
+    ensures counts { IsTrue F.tells → CountsFailure F.write_faults result allocator.old.file.failures allocator.new.file.failures }
+{
+    if count == 0 {
+        return allocator.free_chain(start);
+    }
+    allocator.free_chain_after(ids[count - 1])
 }
 
 /// Reads what is there of a sector from `offset` on, and answers how many bytes that is. `InvalidData` exactly where the file ends
@@ -413,7 +599,7 @@ fn read_sector<F: ReadMedium, A: Heap>(
     Ok(count)
 }
 
-/// Writes all of `from` into a sector. `InvalidData` exactly where it is none of the file, and `Medium` where the medium fails.
+/// Writes all of `from` into a sector. `Medium` where the medium fails.
 fn write_sector<F: Medium, A: Heap>(
     allocator: &mut Allocator<F, A>,
     sector: u32,
@@ -422,6 +608,7 @@ fn write_sector<F: Medium, A: Heap>(
 ) -> Result<(), Error>
     requires some { 0 < length from.now }
     requires within { offset + length from.now ≤ sector_len_of allocator.old.tables.version }
+    requires there { sector < length allocator.old.tables.fat }
     ensures tables { allocator.new.tables ≡ allocator.old.tables }
     ensures kept { allocator.new.file ≡ record allocator.old.file {
       len = allocator.new.file.len;
@@ -434,8 +621,8 @@ fn write_sector<F: Medium, A: Heap>(
       len = max allocator.old.file.len (sector_start allocator.old.tables.version sector + offset + length from.now);
       begun = true;
     }) }
-    ensures past { length allocator.old.tables.fat ≤ sector → IsErrAnd result IsInvalidData × (allocator.new ≡ allocator.old) }
-    ensures inside { sector < length allocator.old.tables.fat → IfErr result IsMediumError × (allocator.new.file.begun ≡ true) }
+    ensures err { IfErr result IsMediumError }
+    ensures begun { allocator.new.file.begun ≡ true }
     ensures sectors { IsTrue F.tells → (i : ℕ) → i ≢ sector → SectorStays allocator.old.tables.version i allocator.old.file.bytes allocator.new.file.bytes }
     ensures others { IsTrue F.tells → ChangesOnly (sector_start allocator.old.tables.version sector + offset) (length from.now) allocator.old.file.bytes allocator.new.file.bytes }
     ensures counts { IsTrue F.tells → CountsFailure F.write_faults result allocator.old.file.failures allocator.new.file.failures }

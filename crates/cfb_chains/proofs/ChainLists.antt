@@ -1,0 +1,222 @@
+-- The list of a chain's sectors, as the chain grows, is cut, or breaks off.
+use Rattle.std.proofs.Common.{◌≡◌, ◌≢◌, ◌<◌, ◌≤◌, ◌+◌, ◌-◌, ◌⊎◌, inl, inr, ℕ, List, [], ◌∷◌, ◌++◌, refl, sym, ◌∙◌, ap, subst, length, take, drop, arith, append_assoc, length-append, length-take}
+use Rattle.std.specs.Prelude.{Some, Result, Ok, Err, OnOk, OnErr, IfErr, Contains, slice_index, slice_index_or}
+use Rattle.std.proofs.Transfers.{drop-appended}
+use Rattle.std.proofs.lemmas.List.{take_more, take_all, take-append-drop, get_or_push}
+use Rattle.std.proofs.lemmas.List.Elements.{Contains-append_left, Contains-append_right, Contains-push}
+use Rattle.cfb_format.specs.declared.error.Error.{Error}
+use Rattle.cfb_format.specs.declared.error.Error.TheVariants.{NotFound, AlreadyExists, InvalidInput, InvalidData, Medium, Memory, Full, Unsound, Failed, Unsupported}
+use Rattle.cfb_format.specs.Bytes.{end_of_chain, free_sector, max_regular_sector}
+use Rattle.cfb_format.specs.Chain.{value, IsChain, chain_from}
+use Rattle.cfb_format.proofs.Unique.{IsChain-unique}
+use Rattle.cfb_chains.specs.Alloc.{AllocatorState}
+use Rattle.cfb_chains.specs.ChainLists.{Leaves, Shortens, gained, last_of}
+use Rattle.cfb_chains.specs.Changes.{NoChain, IsFreed}
+use Rattle.cfb_chains.specs.Refused.{BreaksOff}
+use Rattle.cfb_chains.specs.Tables.{TableState, HasTaken, FreesChain, CutsChain, ending, start_of as first_of}
+use Rattle.cfb_chains.proofs.AllocLemmas.{ending_other}
+use Rattle.cfb_chains.proofs.Answering.{on_ok, all_ok}
+use Rattle.cfb_chains.proofs.AttachLemmas.{extended, last-known}
+use Rattle.cfb_chains.proofs.ChainLemmas.{chain-turn, chain-rest, members-busy, regular-le}
+use Rattle.cfb_chains.proofs.ChainView.{found_chain, chain_found}
+use Rattle.cfb_chains.proofs.Members.{Contains-nil, Contains-here, Contains-one, none_distinct, distinct-apart, value-below}
+
+pub on_err : {T E : Type 0} (P Q : E → Type 0) (r : Result T E) → ((e : E) → P e → Q e) → IfErr r P → IfErr r Q
+on_err P Q (Ok x) f p = tt
+on_err P Q (Err e) f p = f e p
+
+pub breaks_map : (made made' : TableState → TableState → Type 0) (old new : AllocatorState) → (made old.tables new.tables → made' old.tables new.tables)
+    → (e : Error) → BreaksOff made old new e → BreaksOff made' old new e
+breaks_map made made' old new f (Medium m) b = (b.0, f b.1)
+breaks_map made made' old new f (InvalidData d) b = b
+breaks_map made made' old new f (NotFound d) b = b
+breaks_map made made' old new f (AlreadyExists d) b = b
+breaks_map made made' old new f (InvalidInput d) b = b
+breaks_map made made' old new f Memory b = b
+breaks_map made made' old new f Full b = b
+breaks_map made made' old new f Unsound b = b
+breaks_map made made' old new f Failed b = b
+breaks_map made made' old new f Unsupported b = b
+
+-- ---- where a list ends
+
+last_split : (xs : List ℕ) → 0 < length xs → xs ≡ take (length xs - 1) xs ++ last_of xs ∷ []
+last_split xs some =
+    let n : length xs ≡ length xs - 1 + 1 = omega arith in
+    sym (take_all (length xs) xs (omega arith)) ∙ ap (λ (k : ℕ). take k xs) n ∙ take_more xs (length xs - 1) end_of_chain (omega arith)
+
+last_pushed : (front : List ℕ) (y : ℕ) → last_of (front ++ y ∷ []) ≡ y
+last_pushed front y =
+    let len : length (front ++ y ∷ []) ≡ length front + 1 = length-append front (y ∷ []) in
+    get_or_push front y end_of_chain (length (front ++ y ∷ []) - 1) (omega (arith, len))
+
+end_chain : (table : List ℕ) → IsChain table end_of_chain []
+end_chain table = record { follows = refl; distinct = none_distinct }
+
+-- the last sector of a chain ends it
+module _ (table : List ℕ) (s x : ℕ) (list : List ℕ) (c : IsChain table s (x ∷ list)) where
+  abbrev front : List ℕ
+  front = take (length (x ∷ list) - 1) (x ∷ list)
+
+  last_there : x ∷ list ≡ front ++ last_of (x ∷ list) ∷ []
+  last_there = last_split (x ∷ list) (omega arith)
+
+  last_is : (value table (last_of (x ∷ list)) ≡ end_of_chain) × (last_of (x ∷ list) ≤ max_regular_sector)
+  last_is = last-known table s front (last_of (x ∷ list)) (subst (IsChain table s) last_there c)
+
+  last_alone : ending (last_of (x ∷ list)) ≡ last_of (x ∷ list) ∷ []
+  last_alone = ending_other (last_of (x ∷ list)) (λ e. let le = last_is.1 in omega (arith, le, e))
+
+ends : (table : List ℕ) (s : ℕ) (ids : List ℕ) → IsChain table s ids → (last_of ids ≢ end_of_chain) → value table (last_of ids) ≡ end_of_chain
+ends table s [] c other = absurd (other refl)
+ends table s (x ∷ list) c other = (last_is table s x list c).0
+
+pub last_ends : (table : List ℕ) (s last : ℕ) (ids : List ℕ) → chain_from table s ≡ Some ids → last ≡ last_of ids
+    → (last ≢ end_of_chain) × (value table last ≢ end_of_chain) → ⊥
+last_ends table s last ids e is (other, goes) =
+    goes (ap (value table) is ∙ ends table s ids (found_chain table s ids e) (λ same. other (is ∙ same)))
+
+-- ---- growth
+
+grown_chain : (t t' : TableState) (s : ℕ) (ids more : List ℕ) → IsChain t.fat s ids → HasTaken t t' (ending (last_of ids)) more
+    → IsChain t'.fat (first_of (ending (last_of ids) ++ more)) (ending (last_of ids) ++ more) → IsChain t'.fat (first_of (ids ++ more)) (ids ++ more)
+grown_chain t t' s [] more c taken chain = chain
+grown_chain t t' s (x ∷ list) more c taken chain =
+    let last = last_of (x ∷ list) in
+    let one = last_alone t.fat s x list c in
+    let goes : IsChain t'.fat last (last ∷ more) = subst (λ (e : List ℕ). IsChain t'.fat (first_of (e ++ more)) (e ++ more)) one chain in
+    let took : HasTaken t t' (last ∷ []) more = subst (λ (e : List ℕ). HasTaken t t' e more) one taken in
+    let ext = extended t t' s (front t.fat s x list c) last more (subst (IsChain t.fat s) (last_there t.fat s x list c) c) took goes in
+    let was : x ∷ list ≡ ext.front ++ ext.last ∷ [] = IsChain-unique t.fat s (x ∷ list) (ext.front ++ ext.last ∷ []) c ext.was in
+    let whole : ext.front ++ ext.last ∷ more ≡ x ∷ (list ++ more) = sym (append_assoc ext.front (ext.last ∷ []) more) ∙ ap (λ (z : List ℕ). z ++ more) (sym was) in
+    subst (λ k. IsChain t'.fat k (x ∷ (list ++ more))) c.follows.0 (subst (IsChain t'.fat s) whole ext.chain)
+
+pub grown_found : (t t' : TableState) (s s' last : ℕ) (ids ids' more : List ℕ) → chain_from t.fat s ≡ Some ids → last ≡ last_of ids
+    → HasTaken t t' (ending last) more → IsChain t'.fat (first_of (ending last ++ more)) (ending last ++ more)
+    → ids' ≡ ids ++ more → s' ≡ first_of ids' → chain_from t'.fat s' ≡ Some ids'
+grown_found t t' s s' last ids ids' more e is taken chain listed first =
+    let c = grown_chain t t' s ids more (found_chain t.fat s ids e) (subst (λ k. HasTaken t t' (ending k) more) is taken)
+    (subst (λ k. IsChain t'.fat (first_of (ending k ++ more)) (ending k ++ more)) is chain) in
+    chain_found t'.fat s' ids' (subst (λ k. IsChain t'.fat k ids') (sym first) (subst (λ (z : List ℕ). IsChain t'.fat (first_of z) z) (sym listed) c))
+
+pub gained_is : (ids ids' more : List ℕ) → ids' ≡ ids ++ more → gained ids ids' ≡ more
+gained_is ids ids' more e = drop-appended ids ids' more e
+
+-- ---- a change that broke off
+
+pub left_found : (made : TableState → TableState → Type 0) (old new : AllocatorState) (s s' : ℕ) (ids ids' : List ℕ) (e : Error) → chain_from old.tables.fat s ≡ Some ids
+    → BreaksOff made old new e → Leaves [] ids ids' e → Leaves end_of_chain s s' e → chain_from new.tables.fat s' ≡ Some ids'
+left_found made old new s s' ids ids' (Medium f) was b list start =
+    ap (chain_from new.tables.fat) start ∙ chain_found new.tables.fat end_of_chain [] (end_chain new.tables.fat) ∙ ap (λ (z : List ℕ). Some z) (sym list)
+left_found made old new s s' ids ids' (InvalidData d) was b list start = (λ j. chain_from (b j).tables.fat (start j)) ∙ was ∙ ap (λ (z : List ℕ). Some z) (sym list)
+left_found made old new s s' ids ids' (NotFound d) was b list start = (λ j. chain_from (b j).tables.fat (start j)) ∙ was ∙ ap (λ (z : List ℕ). Some z) (sym list)
+left_found made old new s s' ids ids' (AlreadyExists d) was b list start = (λ j. chain_from (b j).tables.fat (start j)) ∙ was ∙ ap (λ (z : List ℕ). Some z) (sym list)
+left_found made old new s s' ids ids' (InvalidInput d) was b list start = (λ j. chain_from (b j).tables.fat (start j)) ∙ was ∙ ap (λ (z : List ℕ). Some z) (sym list)
+left_found made old new s s' ids ids' Memory was b list start = (λ j. chain_from (b j).tables.fat (start j)) ∙ was ∙ ap (λ (z : List ℕ). Some z) (sym list)
+left_found made old new s s' ids ids' Full was b list start = (λ j. chain_from (b j).tables.fat (start j)) ∙ was ∙ ap (λ (z : List ℕ). Some z) (sym list)
+left_found made old new s s' ids ids' Unsound was b list start = (λ j. chain_from (b j).tables.fat (start j)) ∙ was ∙ ap (λ (z : List ℕ). Some z) (sym list)
+left_found made old new s s' ids ids' Failed was b list start = (λ j. chain_from (b j).tables.fat (start j)) ∙ was ∙ ap (λ (z : List ℕ). Some z) (sym list)
+left_found made old new s s' ids ids' Unsupported was b list start = (λ j. chain_from (b j).tables.fat (start j)) ∙ was ∙ ap (λ (z : List ℕ). Some z) (sym list)
+
+-- ---- cuts
+
+cut_chain : (old new : TableState) (s : ℕ) (left gone : List ℕ) → IsChain old.fat s (left ++ gone) → Shortens left gone old new → IsChain new.fat (first_of left) left
+cut_chain old new s [] gone c cut = end_chain new.fat
+cut_chain old new s (x ∷ list) gone c cut =
+    let xs = x ∷ list in
+    let last = last_of xs in
+    let head = take (length xs - 1) xs in
+    let is : xs ≡ head ++ last ∷ [] = last_split xs (omega arith) in
+    let c' : IsChain old.fat s (head ++ last ∷ gone) = subst (IsChain old.fat s) (ap (λ (z : List ℕ). z ++ gone) is ∙ append_assoc head (last ∷ []) gone) c in
+    let low = regular-le last (members-busy old.fat s (head ++ last ∷ gone) c' last (Contains-append_right head (last ∷ gone) last (Contains-here last gone))).2 in
+    let one : ending last ≡ last ∷ [] = ending_other last (λ e. omega (arith, low, e)) in
+    let ended : value new.fat last ≡ end_of_chain = cut.ended last (subst (λ (e : List ℕ). Contains e last) (sym one) (Contains-here last [])) in
+    let stays : (i : ℕ) → Contains head i → value new.fat i ≡ value old.fat i =
+    λ i m. cut.only i (λ t. distinct-apart head (last ∷ gone) c'.distinct i m (subst (λ (e : List ℕ). Contains (e ++ gone) i) one t)) in
+    let below : last < length new.fat = value-below new.fat last (λ e. omega (arith, e, ended)) in
+    let tail : IsChain new.fat (value new.fat last) [] = subst (λ k. IsChain new.fat k []) (sym ended) (end_chain new.fat) in
+    let turned : IsChain new.fat s (head ++ last ∷ []) = chain-turn old.fat new.fat s head last gone [] stays below c' tail in
+    subst (λ k. IsChain new.fat k xs) c.follows.0 (subst (IsChain new.fat s) (sym is) turned)
+
+pub cut_found : (old new : TableState) (s s' count : ℕ) (ids ids' : List ℕ) → chain_from old.fat s ≡ Some ids → Shortens (take count ids) (drop count ids) old new
+    → ids' ≡ take count ids → s' ≡ first_of ids' → chain_from new.fat s' ≡ Some ids'
+cut_found old new s s' count ids ids' e cut listed first =
+    let whole : IsChain old.fat s (take count ids ++ drop count ids) = subst (IsChain old.fat s) (sym (take-append-drop count ids)) (found_chain old.fat s ids e) in
+    let c = cut_chain old new s (take count ids) (drop count ids) whole cut in
+    chain_found new.fat s' ids' (subst (λ k. IsChain new.fat k ids') (sym first) (subst (λ (z : List ℕ). IsChain new.fat (first_of z) z) (sym listed) c))
+
+freed_all : (old new : TableState) (s : ℕ) (ids : List ℕ) → chain_from old.fat s ≡ Some ids → FreesChain s old new → Shortens [] ids old new
+freed_all old new s ids e f =
+    let same : f.list ≡ ids = IsChain-unique old.fat s f.list ids f.was (found_chain old.fat s ids e) in
+    let freed : IsFreed ids old.fat new.fat = subst (λ (z : List ℕ). IsFreed z old.fat new.fat) same f.freed in
+    record { same_length = freed.same_length; ended = λ i m. absurd (Contains-nil i m); free = freed.free; only = freed.only; rest = f.rest }
+
+pub freed_shortens : (old new : TableState) (s count : ℕ) (ids : List ℕ) → count ≡ 0 → chain_from old.fat s ≡ Some ids → FreesChain s old new
+    → Shortens (take count ids) (drop count ids) old new
+freed_shortens old new s count ids zero e f = subst (λ k. Shortens (take k ids) (drop k ids) old new) (sym zero) (freed_all old new s ids e f)
+
+-- a chain is freed as it is cut behind nothing
+pub shortened_frees : (old new : TableState) (s : ℕ) (ids : List ℕ) → chain_from old.fat s ≡ Some ids → Shortens [] ids old new → FreesChain s old new
+shortened_frees old new s ids e cut = record {
+  list = ids;
+  was = found_chain old.fat s ids e;
+  freed = record { same_length = cut.same_length; free = cut.free; only = cut.only };
+  rest = cut.rest;
+}
+
+none_freed : (t : TableState) (s : ℕ) → chain_from t.fat s ≡ Some [] → FreesChain s t t
+none_freed t s e = record {
+  list = [];
+  was = found_chain t.fat s [] e;
+  freed = record { same_length = refl; free = λ i m. absurd (Contains-nil i m); only = λ i out. refl };
+  rest = refl;
+}
+
+pub freed_of : {T : Type 0} (r : Result T Error) (old new : AllocatorState) (s : ℕ) (ids : List ℕ) → chain_from old.tables.fat s ≡ Some ids
+    → (length ids ≤ 0 → OnErr r ⊥ × (new ≡ old)) → (0 < length ids → OnOk r (Shortens [] ids old.tables new.tables)) → OnOk r (FreesChain s old.tables new.tables)
+freed_of r old new s [] e none some =
+    all_ok r (subst (λ (a : AllocatorState). FreesChain s old.tables a.tables) (sym (none (omega arith)).1) (none_freed old.tables s e))
+freed_of r old new s (x ∷ list) e none some =
+    on_ok (Shortens [] (x ∷ list) old.tables new.tables) (FreesChain s old.tables new.tables) r (shortened_frees old.tables new.tables s (x ∷ list) e) (some (omega arith))
+
+-- the sector at a place, with those before it and behind it
+module _ (ids : List ℕ) (count sector : ℕ) (some : count ≡ 0 → ⊥) (fewer : count < length ids) (at : sector ≡ slice_index ids (count - 1)) where
+  left_is : take count ids ≡ take (count - 1) ids ++ sector ∷ []
+  left_is =
+      let n : count ≡ count - 1 + 1 = omega (arith, some) in
+      ap (λ (k : ℕ). take k ids) n ∙ take_more ids (count - 1) 0 (omega arith) ∙ ap (λ (y : ℕ). take (count - 1) ids ++ y ∷ []) (sym at)
+
+  whole_is : ids ≡ take (count - 1) ids ++ sector ∷ drop count ids
+  whole_is =
+      sym (take-append-drop count ids) ∙ ap (λ (z : List ℕ). z ++ drop count ids) left_is ∙ append_assoc (take (count - 1) ids) (sector ∷ []) (drop count ids)
+
+  module _ (table : List ℕ) (s : ℕ) (e : chain_from table s ≡ Some ids) where
+    goes_on : IsChain table s (take (count - 1) ids ++ sector ∷ drop count ids)
+    goes_on = subst (IsChain table s) whole_is (found_chain table s ids e)
+
+    pub behind_is : IsChain table (value table sector) (drop count ids)
+    behind_is = chain-rest table s (take (count - 1) ids) sector (drop count ids) goes_on
+
+    ending_is : ending (last_of (take count ids)) ≡ sector ∷ []
+    ending_is =
+        let low = regular-le sector (members-busy table s (take (count - 1) ids ++ sector ∷ drop count ids) goes_on sector
+        (Contains-append_right (take (count - 1) ids) (sector ∷ drop count ids) sector (Contains-here sector (drop count ids)))).2 in
+        ap ending (ap last_of left_is ∙ last_pushed (take (count - 1) ids) sector) ∙ ending_other sector (λ is. omega (arith, low, is))
+
+pub cut_shortens : (old new : TableState) (s count sector : ℕ) (ids : List ℕ) → (count ≡ 0 → ⊥) → count < length ids → sector ≡ slice_index ids (count - 1)
+    → chain_from old.fat s ≡ Some ids → CutsChain sector old new → Shortens (take count ids) (drop count ids) old new
+cut_shortens old new s count sector ids some fewer at e f =
+    let gone = drop count ids in
+    let same : f.list ≡ gone = IsChain-unique old.fat (value old.fat sector) f.list gone f.was (behind_is ids count sector some fewer at old.fat s e) in
+    let one = ending_is ids count sector some fewer at old.fat s e in
+    record {
+      same_length = f.cut.same_length;
+      ended = λ i m. ap (value new.fat) (sym (Contains-one sector i (subst (λ (z : List ℕ). Contains z i) one m))) ∙ f.cut.ended;
+      free = λ i m. f.cut.free i (subst (λ (z : List ℕ). Contains z i) (sym same) m);
+      only = λ i out. f.cut.only i (λ m. out (subst (λ (z : List ℕ). Contains (z ++ gone) i) (sym one) (subst (λ (z : List ℕ). Contains (sector ∷ z) i) same m)));
+      rest = f.rest;
+    }
+
+pub behind_found : (table : List ℕ) (s count sector : ℕ) (ids : List ℕ) → (count ≡ 0 → ⊥) → count < length ids → sector ≡ slice_index ids (count - 1)
+    → chain_from table s ≡ Some ids → NoChain table (value table sector) → ⊥
+behind_found table s count sector ids some fewer at e none = none (drop count ids) (behind_is ids count sector some fewer at table s e)
