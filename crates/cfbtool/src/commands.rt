@@ -1,5 +1,5 @@
 //! What the program does.
-use cfb::{CompoundFile, Error, MediumFault, MemoryMedium, Version};
+use cfb::{CompoundFile, Error, MediumFault, MemoryMedium, Stream, Version};
 use std::alloc::Global;
 use std::fs;
 use std::io::{Read, Write};
@@ -12,10 +12,13 @@ use std::rt::Files;
 ///
 /// - `create 3 FILE`, `create 4 FILE`: a new empty file of this version; an old one is overwritten.
 /// - `check FILE`, `check FILE strict`: prints `version V sound` or `version V not sound`.
+/// - `put FILE PATH`: a stream at this path, with the bytes of `input`. The file is written back
+///   whenever it was opened, refused or not.
+/// - `cat FILE PATH`: the bytes of this stream on `out`, none where it is refused.
 pub fn tool<H: Files + AllocGlobal, R: Read, W: Write, E: Write>(
     rt: &H,
     words: &[String],
-    _input: &mut R,
+    input: &mut R,
     out: &mut W,
     faults: &mut E,
 ) -> ExitCode {
@@ -29,6 +32,12 @@ pub fn tool<H: Files + AllocGlobal, R: Read, W: Write, E: Write>(
         [call, path] if call.as_str() == "check" => check(rt, path.as_str(), false, out),
         [call, path, mode] if call.as_str() == "check" && mode.as_str() == "strict" => {
             check(rt, path.as_str(), true, out)
+        }
+        [call, path, stream] if call.as_str() == "put" => {
+            put(rt, path.as_str(), stream.as_str(), input)
+        }
+        [call, path, stream] if call.as_str() == "cat" => {
+            cat(rt, path.as_str(), stream.as_str(), out)
         }
         _ => return wrong_words(faults),
     };
@@ -95,4 +104,81 @@ fn check<H: Files + AllocGlobal, W: Write>(
         Ok(()) => Ok(()),
         Err(_) => Err(Error::Medium(MediumFault::Write)),
     }
+}
+
+/// The file is written back also where the stream was refused, and the refusal goes first.
+fn put<H: Files + AllocGlobal, R: Read>(
+    rt: &H,
+    path: &str,
+    stream: &str,
+    input: &mut R,
+) -> Result<(), Error> {
+    let content = read_input(rt.alloc(), input)?;
+    let medium = read_file(rt, path)?;
+    let mut file = CompoundFile::open(rt.alloc(), medium)?;
+    let done = put_stream(&mut file, stream, content.as_slice());
+    let written = write_file(rt, path, &file.into_inner());
+    done.and(written)
+}
+
+fn read_input<R: Read>(alloc: Global, input: &mut R) -> Result<Vec<u8>, Error> {
+    let mut content = Vec::new(alloc);
+    match input.read_to_end(&mut content) {
+        Ok(_) => Ok(content),
+        Err(_) => Err(Error::Medium(MediumFault::Read)),
+    }
+}
+
+/// Makes a stream with this content. It is closed also where a write was refused.
+fn put_stream(
+    file: &mut CompoundFile<MemoryMedium>,
+    path: &str,
+    content: &[u8],
+) -> Result<(), Error> {
+    let mut stream = file.create_stream(path)?;
+    let written = write_all(&mut stream, content);
+    let closed = stream.close();
+    written.and(closed)
+}
+
+/// Each write serves a beginning of what is left.
+fn write_all(stream: &mut Stream<'_, MemoryMedium>, content: &[u8]) -> Result<(), Error> {
+    let mut done = 0usize;
+    while done < content.len() {
+        let served = stream.write(&content[done..])?;
+        if served == 0 {
+            return Err(Error::Medium(MediumFault::Stuck));
+        }
+        done = done.saturating_add(served);
+    }
+    Ok(())
+}
+
+/// Nothing is printed before the whole stream was read and closed.
+fn cat<H: Files + AllocGlobal, W: Write>(
+    rt: &H,
+    path: &str,
+    stream: &str,
+    out: &mut W,
+) -> Result<(), Error> {
+    let medium = read_file(rt, path)?;
+    let mut file = CompoundFile::open(rt.alloc(), medium)?;
+    let content = read_stream(rt.alloc(), &mut file, stream)?;
+    match out.write_all(content.as_slice()) {
+        Ok(()) => Ok(()),
+        Err(_) => Err(Error::Medium(MediumFault::Write)),
+    }
+}
+
+fn read_stream(
+    alloc: Global,
+    file: &mut CompoundFile<MemoryMedium>,
+    path: &str,
+) -> Result<Vec<u8>, Error> {
+    let mut content = Vec::new(alloc);
+    let mut stream = file.open_stream(path)?;
+    let served = stream.read_to_end(&mut content);
+    stream.close()?;
+    served?;
+    Ok(content)
 }

@@ -14,8 +14,17 @@ fn words(alloc: Global, all: &[&str]) -> Result<Vec<String>, AllocError> {
 
 /// One run without input: the status, the output and the faults.
 fn run(rt: &HostRuntime, all: &[&str]) -> Result<(ExitCode, Vec<u8>, Vec<u8>), Fail> {
+    run_on(rt, all, &[])
+}
+
+/// One run on this input: the status, the output and the faults.
+fn run_on(
+    rt: &HostRuntime,
+    all: &[&str],
+    from: &[u8],
+) -> Result<(ExitCode, Vec<u8>, Vec<u8>), Fail> {
     let given = words(rt.alloc(), all)?;
-    let mut input: &[u8] = b"";
+    let mut input = from;
     let mut out = Vec::new(rt.alloc());
     let mut faults = Vec::new(rt.alloc());
     let status = tool(rt, given.as_slice(), &mut input, &mut out, &mut faults);
@@ -71,13 +80,18 @@ fn an_old_file_is_overwritten(rt: HostRuntime) -> Result<(), Fail> {
 
 #[test]
 fn wrong_words_do_nothing(rt: HostRuntime) -> Result<(), Fail> {
-    let all: [&[&str]; 6] = [
+    let all: [&[&str]; 11] = [
         &[],
         &["create", "5", "wrong.cfb"],
         &["create", "3"],
         &["check"],
         &["check", "wrong.cfb", "lenient"],
         &["list", "wrong.cfb"],
+        &["put", "wrong.cfb"],
+        &["put", "wrong.cfb", "/a", "/b"],
+        &["cat", "wrong.cfb"],
+        &["cat", "wrong.cfb", "/a", "strict"],
+        &["Put", "wrong.cfb", "/a"],
     ];
     for given in all {
         let (status, out, faults) = run(&rt, given)?;
@@ -91,7 +105,12 @@ fn wrong_words_do_nothing(rt: HostRuntime) -> Result<(), Fail> {
 
 #[test]
 fn what_cannot_be_read_or_written_is_refused(rt: HostRuntime) -> Result<(), Fail> {
-    let all: [&[&str]; 2] = [&["check", "no/such.cfb"], &["create", "3", "no/such.cfb"]];
+    let all: [&[&str]; 4] = [
+        &["check", "no/such.cfb"],
+        &["create", "3", "no/such.cfb"],
+        &["put", "no/such.cfb", "/a"],
+        &["cat", "no/such.cfb", "/a"],
+    ];
     for given in all {
         let (status, out, faults) = run(&rt, given)?;
         assert!(rt; status == ExitCode::from(1));
@@ -112,5 +131,37 @@ fn other_files_are_refused(rt: HostRuntime) -> Result<(), Fail> {
         b"cfbtool: shorter than a header (16)\n".as_slice()
     );
     fs::remove_file(&rt, "other.cfb")?;
+    Ok(())
+}
+
+/// What the rules refuse is said in one line, and the file stays as it was.
+#[test]
+fn paths_are_refused(rt: HostRuntime) -> Result<(), Fail> {
+    printed(&rt, &["create", "3", "paths.cfb"])?;
+    let made = fs::read(&rt, "paths.cfb")?;
+    let all: [(&[&str], &str); 5] = [
+        (
+            &["put", "paths.cfb", "/s/x"],
+            "cfbtool: no parent storage\n",
+        ),
+        (&["put", "paths.cfb", "/"], "cfbtool: the root is there\n"),
+        (
+            &["put", "paths.cfb", "/../a"],
+            "cfbtool: a path stays below the root\n",
+        ),
+        (
+            &["cat", "paths.cfb", "/a"],
+            "cfbtool: no stream of this name\n",
+        ),
+        (&["cat", "paths.cfb", "/"], "cfbtool: no path to a stream\n"),
+    ];
+    for (given, line) in all {
+        let (status, out, faults) = run_on(&rt, given, &[7; 4096])?;
+        assert!(rt; status == ExitCode::from(1));
+        assert_eq!(rt; out.len(), 0);
+        assert_eq!(rt; faults.as_slice(), line.as_bytes());
+        assert_eq!(rt; fs::read(&rt, "paths.cfb")?.as_slice(), made.as_slice());
+    }
+    fs::remove_file(&rt, "paths.cfb")?;
     Ok(())
 }
