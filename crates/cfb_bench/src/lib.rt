@@ -14,6 +14,8 @@ mod one_stream;
 mod refusals;
 pub mod refusing;
 #[cfg(test)]
+mod reopened;
+#[cfg(test)]
 mod tests;
 #[cfg(test)]
 mod texts;
