@@ -38,3 +38,4 @@ pub mod FatLemmas
 pub mod FatLaws
 pub mod SoundTables
 pub mod ChainContent
+pub mod SeekLemmas
