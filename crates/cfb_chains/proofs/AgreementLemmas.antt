@@ -48,7 +48,7 @@ agreeing_read version bytes list own table a =
         ap (within_file (sector_count version bytes)) same
         ∙ within-stays (sector_count version bytes) (slice_index table i) (λ r. let w = a.within i inside r in let c = a.count in omega (arith, w, c))
 
-every : (p : ℕ → Bool) (xs : List ℕ) → ((i : ℕ) → i < length xs → p (slice_index xs i) ≡ true) → list_all p xs ≡ true
+pub every : (p : ℕ → Bool) (xs : List ℕ) → ((i : ℕ) → i < length xs → p (slice_index xs i) ≡ true) → list_all p xs ≡ true
 every p [] h = refl
 every p (x ∷ xs) h = (λ j. h 0 (omega arith) j && list_all p xs) ∙ every p xs (λ i lt. h (suc i) (omega arith))
 
@@ -97,7 +97,7 @@ written_agrees version bytes list own table late x lt fits whole a =
 
 -- ---- the table changes
 
-value-at : (table : List ℕ) (i : ℕ) → i < length table → value table i ≡ slice_index table i
+pub value-at : (table : List ℕ) (i : ℕ) → i < length table → value table i ≡ slice_index table i
 value-at table i lt = get_or_default table i free_sector 0 lt
 
 pub changed_late : (version : Version) (bytes list own old new touched late : List ℕ) → length new ≡ length old

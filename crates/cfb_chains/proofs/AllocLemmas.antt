@@ -121,7 +121,7 @@ module _ (t0 t : TableState) (touched more : List ℕ) (taken : HasTaken t0 t to
 pub held_reserved : (validation : Validation) (late : List ℕ) (s0 s1 : SectorFile) (t : TableState) → s1 ≡ record s0 { num_sectors = s1.num_sectors } → HoldsBut validation late s0 t
     → HoldsBut validation late s1 t
 held_reserved validation late s0 s1 t is h =
-    subst (λ (f : SectorFile). HoldsBut validation late f t) (sym is) (record { measured = h.measured; listed = h.listed; agrees = h.agrees; apart = h.apart })
+    subst (λ (f : SectorFile). HoldsBut validation late f t) (sym is) (record { measured = h.measured; listed = h.listed; agrees = h.agrees; strict = h.strict; apart = h.apart })
 
 -- where the tables stayed, all sectors do
 pub others_unchanged : {a : AllocatorState} {s0 : SectorFile} {t0 : TableState} → record { file = s0; tables = t0 } ≡ a → (t : TableState) → t ≡ t0

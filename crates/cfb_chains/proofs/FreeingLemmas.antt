@@ -10,6 +10,7 @@ use Rattle.cfb_format.specs.declared.validate.Validation.{Validation}
 use Rattle.cfb_format.specs.declared.version.Version.{Version}
 use Rattle.cfb_format.specs.Bytes.{end_of_chain, max_regular_sector, fat_sector, difat_sector}
 use Rattle.cfb_format.specs.Chain.{value, IsChain}
+use Rattle.cfb_chains.specs.Agreement.{IsStrictBut}
 use Rattle.cfb_chains.specs.Alloc.{AllocatorState, HoldsBut, IsPlaced, ChangesSectors}
 use Rattle.cfb_chains.specs.Changes.{ChangesOnly, IsFreed, IsCut, IsNextOf, NoChain}
 use Rattle.cfb_chains.specs.Clean.{IsClean}
@@ -17,6 +18,7 @@ use Rattle.cfb_chains.specs.Refused.{Refused, ChangeRefused, BreaksOff}
 use Rattle.cfb_chains.specs.Sectors.{SectorFile, IsMediumError}
 use Rattle.cfb_chains.specs.Tables.{TableState}
 use Rattle.cfb_chains.proofs.AgreementLemmas.{changed_late}
+use Rattle.cfb_chains.proofs.StrictLemmas.{if_strict, strict_changed}
 use Rattle.cfb_chains.proofs.ChainLemmas.{regular-le, follows-values}
 use Rattle.cfb_chains.proofs.CleanLemmas.{clean-within}
 use Rattle.cfb_chains.proofs.FrameLemmas.{changes_refl}
@@ -124,6 +126,9 @@ module _ (t0 t : TableState) (rest : t ≡ record t0 { fat = t.fat }) where
           (λ i m. let mark = h.agrees.fat_marks i m in fat_stays i mark.0 mark.1)
           (λ i m out. difat_stays i (h.agrees.difat_marks i m out))
           h.agrees);
+      strict = if_strict validation (IsStrictBut [] t0.version file.bytes t0.fat_sectors t0.fat) (IsStrictBut late t0.version file.bytes t0.fat_sectors t.fat)
+          (strict_changed t0.version file.bytes t0.fat_sectors t0.fat t.fat late same (λ i out. only i (λ m. out (cover i m))))
+          h.strict;
       apart = h.apart;
     })
 

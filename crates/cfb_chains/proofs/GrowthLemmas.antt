@@ -11,7 +11,7 @@ use Rattle.cfb_format.specs.declared.validate.Validation.{Validation}
 use Rattle.cfb_format.specs.Bytes.{is_whole_sector, sector_len, sector_start, sector_count, words_per_sector, free_sector, end_of_chain, fat_sector, difat_sector, is_regular}
 use Rattle.cfb_format.specs.Chain.{value}
 use Rattle.cfb_format.specs.Fat.{is_fat_padding}
-use Rattle.cfb_chains.specs.Agreement.{AgreesBut, PointsWithin, HasSectors, KeepsSectors, word_of}
+use Rattle.cfb_chains.specs.Agreement.{AgreesBut, IsStrictBut, PointsWithin, HasSectors, KeepsSectors, word_of}
 use Rattle.cfb_chains.specs.Alloc.{HoldsBut, IsMeasured, IsFilled, ChangesSectors}
 use Rattle.std.proofs.Math.Seq.{drop-append_seam}
 use Rattle.cfb_chains.specs.Changes.{Apart}
@@ -21,6 +21,7 @@ use Rattle.cfb_chains.specs.Difat.{ListsTables}
 use Rattle.cfb_chains.specs.Sectors.{SectorFile}
 use Rattle.cfb_chains.specs.Tables.{TableState, HasTaken}
 use Rattle.cfb_chains.proofs.AgreementLemmas.{appended_late, changed_late}
+use Rattle.cfb_chains.proofs.StrictLemmas.{if_strict, strict_grown}
 use Rattle.cfb_format.proofs.Words.{sector_words-at, whole-end}
 use Rattle.cfb_chains.specs.declared.sector.SectorInit.{SectorInit}
 use Rattle.cfb_chains.specs.declared.sector.SectorInit.TheVariants.{Fat}
@@ -230,18 +231,16 @@ module _ (t0 t : TableState) (touched more : List ℕ) (taken : HasTaken t0 t to
 
 -- ---- the whole of it
 
--- words of padding in a fresh FAT sector are free
-fresh_padding : (v : Version) (bytes list : List ℕ) (from i : ℕ) → ((k : ℕ) → from ≤ k → k < length list → IsFilled v Fat bytes (slice_index list k))
-    → from * words_per_sector v ≤ i → i < length list * words_per_sector v → IsTrue (is_fat_padding (word_of v bytes list i))
-fresh_padding v bytes list from i filled low high =
+-- words in a fresh FAT sector are free
+fresh_word : (v : Version) (bytes list : List ℕ) (from i : ℕ) → ((k : ℕ) → from ≤ k → k < length list → IsFilled v Fat bytes (slice_index list k))
+    → from * words_per_sector v ≤ i → i < length list * words_per_sector v → word_of v bytes list i ≡ free_sector
+fresh_word v bytes list from i filled low high =
     let k = i / words_per_sector v in
     let r : i % words_per_sector v < words_per_sector v = mod-lt i (some_words v) in
     let f = filled k (div_from v i from low) (home_sector v i (length list) high) in
-    let word : word_of v bytes list i ≡ free_sector =
     sym (sector_words-at v bytes (slice_index list k) (i % words_per_sector v) r)
     ∙ ap (λ (xs : List ℕ). slice_index xs (i % words_per_sector v)) (filled_fat fresh_fat_words v bytes (slice_index list k) f)
-    ∙ get_or-replicate (words_per_sector v) (i % words_per_sector v) free_sector 0 r in
-    subst (λ w. IsTrue (is_fat_padding w)) (sym word) refl
+    ∙ get_or-replicate (words_per_sector v) (i % words_per_sector v) free_sector 0 r
   where
     div_from : (w : Version) (j f : ℕ) → f * words_per_sector w ≤ j → f ≤ j / words_per_sector w
     div_from V3 j f h = omega (arith, h)
@@ -303,7 +302,17 @@ module _ (validation : Validation) (t0 t : TableState) (touched more : List ℕ)
         agrees = grown_agrees t0 t touched more taken late cover s0.bytes s2.bytes here whole keeps
             (grown_count h long longer measured end listed filled)
             (clean-within t.fat clean)
-            (λ i past from below. fresh_padding t.version s2.bytes t.fat_sectors (length t0.fat_sectors) i fats from below);
+            (λ i past from below. subst (λ w. IsTrue (is_fat_padding w)) (sym (fresh_word t.version s2.bytes t.fat_sectors (length t0.fat_sectors) i fats from below)) refl);
+        strict = if_strict validation (IsStrictBut [] t0.version s0.bytes t0.fat_sectors t0.fat) (IsStrictBut late t.version s2.bytes t.fat_sectors t.fat)
+            (λ s. subst (λ (xs : List ℕ). IsStrictBut late t.version s2.bytes xs t.fat) (sym taken.fat_sectors)
+            (strict_grown t.version s0.bytes s2.bytes t0.fat_sectors taken.fats t0.fat t.fat late
+            (subst (λ (w : Version). IsStrictBut [] w s0.bytes t0.fat_sectors t0.fat) (sym same_v) s)
+            here.covers whole keeps taken.longer
+            (λ i out. taken.only i (λ m. out (cover i m)))
+            (last_taken t0 t touched more taken late cover)
+            (λ i from below. subst (λ (xs : List ℕ). word_of t.version s2.bytes xs i ≡ free_sector) taken.fat_sectors
+            (fresh_word t.version s2.bytes t.fat_sectors (length t0.fat_sectors) i fats from (subst (λ (xs : List ℕ). i < length xs * words_per_sector t.version) (sym taken.fat_sectors) below)))))
+            h.strict;
         apart = grown_apart t0 t touched more taken validation s0 h;
       }
 

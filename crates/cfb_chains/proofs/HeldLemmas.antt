@@ -17,12 +17,13 @@ use Rattle.cfb_chains.specs.declared.sector.SectorInit.TheVariants.{Zero, Fat, D
 use Rattle.cfb_format.specs.DirectoryEntry.{entry_bytes}
 use Rattle.cfb_chains.specs.Words.{with_word, Stays}
 use Rattle.cfb_chains.specs.Sectors.{SectorFile, SectorStays, init_bytes}
-use Rattle.cfb_chains.specs.Agreement.{AgreesBut, HasSectors, KeepsSectors, word_home}
+use Rattle.cfb_chains.specs.Agreement.{AgreesBut, IsStrictBut, HasSectors, KeepsSectors, word_home}
 use Rattle.cfb_chains.specs.Difat.{ListsTables, ListingStays, FreshFatWords, FreshDifatWords}
 use Rattle.cfb_chains.specs.Tables.{TableState}
 use Rattle.cfb_chains.specs.Alloc.{IsMeasured, HoldsBut, IsFilled, IsTablesWord, ChangesSectors}
 use Rattle.cfb_chains.proofs.FrameLemmas.{word_inside}
 use Rattle.cfb_chains.proofs.AgreementLemmas.{written_agrees}
+use Rattle.cfb_chains.proofs.StrictLemmas.{if_strict, strict_written}
 use Rattle.cfb_chains.proofs.Listed.{not_in_nil, in_cons, place_once}
 use Rattle.cfb_chains.proofs.SectorLemmas.{other_sector, Stays_apart}
 use Rattle.cfb_chains.proofs.TableWords.{home_sector, home_fits, home_inside, words_fit, words_of_part}
@@ -189,6 +190,10 @@ module _ (validation : Validation) (late : List ℕ) (old new : SectorFile) (t :
             (λ i m. other_sector v home_of i (4 * (x % words_per_sector v)) home 4 old.bytes new.bytes refl change (home_fits v x) (λ e. h.apart i (subst (Contains t.fat_sectors) (sym e) mine) m));
         agrees = subst (λ b. AgreesBut late v b t.fat_sectors t.difat_sectors t.fat) (sym is)
             (written_agrees v old.bytes t.fat_sectors t.difat_sectors t.fat late x lt fits whole h.agrees);
+        strict = if_strict validation (IsStrictBut (x ∷ late) v old.bytes t.fat_sectors t.fat) (IsStrictBut late v new.bytes t.fat_sectors t.fat)
+            (λ s. subst (λ b. IsStrictBut late v b t.fat_sectors t.fat) (sym is)
+            (strict_written v old.bytes t.fat_sectors t.difat_sectors t.fat late x lt fits h.agrees s))
+            h.strict;
         apart = h.apart;
       }
 

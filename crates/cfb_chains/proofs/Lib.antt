@@ -39,3 +39,5 @@ pub mod FatLaws
 pub mod SoundTables
 pub mod ChainContent
 pub mod SeekLemmas
+pub mod StrictLemmas
+pub mod StrictFat

@@ -1,13 +1,14 @@
 -- A stretch within a sector, and the tables after a write there.
-use Rattle.std.proofs.Common.{◌≡◌, ◌≢◌, ◌<◌, ◌≤◌, ◌+◌, ◌-◌, ◌/◌, ◌^◌, max, true, ℕ, zero, suc, refl, [], List, length, sym, ◌∙◌, ap, subst, arith}
+use Rattle.std.proofs.Common.{◌≡◌, ◌≢◌, ◌<◌, ◌≤◌, ◌+◌, ◌-◌, ◌*◌, ◌/◌, ◌^◌, max, true, ℕ, zero, suc, refl, [], List, length, sym, ◌∙◌, ap, subst, arith}
 use Rattle.std.specs.Prelude.{Contains}
+use Rattle.std.proofs.lemmas.List.{append-nil}
 use Rattle.cfb_format.specs.declared.validate.Validation.{Validation}
 use Rattle.cfb_format.specs.declared.version.Version.{Version}
 use Rattle.cfb_format.specs.declared.version.Version.TheVariants.{V3, V4}
-use Rattle.cfb_format.specs.Bytes.{sector_len, sector_start, sector_count}
+use Rattle.cfb_format.specs.Bytes.{sector_len, sector_start, sector_count, words_per_sector}
 use Rattle.cfb_format.specs.Medium.{written, ChangesOnly}
 use Rattle.cfb_format.proofs.ByteLemmas.{length-written, ChangesOnly-written}
-use Rattle.cfb_chains.specs.Agreement.{KeepsSectors}
+use Rattle.cfb_chains.specs.Agreement.{HasSectors, KeepsSectors, IsStrictBut, word_of}
 use Rattle.cfb_chains.specs.Alloc.{AllocatorState, HoldsBut, HoldsTables, IsPlaced}
 use Rattle.cfb_chains.specs.Clean.{IsClean}
 use Rattle.cfb_chains.specs.InSector.{LiesIn, IsNoTableSector}
@@ -17,6 +18,8 @@ use Rattle.cfb_chains.proofs.AgreementLemmas.{agreement_stays}
 use Rattle.cfb_chains.proofs.DifatLemmas.{listing_stays}
 use Rattle.cfb_chains.proofs.HeldLemmas.{listed_whole, sector_past_header}
 use Rattle.cfb_chains.proofs.SectorLemmas.{Stays_apart, other_sector}
+use Rattle.cfb_chains.proofs.StrictLemmas.{if_strict}
+use Rattle.cfb_chains.proofs.TableWords.{kept_word}
 
 -- ---- where a sector lies
 
@@ -57,6 +60,16 @@ sector_below V4 sector n at end from some to = omega arith
 
 -- ---- the tables stay where a sector is written that holds none of them
 
+strict_stays : (version : Version) (bytes bytes' list table late : List ℕ) → length table ≤ length list * words_per_sector version → HasSectors version bytes list
+    → KeepsSectors version list bytes bytes' → IsStrictBut late version bytes list table → IsStrictBut late version bytes' list table
+strict_stays version bytes bytes' list table late covers whole keeps s =
+    let word : (x : ℕ) → x < length list * words_per_sector version → word_of version bytes' list x ≡ word_of version bytes list x = λ x lt.
+    subst (λ l. word_of version bytes' l x ≡ word_of version bytes list x) (append-nil list) (kept_word version bytes bytes' list [] x whole keeps lt) in
+    record {
+      words = λ i inside not_late. word i (omega (arith, inside, covers)) ∙ s.words i inside not_late;
+      padding = λ i past below. word i below ∙ s.padding i past below;
+    }
+
 module _ (validation : Validation) (late : List ℕ) (old new : SectorFile) (t : TableState) (sector at : ℕ) (from : List ℕ) where
   abbrev v : Version
   v = t.version
@@ -88,6 +101,11 @@ module _ (validation : Validation) (late : List ℕ) (old new : SectorFile) (t :
             (listed_whole validation v old.bytes t.fat_sectors t.difat_sectors h.listed)
             (keeps t.fat_sectors other.0)
             (same_count v n (length old.bytes) (length new.bytes) (at + length from) count all end);
+        strict = if_strict validation (IsStrictBut late v old.bytes t.fat_sectors t.fat) (IsStrictBut late v new.bytes t.fat_sectors t.fat)
+            (strict_stays v old.bytes new.bytes t.fat_sectors t.fat late h.agrees.covers
+            (listed_whole validation v old.bytes t.fat_sectors t.difat_sectors h.listed)
+            (keeps t.fat_sectors other.0))
+            h.strict;
         apart = h.apart;
       }
 

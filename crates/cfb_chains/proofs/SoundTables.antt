@@ -13,23 +13,25 @@ use Rattle.cfb_format.specs.declared.version.Version.TheVariants.{V3, V4}
 use Rattle.cfb_format.specs.Bytes.{sector_count, is_whole_sector, is_regular, words_per_sector, free_sector, fat_sector, difat_sector, invalid_sector}
 use Rattle.cfb_format.specs.Chain.{value, Follows, chain_from}
 use Rattle.cfb_format.specs.Content.{sector_chain}
-use Rattle.cfb_format.specs.Fat.{fat_of, fat_value, raw_fat, fat_words, fat_padding, is_among, is_fat_padding, within_file, FollowsDifat, next_difat, IsStrictDifat}
+use Rattle.cfb_format.specs.Fat.{fat_of, fat_value, raw_fat, fat_words, fat_padding, is_among, is_fat_padding, within_file, FollowsDifat, next_difat, IsStrictDifat, IsStrictFat}
 use Rattle.cfb_format.specs.Header.{IfStrict}
 use Rattle.cfb_format.specs.Names.{Cases}
 use Rattle.cfb_format.specs.Reading.{Reading, Reads, root_entry}
 use Rattle.cfb_format.specs.Siblings.{entry_at}
 use Rattle.cfb_format.specs.Soundness.{IsSound, used_sectors, sectors_of, mini_stream_sectors, large_streams}
 use Rattle.cfb_format.proofs.Chains.{chain_from-IsChain}
-use Rattle.cfb_chains.specs.Agreement.{word_of, Agrees}
+use Rattle.cfb_chains.specs.Agreement.{word_of, Agrees, IsStrictBut}
 use Rattle.cfb_chains.specs.Alloc.{AllocatorState, HoldsTables}
 use Rattle.cfb_chains.specs.Changes.{Apart}
 use Rattle.cfb_chains.specs.Clean.{IsClean}
 use Rattle.cfb_chains.specs.Difat.{ListsTables}
-use Rattle.cfb_chains.specs.Held.{SoundTablesAreHeld, StrictTablesAreHeld}
+use Rattle.cfb_chains.specs.Held.{SoundTablesAreHeld, StrictTablesAreHeld, HeldTablesAreStrict}
 use Rattle.cfb_chains.proofs.AgreementLemmas.{within-stays}
 use Rattle.cfb_chains.proofs.ChainLemmas.{regular-le, follows-busy}
 use Rattle.cfb_chains.proofs.CleanLemmas.{clean-within, follows-next}
 use Rattle.cfb_chains.proofs.HeldLemmas.{every_member}
+use Rattle.cfb_chains.proofs.StrictFat.{strict_is, strict_from}
+use Rattle.cfb_chains.proofs.StrictLemmas.{if_strict}
 use Rattle.cfb_chains.proofs.Listed.{among-Contains, Contains-among}
 use Rattle.cfb_chains.proofs.Members.{Contains-nil, Contains-here, Contains-there, Contains-cases, Contains-or, value-at, distinct-left, distinct-apart}
 use Rattle.cfb_chains.proofs.TableWords.{raw_fat-at, fat_words-at, length-fat_words}
@@ -230,13 +232,17 @@ carried P v v' b b' l l' o o' f f' ev eb el eo ef p =
 
 held : (validation : Validation) (cases : Cases) (bytes : List ℕ) (r : Reading) (a : AllocatorState) → Reads cases bytes r → IsSound bytes r
     → IfStrict validation (IsStrictDifat bytes r.header r.fat_sectors r.difat_sectors)
+    → IfStrict validation (IsStrictFat r.header.version bytes r.fat_sectors r.difat_sectors)
     → a.file.bytes ≡ bytes → a.file.len ≡ length bytes → a.tables.version ≡ r.header.version → a.tables.fat ≡ r.fat
     → a.tables.fat_sectors ≡ r.fat_sectors → a.tables.difat_sectors ≡ r.difat_sectors → HoldsTables validation a
-held validation cases bytes r a reads sound strict eb el ev ef es eo = record {
+held validation cases bytes r a reads sound strict strict_fat eb el ev ef es eo = record {
   holds = record {
     measured = el ∙ sym (ap length eb);
     listed = move (λ v b l o f. ListsTables validation v b l o) listed;
     agrees = move Agrees (sound-agrees cases bytes r reads sound);
+    strict = move (λ v b l o f. IfStrict validation (IsStrictBut [] v b l f))
+        (if_strict validation (IsStrictFat r.header.version bytes r.fat_sectors r.difat_sectors) (IsStrictBut [] r.header.version bytes r.fat_sectors r.fat)
+        (strict_from r.header.version bytes r.fat_sectors r.difat_sectors r.fat (sound-agrees cases bytes r reads sound)) strict_fat);
     apart = move (λ v b l o f. Apart l o) (tables-apart cases bytes r reads sound);
   };
   clean = move (λ v b l o f. IsClean f) (sound-clean cases bytes r reads sound);
@@ -251,7 +257,12 @@ held validation cases bytes r a reads sound strict eb el ev ef es eo = record {
     listed = record { header = r.header; is_header = reads.header; same_version = refl; difat = reads.difat; strict = strict }
 
 pub sound-held : SoundTablesAreHeld
-sound-held cases bytes r a reads sound = held Permissive cases bytes r a reads sound tt
+sound-held cases bytes r a reads sound = held Permissive cases bytes r a reads sound tt tt
 
 pub strict-held : StrictTablesAreHeld
-strict-held cases bytes r a reads sound strict = held Strict cases bytes r a reads sound strict
+strict-held cases bytes r a reads sound strict strict_fat = held Strict cases bytes r a reads sound strict strict_fat
+
+pub held-strict : HeldTablesAreStrict
+held-strict a h =
+    let l = h.holds.listed in
+    (l.header, l.is_header, l.strict, strict_is a.tables.version a.file.bytes a.tables.fat_sectors a.tables.difat_sectors a.tables.fat h.holds.agrees h.holds.apart h.holds.strict)

@@ -32,6 +32,12 @@ pub record AgreesBut (late : List ℕ) (version : Version) (bytes list own table
       → word_of version bytes list i ≡ slice_index table i
   pub padding : (i : ℕ) → length table ≤ i → i < length list * words_per_sector version → IsTrue (is_fat_padding (word_of version bytes list i))
 
+-- and they hold it as strict opening wants it, but perhaps not the words of the late numbers: a table sector's word says what it is,
+-- and past the last sector all are free
+pub record IsStrictBut (late : List ℕ) (version : Version) (bytes list table : List ℕ) : Type 0 where
+  pub words : (i : ℕ) → i < length table → (Contains late i → ⊥) → word_of version bytes list i ≡ slice_index table i
+  pub padding : (i : ℕ) → length table ≤ i → i < length list * words_per_sector version → word_of version bytes list i ≡ free_sector
+
 -- they hold it
 abbrev pub Agrees : Version → List ℕ → List ℕ → List ℕ → List ℕ → Type 0
 Agrees = AgreesBut []

@@ -4,8 +4,9 @@ use Rattle.cfb_format.specs.declared.version.Version.{Version}
 use Rattle.cfb_format.specs.declared.validate.Validation.{Validation}
 use Rattle.cfb_format.specs.Bytes.{sector_len, sector_start, sector_bytes, free_sector}
 use Rattle.cfb_format.specs.Chain.{value}
+use Rattle.cfb_format.specs.Header.{IfStrict}
 use Rattle.cfb_chains.specs.declared.sector.SectorInit.{SectorInit}
-use Rattle.cfb_chains.specs.Agreement.{AgreesBut}
+use Rattle.cfb_chains.specs.Agreement.{AgreesBut, IsStrictBut}
 use Rattle.cfb_chains.specs.Changes.{Apart}
 use Rattle.cfb_chains.specs.Clean.{IsClean}
 use Rattle.cfb_chains.specs.Difat.{ListsTables}
@@ -37,11 +38,13 @@ IsMeasured file = file.len ≡ length file.bytes
 
 -- ---- what the bytes hold
 
--- the FAT, the FAT sectors and the DIFAT sectors are those that the bytes hold, but perhaps not the words of the late numbers
+-- the FAT, the FAT sectors and the DIFAT sectors are those that the bytes hold, as this mode wants it, but perhaps not the words of
+-- the late numbers
 pub record HoldsBut (validation : Validation) (late : List ℕ) (file : SectorFile) (t : TableState) : Type 0 where
   pub measured : IsMeasured file
   pub listed : ListsTables validation t.version file.bytes t.fat_sectors t.difat_sectors
   pub agrees : AgreesBut late t.version file.bytes t.fat_sectors t.difat_sectors t.fat
+  pub strict : IfStrict validation (IsStrictBut late t.version file.bytes t.fat_sectors t.fat)
   pub apart : Apart t.fat_sectors t.difat_sectors
 
 -- they are those that the bytes hold, and no number is named twice

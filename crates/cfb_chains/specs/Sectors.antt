@@ -1,5 +1,5 @@
 -- A compound file as sectors over bytes (MS-CFB 2.1).
-use Rattle.std.specs.Prelude.{◌≡◌, ℕ, zero, suc, ◌+◌, ◌-◌, ◌/◌, Bool, List, [], ◌∷◌, ◌++◌, replicate}
+use Rattle.std.specs.Prelude.{◌≡◌, ℕ, zero, suc, ◌+◌, ◌-◌, ◌/◌, Bool, true, List, [], ◌∷◌, ◌++◌, replicate}
 use Rattle.cfb_format.specs.Bytes.{sector_len, sector_start, words_per_sector, entries_per_sector, word_bytes, free_sector, end_of_chain}
 use Rattle.cfb_format.specs.DirectoryEntry.{entry_bytes, unallocated_entry}
 use Rattle.cfb_format.specs.Refused.{number_of}
@@ -37,6 +37,10 @@ sectors_end f = sector_start f.version f.num_sectors
 -- the medium failed
 abbrev pub IsMediumError : Error → Type 0
 IsMediumError e = number_of e ≡ 5
+
+-- the flag that a change was begun stays up, and is up where something was to be written
+abbrev pub IsRaised : Type 0 → SectorFile → SectorFile → Type 0
+IsRaised wrote old new = (old.begun ≡ true → new.begun ≡ true) × (wrote → new.begun ≡ true)
 
 -- the bytes of sector i are as before
 unfoldable pub SectorStays : Version → ℕ → List ℕ → List ℕ → Type 0

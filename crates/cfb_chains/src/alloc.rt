@@ -10,7 +10,7 @@ ghost use Rattle.cfb_chains.specs.Changes.{IsNextOf, NoChain};
 ghost use Rattle.cfb_chains.specs.Refused.{Refused, NextRefused, NoLast, WalkRefused, ChangeRefused, BreaksOff};
 ghost use Rattle.cfb_chains.specs.Tables.{HasTaken, TakesFor, Extended, ExtendsFrom, FreesChain, CutsChain, AreSizes, IsTooFew, ending, start_of, sizes_of, tables_of};
 ghost use Rattle.cfb_chains.specs.Clean.{IsUnnamed};
-ghost use Rattle.cfb_chains.specs.Sectors.{IsMediumError, OtherSectorsStay, place, sectors_end};
+ghost use Rattle.cfb_chains.specs.Sectors.{IsMediumError, IsRaised, OtherSectorsStay, place, sectors_end};
 ghost use Rattle.cfb_format.specs.Medium.{ChangesOnly, part, written};
 
 use crate::fat::read_fat;
@@ -274,6 +274,7 @@ impl<F: Medium, A: Heap> Allocator<F, A> {
         ensures holds { IsTrue F.tells → (validation : Validation) → HoldsTables validation self.old → OnOk result (HoldsTables validation self.new) }
         ensures others { IsTrue F.tells → OthersStay self.old self.new }
         ensures enough { OnOk result (IsTooFew self.old.tables 1 → ⊥) }
+        ensures begun { OnOk result (self.new.file.begun ≡ true) }
         ensures refused { IfErr result (BreaksOff (TakesFor []) self.old self.new) }
         ensures err { IfErr result (ChangeRefused (IsUsable self.old.tables → ⊥) Unit (IsTooFew self.old.tables 1) Unit) }
         ensures counts { IsTrue F.tells → CountsFailure F.write_faults result self.old.file.failures self.new.file.failures }
@@ -320,6 +321,7 @@ impl<F: Medium, A: Heap + Clone> Allocator<F, A> {
         ensures holds { IsTrue F.tells → (validation : Validation) → HoldsTables validation self.old → OnOk result (HoldsTables validation self.new) }
         ensures others { IsTrue F.tells → OthersStay self.old self.new }
         ensures enough { OnOk result (IsTooFew self.old.tables 1 → ⊥) }
+        ensures begun { OnOk result (self.new.file.begun ≡ true) }
         ensures refused { IfErr result (BreaksOff (ExtendsFrom start) self.old self.new) }
         ensures err { IfErr result (ChangeRefused ((IsUsable self.old.tables → ⊥) ⊎ NoLast self.old.tables.fat start) Unit (IsTooFew self.old.tables 1) Unit) }
         ensures counts { IsTrue F.tells → CountsFailure F.write_faults result self.old.file.failures self.new.file.failures }
@@ -358,6 +360,7 @@ impl<F: Medium, A: Heap + Clone> Allocator<F, A> {
         ensures holds { IsTrue F.tells → (validation : Validation) → HoldsTables validation self.old → OnOk result (HoldsTables validation self.new) }
         ensures others { IsTrue F.tells → OthersStay self.old self.new }
         ensures enough { OnOk result (IsTooFew self.old.tables count → ⊥) }
+        ensures begun { OnOk result (IsRaised (0 < count) self.old.file self.new.file) }
         ensures refused { IfErr result (BreaksOff (TakesFor (ending last)) self.old self.new) }
         ensures err { IfErr result (ChangeRefused
             ((IsUsable self.old.tables → ⊥) ⊎ ((last ≢ end_of_chain) × (value self.old.tables.fat last ≢ end_of_chain)))
@@ -380,6 +383,7 @@ impl<F: Medium, A: Heap + Clone> Allocator<F, A> {
         ensures holds { IsTrue F.tells → (validation : Validation) → HoldsTables validation self.old → IsUnnamed self.old.tables.fat start
             → OnOk result (HoldsTables validation self.new) }
         ensures changes { IsTrue F.tells → ChangesSectors self.old.tables.fat_sectors self.old.tables.version self.old.file.bytes self.new.file.bytes }
+        ensures begun { OnOk result (IsRaised (start ≢ end_of_chain) self.old.file self.new.file) }
         ensures refused { IfErr result (BreaksOff (FreesChain start) self.old self.new) }
         ensures err { IfErr result (ChangeRefused ((IsUsable self.old.tables → ⊥) ⊎ NoChain self.old.tables.fat start) Unit ⊥ Unit) }
         ensures counts { IsTrue F.tells → CountsFailure F.write_faults result self.old.file.failures self.new.file.failures }
@@ -397,6 +401,7 @@ impl<F: Medium, A: Heap + Clone> Allocator<F, A> {
         ensures cut { OnOk result (CutsChain sector self.old.tables self.new.tables) }
         ensures holds { IsTrue F.tells → (validation : Validation) → HoldsTables validation self.old → OnOk result (HoldsTables validation self.new) }
         ensures changes { IsTrue F.tells → ChangesSectors self.old.tables.fat_sectors self.old.tables.version self.old.file.bytes self.new.file.bytes }
+        ensures begun { OnOk result (self.new.file.begun ≡ true) }
         ensures refused { IfErr result (BreaksOff (CutsChain sector) self.old self.new) }
         ensures err { IfErr result (ChangeRefused ((IsUsable self.old.tables → ⊥) ⊎ NoChain self.old.tables.fat (value self.old.tables.fat sector)) Unit ⊥ Unit) }
         ensures counts { IsTrue F.tells → CountsFailure F.write_faults result self.old.file.failures self.new.file.failures }
@@ -419,6 +424,7 @@ impl<F: Medium, A: Heap + Clone> Allocator<F, A> {
         ensures holds { IsTrue F.tells → (validation : Validation) → HoldsTables validation self.old → OnOk result (HoldsTables validation self.new) }
         ensures others { IsTrue F.tells → OthersStay self.old self.new }
         ensures enough { OnOk result (IsTooFew self.old.tables count → ⊥) }
+        ensures begun { OnOk result (IsRaised (0 < count) self.old.file self.new.file) }
         ensures refused { IfErr result (BreaksOff (TakesFor []) self.old self.new) }
         ensures err { IfErr result (ChangeRefused (IsUsable self.old.tables → ⊥) Unit (IsTooFew self.old.tables count) Unit) }
         ensures counts { IsTrue F.tells → CountsFailure F.write_faults result self.old.file.failures self.new.file.failures }
@@ -441,6 +447,7 @@ impl<F: Medium, A: Heap + Clone> Allocator<F, A> {
         ensures holds { IsTrue F.tells → (validation : Validation) → HoldsTables validation self.old → OnOk result (HoldsTables validation self.new) }
         ensures others { IsTrue F.tells → OthersStay self.old self.new }
         ensures enough { OnOk result (IsTooFew self.old.tables count → ⊥) }
+        ensures begun { OnOk result (IsRaised (0 < count) self.old.file self.new.file) }
         ensures refused { IfErr result (BreaksOff (TakesFor (last ∷ [])) self.old self.new) }
         ensures err { IfErr result (ChangeRefused ((IsUsable self.old.tables → ⊥) ⊎ (value self.old.tables.fat last ≢ end_of_chain))
             Unit (IsTooFew self.old.tables count) Unit) }

@@ -2,7 +2,7 @@
 //! as its contract.
 ghost use Rattle.cfb_chains.specs.Changes.{ChainsStay, OtherChainsStay, ChainsTurn, MembersAreBusy};
 ghost use Rattle.cfb_chains.specs.Clean.{CleanPointsWithin, TakenIsClean, ExtendedIsClean, FreedIsClean, CutIsClean};
-ghost use Rattle.cfb_chains.specs.Held.{SoundTablesAreHeld, StrictTablesAreHeld};
+ghost use Rattle.cfb_chains.specs.Held.{SoundTablesAreHeld, StrictTablesAreHeld, HeldTablesAreStrict};
 ghost use Rattle.cfb_chains.specs.Tables.{FullIsTooFew, TooFewIsNoRoom, EnoughIsRoom};
 ghost use Rattle.cfb_chains.specs.Owners.{UsesAreKept, NothingLooseIsKept, UseChangesFollow, TakingChanges, FreeingChanges, TakenIsTaking, FreedIsFreeing, CutIsFreeing};
 
@@ -44,8 +44,10 @@ pub fn tables_stay_clean()
 {}
 
 /// The tables that opening reads from a sound file are those that its bytes hold: an allocator with
-/// these tables over these bytes may change them (MS-CFB 2.3 and 2.5).
+/// these tables over these bytes may change them, and what it holds as strict opening wants it,
+/// strict opening takes (MS-CFB 2.3 and 2.5).
 pub fn sound_tables_are_held()
     ensures sound { SoundTablesAreHeld }
     ensures strict { StrictTablesAreHeld }
+    ensures taken { HeldTablesAreStrict }
 {}

@@ -11,7 +11,7 @@ ghost use Rattle.cfb_format.specs.Full.{rounded_up};
 ghost use Rattle.cfb_format.specs.Header.{header_difat_len};
 ghost use Rattle.cfb_format.specs.Refused.{CountsFailure};
 ghost use Rattle.cfb_chains.specs.declared.sector.SectorInit.TheVariants.{Fat};
-ghost use Rattle.cfb_chains.specs.Sectors.{IsMediumError, sectors_end};
+ghost use Rattle.cfb_chains.specs.Sectors.{IsMediumError, IsRaised, sectors_end};
 ghost use Rattle.cfb_chains.specs.Clean.{IsClean};
 ghost use Rattle.cfb_chains.specs.Tables.{TableState, HasTaken, IsCovered};
 ghost use Rattle.cfb_chains.specs.Difat.{ListsTables, difat_places, difat_place, freed_behind, listed_in_header, listed_in_sector, linked, link_place};
@@ -47,6 +47,7 @@ pub fn fill_sectors<F: Medium>(
     ensures filled { IsTrue F.tells → OnOk result ((i : ℕ) → Contains numbers.now i → IsFilled sectors.old.version init sectors.new.bytes i) }
     ensures changes { IsTrue F.tells → ChangesSectors numbers.now sectors.old.version sectors.old.bytes sectors.new.bytes }
     ensures front { IsTrue F.tells → Stays 0 512 sectors.old.bytes sectors.new.bytes }
+    ensures raised { OnOk result (IsRaised (0 < length numbers.now) sectors.old sectors.new) }
     ensures err { IfErr result IsMediumError }
     ensures begun { IfErr result (λ e. sectors.new.begun ≡ true) }
     ensures counts { IsTrue F.tells → CountsFailure F.write_faults result sectors.old.failures sectors.new.failures }
@@ -175,6 +176,7 @@ pub fn write_values<F: Medium, A: Allocator>(
     ensures ok { IsTrue F.tells → (validation : Validation) (late : List ℕ) → HoldsBut validation (numbers.now ++ late) sectors.old tables.now
         → OnOk result (HoldsBut validation late sectors.new tables.now) }
     ensures changes { IsTrue F.tells → ChangesSectors tables.now.fat_sectors sectors.old.version sectors.old.bytes sectors.new.bytes }
+    ensures raised { OnOk result (IsRaised (0 < length numbers.now) sectors.old sectors.new) }
     ensures err { IfErr result IsMediumError }
     ensures begun { IfErr result (λ e. sectors.new.begun ≡ true) }
     ensures counts { IsTrue F.tells → CountsFailure F.write_faults result sectors.old.failures sectors.new.failures }
@@ -192,6 +194,7 @@ fn free_place_behind<F: Medium>(sectors: &mut Sectors<F>, index: usize) -> Resul
     ensures ok { IsTrue F.tells → OnOk result (sectors.new.bytes ≡ freed_behind sectors.old.bytes index) }
     ensures measured { IsTrue F.tells → IsMeasured sectors.old → OnOk result (IsMeasured sectors.new) }
     ensures changes { IsTrue F.tells → ChangesSectors [] sectors.old.version sectors.old.bytes sectors.new.bytes }
+    ensures raised { OnOk result (IsRaised (index + 1 < header_difat_len) sectors.old sectors.new) }
     ensures err { IfErr result (λ e. IsMediumError e × (sectors.new.begun ≡ true)) }
     ensures counts { IsTrue F.tells → CountsFailure F.write_faults result sectors.old.failures sectors.new.failures }
 {
@@ -366,6 +369,7 @@ fn grow_difat<F: Medium>(
         → IfOk result (λ n. ListsTables validation sectors.old.version sectors.new.bytes list (take n difat_sectors.now)) }
     ensures measured { IsTrue F.tells → IsMeasured sectors.old → OnOk result (IsMeasured sectors.new) }
     ensures changes { IsTrue F.tells → ChangesSectors difat_sectors.now sectors.old.version sectors.old.bytes sectors.new.bytes }
+    ensures raised { OnOk result (IsRaised (difat_places sectors.old.version listed ≤ index) sectors.old sectors.new) }
     ensures err { IfErr result (λ e. IsMediumError e × (sectors.new.begun ≡ true)) }
     ensures counts { IsTrue F.tells → CountsFailure F.write_faults result sectors.old.failures sectors.new.failures }
 {
@@ -442,6 +446,7 @@ fn write_table_sectors<F: Medium>(
     ensures measured { IsTrue F.tells → IsMeasured sectors.old → OnOk result (IsMeasured sectors.new) }
     ensures changes { IsTrue F.tells
         → ChangesSectors (drop fats fat_sectors.now ++ difat_sectors.now) sectors.old.version sectors.old.bytes sectors.new.bytes }
+    ensures raised { OnOk result (IsRaised (fats < length fat_sectors.now) sectors.old sectors.new) }
     ensures err { IfErr result (λ e. IsMediumError e × (sectors.new.begun ≡ true)) }
     ensures counts { IsTrue F.tells → CountsFailure F.write_faults result sectors.old.failures sectors.new.failures }
 {
@@ -482,6 +487,7 @@ fn add_sectors<F: Medium>(
         → ChangesSectors (drop before.fats fat_sectors.now ++ difat_sectors.now ++ more.now) sectors.old.version sectors.old.bytes sectors.new.bytes }
     ensures end { OnOk result (sectors.new.len ≤ sectors_end sectors.new) }
     ensures long { sector_len_of sectors.old.version ≤ sectors.old.len }
+    ensures raised { OnOk result (IsRaised (0 < length more.now) sectors.old sectors.new) }
     ensures err { IfErr result (λ e. IsMediumError e × (sectors.new.begun ≡ true)) }
     ensures counts { IsTrue F.tells → CountsFailure F.write_faults result sectors.old.failures sectors.new.failures }
 {
@@ -525,6 +531,7 @@ fn write_late<F: Medium, A: Allocator>(
         → HoldsBut validation (drop before.difats tables.now.difat_sectors ++ (drop before.fats tables.now.fat_sectors ++ (more.now ++ (touched.now ++ late)))) sectors.old tables.now
         → OnOk result (HoldsBut validation late sectors.new tables.now) }
     ensures changes { IsTrue F.tells → ChangesSectors tables.now.fat_sectors sectors.old.version sectors.old.bytes sectors.new.bytes }
+    ensures raised { OnOk result (IsRaised (0 < length touched.now + length more.now) sectors.old sectors.new) }
     ensures err { IfErr result (λ e. IsMediumError e × (sectors.new.begun ≡ true)) }
     ensures counts { IsTrue F.tells → CountsFailure F.write_faults result sectors.old.failures sectors.new.failures }
 {
@@ -560,6 +567,7 @@ pub fn write_taken<F: Medium, A: Allocator>(
         → OnOk result ((i : ℕ) → Contains more.now i → IsFilled tables.now.version init sectors.new.bytes i) }
     ensures changes { IsTrue F.tells
         → ChangesSectors (tables.now.fat_sectors ++ tables.now.difat_sectors ++ more.now) tables.now.version sectors.old.bytes sectors.new.bytes }
+    ensures raised { OnOk result (IsRaised (0 < length touched.now + length more.now) sectors.old sectors.new) }
     ensures err { IfErr result (λ e. IsMediumError e × (sectors.new.begun ≡ true)) }
     ensures counts { IsTrue F.tells → CountsFailure F.write_faults result sectors.old.failures sectors.new.failures }
 {

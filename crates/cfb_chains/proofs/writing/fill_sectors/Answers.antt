@@ -17,6 +17,7 @@ use Rattle.cfb_chains.proofs.writing.fill_sectors.Goals as goal
 pub loop-number-init : goal.loop-number-init
 loop-number-init g c = record {
   kept = refl;
+  raised = (λ up. up, λ (some : 0 < 0). absurd (omega arith));
   measured = λ told m. m;
   filled = λ told i m. absurd (not_in_nil i m);
   changes = λ told. changes_refl c.args.numbers.now c.args.sectors.now.version c.args.sectors.now.bytes;
@@ -51,6 +52,7 @@ loop-number-preserved g c =
     let same = ap (λ (f : SectorFile). f.version) l.invariant.kept in
     record {
       kept = keeps_next old l.sectors new l.invariant.kept (keeps_begun l.sectors new c.fill_sector.ensures.kept);
+      raised = (λ up. ap (λ (f : SectorFile). f.begun) c.fill_sector.ensures.kept, λ some. ap (λ (f : SectorFile). f.begun) c.fill_sector.ensures.kept);
       measured = λ told m. c.in_ok-fill_sector.ensures.measured told (l.invariant.measured told m);
       filled = λ told i m.
           let here : IsFilled old.version c.args.init new.bytes (get_or list k 0) =

@@ -22,6 +22,7 @@ use Rattle.cfb_chains.proofs.writing.write_table_sectors.Goals as goal
 pub loop-index-init : goal.loop-index-init
 loop-index-init g c = record {
   kept = refl;
+  raised = (λ up. up, λ (some : c.args.fats < c.args.fats). absurd (omega arith));
   from = omega arith;
   counted = difats-suffice c.args.sectors.now.version c.args.fats c.args.difats c.requires.places;
   listed = λ told validation l measured once apart. l;
@@ -96,6 +97,7 @@ loop-index-preserved g c =
     let n = c.in_ok-listed.listed in
     record {
       kept = keeps_next old l.sectors new l.invariant.kept (keeps_begun l.sectors new c.add_fat_sector.ensures.kept);
+      raised = (λ up. ap (λ (f : SectorFile). f.begun) c.add_fat_sector.ensures.kept, λ some. ap (λ (f : SectorFile). f.begun) c.add_fat_sector.ensures.kept);
       from = let f = l.invariant.from in omega (arith, f);
       counted = c.in_ok-listed.ensures.answer ∙ ap (λ (u : Version). if nat_lt l.index (difat_places u l.listed) then l.listed else l.listed + 1) same
           ∙ counted_next v l.index c.args.difats l.listed l.invariant.counted;

@@ -6,6 +6,7 @@ use Rattle.cfb_format.specs.Bytes.{words_per_sector}
 use Rattle.cfb_format.specs.Full.{rounded_up}
 use Rattle.cfb_format.specs.Header.{header_difat_len}
 use Rattle.cfb_chains.specs.declared.sector.SectorInit.TheVariants.{Fat}
+use Rattle.cfb_chains.specs.Sectors.{IsRaised}
 use Rattle.cfb_chains.specs.Alloc.{IsMeasured, IsFilled, ChangesSectors}
 use Rattle.cfb_chains.specs.Changes.{Apart}
 use Rattle.cfb_chains.specs.Difat.{ListsTables}
@@ -14,6 +15,7 @@ use Rattle.cfb_chains.proofs.writing.write_table_sectors.Given as goal
 abbrev pub invariant-loop-index : goal.invariant-loop-index
 invariant-loop-index g l = record {
   kept : l.sectors ≡ record l.initial.sectors { len = l.sectors.len; bytes = l.sectors.bytes; failures = l.sectors.failures; begun = l.sectors.begun };
+  raised : IsRaised (l.fats < l.index) l.initial.sectors l.sectors;
   from : l.fats ≤ l.index;
   counted : l.listed ≡ max l.difats (rounded_up (l.index - header_difat_len) (words_per_sector l.initial.sectors.version - 1));
   listed : IsTrue g.F.ReadMedium.tells → (validation : Validation)

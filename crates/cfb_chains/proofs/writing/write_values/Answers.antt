@@ -1,4 +1,4 @@
-use Rattle.std.proofs.Common.{arith, ap, ◌∙◌, sym, subst, ◌≡◌, ◌+◌, ◌++◌, ◌∷◌, [], ℕ, List, length, get_or, refl, drop}
+use Rattle.std.proofs.Common.{arith, ap, ◌∙◌, sym, subst, ◌≡◌, ◌+◌, ◌<◌, ◌++◌, ◌∷◌, [], ℕ, List, length, get_or, refl, drop}
 use Rattle.std.specs.Prelude.{Contains}
 use Rattle.std.proofs.lemmas.List.{drop_more}
 use Rattle.std.proofs.Math.ListN.{drop_of_length-le}
@@ -13,6 +13,7 @@ use Rattle.cfb_chains.proofs.writing.write_values.Goals as goal
 pub loop-number-init : goal.loop-number-init
 loop-number-init g c = record {
   kept = refl;
+  raised = (λ up. up, λ (some : 0 < 0). absurd (omega arith));
   held = λ told validation late h. h;
   changes = λ told. changes_refl c.args.tables.now.fat_sectors c.args.sectors.now.version c.args.sectors.now.bytes;
   calm = λ told. refl;
@@ -36,6 +37,7 @@ loop-number-preserved g c =
     let same = ap (λ (f : SectorFile). f.version) l.invariant.kept in
     record {
       kept = keeps_next old l.sectors new l.invariant.kept (keeps_begun l.sectors new c.write_value.ensures.kept);
+      raised = (λ up. ap (λ (f : SectorFile). f.begun) c.write_value.ensures.kept, λ some. ap (λ (f : SectorFile). f.begun) c.write_value.ensures.kept);
       held = λ told validation late h.
           let here = subst (λ (xs : List ℕ). HoldsBut validation (xs ++ late) l.sectors c.args.tables.now) (drop_more c.args.numbers.now l.number-index 0 c.loop-number-test.true)
           (l.invariant.held told validation late h) in

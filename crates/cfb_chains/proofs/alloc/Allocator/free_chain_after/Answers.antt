@@ -1,17 +1,18 @@
-use Rattle.std.proofs.Common.{refl, inr, arith, ap, ◌∙◌, sym, subst, [], ◌∷◌, ◌++◌, ℕ, List}
+use Rattle.std.proofs.Common.{◌≡◌, refl, inr, arith, ap, ◌∙◌, sym, subst, [], ◌∷◌, ◌++◌, ℕ, List}
 use Rattle.std.specs.Prelude.{Contains}
 use Rattle.std.proofs.lemmas.Result.{err_from_is_err_and}
 use Rattle.cfb_format.specs.declared.version.Version.{Version}
-use Rattle.cfb_format.specs.Chain.{value}
+use Rattle.cfb_format.specs.Chain.{value, IsChain}
 use Rattle.cfb_chains.specs.Alloc.{AllocatorState, ChangesSectors, HoldsTables, HoldsBut}
+use Rattle.cfb_chains.specs.Changes.{IsCut}
 use Rattle.cfb_chains.specs.Clean.{IsClean}
 use Rattle.cfb_chains.specs.Sectors.{SectorFile}
 use Rattle.cfb_chains.specs.Tables.{TableState, CutsChain}
-use Rattle.cfb_chains.proofs.Answering.{on_ok}
+use Rattle.cfb_chains.proofs.Answering.{all_ok, on_ok}
 use Rattle.cfb_chains.proofs.ChainLemmas.{members-busy}
 use Rattle.cfb_chains.proofs.CleanLemmas.{cut-clean}
 use Rattle.cfb_chains.proofs.FrameLemmas.{changes_refl, changes_trans}
-use Rattle.cfb_chains.proofs.FreeingLemmas.{nothing_said, placed_changed, changes_said, cut_holds, no_next-no_chain, invalid_changed, breaks_back}
+use Rattle.cfb_chains.proofs.FreeingLemmas.{nothing_said, placed_changed, changes_said, cut_holds, no_next-no_chain, invalid_changed, breaks_back, breaks_by_medium}
 use Rattle.cfb_chains.proofs.alloc.Allocator.free_chain_after.Goals as goal
 
 pub returns-in_err-usable_sizes-clause-changes : goal.returns-in_err-usable_sizes-clause-changes
@@ -92,12 +93,27 @@ returns-clause-changes g c told =
     changes_said c.self.inside.tables t c.free_after.ensures.rest c.args.self.now s0 s2.bytes c.self.view_is c.self.invariant
     (changes_trans t.fat_sectors s0.version s0.bytes s1.bytes s2.bytes (c.write_values.ensures.changes told) second)
 
+-- the chain is cut in memory
+cuts : (x : ℕ) (a : AllocatorState) (file : SectorFile) (t0 t : TableState) (list : List ℕ) → record { file = file; tables = t0 } ≡ a → IsChain t0.fat (value t0.fat x) list
+    → IsCut x list t0.fat t.fat → t ≡ record t0 { fat = t.fat } → CutsChain x a.tables t
+cuts x a file t0 t list is was cut rest = subst (λ (b : AllocatorState). CutsChain x b.tables t) is (record { list = list; was = was; cut = cut; rest = rest })
+
+pub returns-in_err-write_values-clause-refused : goal.returns-in_err-write_values-clause-refused
+returns-in_err-write_values-clause-refused g c =
+    let e = c.in_ok-freed.ensures in
+    let p = err_from_is_err_and c.from_residual-in_err-write_values.result c.from_residual-in_err-write_values.ensures.1 in
+    let w = c.in_err-write_values.ensures in
+    rw (p.1, p.2) (breaks_by_medium (CutsChain c.args.sector) c.args.self.now (record { file = c.write_values.new.sectors; tables = c.free_after.new.self }) c.in_err-write_values.field-0.0
+    w.err w.begun (cuts c.args.sector c.args.self.now c.self.inside.sectors c.self.inside.tables c.free_after.new.self c.in_ok-freed.freed.items c.self.view_is e.ok e.cut c.free_after.ensures.rest))
+
+pub returns-clause-cut : goal.returns-clause-cut
+returns-clause-cut g c =
+    let e = c.in_ok-freed.ensures in
+    all_ok c.write_values-2.result (cuts c.args.sector c.args.self.now c.self.inside.sectors c.self.inside.tables c.free_after.new.self c.in_ok-freed.freed.items c.self.view_is e.ok e.cut c.free_after.ensures.rest)
+
 pub returns-clause-refused : goal.returns-clause-refused
 returns-clause-refused g c =
-    let x = c.args.sector in
-    let t = c.free_after.new.self in
     let e = c.in_ok-freed.ensures in
-    let cuts = subst (λ (a : AllocatorState). CutsChain x a.tables t) c.self.view_is
-    (record { list = c.in_ok-freed.freed.items; was = e.ok; cut = e.cut; rest = c.free_after.ensures.rest }) in
-    breaks_back c.write_values-2.result (CutsChain x) c.args.self.now
-    (record { file = c.write_values-2.new.sectors; tables = t }) c.write_values-2.ensures.err c.write_values-2.ensures.begun cuts
+    breaks_back c.write_values-2.result (CutsChain c.args.sector) c.args.self.now
+    (record { file = c.write_values-2.new.sectors; tables = c.free_after.new.self }) c.write_values-2.ensures.err c.write_values-2.ensures.begun
+    (cuts c.args.sector c.args.self.now c.self.inside.sectors c.self.inside.tables c.free_after.new.self c.in_ok-freed.freed.items c.self.view_is e.ok e.cut c.free_after.ensures.rest)
