@@ -1,4 +1,4 @@
-use Rattle.std.proofs.Common.{◌<◌, ◌≤◌, ◌+◌, take, length, ap, arith, length-take}
+use Rattle.std.proofs.Common.{◌<◌, ◌≤◌, ◌+◌, take, length, arith, length-take}
 use Rattle.cfb_chains.specs.Sectors.{sectors_end}
 use Rattle.cfb_chains.proofs.SectorLemmas.{sector_apart, SectorStays_refl}
 use Rattle.cfb_chains.proofs.SeekLemmas.{held_after, lies_within, some_left}
