@@ -40,5 +40,6 @@ pub mod FatLemmas
 pub mod FatLaws
 pub mod SoundTables
 pub mod ChainContent
+pub mod SeekLemmas
 pub mod StrictFat
 pub mod StrictLemmas

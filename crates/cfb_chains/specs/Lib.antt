@@ -13,3 +13,5 @@ pub mod Refused
 pub mod Owners
 pub mod ReadFat
 pub mod Held
+pub mod InSector
+pub mod LentSector

@@ -551,6 +551,45 @@ impl<F: Medium, A: Heap> Allocator<F, A> {
     }
 }
 
+impl<F: ReadMedium, A: Heap> Allocator<F, A> {
+    /// Reads what is there of the bytes from `at` on, as far as `into` has room.
+    pub(crate) fn read_at(&mut self, at: u64, into: &mut [u8]) -> Result<usize, Error>
+        ensures tables { self.new.tables ≡ self.old.tables }
+        ensures kept { self.new.file ≡ record self.old.file { bytes = self.new.file.bytes; failures = self.new.file.failures } }
+        ensures count { IfOk result (λ n. n ≡ min (length into.old) (self.old.file.len - at)) }
+        ensures ok { IsTrue F.tells → IfOk result (λ n. take n into.new ≡ part self.old.file.bytes at n) }
+        ensures rest { IfOk result (λ n. drop n into.new ≡ drop n into.old) }
+        ensures err { IfErr result IsMediumError }
+        ensures same { IsTrue F.tells → OnOk result (self.new ≡ self.old) }
+        ensures bytes { IsTrue F.tells → self.new.file.bytes ≡ self.old.file.bytes }
+        ensures counts { IsTrue F.tells → CountsFailure F.read_faults result self.old.file.failures self.new.file.failures }
+    {
+        self.sectors.read_at(at, into)
+    }
+}
+
+impl<F: Medium, A: Heap> Allocator<F, A> {
+    /// Writes all of `from` at `at`.
+    pub(crate) fn write_at(&mut self, at: u64, from: &[u8]) -> Result<(), Error>
+        requires some { 0 < length from.now }
+        requires inside { at + length from.now ≤ sectors_end self.old.file }
+        ensures tables { self.new.tables ≡ self.old.tables }
+        ensures ok { IsTrue F.tells → OnOk result (self.new.file ≡ record self.old.file {
+          bytes = written self.old.file.bytes at from.now;
+          len = max self.old.file.len (at + length from.now);
+          begun = true;
+        }) }
+        ensures kept { self.new.file ≡ record self.old.file { len = self.new.file.len; bytes = self.new.file.bytes; failures = self.new.file.failures; begun = true } }
+        ensures len { MatchResult result
+            (λ _. self.new.file.len ≡ max self.old.file.len (at + length from.now))
+            (λ e. IsMediumError e × (self.new.file.len ≡ self.old.file.len)) }
+        ensures others { IsTrue F.tells → ChangesOnly at (length from.now) self.old.file.bytes self.new.file.bytes }
+        ensures counts { IsTrue F.tells → CountsFailure F.write_faults result self.old.file.failures self.new.file.failures }
+    {
+        self.sectors.write_at(at, from)
+    }
+}
+
 #[cfg(test)]
 mod tests {
     use super::Allocator;

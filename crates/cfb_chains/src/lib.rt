@@ -8,6 +8,7 @@ pub mod fat;
 pub mod laws;
 mod lists;
 pub mod sector;
+pub mod seeking;
 pub mod tables;
 pub mod walk;
 mod writing;

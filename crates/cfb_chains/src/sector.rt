@@ -196,7 +196,7 @@ impl<F: ReadMedium> Sectors<F> {
     }
 
     /// Reads what is there of the bytes from `at` on, as far as `into` has room.
-    fn read_at(&mut self, at: u64, into: &mut [u8]) -> Result<usize, Error>
+    pub(crate) fn read_at(&mut self, at: u64, into: &mut [u8]) -> Result<usize, Error>
         ensures kept { self.new ≡ record self.old { bytes = self.new.bytes; failures = self.new.failures } }
         ensures count { IfOk result (λ n. n ≡ min (length into.old) (self.old.len - at)) }
         ensures ok { IsTrue F.tells → IfOk result (λ n. take n into.new ≡ part self.old.bytes at n) }
@@ -302,7 +302,7 @@ impl<F: ReadMedium> Sectors<F> {
 impl<F: Medium> Sectors<F> {
     /// Writes all of `from` at `at`.
     #[tactic(auto, using(cfb_format::proofs::ByteLemmas::writes))]
-    fn write_at(&mut self, at: u64, from: &[u8]) -> Result<(), Error>
+    pub(crate) fn write_at(&mut self, at: u64, from: &[u8]) -> Result<(), Error>
         requires some { 0 < length from.now }
         requires inside { at + length from.now ≤ sectors_end self.old }
         ensures ok { IsTrue F.tells → OnOk result (self.new ≡ record self.old {
