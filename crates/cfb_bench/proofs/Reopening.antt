@@ -7,7 +7,6 @@ use Rattle.cfb_format.specs.declared.version.Version.{Version}
 use Rattle.cfb_format.specs.declared.version.Version.TheVariants.{V3, V4}
 use Rattle.cfb_format.specs.declared.validate.Validation.{Validation}
 use Rattle.cfb_format.specs.Bytes.{sector_len}
-use Rattle.cfb_format.specs.Header.{AcceptsHeader}
 use Rattle.cfb_format.specs.Laws.{CreatedIsThreeSectors, CreatedHeaderIsAccepted}
 use Rattle.cfb_format.specs.Reading.{HasLength}
 use Rattle.cfb_format.specs.Created.{created_bytes, created_header}

@@ -164,8 +164,15 @@ fn another_entry(rt: HostRuntime) -> Result<(), Fail> {
     let mut found = Vec::new(rt.alloc());
     assert_eq!(rt; read_all(&mut file, "/z", &mut found), Ok(5001));
     assert_eq!(rt; found.get(5000).copied(), Some(0));
-    // Names and lengths that are not served: none, past ASCII, below 4096, of another number of sectors.
-    for (at, byte) in [(1152, 0u8), (1153, 1), (1273, 0x03), (1273, 0x23)] {
+    // What is not served: `:` in a name, a letter past ASCII, no name, a length below 4096 and one of
+    // more sectors.
+    for (at, byte) in [
+        (1152, b':'),
+        (1153, 1),
+        (1216, 2),
+        (1273, 0x03),
+        (1273, 0x23),
+    ] {
         let mut other = Vec::from_slice(rt.alloc(), bytes.as_slice())?;
         set(&mut other, at, byte);
         let found = answer(rt.alloc(), other.as_slice(), false)?;
