@@ -1,5 +1,5 @@
 -- Writing into a chain: the room that it has, and its zeros.
-use Rattle.std.proofs.Common.{◌≡◌, ◌<◌, ◌≤◌, ◌+◌, ◌-◌, ◌*◌, ◌/◌, ◌%◌, inl, inr, min, ℕ, List, ◌++◌, take, replicate, length, refl, sym, subst, ◌∙◌, ap, arith, length-append}
+use Rattle.std.proofs.Common.{◌≡◌, ◌<◌, ◌≤◌, ◌+◌, ◌-◌, ◌*◌, ◌/◌, ◌%◌, inl, inr, min, max, true, ℕ, List, ◌++◌, take, replicate, length, refl, sym, subst, ◌∙◌, ap, arith, length-append, length-take}
 use Rattle.std.specs.Prelude.{Result, Ok, Err, IfOk, nat_lt, if◌then◌else◌}
 use Rattle.std.proofs.lemmas.Bool.{cases_lt, lt-ltb}
 use Rattle.std.proofs.lemmas.List.{take-replicate}
@@ -10,7 +10,9 @@ use Rattle.cfb_format.specs.declared.version.Version.TheVariants.{V3, V4}
 use Rattle.cfb_format.specs.Bytes.{sector_len}
 use Rattle.cfb_format.specs.Full.{rounded_up}
 use Rattle.cfb_chains.specs.ChainLists.{AfterMedium}
-use Rattle.cfb_chains.specs.Sectors.{IsMediumError}
+use Rattle.cfb_format.specs.Medium.{part, written}
+use Rattle.cfb_format.proofs.ByteLemmas.{part_written}
+use Rattle.cfb_chains.specs.Sectors.{SectorFile, IsMediumError}
 
 pub not_end : (v : Version) (k m : ℕ) → k ≤ m * sector_len v → (k % sector_len v ≡ 0 → ⊥) → k < m * sector_len v
 not_end V3 k m le some = omega arith
@@ -79,3 +81,13 @@ none_wanted_of V4 len r is zero = omega arith
 
 pub none_wanted : (v : Version) (len r l : ℕ) → l ≡ sector_len v → r ≡ len / l + min 1 (len % l) → r ≡ 0 → len ≡ 0
 none_wanted v len r l is eq zero = none_wanted_of v len r (subst (λ (k : ℕ). r ≡ len / k + min 1 (len % k)) is eq) zero
+
+-- what was written stands there
+pub there_of : {E : Type 0} (r : Result ℕ E) (x y : SectorFile) (at at' m : ℕ) (from : List ℕ) → at ≡ at' → IfOk r (λ n. n ≡ min (length from) m)
+    → IfOk r (λ n. 0 < n → y ≡ record x { bytes = written x.bytes at (take n from); len = max x.len (at + n); begun = true })
+    → IfOk r (λ n. 0 < n → part y.bytes at' n ≡ take n from)
+there_of (Err e) x y at at' m from same count file = tt
+there_of (Ok n) x y at at' m from same count file = λ some.
+    ap (λ (f : SectorFile). part f.bytes at' n) (file some)
+    ∙ ap (λ k. part (written x.bytes k (take n from)) at' n) same
+    ∙ part_written x.bytes at' n (take n from) (let l : length (take n from) ≡ min n (length from) = length-take n from in omega (arith, count, l))

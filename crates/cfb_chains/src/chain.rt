@@ -426,6 +426,9 @@ impl<'a, F: Medium, A: Heap + Clone> Chain<'a, F, A> {
             → (Contains ((allocator_of self.old).now.tables.fat_sectors ++ (allocator_of self.old).now.tables.difat_sectors) i → ⊥)
             → i ≢ slice_index (ids_of self.new) (position_of self.old / sector_len_of (version_of self.old))
             → SectorStays (version_of self.old) i (allocator_of self.old).now.file.bytes (allocator_of self.new).now.file.bytes }
+        ensures there { IsTrue F.tells → IfOk result (λ n. 0 < n → part (allocator_of self.new).now.file.bytes
+            (sector_start (version_of self.old) (slice_index (ids_of self.new) (position_of self.old / sector_len_of (version_of self.old)))
+            + position_of self.old % sector_len_of (version_of self.old)) n ≡ take n from.now) }
         ensures begun { 0 < length from.now → OnOk result ((allocator_of self.new).now.file.begun ≡ true) }
         ensures broken { IfErr result (AfterMedium
             (((allocator_of self.new).now.file.begun ≡ true) × (HasNoSectors self.new ⊎ HasGained (missing_of self.old (length from.now)) self.old self.new))
