@@ -1,8 +1,8 @@
 -- Writing into a chain: the room that it has, and its zeros.
 use Rattle.std.proofs.Common.{◌≡◌, ◌<◌, ◌≤◌, ◌+◌, ◌-◌, ◌*◌, ◌/◌, ◌%◌, inl, inr, min, max, true, ℕ, List, ◌++◌, take, replicate, length, refl, sym, subst, ◌∙◌, ap, arith, length-append, length-take}
-use Rattle.std.specs.Prelude.{Result, Ok, Err, IfOk, nat_lt, if◌then◌else◌}
+use Rattle.std.specs.Prelude.{Result, Ok, Err, IfOk, OnOk, nat_lt, if◌then◌else◌}
 use Rattle.std.proofs.lemmas.Bool.{cases_lt, lt-ltb}
-use Rattle.std.proofs.lemmas.List.{take-replicate}
+use Rattle.std.proofs.lemmas.List.{take-replicate, length-replicate}
 use Rattle.cfb_format.specs.declared.error.Error.{Error}
 use Rattle.cfb_format.specs.declared.error.Error.TheVariants.{NotFound, AlreadyExists, InvalidInput, InvalidData, Medium, Memory, Full, Unsound, Failed, Unsupported}
 use Rattle.cfb_format.specs.declared.version.Version.{Version}
@@ -91,3 +91,12 @@ there_of (Ok n) x y at at' m from same count file = λ some.
     ap (λ (f : SectorFile). part f.bytes at' n) (file some)
     ∙ ap (λ k. part (written x.bytes k (take n from)) at' n) same
     ∙ part_written x.bytes at' n (take n from) (let l : length (take n from) ≡ min n (length from) = length-take n from in omega (arith, count, l))
+
+-- and so do zeros
+pub zeroed_of : {T E : Type 0} (r : Result T E) (x y : SectorFile) (at at' n n' : ℕ) → at ≡ at' → n ≡ n'
+    → OnOk r (y ≡ record x { bytes = written x.bytes at (replicate n 0); len = max x.len (at + n); begun = true }) → OnOk r (part y.bytes at' n' ≡ replicate n' 0)
+zeroed_of (Err e) x y at at' n n' same count file = tt
+zeroed_of (Ok u) x y at at' n n' same count file =
+    ap (λ (f : SectorFile). part f.bytes at' n') file
+    ∙ (λ j. part (written x.bytes (same j) (replicate (count j) 0)) at' n')
+    ∙ part_written x.bytes at' n' (replicate n' 0) (sym (length-replicate n' 0))

@@ -468,6 +468,11 @@ impl<'a, F: Medium, A: Heap + Clone> Chain<'a, F, A> {
         ensures cut { wanted_of self.old len ≤ length (ids_of self.old) → OnOk result (ids_of self.new ≡ take (wanted_of self.old len) (ids_of self.old)) }
         ensures freed { wanted_of self.old len < length (ids_of self.old) → OnOk result (Shortens (take (wanted_of self.old len) (ids_of self.old))
             (drop (wanted_of self.old len) (ids_of self.old)) (allocator_of self.old).now.tables (allocator_of self.new).now.tables) }
+        ensures zeroed { IsTrue F.tells → wanted_of self.old len ≤ length (ids_of self.old) → 0 < len % sector_len_of (version_of self.old)
+            → OnOk result (part (allocator_of self.new).now.file.bytes
+            (sector_start (version_of self.old) (slice_index (ids_of self.new) (len / sector_len_of (version_of self.old))) + len % sector_len_of (version_of self.old))
+            (sector_len_of (version_of self.old) - len % sector_len_of (version_of self.old))
+            ≡ replicate (sector_len_of (version_of self.old) - len % sector_len_of (version_of self.old)) 0) }
         ensures tables { wanted_of self.old len ≡ length (ids_of self.old) → (allocator_of self.new).now.tables ≡ (allocator_of self.old).now.tables }
         ensures holds { IsTrue F.tells → (validation : Validation) → HoldsTables validation (allocator_of self.old).now
             → (len ≡ 0 → IsUnnamed (allocator_of self.old).now.tables.fat (start_of self.old)) → OnOk result (HoldsTables validation (allocator_of self.new).now) }

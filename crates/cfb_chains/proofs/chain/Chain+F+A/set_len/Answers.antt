@@ -1,9 +1,10 @@
-use Rattle.std.proofs.Common.{◌/◌, ◌∙◌, sym}
+use Rattle.std.proofs.Common.{◌+◌, ◌-◌, ◌/◌, ◌%◌, ◌<◌, ◌∙◌, ℕ, sym, subst}
 use Rattle.std.specs.Prelude.{slice_index}
 use Rattle.std.proofs.lemmas.List.Elements.{Contains-append_left}
-use Rattle.cfb_format.specs.Bytes.{sector_len}
-use Rattle.cfb_chains.specs.LentChain.{allocator_of, version_of}
-use Rattle.cfb_chains.proofs.ChainWrites.{none_wanted}
+use Rattle.cfb_format.specs.Bytes.{sector_len, sector_start}
+use Rattle.cfb_format.specs.declared.version.Version.{Version}
+use Rattle.cfb_chains.specs.LentChain.{allocator_of, version_of, tail_of, tail_place}
+use Rattle.cfb_chains.proofs.ChainWrites.{none_wanted, zeroed_of}
 use Rattle.cfb_chains.proofs.SectorLemmas.{SectorStays_next}
 use Rattle.cfb_chains.proofs.chain.Chain+F+A.set_len.Goals as goal
 
@@ -29,3 +30,14 @@ returns-clause-others g c told i busy out other =
     SectorStays_next (version_of c.args.self.now) (version_of c.cut.new.self) i _ _ _ version
     ((c.cut.ensures.changes told).sectors i (λ m. out (Contains-append_left t.fat_sectors t.difat_sectors i m)))
     (c.zero_tail.ensures.sectors told i (λ e. other (e ∙ (λ j. slice_index (sym ids j) (c.args.len / sector_len (version j))))))
+
+pub returns-clause-zeroed : goal.returns-clause-zeroed
+returns-clause-zeroed g c told fewer some =
+    let cut = c.cut.new.self in
+    let len = c.args.len in
+    let version = c.cut.ensures.version in
+    let ids = c.zero_tail.ensures.chain.0 in
+    zeroed_of c.zero_tail.result (allocator_of cut).now.file (allocator_of c.zero_tail.new.self).now.file (tail_place cut len) _ (tail_of cut len) _
+    (λ j. sector_start (version j) (slice_index (sym ids j) (len / sector_len (version j))) + len % sector_len (version j))
+    (λ j. sector_len (version j) - len % sector_len (version j))
+    (c.zero_tail.ensures.ok told (subst (λ (v : Version). 0 < len % sector_len v) (sym version) some))
