@@ -26,7 +26,11 @@ index_inside : (v : Version) (k m : ℕ) → k < m * sector_len v → k / sector
 index_inside V3 k m h = omega arith
 index_inside V4 k m h = omega arith
 
--- the sector where a byte of it lies is one of the file
+-- the sector where a byte of it lies is one of its own
+pub sector_member : (v : Version) (ids : List ℕ) (k : ℕ) → k < length ids * sector_len v → Contains ids (slice_index ids (k / sector_len v))
+sector_member v ids k inside = Contains-get_or ids (k / sector_len v) 0 (index_inside v k (length ids) inside)
+
+-- and one of the file
 pub sector_inside : (v : Version) (table : List ℕ) (s : ℕ) (ids : List ℕ) (k : ℕ) → chain_from table s ≡ Some ids → k < length ids * sector_len v
     → slice_index ids (k / sector_len v) < length table
 sector_inside v table s ids k e inside =

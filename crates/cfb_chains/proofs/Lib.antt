@@ -12,6 +12,8 @@ pub mod ReadLemmas
 pub mod ChainBytes
 pub mod ChainView
 pub mod ChainLists
+pub mod ChainHeld
+pub mod ChainWrites
 pub mod FreedLemmas
 pub mod Listed
 pub mod TableWords

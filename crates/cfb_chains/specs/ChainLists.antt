@@ -28,6 +28,19 @@ Leaves none old new Unsound = new ≡ old
 Leaves none old new Failed = new ≡ old
 Leaves none old new Unsupported = new ≡ old
 
+-- after the medium's error so much holds, and after any other so much
+abbrev pub AfterMedium : Type 0 → Type 0 → Error → Type 0
+AfterMedium broken kept (Medium f) = broken
+AfterMedium broken kept (NotFound d) = kept
+AfterMedium broken kept (AlreadyExists d) = kept
+AfterMedium broken kept (InvalidInput d) = kept
+AfterMedium broken kept (InvalidData d) = kept
+AfterMedium broken kept Memory = kept
+AfterMedium broken kept Full = kept
+AfterMedium broken kept Unsound = kept
+AfterMedium broken kept Failed = kept
+AfterMedium broken kept Unsupported = kept
+
 -- of a chain these sectors are left, the ones behind them are freed, and nothing else changed
 pub record Shortens (left gone : List ℕ) (old new : TableState) : Type 0 where
   pub same_length : length new.fat ≡ length old.fat

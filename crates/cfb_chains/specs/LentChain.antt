@@ -1,5 +1,5 @@
 -- What is seen of a chain whose allocator is lent: one list of bytes with a position (MS-CFB 2.3).
-use Rattle.std.specs.Prelude.{◌≡◌, ℕ, ◌+◌, ◌-◌, ◌*◌, ◌/◌, ◌%◌, List, length, Result, Vec, slice_index, nat_lt, if◌then◌else◌}
+use Rattle.std.specs.Prelude.{◌≡◌, ℕ, ◌+◌, ◌-◌, ◌*◌, ◌/◌, ◌%◌, min, List, [], ◌++◌, length, take, Result, Vec, slice_index, nat_lt, if◌then◌else◌}
 use Rattle.std.specs.Borrow.{RattleType, MutBor, Fml, RestsIfErr}
 use Rattle.std.specs.declared.alloc.Allocator as heap
 use Rattle.cfb_format.specs.Bytes.{sector_len, sector_start}
@@ -8,6 +8,7 @@ use Rattle.cfb_format.specs.declared.error.Error.{Error}
 use Rattle.cfb_format.specs.declared.medium.ReadMedium as medium
 use Rattle.cfb_format.specs.declared.version.Version.{Version}
 use Rattle.cfb_chains.specs.Alloc.{AllocatorState}
+use Rattle.cfb_chains.specs.ChainLists.{gained}
 use Rattle.cfb_chains.specs.declared.chain.Chain.{Chain}
 use Rattle.cfb_chains.specs.declared.chain.Numbers as numbers
 use Rattle.cfb_chains.specs.declared.sector.SectorInit.{SectorInit}
@@ -51,6 +52,33 @@ module _ {F A : Type 0} {g : medium.Ghosts F} {n : numbers.Ghosts (Vec ℕ A)} w
   -- how many sectors are missing for so many bytes from the position on
   abbrev pub missing_of : Chain F A (Vec ℕ A) g n → ℕ → ℕ
   missing_of c count = rounded_up (position_of c + count - len_of c) (sector_len (version_of c))
+
+  -- how many sectors so many bytes need
+  abbrev pub wanted_of : Chain F A (Vec ℕ A) g n → ℕ → ℕ
+  wanted_of c len = rounded_up len (sector_len (version_of c))
+
+  -- how many bytes the sector of a byte has from there on, where no sector begins there, and where in the file they begin
+  abbrev pub tail_of : Chain F A (Vec ℕ A) g n → ℕ → ℕ
+  tail_of c offset = sector_len (version_of c) - offset % sector_len (version_of c)
+
+  abbrev pub tail_place : Chain F A (Vec ℕ A) g n → ℕ → ℕ
+  tail_place c offset = sector_start (version_of c) (slice_index (ids_of c) (offset / sector_len (version_of c))) + offset % sector_len (version_of c)
+
+  -- it has no sectors
+  abbrev pub HasNoSectors : Chain F A (Vec ℕ A) g n → Type 0
+  HasNoSectors c = (ids_of c ≡ []) × (position_of c ≡ 0)
+
+  -- it has so many sectors more, and the position stayed
+  abbrev pub HasGained : ℕ → Chain F A (Vec ℕ A) g n → Chain F A (Vec ℕ A) g n → Type 0
+  HasGained count old new = (ids_of new ≡ ids_of old ++ gained (ids_of old) (ids_of new)) × (length (gained (ids_of old) (ids_of new)) ≡ count) × (position_of new ≡ position_of old)
+
+  -- it has so many of its sectors, and the position is the end where it was past it
+  abbrev pub HasKept : ℕ → Chain F A (Vec ℕ A) g n → Chain F A (Vec ℕ A) g n → Type 0
+  HasKept count old new = (ids_of new ≡ take count (ids_of old)) × (position_of new ≡ min (position_of old) (len_of new))
+
+  -- nothing has changed
+  abbrev pub IsAsBefore : Chain F A (Vec ℕ A) g n → Chain F A (Vec ℕ A) g n → Type 0
+  IsAsBefore old new = ((allocator_of new).now ≡ (allocator_of old).now) × (ids_of new ≡ ids_of old) × (position_of new ≡ position_of old)
 
 module _ (F A : RattleType) (g : medium.Ghosts F.Denot) (h : heap.Ghosts A.Denot) {n : numbers.Ghosts (Vec ℕ A.Denot)} where
   -- the allocator is as before where no chain was opened

@@ -1,8 +1,8 @@
 //! A chain of sectors as one list of bytes with a position (MS-CFB 2.3).
 ghost use Rattle.std.specs.Prelude.{◌≡◌, ◌≢◌, ℕ, List, [], ◌++◌, ◌+◌, ◌-◌, ◌*◌, ◌/◌, ◌%◌, ◌<◌, ◌≤◌, max, min, length, replicate, true, take, drop, slice_index, ◌⊎◌, Contains, Some, IsTrue, IfOk, IfErr, IsErrAnd, OnOk, OnErr, MatchResult, vec_len, vec_capacity};
 ghost use Rattle.cfb_format.specs.declared.validate.Validation.{Validation};
-ghost use Rattle.cfb_format.specs.Bytes.{sector_len as sector_len_of, sector_start, max_regular_sector, end_of_chain};
-ghost use Rattle.cfb_format.specs.Chain.{IsChain, chain_from};
+ghost use Rattle.cfb_format.specs.Bytes.{sector_len as sector_len_of, sector_start, max_regular_sector, end_of_chain, free_sector};
+ghost use Rattle.cfb_format.specs.Chain.{IsChain, chain_from, value};
 ghost use Rattle.cfb_format.specs.Content.{place_in_chain, placed_from};
 ghost use Rattle.cfb_format.specs.Medium.{ChangesOnly, part, written};
 ghost use Rattle.cfb_format.specs.Refused.{CountsFailure, IsInvalidData};
@@ -11,7 +11,7 @@ ghost use Rattle.cfb_chains.specs.Clean.{IsUnnamed};
 ghost use Rattle.cfb_chains.specs.Sectors.{IsMediumError, SectorStays};
 ghost use Rattle.cfb_chains.specs.Refused.{WalkRefused, ChangeRefused, BreaksOff, IsInvalidInput};
 ghost use Rattle.cfb_chains.specs.Tables.{FreesChain, HasTaken, TakesFor, IsTooFew, ending, start_of as first_of};
-ghost use Rattle.cfb_chains.specs.ChainLists.{Leaves, Shortens, gained, last_of};
+ghost use Rattle.cfb_chains.specs.ChainLists.{AfterMedium, Leaves, Shortens, gained, last_of};
 
 use crate::alloc::Allocator;
 use crate::sector::SectorInit;
@@ -153,12 +153,13 @@ impl<'a, F: ReadMedium, A: Heap> Chain<'a, F, A> {
         Ok(())
     }
 
-    /// The sector where the next byte lies, and 0 at the end.
-    fn sector_here(&self) -> u32
-        ensures sector { result ≡ slice_index (ids_of self.now) (position_of self.now / sector_len_of (version_of self.now)) }
-        ensures inside { position_of self.now < len_of self.now → result < length (allocator_of self.now).now.tables.fat }
+    /// The sector where a byte lies, and 0 past the end.
+    fn sector_at(&self, position: u64) -> u32
+        ensures sector { result ≡ slice_index (ids_of self.now) (position / sector_len_of (version_of self.now)) }
+        ensures member { position < len_of self.now → Contains (ids_of self.now) result }
+        ensures inside { position < len_of self.now → result < length (allocator_of self.now).now.tables.fat }
     {
-        let index = self.position / self.allocator.sector_len() as u64;
+        let index = position / self.allocator.sector_len() as u64;
         self.ids.numbers().get(index as usize).copied().unwrap_or(0)
     }
 
@@ -238,7 +239,7 @@ impl<'a, F: ReadMedium, A: Heap> Chain<'a, F, A> {
         ensures bytes { IsTrue F.tells → (allocator_of self.new).now.file.bytes ≡ (allocator_of self.old).now.file.bytes }
         ensures counts { IsTrue F.tells → CountsFailure F.read_faults result (allocator_of self.old).now.file.failures (allocator_of self.new).now.file.failures }
     {
-        let sector = self.sector_here();
+        let sector = self.sector_at(self.position);
         let offset = self.offset_here();
         let count = read_sector(self.allocator, sector, offset, into)?;
         self.position += count as u64;
@@ -260,7 +261,7 @@ impl<'a, F: ReadMedium, A: Heap> Chain<'a, F, A> {
 }
 
 impl<'a, F: Medium, A: Heap> Chain<'a, F, A> {
-    ghost use Rattle.cfb_chains.specs.LentChain.{allocator_of, start_of, ids_of, init_of, version_of, len_of, position_of, room_of, sector_of, place_of};
+    ghost use Rattle.cfb_chains.specs.LentChain.{allocator_of, start_of, ids_of, init_of, version_of, len_of, position_of, room_of, sector_of, place_of, tail_of, tail_place};
 
     /// Writes a beginning of `from` over what the sector at the position has from there on, goes on behind it, and answers how many
     /// bytes that is: none exactly where `from` is empty or the end is reached. `Medium` where the medium fails: the position then
@@ -283,6 +284,7 @@ impl<'a, F: Medium, A: Heap> Chain<'a, F, A> {
           len = max (allocator_of self.old).now.file.len (place_of self.old + n);
           begun = true;
         }) }
+        ensures holds { IsTrue F.tells → (validation : Validation) → HoldsTables validation (allocator_of self.old).now → OnOk result (HoldsTables validation (allocator_of self.new).now) }
         ensures err { IfErr result IsMediumError }
         ensures begun { 0 < min (length from.now) (room_of self.old) → (allocator_of self.new).now.file.begun ≡ true }
         ensures sectors { IsTrue F.tells → (i : ℕ) → i ≢ sector_of self.old
@@ -319,6 +321,7 @@ impl<'a, F: Medium, A: Heap> Chain<'a, F, A> {
           len = max (allocator_of self.old).now.file.len (place_of self.old + length from.now);
           begun = true;
         }) }
+        ensures holds { IsTrue F.tells → (validation : Validation) → HoldsTables validation (allocator_of self.old).now → OnOk result (HoldsTables validation (allocator_of self.new).now) }
         ensures err { IfErr result IsMediumError }
         ensures begun { (allocator_of self.new).now.file.begun ≡ true }
         ensures sectors { IsTrue F.tells → (i : ℕ) → i ≢ sector_of self.old
@@ -327,16 +330,53 @@ impl<'a, F: Medium, A: Heap> Chain<'a, F, A> {
             (allocator_of self.old).now.file.bytes (allocator_of self.new).now.file.bytes }
         ensures counts { IsTrue F.tells → CountsFailure F.write_faults result (allocator_of self.old).now.file.failures (allocator_of self.new).now.file.failures }
     {
-        let sector = self.sector_here();
+        let sector = self.sector_at(self.position);
         let offset = self.offset_here();
         write_sector(self.allocator, sector, offset, from)?;
         self.position += from.len() as u64;
         Ok(())
     }
+
+    /// Makes the bytes from this one to the end of its sector zeros: none where a sector begins there. `Medium` where the medium
+    /// fails: of the sectors that one alone has changed then.
+    pub fn zero_tail(&mut self, offset: u64) -> Result<(), Error>
+        requires { offset ≤ len_of self.old }
+        ensures same_allocator { (allocator_of self.new).ghost_name ≡ (allocator_of self.old).ghost_name }
+        ensures tables { (allocator_of self.new).now.tables ≡ (allocator_of self.old).now.tables }
+        ensures kept { (allocator_of self.new).now.file ≡ record (allocator_of self.old).now.file {
+          len = (allocator_of self.new).now.file.len;
+          bytes = (allocator_of self.new).now.file.bytes;
+          failures = (allocator_of self.new).now.file.failures;
+          begun = (allocator_of self.new).now.file.begun;
+        } }
+        ensures chain { (ids_of self.new ≡ ids_of self.old) × (start_of self.new ≡ start_of self.old) × (init_of self.new ≡ init_of self.old) }
+        ensures position { position_of self.new ≡ position_of self.old }
+        ensures none { offset % sector_len_of (version_of self.old) ≡ 0 → OnErr result ⊥ × ((allocator_of self.new).now ≡ (allocator_of self.old).now) }
+        ensures ok { IsTrue F.tells → 0 < offset % sector_len_of (version_of self.old) → OnOk result ((allocator_of self.new).now.file ≡ record (allocator_of self.old).now.file {
+          bytes = written (allocator_of self.old).now.file.bytes (tail_place self.old offset) (replicate (tail_of self.old offset) 0);
+          len = max (allocator_of self.old).now.file.len (tail_place self.old offset + tail_of self.old offset);
+          begun = true;
+        }) }
+        ensures holds { IsTrue F.tells → (validation : Validation) → HoldsTables validation (allocator_of self.old).now → OnOk result (HoldsTables validation (allocator_of self.new).now) }
+        ensures err { IfErr result IsMediumError }
+        ensures begun { 0 < offset % sector_len_of (version_of self.old) → (allocator_of self.new).now.file.begun ≡ true }
+        ensures sectors { IsTrue F.tells → (i : ℕ) → i ≢ slice_index (ids_of self.old) (offset / sector_len_of (version_of self.old))
+            → SectorStays (version_of self.old) i (allocator_of self.old).now.file.bytes (allocator_of self.new).now.file.bytes }
+        ensures others { IsTrue F.tells → ChangesOnly (tail_place self.old offset) (tail_of self.old offset)
+            (allocator_of self.old).now.file.bytes (allocator_of self.new).now.file.bytes }
+        ensures counts { IsTrue F.tells → CountsFailure F.write_faults result (allocator_of self.old).now.file.failures (allocator_of self.new).now.file.failures }
+    {
+        let rest = (offset % self.allocator.sector_len() as u64) as usize;
+        if rest == 0 {
+            return Ok(());
+        }
+        let sector = self.sector_at(offset);
+        zero_behind(self.allocator, sector, rest)
+    }
 }
 
 impl<'a, F: Medium, A: Heap + Clone> Chain<'a, F, A> {
-    ghost use Rattle.cfb_chains.specs.LentChain.{allocator_of, start_of, ids_of, init_of, version_of, len_of, position_of, missing_of};
+    ghost use Rattle.cfb_chains.specs.LentChain.{allocator_of, start_of, ids_of, init_of, version_of, len_of, position_of, missing_of, wanted_of, HasNoSectors, HasGained, HasKept, IsAsBefore};
 
     /// Frees its sectors: then it has none.
     ///
@@ -359,6 +399,102 @@ impl<'a, F: Medium, A: Heap + Clone> Chain<'a, F, A> {
         ensures counts { IsTrue F.tells → CountsFailure F.write_faults result (allocator_of self.old).now.file.failures (allocator_of self.new).now.file.failures }
     {
         self.cut(0)
+    }
+
+    /// Writes a beginning of `from`, at least one byte of it, into the sector at the position from there on, goes on behind it, and
+    /// answers how many bytes that is: none exactly where `from` is empty. The chain has room for all of `from` then: where sectors
+    /// were missing it has gained them.
+    ///
+    /// Where sectors are missing: `InvalidData` where the FAT sectors do not cover the file, `Full` where fewer numbers are left than
+    /// the missing sectors and the table sectors that they need, and `Memory`: nothing has changed then. `Medium` where the medium
+    /// fails: then it has gained the sectors or, where that broke off, has none, and no byte has changed but in the sector at the
+    /// position, in table sectors and in sectors that were free.
+    pub fn write(&mut self, from: &[u8]) -> Result<usize, Error>
+        ensures same_allocator { (allocator_of self.new).ghost_name ≡ (allocator_of self.old).ghost_name }
+        ensures init { init_of self.new ≡ init_of self.old }
+        ensures version { version_of self.new ≡ version_of self.old }
+        ensures count { IfOk result (λ n. n ≡ min (length from.now) (sector_len_of (version_of self.old) - position_of self.old % sector_len_of (version_of self.old))) }
+        ensures position { IfOk result (λ n. position_of self.new ≡ position_of self.old + n) }
+        ensures ids { OnOk result (ids_of self.new ≡ ids_of self.old ++ gained (ids_of self.old) (ids_of self.new)) }
+        ensures gained { OnOk result (length (gained (ids_of self.old) (ids_of self.new)) ≡ missing_of self.old (length from.now)) }
+        ensures tables { missing_of self.old (length from.now) ≡ 0 → (allocator_of self.new).now.tables ≡ (allocator_of self.old).now.tables }
+        ensures taken { 0 < missing_of self.old (length from.now) → OnOk result (HasTaken (allocator_of self.old).now.tables (allocator_of self.new).now.tables
+            (ending (last_of (ids_of self.old))) (gained (ids_of self.old) (ids_of self.new))) }
+        ensures enough { 0 < missing_of self.old (length from.now) → OnOk result (IsTooFew (allocator_of self.old).now.tables (missing_of self.old (length from.now)) → ⊥) }
+        ensures holds { IsTrue F.tells → (validation : Validation) → HoldsTables validation (allocator_of self.old).now → OnOk result (HoldsTables validation (allocator_of self.new).now) }
+        ensures others { IsTrue F.tells → (i : ℕ) → (value (allocator_of self.old).now.tables.fat i ≡ free_sector → ⊥)
+            → (Contains ((allocator_of self.old).now.tables.fat_sectors ++ (allocator_of self.old).now.tables.difat_sectors) i → ⊥)
+            → i ≢ slice_index (ids_of self.new) (position_of self.old / sector_len_of (version_of self.old))
+            → SectorStays (version_of self.old) i (allocator_of self.old).now.file.bytes (allocator_of self.new).now.file.bytes }
+        ensures there { IsTrue F.tells → IfOk result (λ n. 0 < n → part (allocator_of self.new).now.file.bytes
+            (sector_start (version_of self.old) (slice_index (ids_of self.new) (position_of self.old / sector_len_of (version_of self.old)))
+            + position_of self.old % sector_len_of (version_of self.old)) n ≡ take n from.now) }
+        ensures begun { 0 < length from.now → OnOk result ((allocator_of self.new).now.file.begun ≡ true) }
+        ensures broken { IfErr result (AfterMedium
+            (((allocator_of self.new).now.file.begun ≡ true) × (HasNoSectors self.new ⊎ HasGained (missing_of self.old (length from.now)) self.old self.new))
+            (IsAsBefore self.old self.new)) }
+        ensures err { IfErr result (ChangeRefused (IsUsable (allocator_of self.old).now.tables → ⊥) Unit
+            (IsTooFew (allocator_of self.old).now.tables (missing_of self.old (length from.now))) Unit) }
+        ensures needed { missing_of self.old (length from.now) ≡ 0 → IfErr result IsMediumError }
+        ensures counts { IsTrue F.tells → CountsFailure F.write_faults result (allocator_of self.old).now.file.failures (allocator_of self.new).now.file.failures }
+    {
+        let missing = self.missing(from.len());
+        if missing == 0 {
+            return self.write_within(from);
+        }
+        self.grow(missing)?;
+        self.write_within(from)
+    }
+
+    /// Lets the chain have the sectors that so many bytes need: it gains those that are missing, or those behind are freed. Where it
+    /// gains none, the bytes of the last one behind this length become zeros. The position stays, or is the end where it was past it.
+    ///
+    /// `InvalidData`, `Full` and `Memory` as in `write`: nothing has changed then. `Medium` where the medium fails: it has no sectors
+    /// where a gain or a loss of sectors broke off.
+    pub fn set_len(&mut self, len: u64) -> Result<(), Error>
+        ensures same_allocator { (allocator_of self.new).ghost_name ≡ (allocator_of self.old).ghost_name }
+        ensures init { init_of self.new ≡ init_of self.old }
+        ensures version { version_of self.new ≡ version_of self.old }
+        ensures count { OnOk result (length (ids_of self.new) ≡ wanted_of self.old len) }
+        ensures position { OnOk result (position_of self.new ≡ min (position_of self.old) (len_of self.new)) }
+        ensures grown { length (ids_of self.old) < wanted_of self.old len → OnOk result (ids_of self.new ≡ ids_of self.old ++ gained (ids_of self.old) (ids_of self.new)) }
+        ensures taken { length (ids_of self.old) < wanted_of self.old len → OnOk result (HasTaken (allocator_of self.old).now.tables (allocator_of self.new).now.tables
+            (ending (last_of (ids_of self.old))) (gained (ids_of self.old) (ids_of self.new))) }
+        ensures enough { length (ids_of self.old) < wanted_of self.old len
+            → OnOk result (IsTooFew (allocator_of self.old).now.tables (wanted_of self.old len - length (ids_of self.old)) → ⊥) }
+        ensures filled { IsTrue F.tells → (validation : Validation) → HoldsTables validation (allocator_of self.old).now → length (ids_of self.old) < wanted_of self.old len
+            → OnOk result ((i : ℕ) → Contains (gained (ids_of self.old) (ids_of self.new)) i
+            → IsFilled (version_of self.new) (init_of self.old) (allocator_of self.new).now.file.bytes i) }
+        ensures cut { wanted_of self.old len ≤ length (ids_of self.old) → OnOk result (ids_of self.new ≡ take (wanted_of self.old len) (ids_of self.old)) }
+        ensures freed { wanted_of self.old len < length (ids_of self.old) → OnOk result (Shortens (take (wanted_of self.old len) (ids_of self.old))
+            (drop (wanted_of self.old len) (ids_of self.old)) (allocator_of self.old).now.tables (allocator_of self.new).now.tables) }
+        ensures zeroed { IsTrue F.tells → wanted_of self.old len ≤ length (ids_of self.old) → 0 < len % sector_len_of (version_of self.old)
+            → OnOk result (part (allocator_of self.new).now.file.bytes
+            (sector_start (version_of self.old) (slice_index (ids_of self.new) (len / sector_len_of (version_of self.old))) + len % sector_len_of (version_of self.old))
+            (sector_len_of (version_of self.old) - len % sector_len_of (version_of self.old))
+            ≡ replicate (sector_len_of (version_of self.old) - len % sector_len_of (version_of self.old)) 0) }
+        ensures tables { wanted_of self.old len ≡ length (ids_of self.old) → (allocator_of self.new).now.tables ≡ (allocator_of self.old).now.tables }
+        ensures holds { IsTrue F.tells → (validation : Validation) → HoldsTables validation (allocator_of self.old).now
+            → (len ≡ 0 → IsUnnamed (allocator_of self.old).now.tables.fat (start_of self.old)) → OnOk result (HoldsTables validation (allocator_of self.new).now) }
+        ensures others { IsTrue F.tells → (i : ℕ) → (value (allocator_of self.old).now.tables.fat i ≡ free_sector → ⊥)
+            → (Contains ((allocator_of self.old).now.tables.fat_sectors ++ (allocator_of self.old).now.tables.difat_sectors) i → ⊥)
+            → i ≢ slice_index (ids_of self.new) (len / sector_len_of (version_of self.old))
+            → SectorStays (version_of self.old) i (allocator_of self.old).now.file.bytes (allocator_of self.new).now.file.bytes }
+        ensures broken { IfErr result (AfterMedium
+            (((allocator_of self.new).now.file.begun ≡ true) × (HasNoSectors self.new ⊎ HasKept (wanted_of self.old len) self.old self.new))
+            (IsAsBefore self.old self.new)) }
+        ensures err { IfErr result (ChangeRefused (IsUsable (allocator_of self.old).now.tables → ⊥) Unit
+            (IsTooFew (allocator_of self.old).now.tables (wanted_of self.old len - length (ids_of self.old))) Unit) }
+        ensures needed { wanted_of self.old len ≡ length (ids_of self.old) → IfErr result IsMediumError }
+        ensures counts { IsTrue F.tells → CountsFailure F.write_faults result (allocator_of self.old).now.file.failures (allocator_of self.new).now.file.failures }
+    {
+        let sectors = len.div_ceil(self.allocator.sector_len() as u64) as usize;
+        let have = self.num_sectors();
+        if sectors > have {
+            return self.grow(sectors - have);
+        }
+        self.cut(sectors)?;
+        self.zero_tail(len)
     }
 
     /// Adds so many sectors at its end: all of them or none. After `Medium` it has no sectors: what was taken is not known to be in
@@ -630,6 +766,48 @@ fn write_sector<F: Medium, A: Heap>(
     let len = allocator.file_len();
     let _met = len;
     allocator.write_contiguous(sector, offset, from)
+}
+
+/// Makes the bytes of a sector from `offset` on zeros. `Medium` where the medium fails.
+fn zero_behind<F: Medium, A: Heap>(
+    allocator: &mut Allocator<F, A>,
+    sector: u32,
+    offset: usize,
+) -> Result<(), Error>
+    requires within { offset < sector_len_of allocator.old.tables.version }
+    requires there { sector < length allocator.old.tables.fat }
+    ensures tables { allocator.new.tables ≡ allocator.old.tables }
+    ensures kept { allocator.new.file ≡ record allocator.old.file {
+      len = allocator.new.file.len;
+      bytes = allocator.new.file.bytes;
+      failures = allocator.new.file.failures;
+      begun = allocator.new.file.begun;
+    } }
+    ensures ok { IsTrue F.tells → OnOk result (allocator.new.file ≡ record allocator.old.file {
+      bytes = written allocator.old.file.bytes (sector_start allocator.old.tables.version sector + offset) (replicate (sector_len_of allocator.old.tables.version - offset) 0);
+      len = max allocator.old.file.len (sector_start allocator.old.tables.version sector + offset + (sector_len_of allocator.old.tables.version - offset));
+      begun = true;
+    }) }
+    ensures err { IfErr result IsMediumError }
+    ensures begun { allocator.new.file.begun ≡ true }
+    ensures sectors { IsTrue F.tells → (i : ℕ) → i ≢ sector → SectorStays allocator.old.tables.version i allocator.old.file.bytes allocator.new.file.bytes }
+    ensures others { IsTrue F.tells → ChangesOnly (sector_start allocator.old.tables.version sector + offset) (sector_len_of allocator.old.tables.version - offset)
+        allocator.old.file.bytes allocator.new.file.bytes }
+    ensures counts { IsTrue F.tells → CountsFailure F.write_faults result allocator.old.file.failures allocator.new.file.failures }
+{
+    let zeros = [0; 4096];
+    let len = allocator.sector_len() - offset;
+    write_sector(allocator, sector, offset, first_zeros(&zeros, len))
+}
+
+/// So many of these zeros.
+#[tactic(auto, using(crate::proofs::ChainWrites::zeros_of))]
+fn first_zeros(zeros: &[u8], len: usize) -> &[u8]
+    requires zeros { zeros.now ≡ replicate 4096 0 }
+    requires few { len ≤ 4096 }
+    ensures { result.now ≡ replicate len 0 }
+{
+    &zeros[..len]
 }
 
 /// A refusal of what the file ends before.

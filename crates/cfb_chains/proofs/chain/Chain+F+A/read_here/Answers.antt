@@ -10,6 +10,6 @@ invariant_of-self-2-clause-within g c =
 
 pub returns-clause-ok : goal.returns-clause-ok
 returns-clause-ok g c told =
-    read_is_placed _ _ _ _ _ _ _ _ c.sector_here-sector.ensures.sector c.offset_here-offset.ensures.offset c.requires.inside
+    read_is_placed _ _ _ _ _ _ _ _ c.sector_at-sector.ensures.sector c.offset_here-offset.ensures.offset c.requires.inside
     (omega (arith, c.requires.within, c.offset_here-offset.ensures.offset, c.in_ok-count.ensures.count))
     (omega (arith, c.in_ok-count.ensures.count, c.read_sector.auto.into)) (c.in_ok-count.ensures.ok told)

@@ -1,0 +1,102 @@
+-- Writing into a chain: the room that it has, and its zeros.
+use Rattle.std.proofs.Common.{◌≡◌, ◌<◌, ◌≤◌, ◌+◌, ◌-◌, ◌*◌, ◌/◌, ◌%◌, inl, inr, min, max, true, ℕ, List, ◌++◌, take, replicate, length, refl, sym, subst, ◌∙◌, ap, arith, length-append, length-take}
+use Rattle.std.specs.Prelude.{Result, Ok, Err, IfOk, OnOk, nat_lt, if◌then◌else◌}
+use Rattle.std.proofs.lemmas.Bool.{cases_lt, lt-ltb}
+use Rattle.std.proofs.lemmas.List.{take-replicate, length-replicate}
+use Rattle.cfb_format.specs.declared.error.Error.{Error}
+use Rattle.cfb_format.specs.declared.error.Error.TheVariants.{NotFound, AlreadyExists, InvalidInput, InvalidData, Medium, Memory, Full, Unsound, Failed, Unsupported}
+use Rattle.cfb_format.specs.declared.version.Version.{Version}
+use Rattle.cfb_format.specs.declared.version.Version.TheVariants.{V3, V4}
+use Rattle.cfb_format.specs.Bytes.{sector_len}
+use Rattle.cfb_format.specs.Full.{rounded_up}
+use Rattle.cfb_chains.specs.ChainLists.{AfterMedium}
+use Rattle.cfb_format.specs.Medium.{part, written}
+use Rattle.cfb_format.proofs.ByteLemmas.{part_written}
+use Rattle.cfb_chains.specs.Sectors.{SectorFile, IsMediumError}
+
+pub not_end : (v : Version) (k m : ℕ) → k ≤ m * sector_len v → (k % sector_len v ≡ 0 → ⊥) → k < m * sector_len v
+not_end V3 k m le some = omega arith
+not_end V4 k m le some = omega arith
+
+pub rest_short : (v : Version) (k : ℕ) → k % sector_len v < sector_len v
+rest_short V3 k = omega arith
+rest_short V4 k = omega arith
+
+pub none_missing : (v : Version) (p n len : ℕ) → rounded_up (p + n - len) (sector_len v) ≡ 0 → p + n ≤ len
+none_missing V3 p n len none = omega arith
+none_missing V4 p n len none = omega arith
+
+pub enough_room : (v : Version) (p n m more : ℕ) → more ≡ rounded_up (p + n - m * sector_len v) (sector_len v) → p + n ≤ (m + more) * sector_len v
+enough_room V3 p n m more is = omega arith
+enough_room V4 p n m more is = omega arith
+
+-- as much as is given fits behind the position
+pub room_enough : (v : Version) (p n len : ℕ) → p + n ≤ len
+    → min n (if nat_lt p len then sector_len v - p % sector_len v else 0) ≡ min n (sector_len v - p % sector_len v)
+room_enough v p n len fits = elim (cases_lt p len) [
+  | inl lt ↦ ap (λ b. min n (if b then sector_len v - p % sector_len v else 0)) (lt-ltb p len lt)
+  | inr ge ↦ (let none : n ≡ 0 = omega (arith, ge, fits) in omega (arith, none))
+]
+
+pub zeros_of : (zeros : List ℕ) (n : ℕ) → zeros ≡ replicate 4096 0 → n ≤ 4096 → take n zeros ≡ replicate n 0
+zeros_of zeros n is few = ap (take n) is ∙ take-replicate n 4096 0 few
+
+pub after_medium : (broken kept : Type 0) (e : Error) → IsMediumError e → broken → AfterMedium broken kept e
+after_medium broken kept (Medium f) is b = b
+after_medium broken kept (NotFound d) is b = absurd (omega (arith, is))
+after_medium broken kept (AlreadyExists d) is b = absurd (omega (arith, is))
+after_medium broken kept (InvalidInput d) is b = absurd (omega (arith, is))
+after_medium broken kept (InvalidData d) is b = absurd (omega (arith, is))
+after_medium broken kept Memory is b = absurd (omega (arith, is))
+after_medium broken kept Full is b = absurd (omega (arith, is))
+after_medium broken kept Unsound is b = absurd (omega (arith, is))
+after_medium broken kept Failed is b = absurd (omega (arith, is))
+after_medium broken kept Unsupported is b = absurd (omega (arith, is))
+
+pub if_ok : {T E : Type 0} (P Q : T → Type 0) (r : Result T E) → ((x : T) → P x → Q x) → IfOk r P → IfOk r Q
+if_ok P Q (Ok x) f p = f x p
+if_ok P Q (Err e) f p = tt
+
+pub room_after : (v v' : Version) (p p' n : ℕ) (ids ids' more : List ℕ) → v' ≡ v → p' ≡ p → ids' ≡ ids ++ more
+    → length more ≡ rounded_up (p + n - length ids * sector_len v) (sector_len v)
+    → min n (if nat_lt p' (length ids' * sector_len v') then sector_len v' - p' % sector_len v' else 0) ≡ min n (sector_len v - p % sector_len v)
+room_after v v' p p' n ids ids' more ve pe listed is =
+    let len : length ids' ≡ length ids + length more = ap (λ (z : List ℕ). length z) listed ∙ length-append ids more in
+    let fits : p + n ≤ length ids' * sector_len v = subst (λ k. p + n ≤ k * sector_len v) (sym len) (enough_room v p n (length ids) (length more) is) in
+    (λ j. min n (if nat_lt (pe j) (length ids' * sector_len (ve j)) then sector_len (ve j) - pe j % sector_len (ve j) else 0))
+    ∙ room_enough v p n (length ids' * sector_len v) fits
+
+rest_le : (v : Version) (k : ℕ) → k % sector_len v ≤ sector_len v
+rest_le V3 k = omega arith
+rest_le V4 k = omega arith
+
+pub rest_fits : (v : Version) (k l : ℕ) → l ≡ sector_len v → k % l + (sector_len v - k % l) ≤ sector_len v
+rest_fits v k l is =
+    let le : k % l ≤ sector_len v = subst (λ (m : ℕ). k % m ≤ sector_len v) (sym is) (rest_le v k) in
+    omega (arith, le)
+
+none_wanted_of : (v : Version) (len r : ℕ) → r ≡ len / sector_len v + min 1 (len % sector_len v) → r ≡ 0 → len ≡ 0
+none_wanted_of V3 len r is zero = omega arith
+none_wanted_of V4 len r is zero = omega arith
+
+pub none_wanted : (v : Version) (len r l : ℕ) → l ≡ sector_len v → r ≡ len / l + min 1 (len % l) → r ≡ 0 → len ≡ 0
+none_wanted v len r l is eq zero = none_wanted_of v len r (subst (λ (k : ℕ). r ≡ len / k + min 1 (len % k)) is eq) zero
+
+-- what was written stands there
+pub there_of : {E : Type 0} (r : Result ℕ E) (x y : SectorFile) (at at' m : ℕ) (from : List ℕ) → at ≡ at' → IfOk r (λ n. n ≡ min (length from) m)
+    → IfOk r (λ n. 0 < n → y ≡ record x { bytes = written x.bytes at (take n from); len = max x.len (at + n); begun = true })
+    → IfOk r (λ n. 0 < n → part y.bytes at' n ≡ take n from)
+there_of (Err e) x y at at' m from same count file = tt
+there_of (Ok n) x y at at' m from same count file = λ some.
+    ap (λ (f : SectorFile). part f.bytes at' n) (file some)
+    ∙ ap (λ k. part (written x.bytes k (take n from)) at' n) same
+    ∙ part_written x.bytes at' n (take n from) (let l : length (take n from) ≡ min n (length from) = length-take n from in omega (arith, count, l))
+
+-- and so do zeros
+pub zeroed_of : {T E : Type 0} (r : Result T E) (x y : SectorFile) (at at' n n' : ℕ) → at ≡ at' → n ≡ n'
+    → OnOk r (y ≡ record x { bytes = written x.bytes at (replicate n 0); len = max x.len (at + n); begun = true }) → OnOk r (part y.bytes at' n' ≡ replicate n' 0)
+zeroed_of (Err e) x y at at' n n' same count file = tt
+zeroed_of (Ok u) x y at at' n n' same count file =
+    ap (λ (f : SectorFile). part f.bytes at' n') file
+    ∙ (λ j. part (written x.bytes (same j) (replicate (count j) 0)) at' n')
+    ∙ part_written x.bytes at' n' (replicate n' 0) (sym (length-replicate n' 0))

@@ -1,0 +1,59 @@
+use Rattle.std.proofs.Common.{◌≡◌, ◌+◌, ◌-◌, ◌/◌, ◌%◌, ◌∙◌, min, ℕ, length, sym, arith}
+use Rattle.std.specs.Prelude.{slice_index}
+use Rattle.cfb_format.specs.Bytes.{sector_len, sector_start}
+use Rattle.cfb_chains.specs.ChainLists.{gained}
+use Rattle.cfb_chains.specs.LentChain.{allocator_of, ids_of, place_of, position_of, room_of, version_of}
+use Rattle.cfb_chains.proofs.Answering.{all_ok}
+use Rattle.cfb_chains.proofs.ChainWrites.{if_ok, rest_short, room_after, there_of}
+use Rattle.cfb_chains.proofs.SectorLemmas.{SectorStays_next}
+use Rattle.cfb_chains.proofs.chain.Chain+F+A.write.Goals as goal
+
+pub returns-clause-count : goal.returns-clause-count
+returns-clause-count g c =
+    let now = c.args.self.now in
+    let grown = c.grow.new.self in
+    let e = c.in_ok-grow.ensures in
+    let room = room_after (version_of now) (version_of grown) (position_of now) (position_of grown) (length c.args.from.now) (ids_of now) (ids_of grown)
+    (gained (ids_of now) (ids_of grown)) e.version e.position e.ids (e.count ∙ c.missing-missing.ensures) in
+    if_ok (λ n. n ≡ min (length c.args.from.now) (room_of grown)) (λ n. n ≡ min (length c.args.from.now) (sector_len (version_of now) - position_of now % sector_len (version_of now)))
+    c.write_within-2.result (λ n is. is ∙ room) c.write_within-2.ensures.count
+
+pub returns-clause-holds : goal.returns-clause-holds
+returns-clause-holds g c told validation h = c.write_within-2.ensures.holds told validation (c.in_ok-grow.ensures.holds told validation h)
+
+pub returns-clause-others : goal.returns-clause-others
+returns-clause-others g c told i busy out other =
+    let now = c.args.self.now in
+    let grown = c.grow.new.self in
+    let version = c.in_ok-grow.ensures.version in
+    let position = c.in_ok-grow.ensures.position in
+    let ids = c.write_within-2.ensures.chain.0 in
+    SectorStays_next (version_of now) (version_of grown) i _ _ _ version ((c.in_ok-grow.ensures.others told).sectors i busy out)
+    (c.write_within-2.ensures.sectors told i (λ e. other (e ∙ (λ j. slice_index (sym ids j) (position j / sector_len (version j))))))
+
+pub returns-clause-begun : goal.returns-clause-begun
+returns-clause-begun g c some =
+    let now = c.args.self.now in
+    let grown = c.grow.new.self in
+    let e = c.in_ok-grow.ensures in
+    let room = room_after (version_of now) (version_of grown) (position_of now) (position_of grown) (length c.args.from.now) (ids_of now) (ids_of grown)
+    (gained (ids_of now) (ids_of grown)) e.version e.position e.ids (e.count ∙ c.missing-missing.ensures) in
+    let short = rest_short (version_of now) (position_of now) in
+    all_ok c.write_within-2.result (c.write_within-2.ensures.begun (omega (arith, room, short, some)))
+
+pub returns-then-missing-eq0-clause-there : goal.returns-then-missing-eq0-clause-there
+returns-then-missing-eq0-clause-there g c told =
+    let now = c.args.self.now in
+    let e = c.write_within.ensures in
+    let l = sector_len (version_of now) in
+    there_of c.write_within.result (allocator_of now).now.file (allocator_of c.write_within.new.self).now.file (place_of now) _ (room_of now) c.args.from.now
+    (λ j. sector_start (version_of now) (slice_index (sym e.chain.0 j) (position_of now / l)) + position_of now % l) e.count (e.ok told)
+
+pub returns-clause-there : goal.returns-clause-there
+returns-clause-there g c told =
+    let grown = c.grow.new.self in
+    let e = c.write_within-2.ensures in
+    let version = c.in_ok-grow.ensures.version in
+    let position = c.in_ok-grow.ensures.position in
+    there_of c.write_within-2.result (allocator_of grown).now.file (allocator_of c.write_within-2.new.self).now.file (place_of grown) _ (room_of grown) c.args.from.now
+    (λ j. sector_start (version j) (slice_index (sym e.chain.0 j) (position j / sector_len (version j))) + position j % sector_len (version j)) e.count (e.ok told)
