@@ -11,6 +11,7 @@ pub mod StreamRunning
 pub mod ReadRunning
 pub mod RestRunning
 pub mod Pieces
+pub mod OpeningLemmas
 pub mod Refusing
 pub mod CallFacts
 pub mod CallSteps

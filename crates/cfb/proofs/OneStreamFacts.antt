@@ -197,6 +197,10 @@ kept-second : (v : Version) (held : Option OneStream) → IsServed v held → Is
 kept-second v None served = kept-free v
 kept-second v (Some s) served = kept-stream v s served
 
+pub second-kept : (v : Version) (held : Option OneStream) → IsServed v held → AcceptsEntry Strict v (entry_bytes (second_entry held)) (second_entry held)
+unfolding IsKept
+second-kept v held served = kept-second v held served
+
 block-second : (v : Version) (held : Option OneStream) → IsServed v held → IsBlock (second_entry held)
 block-second v None served = block-free
 block-second v (Some s) served = block-stream s served.0.valid
@@ -213,6 +217,15 @@ pub entries-length : (v : Version) (held : Option OneStream) → length (entries
 unfolding entries_with
 entries-length V3 held = refl
 entries-length V4 held = refl
+
+-- the slot of entry 1
+pub slot-second : (v : Version) (held : Option OneStream) → IsServed v held → slot_at (directory_bytes v held) 1 ≡ entry_bytes (second_entry held)
+unfolding directory_bytes entries_with
+slot-second v held served = block-at (entries_with v held) (entries-blocks v held served) 1 (two v)
+  where
+    two : (v : Version) → 1 < length (entries_with v held)
+    two V3 = lit< tt
+    two V4 = lit< tt
 
 pub length-directory_bytes : (v : Version) (held : Option OneStream) → IsServed v held → length (directory_bytes v held) ≡ sector_len v
 unfolding directory_bytes

@@ -11,6 +11,7 @@ use Rattle.cfb_format.specs.declared.version.Version.TheVariants.{V3, V4}
 use Rattle.cfb_format.specs.declared.validate.Validation.TheVariants.{Strict}
 use Rattle.cfb_format.specs.Bytes.{u32_at, words, word_bytes, unit_bytes, sector_len, sector_start, sector_bytes, sector_words, sector_count, words_per_sector, entries_per_sector, is_whole_sector, points_below, end_of_chain, free_sector, fat_sector}
 use Rattle.cfb_format.specs.Header.{AcceptsHeader, header_bytes}
+use Rattle.cfb_format.specs.Medium.{part}
 use Rattle.cfb_format.specs.Names.{Cases}
 use Rattle.cfb_format.specs.Fat.{IsDifat, IsFat, IsStrictFat, fat_of, fat_words, fat_padding, raw_fat, fat_value, is_fat_padding}
 use Rattle.cfb_format.specs.DirectoryEntry.{IsEntry, IsStrictEntry, entry_bytes, slot_at, slots, slots_of_sector, unallocated_entry}
@@ -123,6 +124,20 @@ module _ (v : Version) (held : Option OneStream) (bytes : List ℕ) (holds : Hol
   behind-fat =
       sym (drop-drop (sector_len v) (sector_len v) bytes) ∙ ap (drop (sector_len v)) behind-header
       ∙ drop-behind (sector_len v) fats (slots-bytes ++ holds.content) (sym (length-fat_bytes v (content_sectors v held) few))
+
+  -- the first three sectors
+  pub first-part : part bytes 0 (sector_len v) ≡ head
+  first-part = ap (take (sector_len v)) bytes-in-parts ∙ take-first (sector_len v) head (fats ++ (slots-bytes ++ holds.content)) (sym (length-header_sector v))
+
+  pub second-part : part bytes (sector_len v) (sector_len v) ≡ fats
+  second-part =
+      ap (take (sector_len v)) behind-header
+      ∙ take-first (sector_len v) fats (slots-bytes ++ holds.content) (sym (length-fat_bytes v (content_sectors v held) few))
+
+  pub third-part : part bytes (2 * sector_len v) (sector_len v) ≡ slots-bytes
+  third-part =
+      ap (λ n. part bytes n (sector_len v)) (let e : 2 * sector_len v ≡ sector_len v + sector_len v = omega arith in e) ∙ ap (take (sector_len v)) behind-fat
+      ∙ take-first (sector_len v) slots-bytes holds.content (sym (length-directory_bytes v held holds.served))
 
   pub behind-directory : drop (3 * sector_len v) bytes ≡ holds.content
   behind-directory =
@@ -263,6 +278,10 @@ is-minifat v held bytes fat = record { chain = record { follows = refl; distinct
 one-sector : (v : Version) → IsStrictCount v (created_header v).num_dir_sectors 1
 one-sector V3 = tt
 one-sector V4 = lit≤ tt
+
+-- its header is the created one
+pub header-one : (v : Version) (held : Option OneStream) (bytes : List ℕ) → HoldsOne v held bytes → AcceptsHeader Strict bytes (created_header v)
+header-one v held bytes holds = subst (λ b. AcceptsHeader Strict b (created_header v)) (sym (bytes-in-parts v held bytes holds)) (accepts-header v _)
 
 pub reads-one : (cases : Cases) (v : Version) (held : Option OneStream) (bytes : List ℕ) → HoldsOne v held bytes → Reads cases bytes (reading_with v held)
 reads-one cases v held bytes holds = record {

@@ -99,24 +99,3 @@ piece_within V4 piece few = omega (arith, length-created V4)
 pub all_pieces : (version : Version) (piece : ℕ) → 3 ≤ piece → length (created_bytes version) ≤ piece * sector_len version
 all_pieces V3 piece all = omega (arith, length-created V3)
 all_pieces V4 piece all = omega (arith, length-created V4)
-
--- nothing is alike in all lists
-pub alike_none : (n : ℕ) (xs ys : List ℕ) → take (0 * n) xs ≡ take (0 * n) ys
-alike_none n xs ys = ap (λ k. take k xs) (zero-mul n) ∙ sym (ap (λ k. take k ys) (zero-mul n))
-
--- one piece more is alike
-pub alike_more : (p n : ℕ) (xs ys : List ℕ) → take (p * n) xs ≡ take (p * n) ys → part xs (p * n) n ≡ part ys (p * n) n → take ((p + 1) * n) xs ≡ take ((p + 1) * n) ys
-alike_more p n xs ys before here =
-    let next : (p + 1) * n ≡ p * n + n = omega arith in
-    ap (λ k. take k xs) next ∙ take-add (p * n) n xs ∙ (λ i. before i ++ here i) ∙ sym (take-add (p * n) n ys) ∙ sym (ap (λ k. take k ys) next)
-
--- all of it is alike
-pub alike_all : (version : Version) (p : ℕ) (bytes : List ℕ) → 3 ≤ p → length bytes ≡ 3 * sector_len version
-    → take (p * sector_len version) bytes ≡ take (p * sector_len version) (created_bytes version) → bytes ≡ created_bytes version
-alike_all version p bytes most len alike =
-    sym (take_all (p * sector_len version) bytes (enough version p most (length bytes) len))
-    ∙ alike ∙ take_all (p * sector_len version) (created_bytes version) (enough version p most (length (created_bytes version)) (length-created version))
-  where
-    enough : (version : Version) (p : ℕ) → 3 ≤ p → (n : ℕ) → n ≡ 3 * sector_len version → n ≤ p * sector_len version
-    enough V3 p most n is = omega arith
-    enough V4 p most n is = omega arith

@@ -7,7 +7,7 @@ use Rattle.cfb_format.specs.Meaning.{Means}
 use Rattle.cfb_format.specs.Soundness.{IsSoundFile, IsOwnedFile}
 use Rattle.cfb_format.specs.Full.{HasExactTablesFile}
 use Rattle.cfb_format.specs.Created.{created_bytes, empty_tree}
-use Rattle.cfb.specs.OneStream.{OneStream, HoldsOne}
+use Rattle.cfb.specs.OneStream.{OneStream, HoldsOne, tree_with}
 
 pub record FileState : Type 0 where
   pub version : Version
@@ -41,3 +41,9 @@ pub record IsEmptyFile (bytes : List ℕ) : Type 0 where
   pub sound : (cases : Cases) → IsSoundFile cases bytes
   pub owned : (cases : Cases) → IsOwnedFile cases bytes
   pub tables : (cases : Cases) → HasExactTablesFile cases bytes
+
+-- whatever the letters, the bytes mean the root with this stream or alone, are strict and sound
+pub record IsRightFile (version : Version) (held : Option OneStream) (bytes : List ℕ) : Type 0 where
+  pub means : (cases : Cases) → Means cases bytes (tree_with version bytes held)
+  pub strict : (cases : Cases) → IsStrictFile cases bytes
+  pub sound : (cases : Cases) → IsSoundFile cases bytes

@@ -9,9 +9,9 @@ ghost use Rattle.cfb.specs.Answers.{is_nil, IsInvalidName};
 
 use crate::content::{Sectors, piece_len, read_piece, read_rest, write_stream};
 use crate::created::{EmptySlots, write_created};
-use crate::held::HeldStream;
+use crate::held::{HeldStream, is_served, max_len};
 use crate::layout::{directory_sector, fat_sector, padding, sector_buffer, sectors_for};
-use crate::opening::{is_as_created, read_head};
+use crate::opening::{read_head, read_held};
 use cfb_format::error::{Detail, Error};
 use cfb_format::laws;
 use cfb_format::medium::{Medium, MediumFault, ReadMedium};
@@ -95,25 +95,6 @@ fn last_of<'p>(name: &'p str, rest: &'p str) -> &'p str
         left = behind;
     }
     last
-}
-
-/// Whether a stream may have this name, for now: it is not empty and within ASCII.
-fn is_served(name: &str) -> bool
-    ensures { result ≡ (not (length (chars name.now) == 0) && list_all (λ c. nat_le c 0x7F) (chars name.now)) }
-{
-    char_count(name) != 0 && is_ascii(name)
-}
-
-fn char_count(name: &str) -> usize
-    ensures { result ≡ length (chars name.now) }
-{
-    name.chars().count()
-}
-
-fn is_ascii(name: &str) -> bool
-    ensures { result ≡ list_all (λ c. nat_le c 0x7F) (chars name.now) }
-{
-    name.chars().all(|letter| letter.is_ascii())
 }
 
 /// `InvalidInput` where the name is not valid.
@@ -286,18 +267,20 @@ impl<F: ReadMedium, A: Allocator> CompoundFile<F, A> {
 }
 
 impl<F: ReadMedium, A: Allocator + Clone> CompoundFile<F, A> {
-    ghost use Rattle.cfb.specs.Files.{Agrees, IsEmptyFile};
+    ghost use Rattle.std.specs.Prelude.{None};
+    ghost use Rattle.cfb.specs.Files.{Agrees, IsEmptyFile, IsRightFile};
     ghost use Rattle.cfb.specs.Opening.{OpeningAnswers};
 
     /// Opens a compound file, and reads what does no harm as the value that it should have.
     ///
     /// `InvalidData` where the header or the length of the file is not acceptable, `Medium` where
     /// the medium failed, `Memory` where a growth of memory was refused. `Unsupported` where the
-    /// file is not as it was created: objects are not read yet.
+    /// file is none with at most one stream, as this crate writes them: others are not read yet.
     pub fn open(alloc: A, medium: F) -> Result<CompoundFile<F, A>, Error>
         ensures answer { IsTrue F.tells
             → OpeningAnswers F.read_faults Validation.Permissive (F.bytes medium) (F.failures medium) result }
-        ensures empty { IsTrue F.tells → IfOk result (λ file. IsEmptyFile file.bytes) }
+        ensures means { IsTrue F.tells → IfOk result (λ file. IsRightFile file.version file.held file.bytes) }
+        ensures empty { IsTrue F.tells → IfOk result (λ file. file.held ≡ None → IsEmptyFile file.bytes) }
         ensures agrees { IsTrue F.tells → IfOk result Agrees }
     {
         Self::open_as(alloc, medium, Validation::Permissive)
@@ -308,7 +291,8 @@ impl<F: ReadMedium, A: Allocator + Clone> CompoundFile<F, A> {
     pub fn open_strict(alloc: A, medium: F) -> Result<CompoundFile<F, A>, Error>
         ensures answer { IsTrue F.tells
             → OpeningAnswers F.read_faults Validation.Strict (F.bytes medium) (F.failures medium) result }
-        ensures empty { IsTrue F.tells → IfOk result (λ file. IsEmptyFile file.bytes) }
+        ensures means { IsTrue F.tells → IfOk result (λ file. IsRightFile file.version file.held file.bytes) }
+        ensures empty { IsTrue F.tells → IfOk result (λ file. file.held ≡ None → IsEmptyFile file.bytes) }
         ensures agrees { IsTrue F.tells → IfOk result Agrees }
     {
         Self::open_as(alloc, medium, Validation::Strict)
@@ -317,7 +301,8 @@ impl<F: ReadMedium, A: Allocator + Clone> CompoundFile<F, A> {
     fn open_as(alloc: A, mut medium: F, validation: Validation) -> Result<CompoundFile<F, A>, Error>
         ensures answer { IsTrue F.tells
             → OpeningAnswers F.read_faults validation (F.bytes medium) (F.failures medium) result }
-        ensures empty { IsTrue F.tells → IfOk result (λ file. IsEmptyFile file.bytes) }
+        ensures means { IsTrue F.tells → IfOk result (λ file. IsRightFile file.version file.held file.bytes) }
+        ensures empty { IsTrue F.tells → IfOk result (λ file. file.held ≡ None → IsEmptyFile file.bytes) }
         ensures agrees { IsTrue F.tells → IfOk result Agrees }
     {
         laws::created_file_is_right();
@@ -325,19 +310,17 @@ impl<F: ReadMedium, A: Allocator + Clone> CompoundFile<F, A> {
         crate::laws::one_stream_file_is_right();
         let head = read_head(&mut medium, validation)?;
         let cases = CaseMapper::new(alloc.clone()?)?;
-        let slots = EmptySlots::new(alloc.clone()?)?;
-        let mut expected = sector_buffer(alloc.clone()?, head.version)?;
-        let mut found = sector_buffer(alloc.clone()?, head.version)?;
-        if !is_as_created(&mut medium, &head, &slots, &mut expected, &mut found)? {
-            return Err(Error::Unsupported);
-        }
+        let held = match read_held(alloc.clone()?, &mut medium, &head) {
+            Ok(held) => held,
+            Err(e) => return Err(e),
+        };
         Ok(CompoundFile {
             medium,
             version: head.version,
             sound: true,
             failed: false,
             cases,
-            held: None,
+            held,
             alloc,
         })
     }
@@ -616,16 +599,6 @@ impl<F: Medium, A: Allocator + Clone> CompoundFile<F, A> {
         self.held = held;
         self.failed = false;
         Ok(())
-    }
-}
-
-/// The greatest length of a stream that one FAT sector covers.
-fn max_len(version: Version) -> usize
-    ensures { result ≡ (words_per_sector version - 2) * sector_len version }
-{
-    match version {
-        Version::V3 => 64512,
-        Version::V4 => 4186112,
     }
 }
 

@@ -78,7 +78,9 @@ fn created_header(version: Version) -> Header
     }
 }
 
-fn lay_out_header(version: Version, into: &mut [u8])
+/// Fills a sector with the header of a created file, and zeros behind it. With a stream it is the
+/// same.
+pub fn lay_out_header(version: Version, into: &mut [u8])
     requires { 512 ≤ length into.old }
     ensures { into.new ≡ header_bytes (header_of version) ++ replicate (length into.old - 512) 0 }
 {

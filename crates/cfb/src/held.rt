@@ -1,13 +1,18 @@
 //! The one stream that a file may have, for now.
-ghost use Rattle.std.specs.Prelude.{◌≡◌, ◌<◌, ◌≤◌, chars, string_bytes, IfErr, IfOk};
+ghost use Rattle.std.specs.Prelude.{◌≡◌, ◌<◌, ◌≤◌, ◌-◌, ◌*◌, ◌&&◌, ◌==◌, ◌↔◌, not, nat_le, length, IsTrue, chars, string_bytes, IfErr, IfOk, Option};
+ghost use Rattle.std.specs.List.{list_all};
+ghost use Rattle.cfb_format.specs.Bytes.{sector_len, words_per_sector};
+ghost use Rattle.cfb_format.specs.Names.{is_valid_name};
 ghost use Rattle.cfb_format.specs.DirectoryEntry.{entry_bytes, unallocated_entry};
-ghost use Rattle.cfb.specs.OneStream.{IsServedName, stream_entry, second_entry, root_with, child_of};
+ghost use Rattle.cfb_format.specs.EntryModel.{entry_of};
+ghost use Rattle.cfb.specs.OneStream.{OneStream, IsServed, IsServedLen, IsServedName, stream_entry, second_entry, root_with, child_of};
 
 use cfb_format::consts;
 use cfb_format::direntry::DirEntry;
 use cfb_format::error::Error;
 use cfb_format::objtype::ObjType;
 use cfb_format::timestamp::Timestamp;
+use cfb_format::version::Version;
 use std::alloc::{Allocator, Global};
 use std::marker::Model;
 
@@ -78,6 +83,64 @@ impl<A: Allocator> HeldStream<A> {
     {
         self.entry.write_to(slot);
     }
+}
+
+/// Whether a stream may have this name, for now: it is not empty and within ASCII.
+pub fn is_served(name: &str) -> bool
+    ensures { result ≡ (not (length (chars name.now) == 0) && list_all (λ c. nat_le c 0x7F) (chars name.now)) }
+{
+    char_count(name) != 0 && is_ascii(name)
+}
+
+fn char_count(name: &str) -> usize
+    ensures { result ≡ length (chars name.now) }
+{
+    name.chars().count()
+}
+
+fn is_ascii(name: &str) -> bool
+    ensures { result ≡ list_all (λ c. nat_le c 0x7F) (chars name.now) }
+{
+    name.chars().all(|letter| letter.is_ascii())
+}
+
+/// The greatest length of a stream that one FAT sector covers.
+pub fn max_len(version: Version) -> usize
+    ensures { result ≡ (words_per_sector version - 2) * sector_len version }
+{
+    match version {
+        Version::V3 => 64512,
+        Version::V4 => 4186112,
+    }
+}
+
+/// Whether a stream may have this length, for now: 0, or what takes sectors of its own that one FAT
+/// sector covers.
+fn is_served_len(version: Version, len: u64) -> bool
+    ensures { IsTrue result ↔ IsServedLen version len }
+{
+    len == 0 || (len >= consts::MINI_STREAM_CUTOFF as u64 && len <= max_len(version) as u64)
+}
+
+/// The stream of a directory entry, if it is one that is served.
+pub fn stream_of_entry<A: Allocator>(version: Version, entry: DirEntry<A>) -> Option<HeldStream<A>>
+    requires valid { (entry_of entry).obj_type ≡ ObjType.Stream → IsTrue (is_valid_name (entry_of entry).name) }
+    ensures served { IsServed version result }
+    ensures found { (one : Option OneStream) → IsServed version one → entry_of entry ≡ second_entry one → one ≡ result }
+{
+    if entry.obj_type != ObjType::Stream
+        || !is_served(&entry.name)
+        || !is_served_len(version, entry.stream_len)
+    {
+        return None;
+    }
+    let len = entry.stream_len;
+    let name = entry.name;
+    Some(if len == 0 {
+        HeldStream::new(name)
+    } else {
+        HeldStream::with_len(name, len)
+    })
 }
 
 /// The slots of a directory with at most one stream, as they are written.

@@ -1,31 +1,25 @@
 -- What opening answers for the bytes of a created file.
-use Rattle.std.proofs.Common.{◌≡◌, ◌≤◌, ◌*◌, ℕ, List, Bool, false, Ok, Err, refl, sym, ◌∙◌, ap, length, arith}
-use Rattle.std.specs.Prelude.{Result, IfOk, IfErr}
+use Rattle.std.proofs.Common.{◌≡◌, ◌*◌, ℕ, List, false, Ok, Err, sym, ◌∙◌, ap, length, arith}
+use Rattle.std.specs.Prelude.{None, Result, IfOk, IfErr}
 use Rattle.cfb_format.specs.declared.error.Error.{Error}
 use Rattle.cfb_format.specs.declared.error.Error.TheVariants.{NotFound, AlreadyExists, InvalidInput, InvalidData, Medium, Memory, Full, Unsound, Failed, Unsupported}
 use Rattle.cfb_format.specs.declared.version.Version.{Version}
 use Rattle.cfb_format.specs.declared.version.Version.TheVariants.{V3, V4}
 use Rattle.cfb_format.specs.declared.validate.Validation.{Validation}
 use Rattle.cfb_format.specs.Bytes.{sector_len}
-use Rattle.cfb_format.specs.Header.{AcceptsHeader}
 use Rattle.cfb_format.specs.Laws.{CreatedIsThreeSectors, CreatedHeaderIsAccepted}
 use Rattle.cfb_format.specs.Reading.{HasLength}
 use Rattle.cfb_format.specs.Created.{created_bytes, created_header}
 use Rattle.cfb.specs.Files.{FileState, IsAsCreated}
+use Rattle.cfb.specs.Laws.{CreatedHoldsNone}
 use Rattle.cfb.specs.Opening.{HasHead, OpeningAnswers}
 use Rattle.cfb_bench.specs.Faults.{IsWantOfMemory}
-
-same_version : (v w : Version) → 3 * sector_len v ≡ 3 * sector_len w → v ≡ w
-same_version V3 V3 e = refl
-same_version V3 V4 e = absurd (omega arith)
-same_version V4 V3 e = absurd (omega arith)
-same_version V4 V4 e = refl
 
 has_length : (version : Version) (bytes : List ℕ) → length bytes ≡ 3 * sector_len version → HasLength version bytes
 has_length V3 bytes e = record { header = omega arith; sector = omega arith; most = omega arith }
 has_length V4 bytes e = record { header = omega arith; sector = omega arith; most = omega arith }
 
-module _ (len : CreatedIsThreeSectors) (accepted : CreatedHeaderIsAccepted) (validation : Validation) (version : Version) where
+module _ (len : CreatedIsThreeSectors) (accepted : CreatedHeaderIsAccepted) (created : CreatedHoldsNone) (validation : Validation) (version : Version) where
   head : HasHead validation (created_bytes version) (created_header version)
   head = record {
     header = accepted validation version;
@@ -37,7 +31,16 @@ module _ (len : CreatedIsThreeSectors) (accepted : CreatedHeaderIsAccepted) (val
   pub opened_as_created : (failures : ℕ) (result : Result FileState Error) → OpeningAnswers (λ _. false) validation (created_bytes version) failures result
       → IfOk result (λ file. IsAsCreated file × (file.version ≡ version))
   opened_as_created failures (Ok file) a =
-      (a.created, same_version file.version version (sym (len file.version) ∙ ap length (sym a.created.bytes ∙ a.bytes_stay) ∙ len version))
+      let same : version ≡ file.version = a.only_version version None (created version) in (
+        record {
+          bytes = a.bytes_stay ∙ ap created_bytes same;
+          sound = a.sound;
+          unfailed = a.unfailed;
+          cases = a.cases;
+          held = sym (a.only version None (created version));
+        },
+        sym same,
+      )
   opened_as_created failures (Err e) a = tt
 
   -- and refused only for memory, by a medium that reads without fault
@@ -45,7 +48,7 @@ module _ (len : CreatedIsThreeSectors) (accepted : CreatedHeaderIsAccepted) (val
       → IfErr result IsWantOfMemory
   refused_for_memory failures (Ok file) a = tt
   refused_for_memory failures (Err (InvalidData d)) a = absurd (a (created_header version) head)
-  refused_for_memory failures (Err Unsupported) a = absurd (a.1 version refl)
+  refused_for_memory failures (Err Unsupported) a = absurd (a.1 version None (created version))
   refused_for_memory failures (Err (Medium fault)) a = cc
   refused_for_memory failures (Err Memory) a = tt
   refused_for_memory failures (Err (NotFound d)) a = a

@@ -12,6 +12,8 @@ mod one_stream;
 mod refusals;
 pub mod refusing;
 #[cfg(test)]
+mod reopened;
+#[cfg(test)]
 mod stream_failures;
 #[cfg(test)]
 mod tests;

@@ -61,6 +61,7 @@ pub fn made_and_opened<A: Allocator + Clone>(
     ensures err { IfErr result IsWantOfMemory }
 {
     laws::created_file_is_right();
+    cfb::laws::one_stream_file_is_right();
     let medium = MemoryMedium::new(alloc.clone()?);
     let file = CompoundFile::create_with_version(alloc.clone()?, version, medium)?;
     CompoundFile::open(alloc, file.into_inner())

@@ -1,38 +1,55 @@
-use Rattle.std.proofs.Common.{rules, refl, ◌≡◌, ◌∙◌, sym, ap, subst, IsTrue, false}
-use Rattle.cfb_format.specs.declared.header.Header.{Header}
-use Rattle.cfb_format.specs.Header.{AcceptsHeader}
-use Rattle.cfb_format.specs.Created.{created_bytes, created_header}
-use Rattle.cfb.proofs.Running.{created-agrees}
+use Rattle.std.proofs.Common.{rules, ◌≡◌, ◌∙◌, refl, sym, subst}
+use Rattle.cfb_format.specs.Created.{created_bytes}
+use Rattle.cfb.specs.OneStream.{HoldsOne}
 use Rattle.cfb.specs.Files.{IsEmptyFile}
+use Rattle.cfb.specs.Head.{HoldsNoOne}
+use Rattle.cfb.proofs.OpeningLemmas.{refused-opening, one-version, none-is-created}
 use Rattle.cfb.proofs.compound_file.CompoundFile.open_as.Goals as goal
 
--- bytes that were created in some version were created in that of their header
-pub returns-then-not-branch-clause-answer : goal.returns-then-not-branch-clause-answer
-returns-then-not-branch-clause-answer g c told =
+pub returns-in-Err-clause-answer : goal.returns-in-Err-clause-answer
+returns-in-Err-clause-answer g c told =
     let bytes = g.F.ReadMedium.bytes c.args.medium in
-    let head = c.in_ok-head.ensures.ok told in (
-      (head.header, head.has),
-      λ version same.
-          let there : AcceptsHeader c.args.validation bytes (created_header version) =
-          subst (λ b. AcceptsHeader c.args.validation b (created_header version)) (sym same) (c.created_file_is_right.ensures.header c.args.validation version) in
-          let one : created_header version ≡ head.header = c.header_is_at_the_start.ensures.unique bytes (created_header version) head.header there.header head.has.header.header in
-          let versions : version ≡ c.in_ok-head.head.version = ap (λ (h : Header). h.version) one ∙ head.version in
-          let now : g.F.ReadMedium.bytes c.read_head.new.medium ≡ created_bytes c.in_ok-head.head.version =
-          c.in_ok-head.ensures.same told ∙ same ∙ ap created_bytes versions in
-          let yes : IsTrue c.in_ok-is_as_created.field-0 = (c.in_ok-is_as_created.ensures.ok told).1 now in
-          let no : c.in_ok-is_as_created.field-0 ≡ false = c.if-not-branch.true in cc,
-    )
+    let head = c.in_ok-head.ensures.ok told in
+    refused-opening c.header_is_at_the_start.ensures.unique g.F.ReadMedium.read_faults c.args.validation bytes head.header head.has c.in_ok-head.head.version head.version c.in-Err.e
+    (subst (λ b. HoldsNoOne g.F.ReadMedium.read_faults c.in_ok-head.head.version b c.in-Err.e) (c.in_ok-head.ensures.same told) (c.in-Err.ensures.err told))
 
-pub returns-clause-agrees : goal.returns-clause-agrees
-returns-clause-agrees g c told = created-agrees c.one_stream_file_is_right.ensures.created _
-    (record { bytes = c.in_ok-is_as_created.ensures.same told ∙ (c.in_ok-is_as_created.ensures.ok told).0 c.if-not-branch.false; sound = refl; unfailed = refl; cases = search rules; held = refl })
+pub returns-clause-answer : goal.returns-clause-answer
+returns-clause-answer g c told =
+    let bytes = g.F.ReadMedium.bytes c.args.medium in
+    let version = c.in_ok-head.head.version in
+    let head = c.in_ok-head.ensures.ok told in
+    let same : g.F.ReadMedium.bytes c.read_head.new.medium ≡ bytes = c.in_ok-head.ensures.same told in
+    record {
+      holds = subst (HoldsOne version c.in-Ok.held) same (c.in-Ok.ensures.ok told);
+      only = λ v held holds.
+          let here : v ≡ version = one-version c.header_is_at_the_start.ensures.unique v held bytes holds head.header head.has.header.header ∙ head.version in
+          c.in-Ok.ensures.only told held (subst (HoldsOne version held) (sym same) (subst (λ w. HoldsOne w held bytes) here holds));
+      only_version = λ v held holds. one-version c.header_is_at_the_start.ensures.unique v held bytes holds head.header head.has.header.header ∙ head.version;
+      sound = refl;
+      unfailed = refl;
+      cases = search rules;
+      bytes_stay = c.in-Ok.ensures.same told ∙ same;
+      calm = c.in-Ok.ensures.calm told ∙ c.in_ok-head.ensures.calm told;
+    }
+
+pub returns-clause-means : goal.returns-clause-means
+returns-clause-means g c told =
+    let version = c.in_ok-head.head.version in
+    let right = c.one_stream_file_is_right.ensures in
+    let bytes = g.F.ReadMedium.bytes c.read_held.new.medium in
+    let holds : HoldsOne version c.in-Ok.held bytes = subst (HoldsOne version c.in-Ok.held) (sym (c.in-Ok.ensures.same told)) (c.in-Ok.ensures.ok told) in
+    record {
+      means = λ cases. right.means cases version c.in-Ok.held bytes holds;
+      strict = λ cases. right.strict cases version c.in-Ok.held bytes holds;
+      sound = λ cases. right.sound cases version c.in-Ok.held bytes holds;
+    }
 
 pub returns-clause-empty : goal.returns-clause-empty
-returns-clause-empty g c told =
+returns-clause-empty g c told none =
     let version = c.in_ok-head.head.version in
     let right = c.created_file_is_right.ensures in
-    let is : g.F.ReadMedium.bytes c.is_as_created.new.medium ≡ created_bytes version =
-    c.in_ok-is_as_created.ensures.same told ∙ (c.in_ok-is_as_created.ensures.ok told).0 c.if-not-branch.false in
+    let is : g.F.ReadMedium.bytes c.read_held.new.medium ≡ created_bytes version =
+    c.in-Ok.ensures.same told ∙ none-is-created c.one_stream_file_is_right.ensures.created version c.in-Ok.held (g.F.ReadMedium.bytes c.read_head.new.medium) (c.in-Ok.ensures.ok told) none in
     let empty : IsEmptyFile (created_bytes version) = record {
       means = λ cases. right.means cases version;
       strict = λ cases. right.strict cases version;
@@ -41,3 +58,9 @@ returns-clause-empty g c told =
       tables = λ cases. right.tables cases version;
     } in
     subst IsEmptyFile (sym is) empty
+
+pub returns-clause-agrees : goal.returns-clause-agrees
+returns-clause-agrees g c told = record {
+  sound = refl;
+  holds = λ _. subst (HoldsOne c.in_ok-head.head.version c.in-Ok.held) (sym (c.in-Ok.ensures.same told)) (c.in-Ok.ensures.ok told);
+}
