@@ -16,6 +16,8 @@ pub mod refusing;
 #[cfg(test)]
 mod reopened;
 #[cfg(test)]
+mod stream_failures;
+#[cfg(test)]
 mod tests;
 #[cfg(test)]
 mod texts;

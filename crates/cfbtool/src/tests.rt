@@ -1,8 +1,9 @@
 use crate::tool;
 use std::alloc::{AllocError, Global};
-use std::fs;
+use std::io::{Read, Write};
 use std::process::ExitCode;
 use std::test::Fail;
+use std::{fs, io};
 
 fn words(alloc: Global, all: &[&str]) -> Result<Vec<String>, AllocError> {
     let mut list = Vec::new(alloc);
@@ -134,6 +135,81 @@ fn other_files_are_refused(rt: HostRuntime) -> Result<(), Fail> {
     Ok(())
 }
 
+/// Bytes that tell their places apart.
+fn content(alloc: Global, len: usize) -> Result<Vec<u8>, AllocError> {
+    let mut bytes = Vec::new(alloc);
+    for place in 0..len {
+        bytes.push((place % 251) as u8)?;
+    }
+    Ok(bytes)
+}
+
+/// Makes an empty file of this version, and puts a stream into it.
+fn put_new(
+    rt: &HostRuntime,
+    version: &str,
+    file: &str,
+    path: &str,
+    from: &[u8],
+) -> Result<(ExitCode, Vec<u8>, Vec<u8>), Fail> {
+    printed(rt, &["create", version, file])?;
+    run_on(rt, &["put", file, path], from)
+}
+
+/// What is put is printed again, and the file is as long as its sectors.
+#[test]
+fn what_is_put_is_printed(rt: HostRuntime) -> Result<(), Fail> {
+    let all = [
+        ("3", 4096usize, 5632usize),
+        ("3", 5000, 6656),
+        ("3", 64512, 66048),
+        ("4", 4096, 16384),
+        ("4", 5000, 20480),
+        ("4", 64512, 77824),
+    ];
+    for (version, len, file_len) in all {
+        let bytes = content(rt.alloc(), len)?;
+        let (status, out, faults) = put_new(&rt, version, "put.cfb", "/a", bytes.as_slice())?;
+        assert!(rt; status == ExitCode::SUCCESS, "{len}");
+        assert_eq!(rt; (out.len(), faults.len()), (0, 0));
+        assert_eq!(rt; fs::read(&rt, "put.cfb")?.len(), file_len);
+        let found = printed(&rt, &["cat", "put.cfb", "a"])?;
+        assert_eq!(rt; found.as_slice(), bytes.as_slice(), "{len}");
+        printed(&rt, &["check", "put.cfb", "strict"])?;
+        fs::remove_file(&rt, "put.cfb")?;
+    }
+    Ok(())
+}
+
+/// A write that is not served leaves an empty stream, and the file is written back with it.
+#[test]
+fn a_refused_put_is_written_back(rt: HostRuntime) -> Result<(), Fail> {
+    for (version, len) in [("3", 100usize), ("4", 100), ("3", 64513)] {
+        let bytes = content(rt.alloc(), len)?;
+        let (status, out, faults) = put_new(&rt, version, "small.cfb", "/a", bytes.as_slice())?;
+        assert!(rt; status == ExitCode::from(1));
+        assert_eq!(rt; out.len(), 0);
+        assert_eq!(rt;
+            faults.as_slice(),
+            b"cfbtool: not supported yet\n".as_slice()
+        );
+        assert_eq!(rt; printed(&rt, &["cat", "small.cfb", "/a"])?.len(), 0);
+        fs::remove_file(&rt, "small.cfb")?;
+    }
+    Ok(())
+}
+
+/// No bytes make an empty stream.
+#[test]
+fn nothing_is_put(rt: HostRuntime) -> Result<(), Fail> {
+    let (status, _, faults) = put_new(&rt, "3", "nothing.cfb", "/a", &[])?;
+    assert!(rt; status == ExitCode::SUCCESS);
+    assert_eq!(rt; faults.len(), 0);
+    assert_eq!(rt; printed(&rt, &["cat", "nothing.cfb", "/a"])?.len(), 0);
+    fs::remove_file(&rt, "nothing.cfb")?;
+    Ok(())
+}
+
 /// What the rules refuse is said in one line, and the file stays as it was.
 #[test]
 fn paths_are_refused(rt: HostRuntime) -> Result<(), Fail> {
@@ -163,5 +239,48 @@ fn paths_are_refused(rt: HostRuntime) -> Result<(), Fail> {
         assert_eq!(rt; fs::read(&rt, "paths.cfb")?.as_slice(), made.as_slice());
     }
     fs::remove_file(&rt, "paths.cfb")?;
+    Ok(())
+}
+
+/// A reader or writer that fails.
+#[derive(Drop)]
+struct Broken;
+
+impl Read for Broken {
+    fn read(&mut self, _buf: &mut [u8]) -> io::Result<usize> {
+        Err(io::Error::from(io::ErrorKind::Other))
+    }
+}
+
+impl Write for Broken {
+    fn write(&mut self, _buf: &[u8]) -> io::Result<usize> {
+        Err(io::Error::from(io::ErrorKind::Other))
+    }
+
+    fn flush(&mut self) -> io::Result<()> {
+        Ok(())
+    }
+}
+
+/// The file stays as it was where the input fails.
+#[test]
+fn broken_input_and_output_are_refused(rt: HostRuntime) -> Result<(), Fail> {
+    let bytes = content(rt.alloc(), 4096)?;
+    put_new(&rt, "3", "broken.cfb", "/a", bytes.as_slice())?;
+    let made = fs::read(&rt, "broken.cfb")?;
+    let line = b"cfbtool: medium failed\n".as_slice();
+    let given = words(rt.alloc(), &["put", "broken.cfb", "/b"])?;
+    let (mut out, mut faults) = (Vec::new(rt.alloc()), Vec::new(rt.alloc()));
+    let status = tool(&rt, given.as_slice(), &mut Broken, &mut out, &mut faults);
+    assert!(rt; status == ExitCode::from(1));
+    assert_eq!(rt; (out.len(), faults.as_slice()), (0, line));
+    let given = words(rt.alloc(), &["cat", "broken.cfb", "/a"])?;
+    let mut input: &[u8] = b"";
+    let mut faults = Vec::new(rt.alloc());
+    let status = tool(&rt, given.as_slice(), &mut input, &mut Broken, &mut faults);
+    assert!(rt; status == ExitCode::from(1));
+    assert_eq!(rt; faults.as_slice(), line);
+    assert_eq!(rt; fs::read(&rt, "broken.cfb")?.as_slice(), made.as_slice());
+    fs::remove_file(&rt, "broken.cfb")?;
     Ok(())
 }
