@@ -311,7 +311,7 @@ along_cut v bytes ids m h few =
 -- ---- zeros at the end of the last of m sectors
 
 -- a write up to the end
-written_to_end : (b : List ℕ) (k : ℕ) (f : List ℕ) → k + length f ≡ length b → written b k f ≡ take k b ++ f
+pub written_to_end : (b : List ℕ) (k : ℕ) (f : List ℕ) → k + length f ≡ length b → written b k f ≡ take k b ++ f
 written_to_end b k f ends =
     written_inside b k f (omega (arith, ends))
     ∙ ap (λ (xs : List ℕ). take k b ++ (f ++ xs)) (drop_all (k + length f) b (omega (arith, ends)))

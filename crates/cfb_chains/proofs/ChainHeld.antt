@@ -9,6 +9,7 @@ use Rattle.cfb_format.specs.Bytes.{sector_len, sector_start, sector_count, fat_s
 use Rattle.cfb_format.specs.Chain.{value, chain_from}
 use Rattle.cfb_format.specs.Medium.{ChangesOnly, written}
 use Rattle.cfb_format.proofs.ByteLemmas.{length-written, written_below, written_above}
+use Rattle.cfb_chains.specs.Agreement.{IsStrictBut}
 use Rattle.cfb_chains.specs.Alloc.{AllocatorState, HoldsTables, ChangesSectors}
 use Rattle.cfb_chains.specs.Sectors.{SectorFile, SectorStays}
 use Rattle.cfb_chains.specs.Words.{Stays}
@@ -21,6 +22,8 @@ use Rattle.cfb_chains.proofs.FrameLemmas.{changes_in_sector}
 use Rattle.cfb_chains.proofs.HeldLemmas.{listed_whole, sector_past_header, header_long}
 use Rattle.cfb_chains.proofs.Members.{Contains-one, value-at}
 use Rattle.cfb_chains.proofs.SectorLemmas.{Stays_apart}
+use Rattle.cfb_chains.proofs.SeekLemmas.{strict_stays}
+use Rattle.cfb_chains.proofs.StrictLemmas.{if_strict}
 
 header_there : (v : Version) (bytes : List ℕ) (i : ℕ) → i < sector_count v bytes → sector_len v ≤ length bytes
 header_there V3 bytes i lt = omega arith
@@ -98,6 +101,10 @@ module _ (validation : Validation) (a : AllocatorState) (s i o : ℕ) (ids from 
       listed = listing_stays validation v bytes after a.tables.fat_sectors a.tables.difat_sectors h.holds.listed (header_long v (length bytes) header) front_stays difats_stay;
       agrees = agreement_stays v bytes after a.tables.fat_sectors a.tables.difat_sectors fat [] h.holds.agrees
           (listed_whole validation v bytes a.tables.fat_sectors a.tables.difat_sectors h.holds.listed) fats_stay same_count;
+      strict = if_strict validation (IsStrictBut [] v bytes a.tables.fat_sectors fat) (IsStrictBut [] v after a.tables.fat_sectors fat)
+          (strict_stays v bytes after a.tables.fat_sectors fat [] h.holds.agrees.covers
+          (listed_whole validation v bytes a.tables.fat_sectors a.tables.difat_sectors h.holds.listed) fats_stay)
+          h.holds.strict;
       apart = h.holds.apart;
     };
     clean = h.clean;

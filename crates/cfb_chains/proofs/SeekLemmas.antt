@@ -60,7 +60,7 @@ sector_below V4 sector n at end from some to = omega arith
 
 -- ---- the tables stay where a sector is written that holds none of them
 
-strict_stays : (version : Version) (bytes bytes' list table late : List ℕ) → length table ≤ length list * words_per_sector version → HasSectors version bytes list
+pub strict_stays : (version : Version) (bytes bytes' list table late : List ℕ) → length table ≤ length list * words_per_sector version → HasSectors version bytes list
     → KeepsSectors version list bytes bytes' → IsStrictBut late version bytes list table → IsStrictBut late version bytes' list table
 strict_stays version bytes bytes' list table late covers whole keeps s =
     let word : (x : ℕ) → x < length list * words_per_sector version → word_of version bytes' list x ≡ word_of version bytes list x = λ x lt.
