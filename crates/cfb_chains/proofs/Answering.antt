@@ -10,6 +10,10 @@ pub on_both : {T E : Type 0} (P Q R : Type 0) (r : Result T E) → (P → Q → 
 on_both P Q R (Ok x) f p q = f p q
 on_both P Q R (Err e) f p q = tt
 
+pub on_three : {T E : Type 0} (P Q R S : Type 0) (r : Result T E) → (P → Q → R → S) → OnOk r P → OnOk r Q → OnOk r R → OnOk r S
+on_three P Q R S (Ok x) f p q r = f p q r
+on_three P Q R S (Err e) f p q r = tt
+
 -- what holds anyway holds of an answer
 pub all_ok : {T E : Type 0} {P : Type 0} (r : Result T E) → P → OnOk r P
 all_ok (Ok x) p = p

@@ -42,6 +42,7 @@ pub mod FatLemmas
 pub mod FatLaws
 pub mod SoundTables
 pub mod ChainContent
+pub mod LentContent
 pub mod SeekLemmas
 pub mod StrictFat
 pub mod StrictLemmas

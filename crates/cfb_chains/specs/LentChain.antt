@@ -3,10 +3,12 @@ use Rattle.std.specs.Prelude.{◌≡◌, ℕ, ◌+◌, ◌-◌, ◌*◌, ◌/◌
 use Rattle.std.specs.Borrow.{RattleType, MutBor, Fml, RestsIfErr}
 use Rattle.std.specs.declared.alloc.Allocator as heap
 use Rattle.cfb_format.specs.Bytes.{sector_len, sector_start}
+use Rattle.cfb_format.specs.Content.{bytes_along}
 use Rattle.cfb_format.specs.Full.{rounded_up}
 use Rattle.cfb_format.specs.declared.error.Error.{Error}
 use Rattle.cfb_format.specs.declared.medium.ReadMedium as medium
 use Rattle.cfb_format.specs.declared.version.Version.{Version}
+use Rattle.cfb_chains.specs.Agreement.{HasSectors}
 use Rattle.cfb_chains.specs.Alloc.{AllocatorState}
 use Rattle.cfb_chains.specs.ChainLists.{gained}
 use Rattle.cfb_chains.specs.declared.chain.Chain.{Chain}
@@ -63,6 +65,18 @@ module _ {F A : Type 0} {g : medium.Ghosts F} {n : numbers.Ghosts (Vec ℕ A)} w
 
   abbrev pub tail_place : Chain F A (Vec ℕ A) g n → ℕ → ℕ
   tail_place c offset = sector_start (version_of c) (slice_index (ids_of c) (offset / sector_len (version_of c))) + offset % sector_len (version_of c)
+
+  -- the file has each of its sectors whole
+  abbrev pub IsWholeChain : Chain F A (Vec ℕ A) g n → Type 0
+  IsWholeChain c = HasSectors (version_of c) (allocator_of c).now.file.bytes (ids_of c)
+
+  -- the bytes of its sectors, one after the other
+  abbrev pub content_of : Chain F A (Vec ℕ A) g n → List ℕ
+  content_of c = bytes_along (version_of c) (allocator_of c).now.file.bytes (ids_of c)
+
+  -- each of its sectors is whole, and these are its bytes
+  abbrev pub HasBytes : Chain F A (Vec ℕ A) g n → List ℕ → Type 0
+  HasBytes c content = IsWholeChain c × (content_of c ≡ content)
 
   -- it has no sectors
   abbrev pub HasNoSectors : Chain F A (Vec ℕ A) g n → Type 0

@@ -8,7 +8,7 @@ ghost use Rattle.cfb_format.specs.Medium.{ChangesOnly, part, written};
 ghost use Rattle.cfb_format.specs.Refused.{CountsFailure, IsInvalidData};
 ghost use Rattle.cfb_chains.specs.Alloc.{ChangesSectors, HoldsTables, IsFilled, IsUsable, OthersStay};
 ghost use Rattle.cfb_chains.specs.Clean.{IsUnnamed};
-ghost use Rattle.cfb_chains.specs.Sectors.{IsMediumError, SectorStays};
+ghost use Rattle.cfb_chains.specs.Sectors.{copies, init_bytes, IsMediumError, SectorStays};
 ghost use Rattle.cfb_chains.specs.Refused.{WalkRefused, ChangeRefused, BreaksOff, IsInvalidInput};
 ghost use Rattle.cfb_chains.specs.Tables.{FreesChain, HasTaken, TakesFor, IsTooFew, ending, start_of as first_of};
 ghost use Rattle.cfb_chains.specs.ChainLists.{AfterMedium, Leaves, Shortens, gained, last_of};
@@ -100,7 +100,7 @@ impl<'a, F: ReadMedium, A: Heap + Clone> Chain<'a, F, A> {
 }
 
 impl<'a, F: ReadMedium, A: Heap> Chain<'a, F, A> {
-    ghost use Rattle.cfb_chains.specs.LentChain.{allocator_of, start_of, ids_of, init_of, version_of, len_of, position_of, room_of, place_of};
+    ghost use Rattle.cfb_chains.specs.LentChain.{allocator_of, start_of, ids_of, init_of, version_of, len_of, position_of, room_of, place_of, IsWholeChain, content_of};
 
     /// The number of its first sector, or END where it has none.
     pub fn start_sector_id(&self) -> u32
@@ -200,6 +200,7 @@ impl<'a, F: ReadMedium, A: Heap> Chain<'a, F, A> {
         ensures ok { IsTrue F.tells → IfOk result (λ n. take n into.new
             ≡ placed_from (allocator_of self.old).now.file.bytes (place_in_chain (version_of self.old) (allocator_of self.old).now.file.bytes (ids_of self.old)) (position_of self.old) n) }
         ensures rest { IfOk result (λ n. drop n into.new ≡ drop n into.old) }
+        ensures content { IsTrue F.tells → IsWholeChain self.old → IfOk result (λ n. take n into.new ≡ part (content_of self.old) (position_of self.old) n) }
         ensures cut { 0 < min (length into.old) (room_of self.old) → (allocator_of self.old).now.file.len ≤ place_of self.old → IsErrAnd result IsInvalidData }
         ensures there { min (length into.old) (room_of self.old) ≡ 0 → OnErr result ⊥ }
         ensures err { place_of self.old < (allocator_of self.old).now.file.len → IfErr result IsMediumError }
@@ -233,6 +234,7 @@ impl<'a, F: ReadMedium, A: Heap> Chain<'a, F, A> {
         ensures ok { IsTrue F.tells → IfOk result (λ n. take n into.new
             ≡ placed_from (allocator_of self.old).now.file.bytes (place_in_chain (version_of self.old) (allocator_of self.old).now.file.bytes (ids_of self.old)) (position_of self.old) n) }
         ensures rest { IfOk result (λ n. drop n into.new ≡ drop n into.old) }
+        ensures content { IsTrue F.tells → IsWholeChain self.old → IfOk result (λ n. take n into.new ≡ part (content_of self.old) (position_of self.old) n) }
         ensures cut { (allocator_of self.old).now.file.len ≤ place_of self.old → IsErrAnd result IsInvalidData }
         ensures err { place_of self.old < (allocator_of self.old).now.file.len → IfErr result IsMediumError }
         ensures same { IsTrue F.tells → OnOk result ((allocator_of self.new).now ≡ (allocator_of self.old).now) }
@@ -261,7 +263,7 @@ impl<'a, F: ReadMedium, A: Heap> Chain<'a, F, A> {
 }
 
 impl<'a, F: Medium, A: Heap> Chain<'a, F, A> {
-    ghost use Rattle.cfb_chains.specs.LentChain.{allocator_of, start_of, ids_of, init_of, version_of, len_of, position_of, room_of, sector_of, place_of, tail_of, tail_place};
+    ghost use Rattle.cfb_chains.specs.LentChain.{allocator_of, start_of, ids_of, init_of, version_of, len_of, position_of, room_of, sector_of, place_of, tail_of, tail_place, IsWholeChain, content_of, HasBytes};
 
     /// Writes a beginning of `from` over what the sector at the position has from there on, goes on behind it, and answers how many
     /// bytes that is: none exactly where `from` is empty or the end is reached. `Medium` where the medium fails: the position then
@@ -285,6 +287,8 @@ impl<'a, F: Medium, A: Heap> Chain<'a, F, A> {
           begun = true;
         }) }
         ensures holds { IsTrue F.tells → (validation : Validation) → HoldsTables validation (allocator_of self.old).now → OnOk result (HoldsTables validation (allocator_of self.new).now) }
+        ensures content { IsTrue F.tells → IsWholeChain self.old
+            → IfOk result (λ n. 0 < n → HasBytes self.new (written (content_of self.old) (position_of self.old) (take n from.now))) }
         ensures err { IfErr result IsMediumError }
         ensures begun { 0 < min (length from.now) (room_of self.old) → (allocator_of self.new).now.file.begun ≡ true }
         ensures sectors { IsTrue F.tells → (i : ℕ) → i ≢ sector_of self.old
@@ -322,6 +326,7 @@ impl<'a, F: Medium, A: Heap> Chain<'a, F, A> {
           begun = true;
         }) }
         ensures holds { IsTrue F.tells → (validation : Validation) → HoldsTables validation (allocator_of self.old).now → OnOk result (HoldsTables validation (allocator_of self.new).now) }
+        ensures content { IsTrue F.tells → IsWholeChain self.old → OnOk result (HasBytes self.new (written (content_of self.old) (position_of self.old) from.now)) }
         ensures err { IfErr result IsMediumError }
         ensures begun { (allocator_of self.new).now.file.begun ≡ true }
         ensures sectors { IsTrue F.tells → (i : ℕ) → i ≢ sector_of self.old
@@ -358,6 +363,10 @@ impl<'a, F: Medium, A: Heap> Chain<'a, F, A> {
           begun = true;
         }) }
         ensures holds { IsTrue F.tells → (validation : Validation) → HoldsTables validation (allocator_of self.old).now → OnOk result (HoldsTables validation (allocator_of self.new).now) }
+        ensures whole { IsTrue F.tells → IsWholeChain self.old → OnOk result (IsWholeChain self.new) }
+        ensures same { IsTrue F.tells → IsWholeChain self.old → offset % sector_len_of (version_of self.old) ≡ 0 → OnOk result (content_of self.new ≡ content_of self.old) }
+        ensures content { IsTrue F.tells → IsWholeChain self.old → 0 < offset % sector_len_of (version_of self.old)
+            → OnOk result (content_of self.new ≡ written (content_of self.old) offset (replicate (tail_of self.old offset) 0)) }
         ensures err { IfErr result IsMediumError }
         ensures begun { 0 < offset % sector_len_of (version_of self.old) → (allocator_of self.new).now.file.begun ≡ true }
         ensures sectors { IsTrue F.tells → (i : ℕ) → i ≢ slice_index (ids_of self.old) (offset / sector_len_of (version_of self.old))
@@ -376,7 +385,7 @@ impl<'a, F: Medium, A: Heap> Chain<'a, F, A> {
 }
 
 impl<'a, F: Medium, A: Heap + Clone> Chain<'a, F, A> {
-    ghost use Rattle.cfb_chains.specs.LentChain.{allocator_of, start_of, ids_of, init_of, version_of, len_of, position_of, missing_of, wanted_of, HasNoSectors, HasGained, HasKept, IsAsBefore};
+    ghost use Rattle.cfb_chains.specs.LentChain.{allocator_of, start_of, ids_of, init_of, version_of, len_of, position_of, missing_of, wanted_of, HasNoSectors, HasGained, HasKept, IsAsBefore, IsWholeChain, content_of, HasBytes};
 
     /// Frees its sectors: then it has none.
     ///
@@ -422,6 +431,9 @@ impl<'a, F: Medium, A: Heap + Clone> Chain<'a, F, A> {
             (ending (last_of (ids_of self.old))) (gained (ids_of self.old) (ids_of self.new))) }
         ensures enough { 0 < missing_of self.old (length from.now) → OnOk result (IsTooFew (allocator_of self.old).now.tables (missing_of self.old (length from.now)) → ⊥) }
         ensures holds { IsTrue F.tells → (validation : Validation) → HoldsTables validation (allocator_of self.old).now → OnOk result (HoldsTables validation (allocator_of self.new).now) }
+        ensures content { IsTrue F.tells → (validation : Validation) → HoldsTables validation (allocator_of self.old).now → IsWholeChain self.old
+            → IfOk result (λ n. 0 < n → HasBytes self.new
+            (written (content_of self.old ++ copies (missing_of self.old (length from.now)) (init_bytes (version_of self.old) (init_of self.old))) (position_of self.old) (take n from.now))) }
         ensures others { IsTrue F.tells → (i : ℕ) → (value (allocator_of self.old).now.tables.fat i ≡ free_sector → ⊥)
             → (Contains ((allocator_of self.old).now.tables.fat_sectors ++ (allocator_of self.old).now.tables.difat_sectors) i → ⊥)
             → i ≢ slice_index (ids_of self.new) (position_of self.old / sector_len_of (version_of self.old))
@@ -476,6 +488,12 @@ impl<'a, F: Medium, A: Heap + Clone> Chain<'a, F, A> {
         ensures tables { wanted_of self.old len ≡ length (ids_of self.old) → (allocator_of self.new).now.tables ≡ (allocator_of self.old).now.tables }
         ensures holds { IsTrue F.tells → (validation : Validation) → HoldsTables validation (allocator_of self.old).now
             → (len ≡ 0 → IsUnnamed (allocator_of self.old).now.tables.fat (start_of self.old)) → OnOk result (HoldsTables validation (allocator_of self.new).now) }
+        ensures longer { IsTrue F.tells → (validation : Validation) → HoldsTables validation (allocator_of self.old).now → IsWholeChain self.old
+            → length (ids_of self.old) < wanted_of self.old len → OnOk result (HasBytes self.new
+            (content_of self.old ++ copies (wanted_of self.old len - length (ids_of self.old)) (init_bytes (version_of self.old) (init_of self.old)))) }
+        ensures shorter { IsTrue F.tells → (validation : Validation) → HoldsTables validation (allocator_of self.old).now → IsWholeChain self.old
+            → wanted_of self.old len ≤ length (ids_of self.old) → OnOk result (HasBytes self.new
+            (take len (content_of self.old) ++ replicate (wanted_of self.old len * sector_len_of (version_of self.old) - len) 0)) }
         ensures others { IsTrue F.tells → (i : ℕ) → (value (allocator_of self.old).now.tables.fat i ≡ free_sector → ⊥)
             → (Contains ((allocator_of self.old).now.tables.fat_sectors ++ (allocator_of self.old).now.tables.difat_sectors) i → ⊥)
             → i ≢ slice_index (ids_of self.new) (len / sector_len_of (version_of self.old))
@@ -512,6 +530,8 @@ impl<'a, F: Medium, A: Heap + Clone> Chain<'a, F, A> {
             → OnOk result ((i : ℕ) → Contains (gained (ids_of self.old) (ids_of self.new)) i
             → IsFilled (version_of self.new) (init_of self.old) (allocator_of self.new).now.file.bytes i) }
         ensures holds { IsTrue F.tells → (validation : Validation) → HoldsTables validation (allocator_of self.old).now → OnOk result (HoldsTables validation (allocator_of self.new).now) }
+        ensures content { IsTrue F.tells → (validation : Validation) → HoldsTables validation (allocator_of self.old).now → IsWholeChain self.old
+            → OnOk result (HasBytes self.new (content_of self.old ++ copies count (init_bytes (version_of self.old) (init_of self.old)))) }
         ensures others { IsTrue F.tells → OthersStay (allocator_of self.old).now (allocator_of self.new).now }
         ensures enough { OnOk result (IsTooFew (allocator_of self.old).now.tables count → ⊥) }
         ensures refused { IfErr result (BreaksOff (TakesFor (ending (last_of (ids_of self.old)))) (allocator_of self.old).now (allocator_of self.new).now) }
@@ -545,6 +565,8 @@ impl<'a, F: Medium, A: Heap + Clone> Chain<'a, F, A> {
             (allocator_of self.old).now.tables (allocator_of self.new).now.tables) }
         ensures holds { IsTrue F.tells → (validation : Validation) → HoldsTables validation (allocator_of self.old).now
             → (count ≡ 0 → IsUnnamed (allocator_of self.old).now.tables.fat (start_of self.old)) → OnOk result (HoldsTables validation (allocator_of self.new).now) }
+        ensures content { IsTrue F.tells → (validation : Validation) → HoldsTables validation (allocator_of self.old).now → IsWholeChain self.old
+            → OnOk result (HasBytes self.new (take (count * sector_len_of (version_of self.old)) (content_of self.old))) }
         ensures changes { IsTrue F.tells → ChangesSectors (allocator_of self.old).now.tables.fat_sectors (allocator_of self.old).now.tables.version
             (allocator_of self.old).now.file.bytes (allocator_of self.new).now.file.bytes }
         ensures refused { IfErr result (BreaksOff (Shortens (take count (ids_of self.old)) (drop count (ids_of self.old)))

@@ -19,3 +19,6 @@ returns-clause-refused g c =
     on_err _ _ c.cut.result
     (breaks_map (Shortens [] (ids_of now)) (FreesChain (start_of now)) old new (shortened_frees old.tables new.tables (start_of now) (ids_of now) now.chained))
     c.cut.ensures.refused
+
+pub returns-clause-holds : goal.returns-clause-holds
+returns-clause-holds g c told validation h unnamed = c.cut.ensures.holds told validation h (λ none. unnamed)

@@ -1,9 +1,14 @@
-use Rattle.std.proofs.Common.{◌+◌, ◌-◌, ◌/◌, ◌%◌, ◌<◌, ◌∙◌, ℕ, sym, subst}
+use Rattle.std.proofs.Common.{◌+◌, ◌-◌, ◌*◌, ◌/◌, ◌%◌, ◌<◌, ◌++◌, ◌∙◌, ℕ, take, ap, sym, subst}
 use Rattle.std.specs.Prelude.{slice_index}
+use Rattle.std.specs.Result.{OnOk}
+use Rattle.cfb_format.specs.Full.{rounded_up}
+use Rattle.cfb_format.specs.Refused.{CountsFailure}
+use Rattle.cfb_chains.specs.Sectors.{copies, init_bytes}
+use Rattle.cfb_chains.proofs.LentContent.{content_long, shortened_of, wanted_is}
 use Rattle.std.proofs.lemmas.List.Elements.{Contains-append_left}
 use Rattle.cfb_format.specs.Bytes.{sector_len, sector_start}
 use Rattle.cfb_format.specs.declared.version.Version.{Version}
-use Rattle.cfb_chains.specs.LentChain.{allocator_of, version_of, tail_of, tail_place}
+use Rattle.cfb_chains.specs.LentChain.{allocator_of, ids_of, init_of, version_of, tail_of, tail_place, content_of, HasBytes}
 use Rattle.cfb_chains.proofs.ChainWrites.{none_wanted, zeroed_of}
 use Rattle.cfb_chains.proofs.SectorLemmas.{SectorStays_next}
 use Rattle.cfb_chains.proofs.chain.Chain+F+A.set_len.Goals as goal
@@ -41,3 +46,28 @@ returns-clause-zeroed g c told fewer some =
     (λ j. sector_start (version j) (slice_index (sym ids j) (len / sector_len (version j))) + len % sector_len (version j))
     (λ j. sector_len (version j) - len % sector_len (version j))
     (c.zero_tail.ensures.ok told (subst (λ (v : Version). 0 < len % sector_len v) (sym version) some))
+
+pub returns-then-sectors-have-clause-longer : goal.returns-then-sectors-have-clause-longer
+returns-then-sectors-have-clause-longer g c told validation h whole fewer =
+    let now = c.args.self.now in
+    let v = version_of now in
+    let wanted = wanted_is v c.args.len c.div_ceil-sectors.result c.sector_len.result c.sector_len.ensures c.div_ceil-sectors.ensures in
+    subst (λ (n : ℕ). OnOk c.grow.result (HasBytes c.grow.new.self (content_of now ++ copies n (init_bytes v (init_of now)))))
+    (λ j. wanted j - c.num_sectors-have.ensures j) (c.grow.ensures.content told validation h whole)
+
+pub returns-clause-shorter : goal.returns-clause-shorter
+returns-clause-shorter g c told validation h whole fewer =
+    let now = c.args.self.now in
+    let v = version_of now in
+    let cut = c.cut.new.self in
+    let wanted = wanted_is v c.args.len c.div_ceil-sectors.result c.sector_len.result c.sector_len.ensures c.div_ceil-sectors.ensures in
+    let content = c.in_ok-cut.ensures.content told validation h whole in
+    let e = c.zero_tail.ensures in
+    shortened_of c.zero_tail.result _ v (version_of cut) (content_of now) (content_of cut) _ c.args.len c.cut.ensures.version
+    (content_long v (allocator_of now).now.file.bytes (ids_of now) (rounded_up c.args.len (sector_len v)) whole fewer)
+    (content.1 ∙ ap (λ (n : ℕ). take (n * sector_len v) (content_of now)) wanted)
+    (e.whole told content.0) (e.same told content.0) (e.content told content.0)
+
+pub returns-clause-counts : goal.returns-clause-counts
+returns-clause-counts g c told =
+    subst (λ (n : ℕ). CountsFailure g.F.Medium.write_faults c.zero_tail.result n (allocator_of c.zero_tail.new.self).now.file.failures) (c.in_ok-cut.ensures.counts told) (c.zero_tail.ensures.counts told)

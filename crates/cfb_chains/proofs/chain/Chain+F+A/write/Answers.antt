@@ -1,8 +1,12 @@
-use Rattle.std.proofs.Common.{◌≡◌, ◌+◌, ◌-◌, ◌/◌, ◌%◌, ◌∙◌, min, ℕ, length, sym, arith}
-use Rattle.std.specs.Prelude.{slice_index}
+use Rattle.std.proofs.Common.{◌≡◌, ◌<◌, ◌+◌, ◌-◌, ◌/◌, ◌%◌, ◌++◌, ◌∙◌, min, ℕ, List, length, take, ap, sym, subst, arith}
+use Rattle.std.specs.Prelude.{slice_index, IfOk}
+use Rattle.std.proofs.lemmas.List.{append-nil}
+use Rattle.cfb_format.specs.Medium.{written}
+use Rattle.cfb_format.specs.Refused.{CountsFailure}
+use Rattle.cfb_chains.specs.Sectors.{copies, init_bytes}
 use Rattle.cfb_format.specs.Bytes.{sector_len, sector_start}
 use Rattle.cfb_chains.specs.ChainLists.{gained}
-use Rattle.cfb_chains.specs.LentChain.{allocator_of, ids_of, place_of, position_of, room_of, version_of}
+use Rattle.cfb_chains.specs.LentChain.{allocator_of, ids_of, init_of, missing_of, place_of, position_of, room_of, version_of, content_of, HasBytes}
 use Rattle.cfb_chains.proofs.Answering.{all_ok}
 use Rattle.cfb_chains.proofs.ChainWrites.{if_ok, rest_short, room_after, there_of}
 use Rattle.cfb_chains.proofs.SectorLemmas.{SectorStays_next}
@@ -57,3 +61,28 @@ returns-clause-there g c told =
     let position = c.in_ok-grow.ensures.position in
     there_of c.write_within-2.result (allocator_of grown).now.file (allocator_of c.write_within-2.new.self).now.file (place_of grown) _ (room_of grown) c.args.from.now
     (λ j. sector_start (version j) (slice_index (sym e.chain.0 j) (position j / sector_len (version j))) + position j % sector_len (version j)) e.count (e.ok told)
+
+pub returns-then-missing-eq0-clause-content : goal.returns-then-missing-eq0-clause-content
+returns-then-missing-eq0-clause-content g c told validation h whole =
+    let now = c.args.self.now in
+    let init = init_bytes (version_of now) (init_of now) in
+    let none : missing_of now (length c.args.from.now) ≡ 0 = sym c.missing-missing.ensures ∙ c.if-missing-eq0.true in
+    subst (λ (x : List ℕ). IfOk c.write_within.result (λ n. 0 < n → HasBytes c.write_within.new.self (written x (position_of now) (take n c.args.from.now))))
+    (sym (ap (λ (k : ℕ). content_of now ++ copies k init) none ∙ append-nil (content_of now)))
+    (c.write_within.ensures.content told whole)
+
+pub returns-clause-content : goal.returns-clause-content
+returns-clause-content g c told validation h whole =
+    let now = c.args.self.now in
+    let grown = c.grow.new.self in
+    let init = init_bytes (version_of now) (init_of now) in
+    let content = c.in_ok-grow.ensures.content told validation h whole in
+    let is = content.1 ∙ ap (λ (k : ℕ). content_of now ++ copies k init) c.missing-missing.ensures in
+    subst (λ (p : ℕ). IfOk c.write_within-2.result (λ n. 0 < n → HasBytes c.write_within-2.new.self
+    (written (content_of now ++ copies (missing_of now (length c.args.from.now)) init) p (take n c.args.from.now)))) c.in_ok-grow.ensures.position
+    (subst (λ (x : List ℕ). IfOk c.write_within-2.result (λ n. 0 < n → HasBytes c.write_within-2.new.self (written x (position_of grown) (take n c.args.from.now))))
+    is (c.write_within-2.ensures.content told content.0))
+
+pub returns-clause-counts : goal.returns-clause-counts
+returns-clause-counts g c told =
+    subst (λ (n : ℕ). CountsFailure g.F.Medium.write_faults c.write_within-2.result n (allocator_of c.write_within-2.new.self).now.file.failures) (c.in_ok-grow.ensures.counts told) (c.write_within-2.ensures.counts told)
