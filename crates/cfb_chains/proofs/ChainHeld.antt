@@ -1,5 +1,5 @@
 -- The bytes still hold the tables after a write into a chain's sector.
-use Rattle.std.proofs.Common.{◌≡◌, ◌≢◌, ◌<◌, ◌≤◌, ◌+◌, ◌-◌, ◌*◌, ◌/◌, ◌%◌, ◌⊎◌, inl, inr, max, ℕ, List, [], ◌∷◌, ◌++◌, true, refl, sym, ◌∙◌, ap, subst, length, replicate, arith}
+use Rattle.std.proofs.Common.{◌≡◌, ◌<◌, ◌≤◌, ◌+◌, inl, inr, max, ℕ, List, [], ◌∷◌, true, refl, sym, ◌∙◌, ap, subst, length, replicate, arith}
 use Rattle.std.proofs.lemmas.List.{length-replicate}
 use Rattle.std.specs.Prelude.{Some, Contains, slice_index}
 use Rattle.cfb_format.specs.declared.validate.Validation.{Validation}

@@ -1,6 +1,6 @@
 -- The chain that a view of it keeps.
-use Rattle.std.proofs.Common.{◌≡◌, ◌≢◌, ◌<◌, ◌≤◌, ◌+◌, ◌-◌, ◌*◌, ◌/◌, ◌⊎◌, inl, inr, ℕ, List, [], ◌∷◌, ◌++◌, Bool, true, false, refl, sym, ◌∙◌, ap, subst, length, arith, ◌||◌}
-use Rattle.std.specs.Prelude.{Some, Contains, slice_index, nat_eq, IsTrue}
+use Rattle.std.proofs.Common.{◌≡◌, ◌<◌, ◌≤◌, ◌+◌, ◌*◌, ◌/◌, ◌⊎◌, inl, inr, ℕ, List, [], ◌∷◌, Bool, true, false, refl, sym, ◌∙◌, ap, length, arith, ◌||◌}
+use Rattle.std.specs.Prelude.{Some, Contains, slice_index, nat_eq}
 use Rattle.std.specs.List.{list_any}
 use Rattle.std.proofs.lemmas.List.Elements.{Contains-get_or}
 use Rattle.std.proofs.lemmas.Map.Steps.{length-le_from_distinct_below}
@@ -9,8 +9,8 @@ use Rattle.cfb_format.specs.declared.error.Error.{Error}
 use Rattle.cfb_format.specs.declared.error.Error.TheVariants.{NotFound, AlreadyExists, InvalidInput, InvalidData, Medium, Memory, Full, Unsound, Failed, Unsupported}
 use Rattle.cfb_format.specs.declared.version.Version.{Version}
 use Rattle.cfb_format.specs.declared.version.Version.TheVariants.{V3, V4}
-use Rattle.cfb_format.specs.Bytes.{sector_len, max_regular_sector, end_of_chain}
-use Rattle.cfb_format.specs.Chain.{value, Follows, IsChain, chain_from}
+use Rattle.cfb_format.specs.Bytes.{sector_len, max_regular_sector}
+use Rattle.cfb_format.specs.Chain.{Follows, IsChain, chain_from}
 use Rattle.cfb_format.proofs.Chains.{chain_from-IsChain}
 use Rattle.cfb_chains.specs.Changes.{NoChain}
 use Rattle.cfb_chains.specs.Refused.{ChangeRefused}

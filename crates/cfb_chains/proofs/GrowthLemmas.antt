@@ -1,8 +1,8 @@
 -- The tables after sectors were taken, and the bytes once the new table sectors are there.
-use Rattle.std.proofs.Common.{refl, inl, inr, ◌≡◌, ◌≢◌, ◌⊎◌, ℕ, suc, ◌+◌, ◌-◌, ◌*◌, ◌/◌, ◌%◌, ◌<◌, ◌≤◌, max, Bool, true, false, List, [], ◌∷◌, ◌++◌, length, drop, take, slice_index, sym, ◌∙◌, ap, subst, arith, length-append, length-drop, get_or-drop, mod-lt}
+use Rattle.std.proofs.Common.{refl, inl, inr, ◌≡◌, ◌≢◌, ℕ, ◌+◌, ◌-◌, ◌*◌, ◌/◌, ◌%◌, ◌<◌, ◌≤◌, true, List, [], ◌++◌, length, drop, slice_index, sym, ◌∙◌, ap, subst, arith, length-append, length-drop, get_or-drop, mod-lt}
 use Rattle.std.specs.Prelude.{Contains, IsTrue, nat_eq, slice_index_or}
 use Rattle.std.specs.List.{IsDistinct}
-use Rattle.std.proofs.lemmas.Bool.{cases_eq, cases_lt}
+use Rattle.std.proofs.lemmas.Bool.{cases_lt}
 use Rattle.std.proofs.lemmas.List.{get_or_append_left, get_or-append_right, get_or_default, get_or_past, get_or-replicate}
 use Rattle.std.proofs.lemmas.List.Elements.{Contains-append_left, Contains-append_right, Contains-append_cases}
 use Rattle.cfb_format.specs.declared.version.Version.{Version}

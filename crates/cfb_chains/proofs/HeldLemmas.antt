@@ -1,6 +1,6 @@
 -- The tables in memory and the bytes that hold them, under single writes.
-use Rattle.std.proofs.Common.{refl, inl, inr, ◌≡◌, ◌≢◌, ◌⊎◌, ℕ, ◌+◌, ◌*◌, ◌/◌, ◌%◌, ◌^◌, ◌<◌, ◌≤◌, max, min, ◌-◌, Bool, true, false, List, [], ◌∷◌, ◌++◌, replicate, length, drop, take, slice_index, sym, ◌∙◌, ap, subst, arith, add-zero, le-leb, get_or-take, length-take, get_or-drop, length-drop}
-use Rattle.std.specs.Prelude.{Contains, IsTrue, nat_le, nat_eq, ◌&&◌}
+use Rattle.std.proofs.Common.{refl, inl, inr, ◌≡◌, ◌⊎◌, ℕ, ◌+◌, ◌*◌, ◌/◌, ◌%◌, ◌^◌, ◌<◌, ◌≤◌, max, min, ◌-◌, Bool, true, false, List, [], ◌∷◌, ◌++◌, replicate, length, drop, take, slice_index, sym, ◌∙◌, ap, subst, arith, add-zero, le-leb, get_or-take, length-take, get_or-drop, length-drop}
+use Rattle.std.specs.Prelude.{Contains, nat_eq, ◌&&◌}
 use Rattle.std.specs.List.{list_all, IsDistinct}
 use Rattle.std.proofs.lemmas.List.{get_or_default}
 use Rattle.std.proofs.lemmas.List.Elements.{Contains-get_or}
@@ -8,7 +8,7 @@ use Rattle.std.proofs.lemmas.Grind.{same_number_lists}
 use Rattle.cfb_format.specs.declared.version.Version.{Version}
 use Rattle.cfb_format.specs.declared.version.Version.TheVariants.{V3, V4}
 use Rattle.cfb_format.specs.declared.validate.Validation.{Validation}
-use Rattle.cfb_format.specs.Bytes.{words, sector_words, free_sector, end_of_chain, sector_len, sector_start, sector_bytes, is_whole_sector, words_per_sector, word_bytes, unit_bytes}
+use Rattle.cfb_format.specs.Bytes.{words, sector_words, free_sector, end_of_chain, sector_len, sector_start, is_whole_sector, words_per_sector, word_bytes, unit_bytes}
 use Rattle.cfb_format.specs.Medium.{part, written, ChangesOnly}
 use Rattle.cfb_format.proofs.ByteLemmas.{part_written, length-written, length-part, part_at}
 use Rattle.cfb_format.proofs.Words.{whole-end}
@@ -17,16 +17,16 @@ use Rattle.cfb_chains.specs.declared.sector.SectorInit.TheVariants.{Zero, Fat, D
 use Rattle.cfb_format.specs.DirectoryEntry.{entry_bytes}
 use Rattle.cfb_chains.specs.Words.{with_word, Stays}
 use Rattle.cfb_chains.specs.Sectors.{SectorFile, SectorStays, init_bytes}
-use Rattle.cfb_chains.specs.Agreement.{AgreesBut, IsStrictBut, HasSectors, KeepsSectors, word_home}
+use Rattle.cfb_chains.specs.Agreement.{AgreesBut, IsStrictBut, HasSectors, word_home}
 use Rattle.cfb_chains.specs.Difat.{ListsTables, ListingStays, FreshFatWords, FreshDifatWords}
 use Rattle.cfb_chains.specs.Tables.{TableState}
-use Rattle.cfb_chains.specs.Alloc.{IsMeasured, HoldsBut, IsFilled, IsTablesWord, ChangesSectors}
+use Rattle.cfb_chains.specs.Alloc.{HoldsBut, IsFilled, IsTablesWord, ChangesSectors}
 use Rattle.cfb_chains.proofs.FrameLemmas.{word_inside}
 use Rattle.cfb_chains.proofs.AgreementLemmas.{written_agrees}
 use Rattle.cfb_chains.proofs.StrictLemmas.{if_strict, strict_written}
 use Rattle.cfb_chains.proofs.Listed.{not_in_nil, in_cons, place_once}
 use Rattle.cfb_chains.proofs.SectorLemmas.{other_sector, Stays_apart}
-use Rattle.cfb_chains.proofs.TableWords.{home_sector, home_fits, home_inside, words_fit, words_of_part}
+use Rattle.cfb_chains.proofs.TableWords.{home_sector, home_fits, words_fit, words_of_part}
 use Rattle.cfb_chains.proofs.WordLemmas.{length-with_word}
 
 -- what a test on all members says of one

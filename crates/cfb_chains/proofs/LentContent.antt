@@ -1,10 +1,10 @@
 -- What stands along a lent chain, as it is read, written, grown and cut.
-use Rattle.std.proofs.Common.{◌≡◌, ◌≢◌, ◌<◌, ◌≤◌, ◌+◌, ◌-◌, ◌*◌, ◌/◌, ◌%◌, ◌⊎◌, inl, inr, ℕ, zero, suc, min, List, [], ◌++◌, refl, sym, ◌∙◌, ap, subst, length, take, replicate, arith, length-take}
+use Rattle.std.proofs.Common.{◌≡◌, ◌<◌, ◌≤◌, ◌+◌, ◌-◌, ◌*◌, ◌/◌, ◌%◌, ◌⊎◌, inl, inr, ℕ, zero, suc, min, List, ◌++◌, refl, sym, ◌∙◌, ap, subst, length, take, replicate, arith, length-take}
 use Rattle.std.specs.Prelude.{Some, Contains, slice_index, nat_eq, Result, Ok, Err}
 use Rattle.std.specs.Result.{OnOk}
 use Rattle.std.specs.List.{IsDistinct}
 use Rattle.std.proofs.lemmas.List.{append-nil, take-take, take_all, length-replicate}
-use Rattle.std.proofs.lemmas.List.Elements.{Contains-append_left, Contains-append_cases}
+use Rattle.std.proofs.lemmas.List.Elements.{Contains-append_cases}
 use Rattle.cfb_format.specs.declared.validate.Validation.{Validation}
 use Rattle.cfb_format.specs.declared.version.Version.{Version}
 use Rattle.cfb_format.specs.declared.version.Version.TheVariants.{V3, V4}
@@ -20,7 +20,6 @@ use Rattle.cfb_chains.specs.declared.sector.SectorInit.{SectorInit}
 use Rattle.cfb_chains.proofs.ChainContent.{along_len, along_stays, sectors_stay, along_grown, grown_has, along_written, written_has, along_read, along_cut, cut_has, written_to_end}
 use Rattle.cfb_chains.proofs.ChainLemmas.{follows-values, members-busy}
 use Rattle.cfb_chains.proofs.ChainView.{found_chain}
-use Rattle.cfb_chains.proofs.FrameLemmas.{changes_refl}
 use Rattle.cfb_chains.proofs.Members.{value-at}
 
 -- the chain has each of its sectors whole, and these are its bytes

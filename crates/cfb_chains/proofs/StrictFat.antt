@@ -1,5 +1,5 @@
 -- The words of the FAT sectors as the format says that strict opening wants them (MS-CFB 2.3).
-use Rattle.std.proofs.Common.{◌≡◌, ◌≤◌, ◌<◌, ◌+◌, ◌-◌, ◌*◌, inl, inr, min, ℕ, List, [], Bool, true, false, refl, sym, ◌∙◌, ap, subst, length, arith, length-take, length-drop, get_or-drop, eq-eqb, eqb-true, lt-ltb}
+use Rattle.std.proofs.Common.{◌≡◌, ◌<◌, ◌+◌, ◌-◌, ◌*◌, inl, inr, min, ℕ, List, [], Bool, true, false, refl, sym, ◌∙◌, ap, subst, length, arith, length-take, length-drop, get_or-drop, eq-eqb, eqb-true, lt-ltb}
 use Rattle.std.specs.Prelude.{slice_index, slice_index_or, IsTrue, Contains, not, ◌||◌, ◌==◌, nat_lt}
 use Rattle.std.specs.List.{list_all}
 use Rattle.std.proofs.lemmas.Bool.{cases_lt}

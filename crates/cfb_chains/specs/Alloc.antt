@@ -1,5 +1,5 @@
 -- The sectors of a file and its tables, and what of the tables the bytes hold (MS-CFB 2.1, 2.3 and 2.5).
-use Rattle.std.specs.Prelude.{ℕ, ◌≡◌, ◌+◌, ◌<◌, ◌≤◌, ◌⊎◌, List, [], ◌∷◌, ◌++◌, length, slice_index, Contains}
+use Rattle.std.specs.Prelude.{ℕ, ◌≡◌, ◌+◌, ◌<◌, ◌≤◌, ◌⊎◌, List, [], ◌++◌, length, slice_index, Contains}
 use Rattle.cfb_format.specs.declared.version.Version.{Version}
 use Rattle.cfb_format.specs.declared.validate.Validation.{Validation}
 use Rattle.cfb_format.specs.Bytes.{sector_len, sector_start, sector_bytes, free_sector}
@@ -12,7 +12,6 @@ use Rattle.cfb_chains.specs.Clean.{IsClean}
 use Rattle.cfb_chains.specs.Difat.{ListsTables}
 use Rattle.cfb_chains.specs.Sectors.{SectorFile, SectorStays, init_bytes}
 use Rattle.cfb_chains.specs.Tables.{TableState, AreSizes, IsCovered}
-use Rattle.cfb_chains.specs.declared.lists.Sizes.{Sizes}
 
 -- what an allocator keeps
 pub record AllocatorState : Type 0 where

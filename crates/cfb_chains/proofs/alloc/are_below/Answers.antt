@@ -1,4 +1,4 @@
-use Rattle.std.proofs.Common.{arith, ap, ◌∙◌, sym, subst, ◌<◌, ◌≡◌, ℕ, inl, inr, get_or}
+use Rattle.std.proofs.Common.{arith, ◌∙◌, sym, ◌≡◌, get_or}
 use Rattle.std.proofs.lemmas.List.{get_or_default}
 use Rattle.std.proofs.lemmas.List.Elements.{Contains-get_or}
 use Rattle.cfb_chains.proofs.alloc.are_below.Goals as goal

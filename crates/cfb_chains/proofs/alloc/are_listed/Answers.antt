@@ -1,4 +1,4 @@
-use Rattle.std.proofs.Common.{arith, subst, ◌≤◌, ◌+◌, ◌*◌, ◌-◌, length}
+use Rattle.std.proofs.Common.{subst, ◌≤◌, ◌+◌, ◌*◌, ◌-◌, length}
 use Rattle.cfb_chains.proofs.alloc.are_listed.Goals as goal
 
 pub returns-clause-listed : goal.returns-clause-listed

@@ -1,5 +1,4 @@
-use Rattle.std.proofs.Common.{◌≡◌, ℕ, List, take, drop, ap, sym, subst, ◌∙◌}
-use Rattle.std.specs.Prelude.{Some}
+use Rattle.std.proofs.Common.{ℕ, List, take, drop, ap, subst, ◌∙◌}
 use Rattle.cfb_chains.specs.ChainLists.{Shortens}
 use Rattle.cfb_chains.specs.Tables.{start_of as first_of}
 use Rattle.cfb_chains.proofs.ChainView.{chain_few}

@@ -1,9 +1,9 @@
-use Rattle.std.proofs.Common.{arith, ap, ◌∙◌, sym, subst, ◌≡◌, ◌<◌, ◌≤◌, ◌++◌, ◌∷◌, [], ℕ, List, length}
+use Rattle.std.proofs.Common.{arith, ap, ◌∙◌, sym, subst, ◌≤◌, ◌++◌, ◌∷◌, [], ℕ, List, length}
 use Rattle.std.specs.Prelude.{Contains}
 use Rattle.std.proofs.lemmas.List.Elements.{Contains-append_left, Contains-append_right}
 use Rattle.cfb_format.specs.declared.version.Version.{Version}
 use Rattle.cfb_chains.specs.declared.sector.SectorInit.TheVariants.{Difat}
-use Rattle.cfb_chains.specs.Alloc.{ChangesSectors, IsFilled}
+use Rattle.cfb_chains.specs.Alloc.{ChangesSectors}
 use Rattle.cfb_chains.specs.Difat.{ListsTables, linked}
 use Rattle.cfb_chains.specs.Sectors.{SectorFile}
 use Rattle.cfb_chains.proofs.Answering.{on_ok}

@@ -1,4 +1,4 @@
-use Rattle.std.proofs.Common.{arith, ap, ◌∙◌, sym, subst, ◌≡◌, ◌+◌, ◌<◌, ◌≤◌, ◌++◌, ◌∷◌, [], ℕ, List, length, take, get_or, length-take, true}
+use Rattle.std.proofs.Common.{arith, ap, ◌∙◌, sym, subst, ◌≡◌, ◌≤◌, ◌++◌, ◌∷◌, [], ℕ, List, length, take, get_or, length-take, true}
 use Rattle.std.specs.Prelude.{Contains}
 use Rattle.std.proofs.lemmas.List.{take_more}
 use Rattle.std.proofs.lemmas.List.Elements.{Contains-get_or}
@@ -6,7 +6,7 @@ use Rattle.cfb_format.specs.declared.version.Version.{Version}
 use Rattle.cfb_format.specs.Bytes.{is_whole_sector}
 use Rattle.cfb_chains.specs.declared.sector.SectorInit.TheVariants.{Fat}
 use Rattle.cfb_chains.specs.Alloc.{ChangesSectors, IsFilled}
-use Rattle.cfb_chains.specs.Difat.{ListsTables, difat_places}
+use Rattle.cfb_chains.specs.Difat.{ListsTables}
 use Rattle.cfb_chains.specs.Sectors.{SectorFile}
 use Rattle.cfb_chains.proofs.FrameLemmas.{changes_more, changes_trans}
 use Rattle.cfb_chains.proofs.HeldLemmas.{in_taken, listed_fill, filled_whole, stays_filled, header_long}

@@ -1,14 +1,12 @@
-use Rattle.std.proofs.Common.{arith, ap, ◌∙◌, sym, subst, ◌≤◌, ◌<◌, ◌≡◌, ◌++◌, inl, inr, ℕ, List, length, drop, get_or}
-use Rattle.std.specs.Prelude.{Contains, slice_index}
-use Rattle.std.proofs.lemmas.List.Elements.{Contains-get_or, Contains-append_left, Contains-append_right, Contains-append_cases}
+use Rattle.std.proofs.Common.{arith, ap, subst, ◌≤◌, ◌≡◌, ◌++◌, ℕ, List, length, drop, get_or}
+use Rattle.std.proofs.lemmas.List.Elements.{Contains-get_or, Contains-append_left, Contains-append_right}
 use Rattle.cfb_format.specs.declared.version.Version.{Version}
 use Rattle.cfb_chains.specs.declared.sector.SectorInit.TheVariants.{Fat}
-use Rattle.cfb_chains.specs.Alloc.{ChangesSectors, IsFilled}
+use Rattle.cfb_chains.specs.Alloc.{ChangesSectors}
 use Rattle.cfb_chains.specs.Sectors.{SectorFile}
 use Rattle.cfb_chains.proofs.DifatLemmas.{listing_stays}
 use Rattle.cfb_chains.proofs.FrameLemmas.{changes_more, changes_trans}
 use Rattle.cfb_chains.proofs.HeldLemmas.{header_long, listed_fill, stays_filled}
-use Rattle.cfb_chains.proofs.writing.add_sectors.Given as given
 use Rattle.cfb_chains.proofs.writing.add_sectors.Goals as goal
 
 pub fill_sectors-requires : goal.fill_sectors-requires

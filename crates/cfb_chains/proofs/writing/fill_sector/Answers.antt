@@ -1,8 +1,5 @@
-use Rattle.std.proofs.Common.{arith, ap, ◌∙◌, sym, length, max, ◌+◌, ◌≡◌}
-use Rattle.cfb_format.specs.Bytes.{sector_len, sector_start}
-use Rattle.cfb_format.specs.Medium.{written}
-use Rattle.cfb_format.proofs.ByteLemmas.{length-written}
-use Rattle.cfb_chains.specs.Sectors.{SectorFile, init_bytes, place}
+use Rattle.std.proofs.Common.{arith, ap}
+use Rattle.cfb_chains.specs.Sectors.{SectorFile}
 use Rattle.cfb_chains.proofs.Answering.{on_ok}
 use Rattle.cfb_chains.proofs.HeldLemmas.{filled_sector, measured_init, sector_past_header}
 use Rattle.cfb_chains.proofs.SectorLemmas.{Stays_apart}

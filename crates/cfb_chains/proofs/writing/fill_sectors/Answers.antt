@@ -1,17 +1,16 @@
-use Rattle.std.proofs.Common.{arith, ap, ◌∙◌, sym, subst, ◌≡◌, ◌+◌, ◌<◌, ◌++◌, ◌∷◌, [], ◌⊎◌, inl, inr, ℕ, List, length, get_or, refl, take}
+use Rattle.std.proofs.Common.{arith, ap, ◌∙◌, sym, subst, ◌≡◌, ◌<◌, ◌∷◌, [], inl, inr, ℕ, List, length, get_or, refl, take}
 use Rattle.std.specs.Prelude.{Contains}
 use Rattle.std.proofs.lemmas.List.{take_more, take_all}
 use Rattle.std.proofs.lemmas.List.Elements.{Contains-get_or, Contains-append_cases}
 use Rattle.std.proofs.lemmas.Bool.{cases_eq}
 use Rattle.cfb_format.specs.declared.version.Version.{Version}
-use Rattle.cfb_chains.specs.Alloc.{IsFilled, IsMeasured, ChangesSectors}
+use Rattle.cfb_chains.specs.Alloc.{IsFilled, ChangesSectors}
 use Rattle.cfb_chains.specs.Sectors.{SectorFile}
 use Rattle.cfb_chains.proofs.FrameLemmas.{changes_refl, changes_trans, changes_more}
 use Rattle.cfb_chains.proofs.HeldLemmas.{keeps_begun, keeps_next, stays_filled}
 use Rattle.cfb_chains.proofs.Listed.{not_in_nil}
 use Rattle.cfb_chains.proofs.Members.{Contains-one}
 use Rattle.cfb_chains.proofs.SectorLemmas.{Stays_refl, Stays_trans}
-use Rattle.cfb_chains.proofs.writing.fill_sectors.Given as given
 use Rattle.cfb_chains.proofs.writing.fill_sectors.Goals as goal
 
 pub loop-number-init : goal.loop-number-init

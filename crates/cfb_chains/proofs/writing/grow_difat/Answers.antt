@@ -1,14 +1,12 @@
-use Rattle.std.proofs.Common.{arith, ap, ◌∙◌, sym, subst, ◌≡◌, ◌+◌, ◌*◌, ◌-◌, ◌<◌, ◌≤◌, ◌++◌, ◌∷◌, [], ℕ, List, length, take, get_or, length-take}
+use Rattle.std.proofs.Common.{arith, ap, ◌∙◌, sym, subst, ◌≡◌, ◌+◌, ◌*◌, ◌-◌, ◌<◌, ◌≤◌, ℕ, List, length, take, length-take}
 use Rattle.std.specs.Prelude.{Contains}
 use Rattle.std.proofs.lemmas.List.{take_more}
-use Rattle.std.proofs.lemmas.List.Elements.{Contains-get_or, Contains-append_cases, Contains-append_left}
+use Rattle.std.proofs.lemmas.List.Elements.{Contains-get_or}
 use Rattle.cfb_format.specs.declared.version.Version.{Version}
-use Rattle.cfb_format.specs.declared.version.Version.TheVariants.{V3, V4}
 use Rattle.cfb_format.specs.Bytes.{words_per_sector}
 use Rattle.cfb_chains.specs.Difat.{ListsTables, difat_places}
 use Rattle.cfb_chains.proofs.FrameLemmas.{changes_refl, changes_more}
 use Rattle.cfb_chains.proofs.HeldLemmas.{not_before, in_taken}
-use Rattle.cfb_chains.proofs.Members.{Contains-one}
 use Rattle.cfb_chains.proofs.writing.grow_difat.Goals as goal
 
 pub returns-then-index-listed-clause-changes : goal.returns-then-index-listed-clause-changes

@@ -1,4 +1,4 @@
-use Rattle.std.proofs.Common.{arith, ap, ◌∙◌, sym, subst, ◌≡◌, ◌++◌, ◌∷◌, [], ℕ, List, length}
+use Rattle.std.proofs.Common.{arith, ap, ◌∙◌, sym, subst, ◌++◌, ◌∷◌, [], ℕ, List}
 use Rattle.cfb_chains.specs.Difat.{ListsTables, listed_in_header, listed_in_sector}
 use Rattle.cfb_chains.proofs.Answering.{on_ok}
 use Rattle.cfb_chains.proofs.HeldLemmas.{header_long}

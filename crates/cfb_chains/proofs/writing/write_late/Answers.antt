@@ -1,13 +1,11 @@
-use Rattle.std.proofs.Common.{arith, ap, ◌∙◌, sym, subst, ◌≡◌, ◌-◌, ◌≤◌, ◌++◌, ℕ, List, length, take, drop, length-drop}
+use Rattle.std.proofs.Common.{arith, ap, ◌∙◌, sym, subst, ◌≡◌, ◌-◌, ◌++◌, ℕ, List, length, take, drop, length-drop}
 use Rattle.std.specs.Prelude.{Contains}
 use Rattle.std.proofs.lemmas.List.{take_all}
-use Rattle.std.proofs.lemmas.List.Elements.{Contains-append_right}
 use Rattle.cfb_format.specs.declared.version.Version.{Version}
 use Rattle.cfb_chains.specs.Alloc.{ChangesSectors, HoldsBut}
 use Rattle.cfb_chains.specs.Sectors.{SectorFile}
 use Rattle.cfb_chains.proofs.FrameLemmas.{changes_trans}
 use Rattle.cfb_chains.proofs.HeldLemmas.{in_dropped}
-use Rattle.cfb_chains.proofs.writing.write_late.Given as given
 use Rattle.cfb_chains.proofs.writing.write_late.Goals as goal
 
 -- a slice to the end is what is left

@@ -1,6 +1,6 @@
-use Rattle.std.proofs.Common.{◌⊎◌, arith, ap, ◌∙◌, sym, subst, ◌≡◌, ◌+◌, ◌-◌, ◌*◌, ◌<◌, ◌≤◌, ◌++◌, ◌∷◌, [], inl, inr, max, ℕ, List, Bool, true, false, refl, length, take, drop, get_or, get_or-drop}
-use Rattle.std.specs.Prelude.{Contains, nat_lt, slice_index, if◌then◌else◌}
-use Rattle.std.proofs.lemmas.Bool.{cases_eq, cases_lt, ltb-true, ltb-false}
+use Rattle.std.proofs.Common.{arith, ap, ◌∙◌, sym, subst, ◌≡◌, ◌+◌, ◌-◌, ◌<◌, ◌≤◌, ◌++◌, ◌∷◌, inl, inr, max, ℕ, List, Bool, true, false, refl, length, take, drop, get_or, get_or-drop}
+use Rattle.std.specs.Prelude.{Contains, nat_lt, if◌then◌else◌}
+use Rattle.std.proofs.lemmas.Bool.{cases_eq, ltb-true, ltb-false}
 use Rattle.std.proofs.lemmas.List.{take_all, length-drop}
 use Rattle.std.proofs.lemmas.List.Elements.{Contains-get_or, Contains-append_left, Contains-append_right}
 use Rattle.cfb_format.specs.declared.version.Version.{Version}
@@ -16,7 +16,6 @@ use Rattle.cfb_chains.proofs.FrameLemmas.{changes_refl, changes_more, changes_tr
 use Rattle.cfb_chains.proofs.HeldLemmas.{keeps_begun, keeps_next, stays_filled}
 use Rattle.cfb_chains.proofs.Listed.{in_cons, place_once}
 use Rattle.cfb_chains.proofs.TableCounts.{difats-suffice}
-use Rattle.cfb_chains.proofs.writing.write_table_sectors.Given as given
 use Rattle.cfb_chains.proofs.writing.write_table_sectors.Goals as goal
 
 pub loop-index-init : goal.loop-index-init

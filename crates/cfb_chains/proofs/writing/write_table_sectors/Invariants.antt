@@ -1,4 +1,4 @@
-use Rattle.std.proofs.Common.{ℕ, ◌≡◌, ◌-◌, ◌<◌, ◌≤◌, ◌++◌, max, take, drop, length}
+use Rattle.std.proofs.Common.{ℕ, ◌≡◌, ◌-◌, ◌<◌, ◌≤◌, ◌++◌, max, take, drop}
 use Rattle.std.specs.Prelude.{IsTrue, nat_eq, slice_index}
 use Rattle.std.specs.List.{IsDistinct}
 use Rattle.cfb_format.specs.declared.validate.Validation.{Validation}

@@ -14,7 +14,6 @@ use Rattle.cfb_chains.proofs.Answering.{all_ok}
 use Rattle.cfb_chains.proofs.FrameLemmas.{changes_more, changes_trans}
 use Rattle.cfb_chains.proofs.GrowthLemmas.{grown_holds, grown_fats_once, grown_difats_once, grown_apart, fats_apart_more, difats_apart_more, late_covers, old_fats_kept}
 use Rattle.cfb_chains.proofs.HeldLemmas.{header_long, in_dropped, stays_filled}
-use Rattle.cfb_chains.proofs.writing.write_taken.Given as given
 use Rattle.cfb_chains.proofs.writing.write_taken.Goals as goal
 
 pub add_sectors-requires-clause-below : goal.add_sectors-requires-clause-below

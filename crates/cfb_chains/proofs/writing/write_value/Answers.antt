@@ -1,10 +1,8 @@
-use Rattle.std.proofs.Common.{arith, ap, ◌∙◌, sym, subst, ◌≡◌, ◌*◌, length, ℕ, List, get_or, max, ◌+◌}
+use Rattle.std.proofs.Common.{arith, ap, ◌∙◌, subst, ◌≡◌, ℕ, List, get_or, max, ◌+◌}
 use Rattle.std.specs.Prelude.{Contains}
 use Rattle.cfb_format.specs.declared.version.Version.{Version}
-use Rattle.cfb_format.specs.Bytes.{words_per_sector, sector_len}
 use Rattle.cfb_format.specs.Medium.{ChangesOnly}
 use Rattle.cfb_chains.specs.Agreement.{word_home}
-use Rattle.cfb_chains.specs.Tables.{TableState}
 use Rattle.cfb_chains.specs.Words.{with_word}
 use Rattle.cfb_chains.proofs.Answering.{on_both}
 use Rattle.cfb_chains.proofs.HeldLemmas.{held_word, header_long}

@@ -1,5 +1,4 @@
-use Rattle.std.proofs.Common.{arith, ap, ◌∙◌, sym, subst, ◌≡◌, ◌+◌, ◌<◌, ◌++◌, ◌∷◌, [], ℕ, List, length, get_or, refl, drop}
-use Rattle.std.specs.Prelude.{Contains}
+use Rattle.std.proofs.Common.{arith, ap, ◌∙◌, subst, ◌+◌, ◌<◌, ◌++◌, ℕ, List, refl, drop}
 use Rattle.std.proofs.lemmas.List.{drop_more}
 use Rattle.std.proofs.Math.ListN.{drop_of_length-le}
 use Rattle.std.proofs.lemmas.List.Elements.{Contains-get_or}

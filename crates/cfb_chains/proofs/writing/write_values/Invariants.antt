@@ -1,5 +1,5 @@
 use Rattle.std.proofs.Common.{ℕ, ◌≡◌, ◌<◌, drop, List, ◌++◌}
-use Rattle.std.specs.Prelude.{IsTrue, Contains}
+use Rattle.std.specs.Prelude.{IsTrue}
 use Rattle.cfb_format.specs.declared.validate.Validation.{Validation}
 use Rattle.cfb_chains.specs.Sectors.{IsRaised}
 use Rattle.cfb_chains.specs.Alloc.{HoldsBut, ChangesSectors}

@@ -1,4 +1,4 @@
-use Rattle.std.proofs.Common.{arith, ap, ◌∙◌, subst, ◌+◌, ◌*◌, ◌≤◌, [], ◌∷◌, ◌<◌, ℕ, Bool, List, get_or, refl}
+use Rattle.std.proofs.Common.{arith, ap, ◌∙◌, subst, ◌+◌, ◌*◌, ◌≤◌, [], ◌∷◌, ◌<◌, ℕ, Bool, get_or, refl}
 use Rattle.std.specs.Prelude.{Contains}
 use Rattle.std.proofs.lemmas.List.Elements.{Contains-get_or}
 use Rattle.cfb_format.specs.declared.version.Version.{Version}

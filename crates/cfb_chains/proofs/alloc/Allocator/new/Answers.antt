@@ -1,15 +1,13 @@
 use Rattle.std.proofs.Common.{arith, ap, ◌∙◌, sym, subst, refl, ◌≡◌, length, ℕ, List}
 use Rattle.std.proofs.lemmas.List.FromFn.{length-map-range_with_len}
-use Rattle.std.specs.Prelude.{take, Contains}
+use Rattle.std.specs.Prelude.{take}
 use Rattle.std.specs.Vec.{vec_len}
 use Rattle.cfb_format.specs.declared.version.Version.{Version}
 use Rattle.cfb_format.specs.Fat.{fat_value}
-use Rattle.cfb_chains.specs.declared.lists.Sizes.{Sizes}
 use Rattle.cfb_chains.specs.Alloc.{IsPlaced, AreListed}
 use Rattle.cfb_chains.specs.ReadFat.{AcceptsFat}
 use Rattle.cfb_format.specs.declared.validate.Validation.{Validation}
-use Rattle.cfb_chains.specs.Tables.{TableState, AreSizes}
-use Rattle.cfb_chains.proofs.alloc.Allocator.new.Given as given
+use Rattle.cfb_chains.specs.Tables.{AreSizes}
 use Rattle.cfb_chains.proofs.alloc.Allocator.new.Goals as goal
 
 -- the FAT that is read has a value for each sector
