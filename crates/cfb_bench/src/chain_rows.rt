@@ -1,6 +1,6 @@
 //! The worked changes of chains over media that serve single bytes or fail, with each request for
 //! memory refused, and with limits.
-use crate::media::{Failing, Kind, Sip};
+use crate::media::{Counting, Failing, Kind, Sip};
 use crate::refusing::Refusing;
 use cfb_chains::alloc::Allocator;
 use cfb_chains::sector::{SectorInit, Sectors};
@@ -188,7 +188,11 @@ fn changes_in_sips(rt: HostRuntime) -> Result<(), Fail> {
         let whole = changed(rt.alloc(), file(rt.alloc(), &before)?, change)?;
         let sip = Sip::new(file(rt.alloc(), &before)?);
         let sipped = changed(rt.alloc(), sip, change)?.into_inner();
-        assert_eq!(rt; whole.bytes().len(), count.saturating_add(1).saturating_mul(512), "{change:?}");
+        assert_eq!(rt;
+            whole.bytes().len(),
+            count.saturating_add(1).saturating_mul(512),
+            "{change:?}"
+        );
         assert!(rt; whole.bytes() == sipped.bytes(), "{change:?}");
     }
     Ok(())
@@ -229,6 +233,23 @@ fn changed_with_failure(
     Ok((refused, failures, has_chain(left.bytes(), change)))
 }
 
+/// How many writes of a change touch the bytes from `start` up to `end`.
+fn writes_within(alloc: Global, change: Change, start: u64, end: u64) -> Result<u64, Error> {
+    let before = bytes_before(alloc, change)?;
+    let counting = Counting::within(file(alloc, &before)?, start, end);
+    Ok(changed(alloc, counting, change)?.writes())
+}
+
+/// The words of the sectors 0 to 2 are not written where those of 3 to 9 change: no table sector is
+/// rewritten whole.
+#[test]
+fn each_word_is_written_alone(rt: HostRuntime) -> Result<(), Fail> {
+    assert_eq!(rt; writes_within(rt.alloc(), Change::Again, 512, 524)?, 0);
+    assert_eq!(rt; writes_within(rt.alloc(), Change::Again, 524, 552)?, 7);
+    assert_eq!(rt; writes_within(rt.alloc(), Change::Again, 552, 1024)?, 0);
+    Ok(())
+}
+
 /// A sector of the chain.
 const CHAINED: [u8; 512] = [0x5a; 512];
 
@@ -246,9 +267,10 @@ fn has_chain(bytes: &[u8], change: Change) -> bool {
 
 /// Has one write of a change fail, the first one, then the one after `step` others, and so on, and
 /// answers the first number past the last write: 0 where an answer was wrong or the chain did not stay.
-fn failing_in_turn(alloc: Global, change: Change, step: usize) -> Result<u64, Error> {
+fn failing_in_turn(alloc: Global, change: Change, step: u64) -> Result<u64, Error> {
     let before = bytes_before(alloc, change)?;
-    for nth in (1..1000u64).step_by(step) {
+    for turn in 0..1000u64 {
+        let nth = turn.saturating_mul(step).saturating_add(1);
         let (refused, failures, stays) = changed_with_failure(alloc, change, &before, nth)?;
         if failures == 0 && refused.is_none() && stays {
             return Ok(nth);
@@ -264,7 +286,10 @@ fn failing_in_turn(alloc: Global, change: Change, step: usize) -> Result<u64, Er
 /// listed, with a free place behind, and counted. Every seventh write fails.
 #[test]
 fn writes_of_a_long_chain_fail(rt: HostRuntime) -> Result<(), Fail> {
-    assert_eq!(rt; failing_in_turn(rt.alloc(), Change::Long, 7)?, 302 + 302 + 6 + 7);
+    assert_eq!(rt;
+        failing_in_turn(rt.alloc(), Change::Long, 7)?,
+        302 + 302 + 6 + 7
+    );
     Ok(())
 }
 
@@ -278,21 +303,30 @@ fn writes_of_freed_sectors_fail(rt: HostRuntime) -> Result<(), Fail> {
 /// One more with its FAT sector.
 #[test]
 fn writes_of_a_fat_sector_fail(rt: HostRuntime) -> Result<(), Fail> {
-    assert_eq!(rt; failing_in_turn(rt.alloc(), Change::SecondFat, 1)?, 2 + 3 + 3 + 1);
+    assert_eq!(rt;
+        failing_in_turn(rt.alloc(), Change::SecondFat, 1)?,
+        2 + 3 + 3 + 1
+    );
     Ok(())
 }
 
 /// One more with its FAT sector and the first DIFAT sector, which has its place and its count.
 #[test]
 fn writes_of_a_difat_sector_fail(rt: HostRuntime) -> Result<(), Fail> {
-    assert_eq!(rt; failing_in_turn(rt.alloc(), Change::FirstDifat, 1)?, 3 + 4 + 4 + 1);
+    assert_eq!(rt;
+        failing_in_turn(rt.alloc(), Change::FirstDifat, 1)?,
+        3 + 4 + 4 + 1
+    );
     Ok(())
 }
 
 /// The same with the second DIFAT sector.
 #[test]
 fn writes_of_another_difat_sector_fail(rt: HostRuntime) -> Result<(), Fail> {
-    assert_eq!(rt; failing_in_turn(rt.alloc(), Change::SecondDifat, 1)?, 3 + 4 + 4 + 1);
+    assert_eq!(rt;
+        failing_in_turn(rt.alloc(), Change::SecondDifat, 1)?,
+        3 + 4 + 4 + 1
+    );
     Ok(())
 }
 
@@ -355,8 +389,13 @@ fn memory_is_refused_in_turn(rt: HostRuntime) -> Result<(), Fail> {
         let all = requests(rt.alloc(), &heap, change, &before)?;
         total = total.saturating_add(all);
         for served in 0..all {
-            let (refused, stays, again) =
-                refused_and_again(rt.alloc(), &heap, change, &before, served)?;
+            let (refused, stays, again) = refused_and_again(
+                rt.alloc(),
+                &heap,
+                change,
+                &before,
+                served,
+            )?;
             assert_eq!(rt; refused, Err(Error::Memory), "{change:?} at {served}");
             assert!(rt; stays, "{change:?} at {served}");
             assert_eq!(rt; again, Ok(()), "{change:?} again at {served}");
