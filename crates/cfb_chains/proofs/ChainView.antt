@@ -1,5 +1,5 @@
 -- The chain that a view of it keeps.
-use Rattle.std.proofs.Common.{◌≡◌, ◌<◌, ◌≤◌, ◌+◌, ◌*◌, ◌/◌, ◌⊎◌, inl, inr, ℕ, List, [], ◌∷◌, Bool, true, false, refl, sym, ◌∙◌, ap, length, arith, ◌||◌}
+use Rattle.std.proofs.Common.{◌≡◌, ◌≢◌, ◌<◌, ◌≤◌, ◌+◌, ◌*◌, ◌/◌, ◌⊎◌, inl, inr, ℕ, List, [], ◌∷◌, Bool, true, false, refl, sym, ◌∙◌, ap, length, arith, ◌||◌}
 use Rattle.std.specs.Prelude.{Some, Contains, slice_index, nat_eq}
 use Rattle.std.specs.List.{list_any}
 use Rattle.std.proofs.lemmas.List.Elements.{Contains-get_or}
@@ -9,7 +9,7 @@ use Rattle.cfb_format.specs.declared.error.Error.{Error}
 use Rattle.cfb_format.specs.declared.error.Error.TheVariants.{NotFound, AlreadyExists, InvalidInput, InvalidData, Medium, Memory, Full, Unsound, Failed, Unsupported}
 use Rattle.cfb_format.specs.declared.version.Version.{Version}
 use Rattle.cfb_format.specs.declared.version.Version.TheVariants.{V3, V4}
-use Rattle.cfb_format.specs.Bytes.{sector_len, max_regular_sector}
+use Rattle.cfb_format.specs.Bytes.{sector_len, max_regular_sector, end_of_chain}
 use Rattle.cfb_format.specs.Chain.{Follows, IsChain, chain_from}
 use Rattle.cfb_format.proofs.Chains.{chain_from-IsChain}
 use Rattle.cfb_chains.specs.Changes.{NoChain}
@@ -68,3 +68,11 @@ only_first first second memory full medium never Unsupported r = absurd r
 
 pub some_chain : (table : List ℕ) (s : ℕ) (ids : List ℕ) → chain_from table s ≡ Some ids → NoChain table s → ⊥
 some_chain table s ids e none = none ids (found_chain table s ids e)
+
+-- a chain with a member starts with a number
+pub started : (table : List ℕ) (s : ℕ) (ids : List ℕ) → chain_from table s ≡ Some ids → 0 < length ids → s ≢ end_of_chain
+started table s ids e some = begins ids (found_chain table s ids e).follows some
+  where
+    begins : (list : List ℕ) → Follows table s list → 0 < length list → s ≢ end_of_chain
+    begins [] f more = absurd (omega arith)
+    begins (i ∷ list) f more = f.1

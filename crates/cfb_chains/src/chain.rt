@@ -8,7 +8,7 @@ ghost use Rattle.cfb_format.specs.Medium.{ChangesOnly, part, written};
 ghost use Rattle.cfb_format.specs.Refused.{CountsFailure, IsInvalidData};
 ghost use Rattle.cfb_chains.specs.Alloc.{ChangesSectors, HoldsTables, IsFilled, IsUsable, OthersStay};
 ghost use Rattle.cfb_chains.specs.Clean.{IsUnnamed};
-ghost use Rattle.cfb_chains.specs.Sectors.{copies, init_bytes, IsMediumError, SectorStays};
+ghost use Rattle.cfb_chains.specs.Sectors.{copies, init_bytes, IsMediumError, IsRaised, SectorStays};
 ghost use Rattle.cfb_chains.specs.Refused.{WalkRefused, ChangeRefused, BreaksOff, IsInvalidInput};
 ghost use Rattle.cfb_chains.specs.Tables.{FreesChain, HasTaken, TakesFor, IsTooFew, ending, start_of as first_of};
 ghost use Rattle.cfb_chains.specs.ChainLists.{AfterMedium, Leaves, Shortens, gained, last_of};
@@ -405,6 +405,7 @@ impl<'a, F: Medium, A: Heap + Clone> Chain<'a, F, A> {
         ensures view { IfErr result (Leaves [] (ids_of self.old) (ids_of self.new)) }
         ensures place { IfErr result (Leaves 0 (position_of self.old) (position_of self.new)) }
         ensures err { IfErr result (ChangeRefused (IsUsable (allocator_of self.old).now.tables → ⊥) Unit ⊥ Unit) }
+        ensures begun { 0 < length (ids_of self.old) → OnOk result ((allocator_of self.new).now.file.begun ≡ true) }
         ensures counts { IsTrue F.tells → CountsFailure F.write_faults result (allocator_of self.old).now.file.failures (allocator_of self.new).now.file.failures }
     {
         self.cut(0)
@@ -504,6 +505,7 @@ impl<'a, F: Medium, A: Heap + Clone> Chain<'a, F, A> {
         ensures err { IfErr result (ChangeRefused (IsUsable (allocator_of self.old).now.tables → ⊥) Unit
             (IsTooFew (allocator_of self.old).now.tables (wanted_of self.old len - length (ids_of self.old))) Unit) }
         ensures needed { wanted_of self.old len ≡ length (ids_of self.old) → IfErr result IsMediumError }
+        ensures begun { OnOk result (IsRaised (wanted_of self.old len ≢ length (ids_of self.old)) (allocator_of self.old).now.file (allocator_of self.new).now.file) }
         ensures counts { IsTrue F.tells → CountsFailure F.write_faults result (allocator_of self.old).now.file.failures (allocator_of self.new).now.file.failures }
     {
         let sectors = len.div_ceil(self.allocator.sector_len() as u64) as usize;
@@ -538,6 +540,7 @@ impl<'a, F: Medium, A: Heap + Clone> Chain<'a, F, A> {
         ensures view { IfErr result (Leaves [] (ids_of self.old) (ids_of self.new)) }
         ensures place { IfErr result (Leaves 0 (position_of self.old) (position_of self.new)) }
         ensures err { IfErr result (ChangeRefused (IsUsable (allocator_of self.old).now.tables → ⊥) Unit (IsTooFew (allocator_of self.old).now.tables count) Unit) }
+        ensures begun { OnOk result (IsRaised (0 < count) (allocator_of self.old).now.file (allocator_of self.new).now.file) }
         ensures counts { IsTrue F.tells → CountsFailure F.write_faults result (allocator_of self.old).now.file.failures (allocator_of self.new).now.file.failures }
     {
         let grown = extend_list(
@@ -574,6 +577,7 @@ impl<'a, F: Medium, A: Heap + Clone> Chain<'a, F, A> {
         ensures view { IfErr result (Leaves [] (ids_of self.old) (ids_of self.new)) }
         ensures place { IfErr result (Leaves 0 (position_of self.old) (position_of self.new)) }
         ensures err { IfErr result (ChangeRefused (IsUsable (allocator_of self.old).now.tables → ⊥) Unit ⊥ Unit) }
+        ensures begun { OnOk result (IsRaised (count < length (ids_of self.old)) (allocator_of self.old).now.file (allocator_of self.new).now.file) }
         ensures counts { IsTrue F.tells → CountsFailure F.write_faults result (allocator_of self.old).now.file.failures (allocator_of self.new).now.file.failures }
     {
         if count >= self.ids.len() {
@@ -652,6 +656,7 @@ fn extend_list<F: Medium, A: Heap + Clone>(
     ensures refused { IfErr result (BreaksOff (TakesFor (ending (last_of ids.old.items))) allocator.old allocator.new) }
     ensures view { IfErr result (Leaves [] ids.old.items ids.new.items) }
     ensures err { IfErr result (ChangeRefused (IsUsable allocator.old.tables → ⊥) Unit (IsTooFew allocator.old.tables count) Unit) }
+    ensures begun { OnOk result (IsRaised (0 < count) allocator.old.file allocator.new.file) }
     ensures counts { IsTrue F.tells → CountsFailure F.write_faults result allocator.old.file.failures allocator.new.file.failures }
 {
     let last = last_number(ids);
@@ -689,6 +694,7 @@ fn shorten_list<F: Medium, A: Heap + Clone>(
     ensures refused { IfErr result (BreaksOff (Shortens (take count ids.old.items) (drop count ids.old.items)) allocator.old allocator.new) }
     ensures view { IfErr result (Leaves [] ids.old.items ids.new.items) }
     ensures err { IfErr result (ChangeRefused (IsUsable allocator.old.tables → ⊥) Unit ⊥ Unit) }
+    ensures begun { OnOk result (allocator.new.file.begun ≡ true) }
     ensures counts { IsTrue F.tells → CountsFailure F.write_faults result allocator.old.file.failures allocator.new.file.failures }
 {
     match free_behind(allocator, ids, *start, count) {
@@ -719,6 +725,7 @@ fn free_behind<F: Medium, A: Heap + Clone>(
     ensures changes { IsTrue F.tells → ChangesSectors allocator.old.tables.fat_sectors allocator.old.tables.version allocator.old.file.bytes allocator.new.file.bytes }
     ensures refused { IfErr result (BreaksOff (Shortens (take count ids.now) (drop count ids.now)) allocator.old allocator.new) }
     ensures err { IfErr result (ChangeRefused (IsUsable allocator.old.tables → ⊥) Unit ⊥ Unit) }
+    ensures begun { OnOk result (allocator.new.file.begun ≡ true) }
     ensures counts { IsTrue F.tells → CountsFailure F.write_faults result allocator.old.file.failures allocator.new.file.failures }
 {
     if count == 0 {

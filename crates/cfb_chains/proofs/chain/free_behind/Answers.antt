@@ -1,9 +1,9 @@
-use Rattle.std.proofs.Common.{refl, ◌-◌, take, drop}
+use Rattle.std.proofs.Common.{refl, ◌-◌, take, drop, arith}
 use Rattle.std.specs.Prelude.{slice_index}
 use Rattle.cfb_chains.specs.ChainLists.{Shortens}
 use Rattle.cfb_chains.specs.Tables.{FreesChain, CutsChain}
 use Rattle.cfb_chains.proofs.Answering.{on_ok}
-use Rattle.cfb_chains.proofs.ChainView.{only_first, some_chain}
+use Rattle.cfb_chains.proofs.ChainView.{only_first, some_chain, started}
 use Rattle.cfb_chains.proofs.ChainLists.{on_err, breaks_map, freed_shortens, cut_shortens, behind_found}
 use Rattle.cfb_chains.proofs.chain.free_behind.Goals as goal
 
@@ -41,3 +41,9 @@ returns-clause-err g c =
     on_err _ _ c.free_chain_after.result
     (only_first _ _ _ _ _ (behind_found c.args.allocator.now.tables.fat c.args.start c.args.count _ c.args.ids.now c.if-count-eq0.false c.requires.fewer refl c.requires.chained))
     c.free_chain_after.ensures.err
+
+pub returns-then-count-eq0-clause-begun : goal.returns-then-count-eq0-clause-begun
+returns-then-count-eq0-clause-begun g c =
+    let fewer = c.requires.fewer in
+    on_ok _ _ c.free_chain.result (λ raised. raised.1 (started c.args.allocator.now.tables.fat c.args.start c.args.ids.now c.requires.chained (omega (arith, fewer))))
+    c.free_chain.ensures.begun
