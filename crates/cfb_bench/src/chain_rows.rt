@@ -320,12 +320,12 @@ fn writes_of_a_difat_sector_fail(rt: HostRuntime) -> Result<(), Fail> {
     Ok(())
 }
 
-/// The same with the second DIFAT sector.
+/// The same with the second DIFAT sector. Every fourth write fails.
 #[test]
 fn writes_of_another_difat_sector_fail(rt: HostRuntime) -> Result<(), Fail> {
     assert_eq!(rt;
-        failing_in_turn(rt.alloc(), Change::SecondDifat, 1)?,
-        3 + 4 + 4 + 1
+        failing_in_turn(rt.alloc(), Change::SecondDifat, 4)?,
+        3 + 4 + 4 + 2
     );
     Ok(())
 }

@@ -12,14 +12,17 @@ use std::alloc::{Allocator as Heap, Global};
 use std::test::Fail;
 
 /// A file of one sector, a FAT sector that names itself alone. Its header lists none yet.
-fn one_sector(alloc: Global) -> Result<MemoryMedium, Error> {
+pub fn one_sector(alloc: Global) -> Result<MemoryMedium, Error> {
     let mut bytes = vec![in alloc; 0xff; 1024]?;
     bytes[512] = 0xfd;
     Ok(MemoryMedium::from_bytes(bytes))
 }
 
 /// The allocator over a file of at most 128 sectors, the first of which is its FAT sector.
-fn opened<F: Medium, A: Heap + Clone>(heap: A, mut medium: F) -> Result<Allocator<F, A>, Error> {
+pub fn opened<F: Medium, A: Heap + Clone>(
+    heap: A,
+    mut medium: F,
+) -> Result<Allocator<F, A>, Error> {
     let len = medium.length()?;
     if len < 1024 || len > 66048 {
         return Err(Error::Full);
@@ -60,7 +63,7 @@ fn chained_in_sips(rt: HostRuntime) -> Result<(), Fail> {
 
 /// A file of 128 sectors: the FAT sector, a chain of the sectors 1 to 3, which hold 0x5a throughout,
 /// and one of the sectors 4 to 127.
-fn two_chains(alloc: Global) -> Result<MemoryMedium, Error> {
+pub fn two_chains(alloc: Global) -> Result<MemoryMedium, Error> {
     let mut allocator = opened(alloc, one_sector(alloc)?)?;
     let first = allocator.begin_chain(SectorInit::Zero)?;
     allocator.extend_chain_by(first, 2, SectorInit::Zero)?;
@@ -74,7 +77,7 @@ fn two_chains(alloc: Global) -> Result<MemoryMedium, Error> {
 }
 
 /// Whether the first of two chains has its words and its bytes.
-fn has_first_chain(bytes: &[u8]) -> bool {
+pub fn has_first_chain(bytes: &[u8]) -> bool {
     let words = [2, 0, 0, 0, 3, 0, 0, 0, 0xfe, 0xff, 0xff, 0xff];
     if bytes.get(516..528) != Some(words.as_slice()) {
         return false;
@@ -168,7 +171,7 @@ fn refused_and_again(
 }
 
 /// Whether the FAT and its sectors are those of two chains, and the file has the same bytes.
-fn is_unchanged<A: Heap>(
+pub fn is_unchanged<A: Heap>(
     alloc: Global,
     allocator: &Allocator<MemoryMedium, A>,
 ) -> Result<bool, Error> {

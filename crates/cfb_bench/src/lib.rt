@@ -4,6 +4,8 @@
 #[cfg(test)]
 mod chain_rows;
 #[cfg(test)]
+mod chain_streams;
+#[cfg(test)]
 mod chains;
 #[cfg(test)]
 mod empty_files;
