@@ -2,6 +2,8 @@
 #![tactic(auto)]
 
 #[cfg(test)]
+mod allocators;
+#[cfg(test)]
 mod chain_rows;
 #[cfg(test)]
 mod chain_streams;
@@ -9,6 +11,8 @@ mod chain_streams;
 mod chains;
 #[cfg(test)]
 mod empty_files;
+#[cfg(test)]
+mod fats;
 pub mod media;
 #[cfg(test)]
 mod one_stream;
@@ -18,7 +22,11 @@ pub mod refusing;
 #[cfg(test)]
 mod reopened;
 #[cfg(test)]
+mod sectors;
+#[cfg(test)]
 mod stream_failures;
+#[cfg(test)]
+mod tables;
 #[cfg(test)]
 mod tests;
 #[cfg(test)]

@@ -120,7 +120,7 @@ some_left : (v : Version) (len : ℕ) → 0 < len % sector_len v → rounded_up 
 some_left V3 len is = omega arith
 some_left V4 len is = omega arith
 
-taken_len : (l : List ℕ) (n : ℕ) → n ≤ length l → length (take n l) ≡ n
+pub taken_len : (l : List ℕ) (n : ℕ) → n ≤ length l → length (take n l) ≡ n
 taken_len l n le = let t = length-take n l in omega (arith, t, le)
 
 -- of the content x the sectors for this length are left, which hold y; z is y with zeros behind the length

@@ -14,6 +14,7 @@ pub mod ChainView
 pub mod ChainLists
 pub mod ChainHeld
 pub mod ChainWrites
+pub mod OwnWrites
 pub mod FreedLemmas
 pub mod Listed
 pub mod TableWords

@@ -79,6 +79,13 @@ pub record OthersStay (old new : AllocatorState) : Type 0 where
       → SectorStays old.tables.version i old.file.bytes new.file.bytes
   pub header : (i : ℕ) → i < length old.file.bytes → IsOtherHeaderByte old.tables.version i → slice_index new.file.bytes i ≡ slice_index old.file.bytes i
 
+-- every sector that is in use stays, but for the table sectors and these
+pub record OthersStayBut (own : List ℕ) (old new : AllocatorState) : Type 0 where
+  pub no_shorter : length old.file.bytes ≤ length new.file.bytes
+  pub sectors : (i : ℕ) → (value old.tables.fat i ≡ free_sector → ⊥) → (Contains (old.tables.fat_sectors ++ old.tables.difat_sectors) i → ⊥)
+      → (Contains own i → ⊥) → SectorStays old.tables.version i old.file.bytes new.file.bytes
+  pub header : (i : ℕ) → i < length old.file.bytes → IsOtherHeaderByte old.tables.version i → slice_index new.file.bytes i ≡ slice_index old.file.bytes i
+
 -- the FAT sectors have a place for each sector's value, and are not more than the sectors
 pub record IsUsable (t : TableState) : Type 0 where
   pub covered : IsCovered t

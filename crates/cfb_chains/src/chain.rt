@@ -6,7 +6,7 @@ ghost use Rattle.cfb_format.specs.Chain.{IsChain, chain_from, value};
 ghost use Rattle.cfb_format.specs.Content.{place_in_chain, placed_from};
 ghost use Rattle.cfb_format.specs.Medium.{ChangesOnly, part, written};
 ghost use Rattle.cfb_format.specs.Refused.{CountsFailure, IsInvalidData};
-ghost use Rattle.cfb_chains.specs.Alloc.{ChangesSectors, HoldsTables, IsFilled, IsUsable, OthersStay};
+ghost use Rattle.cfb_chains.specs.Alloc.{ChangesSectors, HoldsTables, IsFilled, IsUsable, OthersStay, OthersStayBut};
 ghost use Rattle.cfb_chains.specs.Clean.{IsUnnamed};
 ghost use Rattle.cfb_chains.specs.Sectors.{copies, init_bytes, IsMediumError, IsRaised, SectorStays};
 ghost use Rattle.cfb_chains.specs.Refused.{WalkRefused, ChangeRefused, BreaksOff, IsInvalidInput};
@@ -439,6 +439,7 @@ impl<'a, F: Medium, A: Heap + Clone> Chain<'a, F, A> {
             → (Contains ((allocator_of self.old).now.tables.fat_sectors ++ (allocator_of self.old).now.tables.difat_sectors) i → ⊥)
             → i ≢ slice_index (ids_of self.new) (position_of self.old / sector_len_of (version_of self.old))
             → SectorStays (version_of self.old) i (allocator_of self.old).now.file.bytes (allocator_of self.new).now.file.bytes }
+        ensures foreign { IsTrue F.tells → OthersStayBut (ids_of self.old) (allocator_of self.old).now (allocator_of self.new).now }
         ensures there { IsTrue F.tells → IfOk result (λ n. 0 < n → part (allocator_of self.new).now.file.bytes
             (sector_start (version_of self.old) (slice_index (ids_of self.new) (position_of self.old / sector_len_of (version_of self.old)))
             + position_of self.old % sector_len_of (version_of self.old)) n ≡ take n from.now) }
@@ -499,6 +500,7 @@ impl<'a, F: Medium, A: Heap + Clone> Chain<'a, F, A> {
             → (Contains ((allocator_of self.old).now.tables.fat_sectors ++ (allocator_of self.old).now.tables.difat_sectors) i → ⊥)
             → i ≢ slice_index (ids_of self.new) (len / sector_len_of (version_of self.old))
             → SectorStays (version_of self.old) i (allocator_of self.old).now.file.bytes (allocator_of self.new).now.file.bytes }
+        ensures foreign { IsTrue F.tells → OthersStayBut (ids_of self.old) (allocator_of self.old).now (allocator_of self.new).now }
         ensures broken { IfErr result (AfterMedium
             (((allocator_of self.new).now.file.begun ≡ true) × (HasNoSectors self.new ⊎ HasKept (wanted_of self.old len) self.old self.new))
             (IsAsBefore self.old self.new)) }

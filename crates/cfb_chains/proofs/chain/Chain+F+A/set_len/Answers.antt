@@ -1,15 +1,16 @@
-use Rattle.std.proofs.Common.{◌+◌, ◌-◌, ◌*◌, ◌/◌, ◌%◌, ◌<◌, ◌++◌, ◌∙◌, ℕ, take, ap, sym, subst}
+use Rattle.std.proofs.Common.{◌≡◌, ◌+◌, ◌-◌, ◌*◌, ◌/◌, ◌%◌, ◌<◌, ◌++◌, ◌∙◌, ℕ, List, length, take, ap, sym, subst, arith}
 use Rattle.std.specs.Prelude.{slice_index}
 use Rattle.std.specs.Result.{OnOk}
 use Rattle.cfb_format.specs.Full.{rounded_up}
 use Rattle.cfb_format.specs.Refused.{CountsFailure}
 use Rattle.cfb_chains.specs.Sectors.{copies, init_bytes}
-use Rattle.cfb_chains.proofs.LentContent.{content_long, shortened_of, wanted_is}
+use Rattle.cfb_chains.proofs.LentContent.{content_long, shortened_of, taken_len, wanted_is}
 use Rattle.std.proofs.lemmas.List.Elements.{Contains-append_left}
 use Rattle.cfb_format.specs.Bytes.{sector_len, sector_start}
 use Rattle.cfb_format.specs.declared.version.Version.{Version}
 use Rattle.cfb_chains.specs.LentChain.{allocator_of, ids_of, init_of, version_of, tail_of, tail_place, content_of, HasBytes}
 use Rattle.cfb_chains.proofs.ChainWrites.{none_wanted, zeroed_of}
+use Rattle.cfb_chains.proofs.OwnWrites.{enough_kept, own_freed, own_kept, own_taken, own_zeroed}
 use Rattle.cfb_chains.proofs.SectorLemmas.{SectorStays_next}
 use Rattle.cfb_chains.proofs.chain.Chain+F+A.set_len.Goals as goal
 
@@ -71,3 +72,31 @@ returns-clause-shorter g c told validation h whole fewer =
 pub returns-clause-counts : goal.returns-clause-counts
 returns-clause-counts g c told =
     subst (λ (n : ℕ). CountsFailure g.F.Medium.write_faults c.zero_tail.result n (allocator_of c.zero_tail.new.self).now.file.failures) (c.in_ok-cut.ensures.counts told) (c.zero_tail.ensures.counts told)
+
+pub returns-then-sectors-have-clause-foreign : goal.returns-then-sectors-have-clause-foreign
+returns-then-sectors-have-clause-foreign g c told =
+    let now = c.args.self.now in
+    own_taken (ids_of now) (allocator_of now).now (allocator_of c.grow.new.self).now (c.grow.ensures.others told)
+
+pub returns-in_err-cut-clause-foreign : goal.returns-in_err-cut-clause-foreign
+returns-in_err-cut-clause-foreign g c told =
+    let now = c.args.self.now in
+    own_freed (ids_of now) (allocator_of now).now (allocator_of c.cut.new.self).now (c.cut.ensures.changes told)
+
+pub returns-clause-foreign : goal.returns-clause-foreign
+returns-clause-foreign g c told =
+    let now = c.args.self.now in
+    let cut = c.cut.new.self in
+    let old = (allocator_of now).now in
+    let mid = (allocator_of cut).now in
+    let e = c.zero_tail.ensures in
+    let ids = c.in_ok-cut.ensures.ids in
+    let count = c.div_ceil-sectors.result in
+    let few = c.if-sectors-have.false in
+    let have = c.num_sectors-have.ensures in
+    let wanted = wanted_is (version_of now) c.args.len count c.sector_len.result c.sector_len.ensures c.div_ceil-sectors.ensures in
+    let kept : length (ids_of cut) ≡ count = ap (λ (l : List ℕ). length l) ids ∙ taken_len (ids_of now) count (omega (arith, few, have)) in
+    own_zeroed (ids_of now) old mid (allocator_of c.zero_tail.new.self).now (own_freed (ids_of now) old mid (c.cut.ensures.changes told)) c.cut.ensures.version
+    (ids_of cut) c.args.len (own_kept (ids_of now) old (ids_of cut) count ids)
+    (enough_kept (version_of now) (version_of cut) c.args.len count (length (ids_of cut)) c.cut.ensures.version wanted kept)
+    (λ none. (e.none none).1) (e.others told)

@@ -1,14 +1,16 @@
-use Rattle.std.proofs.Common.{◌≡◌, ◌<◌, ◌+◌, ◌-◌, ◌/◌, ◌%◌, ◌++◌, ◌∙◌, min, ℕ, List, length, take, ap, sym, subst, arith}
+use Rattle.std.proofs.Common.{inl, refl, ◌≡◌, ◌<◌, ◌+◌, ◌-◌, ◌/◌, ◌%◌, ◌++◌, ◌∙◌, min, ℕ, List, length, take, ap, sym, subst, arith}
 use Rattle.std.specs.Prelude.{slice_index, IfOk}
 use Rattle.std.proofs.lemmas.List.{append-nil}
 use Rattle.cfb_format.specs.Medium.{written}
 use Rattle.cfb_format.specs.Refused.{CountsFailure}
 use Rattle.cfb_chains.specs.Sectors.{copies, init_bytes}
 use Rattle.cfb_format.specs.Bytes.{sector_len, sector_start}
-use Rattle.cfb_chains.specs.ChainLists.{gained}
+use Rattle.cfb_chains.specs.ChainLists.{gained, last_of}
+use Rattle.cfb_chains.specs.Tables.{ending}
 use Rattle.cfb_chains.specs.LentChain.{allocator_of, ids_of, init_of, missing_of, place_of, position_of, room_of, version_of, content_of, HasBytes}
 use Rattle.cfb_chains.proofs.Answering.{all_ok}
 use Rattle.cfb_chains.proofs.ChainWrites.{if_ok, rest_short, room_after, there_of}
+use Rattle.cfb_chains.proofs.OwnWrites.{own_gained, own_none, own_taken, own_written}
 use Rattle.cfb_chains.proofs.SectorLemmas.{SectorStays_next}
 use Rattle.cfb_chains.proofs.chain.Chain+F+A.write.Goals as goal
 
@@ -86,3 +88,29 @@ returns-clause-content g c told validation h whole =
 pub returns-clause-counts : goal.returns-clause-counts
 returns-clause-counts g c told =
     subst (λ (n : ℕ). CountsFailure g.F.Medium.write_faults c.write_within-2.result n (allocator_of c.write_within-2.new.self).now.file.failures) (c.in_ok-grow.ensures.counts told) (c.write_within-2.ensures.counts told)
+
+pub returns-then-missing-eq0-clause-foreign : goal.returns-then-missing-eq0-clause-foreign
+returns-then-missing-eq0-clause-foreign g c told =
+    let now = c.args.self.now in
+    let e = c.write_within.ensures in
+    let old = (allocator_of now).now in
+    own_written (ids_of now) old old (allocator_of c.write_within.new.self).now (own_none (ids_of now) old) refl (ids_of now) (position_of now) (length c.args.from.now)
+    (λ i m. inl m) (λ none. (e.none none).1) (e.others told)
+
+pub returns-in_err-grow-clause-foreign : goal.returns-in_err-grow-clause-foreign
+returns-in_err-grow-clause-foreign g c told =
+    let now = c.args.self.now in
+    own_taken (ids_of now) (allocator_of now).now (allocator_of c.grow.new.self).now (c.grow.ensures.others told)
+
+pub returns-clause-foreign : goal.returns-clause-foreign
+returns-clause-foreign g c told =
+    let now = c.args.self.now in
+    let grown = c.grow.new.self in
+    let old = (allocator_of now).now in
+    let mid = (allocator_of grown).now in
+    let e = c.write_within-2.ensures in
+    let more = gained (ids_of now) (ids_of grown) in
+    own_written (ids_of now) old mid (allocator_of c.write_within-2.new.self).now (own_taken (ids_of now) old mid (c.grow.ensures.others told)) c.in_ok-grow.ensures.version
+    (ids_of grown) (position_of grown) (length c.args.from.now)
+    (own_gained (ids_of now) old mid (ending (last_of (ids_of now))) (ids_of grown) more c.in_ok-grow.ensures.ids c.in_ok-grow.ensures.taken)
+    (λ none. (e.none none).1) (e.others told)

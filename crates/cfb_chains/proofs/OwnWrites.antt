@@ -1,0 +1,139 @@
+-- What a chain's own write leaves alone: every sector of others, and the header.
+use Rattle.std.proofs.Common.{◌≡◌, ◌<◌, ◌≤◌, ◌+◌, ◌-◌, ◌*◌, ◌/◌, ◌%◌, ◌⊎◌, inl, inr, ℕ, zero, suc, List, [], ◌∷◌, ◌++◌, length, min, take, drop, refl, sym, ap, subst, ◌∙◌, arith}
+use Rattle.std.specs.Prelude.{Bool, Contains, slice_index, nat_lt, true, false, if◌then◌else◌}
+use Rattle.std.proofs.lemmas.Bool.{cases_lt, lt-ltb, le-ltb}
+use Rattle.std.proofs.lemmas.List.{take-append-drop}
+use Rattle.std.proofs.lemmas.List.Elements.{Contains-append_left, Contains-append_cases}
+use Rattle.cfb_format.specs.declared.version.Version.{Version}
+use Rattle.cfb_format.specs.declared.version.Version.TheVariants.{V3, V4}
+use Rattle.cfb_format.specs.Bytes.{sector_len, sector_start, free_sector}
+use Rattle.cfb_format.specs.Chain.{value}
+use Rattle.cfb_format.specs.Full.{rounded_up}
+use Rattle.cfb_format.specs.Medium.{ChangesOnly}
+use Rattle.cfb_chains.specs.Alloc.{AllocatorState, ChangesSectors, OthersStay, OthersStayBut}
+use Rattle.cfb_chains.specs.Tables.{HasTaken}
+use Rattle.cfb_chains.proofs.ChainView.{sector_member}
+use Rattle.cfb_chains.proofs.ChainWrites.{not_end, rest_short}
+use Rattle.cfb_chains.proofs.FrameLemmas.{changes_in_sector}
+use Rattle.cfb_chains.proofs.Members.{Contains-one, first_of_three}
+use Rattle.cfb_chains.proofs.SectorLemmas.{SectorStays_refl, SectorStays_trans}
+
+-- a sector that is the chain's own, or was free
+abbrev IsOwn : List ℕ → AllocatorState → ℕ → Type 0
+IsOwn own old i = Contains own i ⊎ (value old.tables.fat i ≡ free_sector)
+
+pub own_none : (own : List ℕ) (old : AllocatorState) → OthersStayBut own old old
+own_none own old = record {
+  no_shorter = omega arith;
+  sectors = λ i busy out mine. SectorStays_refl old.tables.version i old.file.bytes;
+  header = λ i lt other. refl;
+}
+
+pub own_taken : (own : List ℕ) (old new : AllocatorState) → OthersStay old new → OthersStayBut own old new
+own_taken own old new others = record {
+  no_shorter = others.no_shorter;
+  sectors = λ i busy out mine. others.sectors i busy out;
+  header = others.header;
+}
+
+pub own_freed : (own : List ℕ) (old new : AllocatorState) → ChangesSectors old.tables.fat_sectors old.tables.version old.file.bytes new.file.bytes → OthersStayBut own old new
+own_freed own old new changes = record {
+  no_shorter = changes.no_shorter;
+  sectors = λ i busy out mine. changes.sectors i (λ m. out (Contains-append_left old.tables.fat_sectors old.tables.difat_sectors i m));
+  header = changes.header;
+}
+
+module _ (own : List ℕ) (old mid new : AllocatorState) (first : OthersStayBut own old mid) (version : mid.tables.version ≡ old.tables.version) where
+  own_next : (s : ℕ) → IsOwn own old s → ChangesSectors (s ∷ []) mid.tables.version mid.file.bytes new.file.bytes → OthersStayBut own old new
+  own_next s is second =
+      let step : ChangesSectors (s ∷ []) old.tables.version mid.file.bytes new.file.bytes
+      = subst (λ (v : Version). ChangesSectors (s ∷ []) v mid.file.bytes new.file.bytes) version second in
+      let longer = first.no_shorter in
+      record {
+        no_shorter = omega (arith, longer, step.no_shorter);
+        sectors = λ i busy out mine. SectorStays_trans old.tables.version i old.file.bytes mid.file.bytes new.file.bytes (first.sectors i busy out mine)
+            (step.sectors i (λ m. elim is [
+              | inl among ↦ mine (subst (λ (k : ℕ). Contains own k) (Contains-one s i m) among)
+              | inr free ↦ busy (subst (λ (k : ℕ). value old.tables.fat k ≡ free_sector) (Contains-one s i m) free)
+            ]));
+        header = λ i lt other. step.header i (omega (arith, lt, longer)) other ∙ first.header i lt other;
+      }
+
+  own_same : new ≡ mid → OthersStayBut own old new
+  own_same same = subst (λ (a : AllocatorState). OthersStayBut own old a) (sym same) first
+
+  -- a write at a place of the chain, as far as its sector goes
+  pub own_written : (ids : List ℕ) (p count : ℕ) → ((i : ℕ) → Contains ids i → IsOwn own old i)
+      → (min count (if nat_lt p (length ids * sector_len mid.tables.version) then sector_len mid.tables.version - p % sector_len mid.tables.version else 0) ≡ 0 → new ≡ mid)
+      → ChangesOnly (sector_start mid.tables.version (slice_index ids (p / sector_len mid.tables.version)) + p % sector_len mid.tables.version)
+      (min count (if nat_lt p (length ids * sector_len mid.tables.version) then sector_len mid.tables.version - p % sector_len mid.tables.version else 0))
+      mid.file.bytes new.file.bytes
+      → OthersStayBut own old new
+  own_written ids p count owns none change = elim (cases_lt p (length ids * l)) [ inl lt ↦ inside lt | inr ge ↦ past ge ]
+    where
+      l : ℕ
+      l = sector_len mid.tables.version
+
+      room : Bool → ℕ
+      room b = min count (if b then l - p % l else 0)
+
+      fits : (n k m : ℕ) → k < m → k + min n (m - k) ≤ m
+      fits n k m lt = omega arith
+
+      no_more : (n : ℕ) → min n 0 ≡ 0
+      no_more n = omega arith
+
+      inside : p < length ids * l → OthersStayBut own old new
+      inside lt =
+          let s = slice_index ids (p / l) in
+          let short = rest_short mid.tables.version p in
+          let there : ChangesOnly (sector_start mid.tables.version s + p % l) (min count (l - p % l)) mid.file.bytes new.file.bytes
+          = subst (λ (b : Bool). ChangesOnly (sector_start mid.tables.version s + p % l) (room b) mid.file.bytes new.file.bytes) (lt-ltb p (length ids * l) lt) change in
+          own_next s (owns s (sector_member mid.tables.version ids p lt))
+          (changes_in_sector mid.tables.version s (p % l) (min count (l - p % l)) (sector_start mid.tables.version s + p % l) mid.file.bytes new.file.bytes refl
+          (fits count (p % l) l short) there)
+
+      past : length ids * l ≤ p → OthersStayBut own old new
+      past ge = own_same (none (ap room (le-ltb p (length ids * l) ge) ∙ no_more count))
+
+  -- zeros behind a place of the chain, as far as its sector goes
+  pub own_zeroed : (ids : List ℕ) (len : ℕ) → ((i : ℕ) → Contains ids i → IsOwn own old i) → len ≤ length ids * sector_len mid.tables.version
+      → (len % sector_len mid.tables.version ≡ 0 → new ≡ mid)
+      → ChangesOnly (sector_start mid.tables.version (slice_index ids (len / sector_len mid.tables.version)) + len % sector_len mid.tables.version)
+      (sector_len mid.tables.version - len % sector_len mid.tables.version) mid.file.bytes new.file.bytes
+      → OthersStayBut own old new
+  own_zeroed ids len owns within none change = elim (zero_or_more (len % l)) [ inl is ↦ own_same (none is) | inr some ↦ inside (not_end mid.tables.version len (length ids) within some) ]
+    where
+      l : ℕ
+      l = sector_len mid.tables.version
+
+      zero_or_more : (n : ℕ) → (n ≡ 0) ⊎ (n ≡ 0 → ⊥)
+      zero_or_more zero = inl refl
+      zero_or_more (suc n) = inr (λ e. omega (arith, e))
+
+      inside : len < length ids * l → OthersStayBut own old new
+      inside lt =
+          let s = slice_index ids (len / l) in
+          let short = rest_short mid.tables.version len in
+          own_next s (owns s (sector_member mid.tables.version ids len lt))
+          (changes_in_sector mid.tables.version s (len % l) (l - len % l) (sector_start mid.tables.version s + len % l) mid.file.bytes new.file.bytes refl
+          (omega (arith, short)) change)
+
+-- whose sectors the members of a list are
+pub own_kept : (ids : List ℕ) (old : AllocatorState) (ids' : List ℕ) (n : ℕ) → ids' ≡ take n ids → (i : ℕ) → Contains ids' i → IsOwn ids old i
+own_kept ids old ids' n is i m =
+    inl (subst (λ (xs : List ℕ). Contains xs i) (take-append-drop n ids) (Contains-append_left (take n ids) (drop n ids) i (subst (λ (xs : List ℕ). Contains xs i) is m)))
+
+pub own_gained : (ids : List ℕ) (old new : AllocatorState) (touched ids' more : List ℕ) → ids' ≡ ids ++ more → HasTaken old.tables new.tables touched more
+    → (i : ℕ) → Contains ids' i → IsOwn ids old i
+own_gained ids old new touched ids' more is taken i m = elim (Contains-append_cases ids more i (subst (λ (xs : List ℕ). Contains xs i) is m)) [
+  | inl among ↦ inl among
+  | inr gained ↦ inr (taken.fresh i (first_of_three more taken.fats taken.difats i gained))
+]
+
+enough_by : (v : Version) (len : ℕ) → len ≤ rounded_up len (sector_len v) * sector_len v
+enough_by V3 len = omega arith
+enough_by V4 len = omega arith
+
+pub enough_kept : (v w : Version) (len n m : ℕ) → w ≡ v → n ≡ rounded_up len (sector_len v) → m ≡ n → len ≤ m * sector_len w
+enough_kept v w len n m version wanted is = subst (λ (u : Version). len ≤ m * sector_len u) (sym version) (subst (λ (k : ℕ). len ≤ k * sector_len v) (sym (is ∙ wanted)) (enough_by v len))
