@@ -265,12 +265,11 @@ fn has_chain(bytes: &[u8], change: Change) -> bool {
     true
 }
 
-/// Has one write of a change fail, the first one, then the one after `step` others, and so on, and
-/// answers the first number past the last write: 0 where an answer was wrong or the chain did not stay.
-fn failing_in_turn(alloc: Global, change: Change, step: u64) -> Result<u64, Error> {
+/// Has each write of a change fail in turn, and answers the number past the last write: 0 where an
+/// answer was wrong or the chain did not stay.
+fn failing_in_turn(alloc: Global, change: Change) -> Result<u64, Error> {
     let before = bytes_before(alloc, change)?;
-    for turn in 0..1000u64 {
-        let nth = turn.saturating_mul(step).saturating_add(1);
+    for nth in 1..1000u64 {
         let (refused, failures, stays) = changed_with_failure(alloc, change, &before, nth)?;
         if failures == 0 && refused.is_none() && stays {
             return Ok(nth);
@@ -283,12 +282,12 @@ fn failing_in_turn(alloc: Global, change: Change, step: u64) -> Result<u64, Erro
 }
 
 /// A new chain of 300 sectors: 302 sectors are filled, and each has its word; two FAT sectors are
-/// listed, with a free place behind, and counted. Every seventh write fails.
+/// listed, with a free place behind, and counted.
 #[test]
 fn writes_of_a_long_chain_fail(rt: HostRuntime) -> Result<(), Fail> {
     assert_eq!(rt;
-        failing_in_turn(rt.alloc(), Change::Long, 7)?,
-        302 + 302 + 6 + 7
+        failing_in_turn(rt.alloc(), Change::Long)?,
+        302 + 302 + 6 + 1
     );
     Ok(())
 }
@@ -296,7 +295,7 @@ fn writes_of_a_long_chain_fail(rt: HostRuntime) -> Result<(), Fail> {
 /// Six more, four of which were free: each is filled and has its word, and so has the one before.
 #[test]
 fn writes_of_freed_sectors_fail(rt: HostRuntime) -> Result<(), Fail> {
-    assert_eq!(rt; failing_in_turn(rt.alloc(), Change::Again, 1)?, 6 + 7 + 1);
+    assert_eq!(rt; failing_in_turn(rt.alloc(), Change::Again)?, 6 + 7 + 1);
     Ok(())
 }
 
@@ -304,7 +303,7 @@ fn writes_of_freed_sectors_fail(rt: HostRuntime) -> Result<(), Fail> {
 #[test]
 fn writes_of_a_fat_sector_fail(rt: HostRuntime) -> Result<(), Fail> {
     assert_eq!(rt;
-        failing_in_turn(rt.alloc(), Change::SecondFat, 1)?,
+        failing_in_turn(rt.alloc(), Change::SecondFat)?,
         2 + 3 + 3 + 1
     );
     Ok(())
@@ -314,18 +313,18 @@ fn writes_of_a_fat_sector_fail(rt: HostRuntime) -> Result<(), Fail> {
 #[test]
 fn writes_of_a_difat_sector_fail(rt: HostRuntime) -> Result<(), Fail> {
     assert_eq!(rt;
-        failing_in_turn(rt.alloc(), Change::FirstDifat, 1)?,
+        failing_in_turn(rt.alloc(), Change::FirstDifat)?,
         3 + 4 + 4 + 1
     );
     Ok(())
 }
 
-/// The same with the second DIFAT sector. Every fourth write fails.
+/// The same with the second DIFAT sector.
 #[test]
 fn writes_of_another_difat_sector_fail(rt: HostRuntime) -> Result<(), Fail> {
     assert_eq!(rt;
-        failing_in_turn(rt.alloc(), Change::SecondDifat, 4)?,
-        3 + 4 + 4 + 2
+        failing_in_turn(rt.alloc(), Change::SecondDifat)?,
+        3 + 4 + 4 + 1
     );
     Ok(())
 }

@@ -164,7 +164,7 @@ shortened_frees old new s ids e cut = record {
   rest = cut.rest;
 }
 
-none_freed : (t : TableState) (s : ℕ) → chain_from t.fat s ≡ Some [] → FreesChain s t t
+pub none_freed : (t : TableState) (s : ℕ) → chain_from t.fat s ≡ Some [] → FreesChain s t t
 none_freed t s e = record {
   list = [];
   was = found_chain t.fat s [] e;

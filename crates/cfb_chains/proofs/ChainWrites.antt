@@ -1,6 +1,6 @@
 -- Writing into a chain: the room that it has, and its zeros.
 use Rattle.std.proofs.Common.{◌≡◌, ◌<◌, ◌≤◌, ◌+◌, ◌-◌, ◌*◌, ◌/◌, ◌%◌, inl, inr, min, max, true, ℕ, List, ◌++◌, take, replicate, length, sym, subst, ◌∙◌, ap, arith, length-append, length-take}
-use Rattle.std.specs.Prelude.{Result, Ok, Err, IfOk, OnOk, nat_lt, if◌then◌else◌}
+use Rattle.std.specs.Prelude.{Result, Ok, Err, IfOk, MatchResult, OnOk, nat_lt, if◌then◌else◌}
 use Rattle.std.proofs.lemmas.Bool.{cases_lt, lt-ltb}
 use Rattle.std.proofs.lemmas.List.{take-replicate, length-replicate}
 use Rattle.cfb_format.specs.declared.error.Error.{Error}
@@ -25,6 +25,25 @@ rest_short V4 k = omega arith
 pub none_missing : (v : Version) (p n len : ℕ) → rounded_up (p + n - len) (sector_len v) ≡ 0 → p + n ≤ len
 none_missing V3 p n len none = omega arith
 none_missing V4 p n len none = omega arith
+
+-- and none are for no bytes
+pub none_needed : (v : Version) (p m n : ℕ) → n ≡ 0 → p ≤ m * sector_len v → rounded_up (p + n - m * sector_len v) (sector_len v) ≡ 0
+none_needed V3 p m n none le = omega arith
+none_needed V4 p m n none le = omega arith
+
+-- a position that goes on by nothing
+pub goes_nowhere : {E : Type 0} (r : Result ℕ E) (p q m : ℕ) → m ≡ 0 → IfOk r (λ n. n ≡ m) → MatchResult r (λ n. q ≡ p + n) (λ _. q ≡ p) → q ≡ p
+goes_nowhere (Ok n) p q m zero is at = omega (arith, zero, is, at)
+goes_nowhere (Err e) p q m zero is at = at
+
+-- the length that it has
+pub same_wanted : (v : Version) (len m : ℕ) → len ≡ m * sector_len v → rounded_up len (sector_len v) ≡ m
+same_wanted V3 len m is = omega arith
+same_wanted V4 len m is = omega arith
+
+pub same_rest : (v : Version) (len m : ℕ) → len ≡ m * sector_len v → len % sector_len v ≡ 0
+same_rest V3 len m is = omega arith
+same_rest V4 len m is = omega arith
 
 pub enough_room : (v : Version) (p n m more : ℕ) → more ≡ rounded_up (p + n - m * sector_len v) (sector_len v) → p + n ≤ (m + more) * sector_len v
 enough_room V3 p n m more is = omega arith

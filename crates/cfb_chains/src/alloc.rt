@@ -342,7 +342,7 @@ impl<F: Medium, A: Heap + Clone> Allocator<F, A> {
     }
 
     /// Adds so many sectors, which hold what `init` says, behind the last sector of a chain, or as a new chain where `last` is END,
-    /// and gives their numbers.
+    /// and gives their numbers. Where none is to be added nothing changes.
     ///
     /// `InvalidData` where `last` is neither END nor a sector that ends a chain, and where the FAT sectors do not cover the file;
     /// `Medium`, `Memory` and `Full` as in `begin_chain`: all of them are taken or none is.
@@ -355,6 +355,7 @@ impl<F: Medium, A: Heap + Clone> Allocator<F, A> {
         ensures taken { IfOk result (λ list. HasTaken self.old.tables self.new.tables (ending last) list.items) }
         ensures chain { IfOk result (λ list. IsChain self.new.tables.fat (start_of (ending last ++ list.items)) (ending last ++ list.items)) }
         ensures count { IfOk result (λ list. vec_len list ≡ count) }
+        ensures none { count ≡ 0 → self.new ≡ self.old }
         ensures filled { IsTrue F.tells → (validation : Validation) → HoldsTables validation self.old
             → IfOk result (λ list. (i : ℕ) → Contains list.items i → IsFilled self.new.tables.version init self.new.file.bytes i) }
         ensures holds { IsTrue F.tells → (validation : Validation) → HoldsTables validation self.old → OnOk result (HoldsTables validation self.new) }
@@ -380,6 +381,7 @@ impl<F: Medium, A: Heap + Clone> Allocator<F, A> {
     /// file's bytes the FAT sectors alone have changed.
     pub fn free_chain(&mut self, start: u32) -> Result<(), Error>
         ensures freed { OnOk result (FreesChain start self.old.tables self.new.tables) }
+        ensures none { start ≡ end_of_chain → self.new ≡ self.old }
         ensures holds { IsTrue F.tells → (validation : Validation) → HoldsTables validation self.old → IsUnnamed self.old.tables.fat start
             → OnOk result (HoldsTables validation self.new) }
         ensures changes { IsTrue F.tells → ChangesSectors self.old.tables.fat_sectors self.old.tables.version self.old.file.bytes self.new.file.bytes }
@@ -389,6 +391,9 @@ impl<F: Medium, A: Heap + Clone> Allocator<F, A> {
         ensures counts { IsTrue F.tells → CountsFailure F.write_faults result self.old.file.failures self.new.file.failures }
     {
         self.usable_sizes()?;
+        if start == END_OF_CHAIN {
+            return Ok(());
+        }
         let freed = self.tables.free(self.heap.clone()?, start)?;
         write_values(&mut self.sectors, &self.tables, &freed)
     }
@@ -419,6 +424,7 @@ impl<F: Medium, A: Heap + Clone> Allocator<F, A> {
         ensures taken { IfOk result (λ list. HasTaken self.old.tables self.new.tables [] list.items) }
         ensures chain { IfOk result (λ list. IsChain self.new.tables.fat (start_of list.items) list.items) }
         ensures count { IfOk result (λ list. vec_len list ≡ count) }
+        ensures none { count ≡ 0 → self.new ≡ self.old }
         ensures filled { IsTrue F.tells → (validation : Validation) → HoldsTables validation self.old
             → IfOk result (λ list. (i : ℕ) → Contains list.items i → IsFilled self.new.tables.version init self.new.file.bytes i) }
         ensures holds { IsTrue F.tells → (validation : Validation) → HoldsTables validation self.old → OnOk result (HoldsTables validation self.new) }
@@ -430,6 +436,9 @@ impl<F: Medium, A: Heap + Clone> Allocator<F, A> {
         ensures counts { IsTrue F.tells → CountsFailure F.write_faults result self.old.file.failures self.new.file.failures }
     {
         let before = self.usable_sizes()?;
+        if count == 0 {
+            return Ok(Vec::new(self.heap.clone()?));
+        }
         let list = self.tables.take_by(self.heap.clone()?, count)?;
         self.sectors.reserve_sectors(self.tables.len() as u32);
         write_taken(&mut self.sectors, &self.tables, before, &[], &list, init)?;
@@ -442,6 +451,7 @@ impl<F: Medium, A: Heap + Clone> Allocator<F, A> {
         ensures taken { IfOk result (λ list. HasTaken self.old.tables self.new.tables (last ∷ []) list.items) }
         ensures chain { IfOk result (λ list. IsChain self.new.tables.fat last (last ∷ list.items)) }
         ensures count { IfOk result (λ list. vec_len list ≡ count) }
+        ensures none { count ≡ 0 → self.new ≡ self.old }
         ensures filled { IsTrue F.tells → (validation : Validation) → HoldsTables validation self.old
             → IfOk result (λ list. (i : ℕ) → Contains list.items i → IsFilled self.new.tables.version init self.new.file.bytes i) }
         ensures holds { IsTrue F.tells → (validation : Validation) → HoldsTables validation self.old → OnOk result (HoldsTables validation self.new) }
@@ -456,6 +466,9 @@ impl<F: Medium, A: Heap + Clone> Allocator<F, A> {
         let before = self.usable_sizes()?;
         if self.tables.next(last)? != END_OF_CHAIN {
             return Err(goes_on(last));
+        }
+        if count == 0 {
+            return Ok(Vec::new(self.heap.clone()?));
         }
         let list = self.tables.attach_by(self.heap.clone()?, last, count)?;
         self.sectors.reserve_sectors(self.tables.len() as u32);

@@ -396,6 +396,7 @@ impl<'a, F: Medium, A: Heap + Clone> Chain<'a, F, A> {
         ensures same_allocator { (allocator_of self.new).ghost_name ≡ (allocator_of self.old).ghost_name }
         ensures init { init_of self.new ≡ init_of self.old }
         ensures ids { OnOk result (ids_of self.new ≡ []) }
+        ensures none { ids_of self.old ≡ [] → OnErr result ⊥ × IsAsBefore self.old self.new }
         ensures freed { OnOk result (FreesChain (start_of self.old) (allocator_of self.old).now.tables (allocator_of self.new).now.tables) }
         ensures holds { IsTrue F.tells → (validation : Validation) → HoldsTables validation (allocator_of self.old).now
             → IsUnnamed (allocator_of self.old).now.tables.fat (start_of self.old) → OnOk result (HoldsTables validation (allocator_of self.new).now) }
@@ -425,6 +426,7 @@ impl<'a, F: Medium, A: Heap + Clone> Chain<'a, F, A> {
         ensures version { version_of self.new ≡ version_of self.old }
         ensures count { IfOk result (λ n. n ≡ min (length from.now) (sector_len_of (version_of self.old) - position_of self.old % sector_len_of (version_of self.old))) }
         ensures position { IfOk result (λ n. position_of self.new ≡ position_of self.old + n) }
+        ensures none { length from.now ≡ 0 → OnErr result ⊥ × IsAsBefore self.old self.new }
         ensures ids { OnOk result (ids_of self.new ≡ ids_of self.old ++ gained (ids_of self.old) (ids_of self.new)) }
         ensures gained { OnOk result (length (gained (ids_of self.old) (ids_of self.new)) ≡ missing_of self.old (length from.now)) }
         ensures tables { missing_of self.old (length from.now) ≡ 0 → (allocator_of self.new).now.tables ≡ (allocator_of self.old).now.tables }
@@ -470,6 +472,7 @@ impl<'a, F: Medium, A: Heap + Clone> Chain<'a, F, A> {
         ensures init { init_of self.new ≡ init_of self.old }
         ensures version { version_of self.new ≡ version_of self.old }
         ensures count { OnOk result (length (ids_of self.new) ≡ wanted_of self.old len) }
+        ensures none { len ≡ len_of self.old → OnErr result ⊥ × IsAsBefore self.old self.new }
         ensures position { OnOk result (position_of self.new ≡ min (position_of self.old) (len_of self.new)) }
         ensures grown { length (ids_of self.old) < wanted_of self.old len → OnOk result (ids_of self.new ≡ ids_of self.old ++ gained (ids_of self.old) (ids_of self.new)) }
         ensures taken { length (ids_of self.old) < wanted_of self.old len → OnOk result (HasTaken (allocator_of self.old).now.tables (allocator_of self.new).now.tables
@@ -565,7 +568,7 @@ impl<'a, F: Medium, A: Heap + Clone> Chain<'a, F, A> {
         ensures version { version_of self.new ≡ version_of self.old }
         ensures ids { OnOk result (ids_of self.new ≡ take count (ids_of self.old)) }
         ensures position { OnOk result (position_of self.new ≡ min (position_of self.old) (len_of self.new)) }
-        ensures none { length (ids_of self.old) ≤ count → OnErr result ⊥ × ((allocator_of self.new).now ≡ (allocator_of self.old).now) }
+        ensures none { length (ids_of self.old) ≤ count → OnErr result ⊥ × IsAsBefore self.old self.new }
         ensures cut { count < length (ids_of self.old) → OnOk result (Shortens (take count (ids_of self.old)) (drop count (ids_of self.old))
             (allocator_of self.old).now.tables (allocator_of self.new).now.tables) }
         ensures holds { IsTrue F.tells → (validation : Validation) → HoldsTables validation (allocator_of self.old).now

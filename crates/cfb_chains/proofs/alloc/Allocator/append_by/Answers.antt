@@ -1,7 +1,13 @@
-use Rattle.std.proofs.Common.{arith, sym, subst, refl, ℕ, List}
+use Rattle.std.proofs.Common.{◌≡◌, ◌<◌, ◌∷◌, ◌∙◌, [], ap, arith, length, sym, subst, refl, ℕ, List}
 use Rattle.std.specs.Prelude.{Contains}
 use Rattle.std.proofs.lemmas.Result.{err_from_is_err_and}
 use Rattle.cfb_chains.proofs.AllocLemmas.{others_refl, others_unchanged, placed_reserved, placed_written, shown_below, shown_taken, others_written, held_counted, fats_apart_shown, clean_taken, fats_known, difats_known, next_refused}
+use Rattle.cfb_format.specs.Bytes.{end_of_chain}
+use Rattle.cfb_format.specs.Chain.{IsChain, value}
+use Rattle.cfb_chains.specs.Alloc.{AllocatorState}
+use Rattle.cfb_chains.specs.Tables.{HasTaken}
+use Rattle.cfb_chains.proofs.PreparedLemmas.{chain-one}
+use Rattle.cfb_chains.proofs.TakenLemmas.{taken-none}
 use Rattle.cfb_chains.proofs.alloc.Allocator.append_by.Goals as goal
 
 pub returns-in_err-before-clause-others : goal.returns-in_err-before-clause-others
@@ -19,7 +25,29 @@ pub returns-then-branch-clause-others : goal.returns-then-branch-clause-others
 returns-then-branch-clause-others g c told = others_refl c.args.self.now
 
 pub returns-in_err-clone-clause-others : goal.returns-in_err-clone-clause-others
-returns-in_err-clone-clause-others g c told = others_unchanged c.self.view_is c.self.inside.tables refl
+returns-in_err-clone-clause-others g c told = others_refl c.args.self.now
+
+pub returns-then-count-eq0-clause-taken : goal.returns-then-count-eq0-clause-taken
+returns-then-count-eq0-clause-taken g c =
+    let t = c.args.self.now.tables in
+    let next = c.in_ok-next.ensures.ok in
+    let ended : value t.fat c.args.last ≡ end_of_chain = ap (λ (a : AllocatorState). value a.tables.fat c.args.last) (sym c.self.view_is) ∙ sym next.1 ∙ c.if-branch.false in
+    subst (HasTaken t t (c.args.last ∷ [])) (sym c.new.ensures.items) (taken-none t c.args.last c.in_ok-before.ensures.sizes.places ended)
+
+pub returns-then-count-eq0-clause-chain : goal.returns-then-count-eq0-clause-chain
+returns-then-count-eq0-clause-chain g c =
+    let t = c.args.self.now.tables in
+    let next = c.in_ok-next.ensures.ok in
+    let ended : value t.fat c.args.last ≡ end_of_chain = ap (λ (a : AllocatorState). value a.tables.fat c.args.last) (sym c.self.view_is) ∙ sym next.1 ∙ c.if-branch.false in
+    let inside : c.args.last < length t.fat = subst (λ (a : AllocatorState). c.args.last < length a.tables.fat) c.self.view_is next.0 in
+    subst (λ (z : List ℕ). IsChain t.fat c.args.last (c.args.last ∷ z)) (sym c.new.ensures.items)
+    (chain-one t.fat c.args.last ended (let few = c.in_ok-before.ensures.sizes.short in omega (arith, inside, few)))
+
+pub returns-then-count-eq0-clause-others : goal.returns-then-count-eq0-clause-others
+returns-then-count-eq0-clause-others g c told = others_refl c.args.self.now
+
+pub returns-in_err-clone-2-clause-others : goal.returns-in_err-clone-2-clause-others
+returns-in_err-clone-2-clause-others g c told = others_unchanged c.self.view_is c.self.inside.tables refl
 
 pub returns-in_err-list-clause-others : goal.returns-in_err-list-clause-others
 returns-in_err-list-clause-others g c told = others_unchanged c.self.view_is c.attach_by.new.self c.in_err-list.ensures.unchanged

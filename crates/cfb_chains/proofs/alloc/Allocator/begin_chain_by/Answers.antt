@@ -1,15 +1,34 @@
-use Rattle.std.proofs.Common.{arith, sym, subst, refl, ℕ, List}
+use Rattle.std.proofs.Common.{[], arith, sym, subst, refl, ℕ, List}
 use Rattle.std.specs.Prelude.{Contains}
 use Rattle.std.proofs.lemmas.Result.{err_from_is_err_and}
 use Rattle.cfb_chains.proofs.AllocLemmas.{others_refl, others_unchanged, placed_reserved, placed_written, shown_below, shown_taken, others_written, held_counted, fats_apart_shown, clean_taken, fats_known, difats_known, refused_changed}
-use Rattle.cfb_chains.specs.Tables.{start_of}
+use Rattle.cfb_format.specs.Chain.{IsChain}
+use Rattle.cfb_chains.specs.Tables.{HasTaken, start_of}
+use Rattle.cfb_chains.proofs.ChainLemmas.{chain_of}
+use Rattle.cfb_chains.proofs.TakenLemmas.{taken-nothing}
 use Rattle.cfb_chains.proofs.alloc.Allocator.begin_chain_by.Goals as goal
 
 pub returns-in_err-before-clause-others : goal.returns-in_err-before-clause-others
 returns-in_err-before-clause-others g c told = others_refl c.args.self.now
 
 pub returns-in_err-clone-clause-others : goal.returns-in_err-clone-clause-others
-returns-in_err-clone-clause-others g c told = others_unchanged c.self.view_is c.self.inside.tables refl
+returns-in_err-clone-clause-others g c told = others_refl c.args.self.now
+
+pub returns-then-count-eq0-clause-taken : goal.returns-then-count-eq0-clause-taken
+returns-then-count-eq0-clause-taken g c =
+    let t = c.args.self.now.tables in
+    subst (HasTaken t t []) (sym c.new.ensures.items) (taken-nothing t c.in_ok-before.ensures.sizes.places)
+
+pub returns-then-count-eq0-clause-chain : goal.returns-then-count-eq0-clause-chain
+returns-then-count-eq0-clause-chain g c =
+    let fat = c.args.self.now.tables.fat in
+    subst (λ (z : List ℕ). IsChain fat (start_of z) z) (sym c.new.ensures.items) (chain_of fat (start_of []) [] refl)
+
+pub returns-then-count-eq0-clause-others : goal.returns-then-count-eq0-clause-others
+returns-then-count-eq0-clause-others g c told = others_refl c.args.self.now
+
+pub returns-in_err-clone-2-clause-others : goal.returns-in_err-clone-2-clause-others
+returns-in_err-clone-2-clause-others g c told = others_unchanged c.self.view_is c.self.inside.tables refl
 
 pub returns-in_err-list-clause-others : goal.returns-in_err-list-clause-others
 returns-in_err-list-clause-others g c told = others_unchanged c.self.view_is c.take_by.new.self c.in_err-list.ensures.unchanged

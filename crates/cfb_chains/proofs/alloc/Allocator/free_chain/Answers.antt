@@ -4,7 +4,9 @@ use Rattle.cfb_chains.specs.Alloc.{AllocatorState, HoldsTables, HoldsBut}
 use Rattle.cfb_chains.specs.Clean.{IsClean, IsUnnamed}
 use Rattle.cfb_chains.specs.Sectors.{SectorFile}
 use Rattle.cfb_chains.proofs.Answering.{on_ok}
-use Rattle.cfb_chains.proofs.ChainLemmas.{members-busy}
+use Rattle.cfb_chains.proofs.ChainLemmas.{chain_of, members-busy}
+use Rattle.cfb_chains.proofs.ChainLists.{none_freed}
+use Rattle.cfb_chains.proofs.ChainView.{chain_found}
 use Rattle.cfb_chains.proofs.CleanLemmas.{freed-clean}
 use Rattle.cfb_chains.proofs.FrameLemmas.{changes_refl}
 use Rattle.cfb_chains.proofs.FreeingLemmas.{nothing_said, placed_changed, freed_holds}
@@ -52,3 +54,9 @@ returns-clause-holds g c told validation h unnamed =
     on_ok (HoldsBut validation [] c.write_values.new.sectors t) (HoldsTables validation (record { file = c.write_values.new.sectors; tables = t })) c.write_values.result
     (λ b. record { holds = b; clean = clean })
     (c.write_values.ensures.ok told validation [] (subst (λ (xs : List ℕ). HoldsBut validation (xs ++ []) s0 t) (sym c.deref.ensures.value) late))
+
+pub returns-then-start-eq-END_OF_CHAIN-clause-freed : goal.returns-then-start-eq-END_OF_CHAIN-clause-freed
+returns-then-start-eq-END_OF_CHAIN-clause-freed g c = none_freed c.args.self.now.tables c.args.start (chain_found c.args.self.now.tables.fat c.args.start [] (chain_of c.args.self.now.tables.fat c.args.start [] c.if-start-eq-END_OF_CHAIN.true))
+
+pub returns-then-start-eq-END_OF_CHAIN-clause-changes : goal.returns-then-start-eq-END_OF_CHAIN-clause-changes
+returns-then-start-eq-END_OF_CHAIN-clause-changes g c told = let a = c.args.self.now in changes_refl a.tables.fat_sectors a.tables.version a.file.bytes

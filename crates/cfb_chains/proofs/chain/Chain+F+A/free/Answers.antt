@@ -9,7 +9,7 @@ pub returns-clause-freed : goal.returns-clause-freed
 returns-clause-freed g c =
     let now = c.args.self.now in
     let e = c.cut.ensures in
-    freed_of c.cut.result (allocator_of now).now (allocator_of c.cut.new.self).now (start_of now) (ids_of now) now.chained e.none e.cut
+    freed_of c.cut.result (allocator_of now).now (allocator_of c.cut.new.self).now (start_of now) (ids_of now) now.chained (λ le. ((e.none le).0, (e.none le).1.0)) e.cut
 
 pub returns-clause-refused : goal.returns-clause-refused
 returns-clause-refused g c =

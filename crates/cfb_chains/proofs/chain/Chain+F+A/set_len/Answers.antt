@@ -9,7 +9,7 @@ use Rattle.std.proofs.lemmas.List.Elements.{Contains-append_left}
 use Rattle.cfb_format.specs.Bytes.{sector_len, sector_start}
 use Rattle.cfb_format.specs.declared.version.Version.{Version}
 use Rattle.cfb_chains.specs.LentChain.{allocator_of, ids_of, init_of, version_of, tail_of, tail_place, content_of, HasBytes}
-use Rattle.cfb_chains.proofs.ChainWrites.{none_wanted, zeroed_of}
+use Rattle.cfb_chains.proofs.ChainWrites.{none_wanted, same_rest, same_wanted, zeroed_of}
 use Rattle.cfb_chains.proofs.OwnWrites.{enough_kept, own_freed, own_kept, own_taken, own_zeroed}
 use Rattle.cfb_chains.proofs.SectorLemmas.{SectorStays_next}
 use Rattle.cfb_chains.proofs.chain.Chain+F+A.set_len.Goals as goal
@@ -100,3 +100,31 @@ returns-clause-foreign g c told =
     (ids_of cut) c.args.len (own_kept (ids_of now) old (ids_of cut) count ids)
     (enough_kept (version_of now) (version_of cut) c.args.len count (length (ids_of cut)) c.cut.ensures.version wanted kept)
     (λ none. (e.none none).1) (e.others told)
+
+pub returns-then-sectors-have-clause-none : goal.returns-then-sectors-have-clause-none
+returns-then-sectors-have-clause-none g c same =
+    let now = c.args.self.now in
+    let have = c.num_sectors-have.ensures in
+    let more = c.if-sectors-have.true in
+    let wanted = wanted_is (version_of now) c.args.len c.div_ceil-sectors.result c.sector_len.result c.sector_len.ensures c.div_ceil-sectors.ensures
+    ∙ same_wanted (version_of now) c.args.len (length (ids_of now)) same in
+    absurd (omega (arith, have, more, wanted))
+
+pub returns-in_err-cut-clause-none : goal.returns-in_err-cut-clause-none
+returns-in_err-cut-clause-none g c same =
+    let now = c.args.self.now in
+    let wanted = wanted_is (version_of now) c.args.len c.div_ceil-sectors.result c.sector_len.result c.sector_len.ensures c.div_ceil-sectors.ensures
+    ∙ same_wanted (version_of now) c.args.len (length (ids_of now)) same in
+    absurd (c.in_err-cut.ensures.none (omega (arith, wanted))).0
+
+pub returns-clause-none : goal.returns-clause-none
+returns-clause-none g c same =
+    let now = c.args.self.now in
+    let wanted = wanted_is (version_of now) c.args.len c.div_ceil-sectors.result c.sector_len.result c.sector_len.ensures c.div_ceil-sectors.ensures
+    ∙ same_wanted (version_of now) c.args.len (length (ids_of now)) same in
+    let kept = c.in_ok-cut.ensures.none (omega (arith, wanted)) in
+    let version = c.cut.ensures.version in
+    let e = c.zero_tail.ensures in
+    let rest = (λ j. c.args.len % sector_len (version j)) ∙ same_rest (version_of now) c.args.len (length (ids_of now)) same in
+    let none = e.none rest in
+    (none.0, (none.1 ∙ kept.1.0, e.chain.0 ∙ kept.1.1, e.position ∙ kept.1.2))

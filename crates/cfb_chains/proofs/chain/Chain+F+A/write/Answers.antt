@@ -9,7 +9,7 @@ use Rattle.cfb_chains.specs.ChainLists.{gained, last_of}
 use Rattle.cfb_chains.specs.Tables.{ending}
 use Rattle.cfb_chains.specs.LentChain.{allocator_of, ids_of, init_of, missing_of, place_of, position_of, room_of, version_of, content_of, HasBytes}
 use Rattle.cfb_chains.proofs.Answering.{all_ok}
-use Rattle.cfb_chains.proofs.ChainWrites.{if_ok, rest_short, room_after, there_of}
+use Rattle.cfb_chains.proofs.ChainWrites.{goes_nowhere, if_ok, none_needed, rest_short, room_after, there_of}
 use Rattle.cfb_chains.proofs.OwnWrites.{own_gained, own_none, own_taken, own_written}
 use Rattle.cfb_chains.proofs.SectorLemmas.{SectorStays_next}
 use Rattle.cfb_chains.proofs.chain.Chain+F+A.write.Goals as goal
@@ -114,3 +114,21 @@ returns-clause-foreign g c told =
     (ids_of grown) (position_of grown) (length c.args.from.now)
     (own_gained (ids_of now) old mid (ending (last_of (ids_of now))) (ids_of grown) more c.in_ok-grow.ensures.ids c.in_ok-grow.ensures.taken)
     (λ none. (e.none none).1) (e.others told)
+
+pub returns-then-missing-eq0-clause-none : goal.returns-then-missing-eq0-clause-none
+returns-then-missing-eq0-clause-none g c zero =
+    let now = c.args.self.now in
+    let e = c.write_within.ensures in
+    let none : min (length c.args.from.now) (room_of now) ≡ 0 = omega (arith, zero) in
+    let same = e.none none in
+    (same.0, (same.1, e.chain.0, goes_nowhere c.write_within.result (position_of now) (position_of c.write_within.new.self) (min (length c.args.from.now) (room_of now)) none e.count e.position))
+
+pub returns-in_err-grow-clause-none : goal.returns-in_err-grow-clause-none
+returns-in_err-grow-clause-none g c zero =
+    let now = c.args.self.now in
+    absurd (c.if-missing-eq0.false (c.missing-missing.ensures ∙ none_needed (version_of now) (position_of now) (length (ids_of now)) (length c.args.from.now) zero now.within))
+
+pub returns-clause-none : goal.returns-clause-none
+returns-clause-none g c zero =
+    let now = c.args.self.now in
+    absurd (c.if-missing-eq0.false (c.missing-missing.ensures ∙ none_needed (version_of now) (position_of now) (length (ids_of now)) (length c.args.from.now) zero now.within))
