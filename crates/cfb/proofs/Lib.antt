@@ -17,3 +17,5 @@ pub mod CallFacts
 pub mod CallSteps
 pub mod OrderKept
 pub mod StreamSteps
+pub mod StreamBounds
+pub mod CreatedFound

@@ -1,7 +1,8 @@
 -- What the rules of calls promise.
-use Rattle.std.specs.Prelude.{ℕ, ◌≡◌, List, Bool, Option, None}
+use Rattle.std.specs.Prelude.{ℕ, ◌≡◌, List, Bool, Option, Some, None}
 use Rattle.cfb_format.specs.Names.{Cases}
-use Rattle.cfb_format.specs.Tree.{Tree, IsOrdered}
+use Rattle.cfb_format.specs.Path.{names_of_path}
+use Rattle.cfb_format.specs.Tree.{Tree, IsOrdered, a_stream}
 use Rattle.cfb_format.specs.declared.version.Version.{Version}
 use Rattle.cfb_format.specs.Meaning.{Means}
 use Rattle.cfb_format.specs.Reading.{IsStrictFile}
@@ -9,9 +10,11 @@ use Rattle.cfb_format.specs.Soundness.{IsSoundFile}
 use Rattle.cfb_format.specs.Created.{created_bytes}
 use Rattle.cfb.specs.OneStream.{OneStream, HoldsOne, tree_with}
 use Rattle.cfb.specs.Refusal.{Refusal}
-use Rattle.cfb.specs.Calls.{Call, Reply, refused}
+use Rattle.cfb.specs.Calls.{Call, create_new_stream, Reply, done, refused}
+use Rattle.cfb.specs.CallChanges.{new_stream}
+use Rattle.cfb.specs.Finding.{object_at}
 use Rattle.cfb.specs.Steps.{Step}
-use Rattle.cfb.specs.StreamCalls.{StreamSetting, StreamState, StreamCall, not_done, StreamStep}
+use Rattle.cfb.specs.StreamCalls.{StreamSetting, StreamState, StreamCall, StreamReply, not_done, StreamStep, IsStream}
 
 -- a refused call changes no tree
 abbrev pub RefusedCallsChangeNothing : Type 0
@@ -32,10 +35,24 @@ abbrev pub OneReplyFits : Type 0
 OneReplyFits = (cases : Cases) (sound : Bool) (mini_stream_len : ℕ) (tree t u : Tree) (call : Call) (r s : Reply)
     → Step cases sound mini_stream_len tree call r t → Step cases sound mini_stream_len tree call s u → (r ≡ s) × (t ≡ u)
 
+-- a stream that a call created stands at its path, and is empty
+abbrev pub CreatedStreamIsFound : Type 0
+CreatedStreamIsFound = (cases : Cases) (sound : Bool) (mini_stream_len : ℕ) (tree tree' : Tree) (path : List ℕ) (names : List (List ℕ))
+    → names_of_path path ≡ Some names → Step cases sound mini_stream_len tree (create_new_stream path) done tree' → object_at cases tree' names ≡ Some (a_stream new_stream)
+
 -- a call on a stream that the rules refuse leaves its state as it was
 abbrev pub RefusedStreamCallsChangeNothing : Type 0
 RefusedStreamCallsChangeNothing = (setting : StreamSetting) (old new : StreamState) (call : StreamCall) (refusal : Refusal)
     → StreamStep setting old call (not_done refusal) new → new ≡ old
+
+-- some reply and state fit each call on a stream
+abbrev pub SomeStreamReplyFits : Type 0
+SomeStreamReplyFits = (setting : StreamSetting) (old : StreamState) (call : StreamCall) → (reply : StreamReply) × (new : StreamState) × StreamStep setting old call reply new
+
+-- the position and what is lent stay before the end, and the version's greatest length is kept
+abbrev pub StreamsKeepTheirBounds : Type 0
+StreamsKeepTheirBounds = (setting : StreamSetting) (old new : StreamState) (call : StreamCall) (reply : StreamReply)
+    → IsStream setting old → StreamStep setting old call reply new → IsStream setting new
 
 -- a file with at most one stream means the root with that stream, whatever the letters
 abbrev pub OneStreamMeansItsTree : Type 0

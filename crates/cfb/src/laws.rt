@@ -1,6 +1,6 @@
 //! What the rules of calls promise. None of these functions does anything: each has a law as its
 //! contract.
-ghost use Rattle.cfb.specs.Laws.{RefusedCallsChangeNothing, CallsKeepOrder, SomeReplyFits, OneReplyFits, RefusedStreamCallsChangeNothing, OneStreamMeansItsTree, OneStreamIsStrict, OneStreamIsSound, CreatedHoldsNone};
+ghost use Rattle.cfb.specs.Laws.{RefusedCallsChangeNothing, CallsKeepOrder, CreatedStreamIsFound, SomeReplyFits, OneReplyFits, RefusedStreamCallsChangeNothing, SomeStreamReplyFits, StreamsKeepTheirBounds, OneStreamMeansItsTree, OneStreamIsStrict, OneStreamIsSound, CreatedHoldsNone};
 
 /// A refused call changes nothing.
 pub fn refused_calls_change_nothing()
@@ -12,11 +12,22 @@ pub fn refused_calls_change_nothing()
 pub fn rules_are_complete()
     ensures some { SomeReplyFits }
     ensures one { OneReplyFits }
+    ensures on_stream { SomeStreamReplyFits }
+{}
+
+/// What was created is there.
+pub fn created_streams_are_found()
+    ensures { CreatedStreamIsFound }
 {}
 
 /// A tree stays a map by name.
 pub fn calls_keep_order()
     ensures { CallsKeepOrder }
+{}
+
+/// A stream's position stays within it, and its length within what the version has.
+pub fn streams_keep_their_bounds()
+    ensures { StreamsKeepTheirBounds }
 {}
 
 /// A file with at most one stream means the root with that stream, is strict and sound; a file that

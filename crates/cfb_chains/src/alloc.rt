@@ -374,7 +374,7 @@ impl<F: Medium, A: Heap + Clone> Allocator<F, A> {
         self.append_by(last, count, init)
     }
 
-    /// Frees the chain from `start`.
+    /// Frees the chain from `start`. The empty one, from END, changes nothing.
     ///
     /// `InvalidData` where there is no such chain, and where the FAT sectors do not cover the file; `Medium` where the medium fails,
     /// and `Memory`. Nothing has changed where it is refused, but after `Medium`: then the chain is free in memory, and of the

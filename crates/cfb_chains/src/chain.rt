@@ -387,7 +387,7 @@ impl<'a, F: Medium, A: Heap> Chain<'a, F, A> {
 impl<'a, F: Medium, A: Heap + Clone> Chain<'a, F, A> {
     ghost use Rattle.cfb_chains.specs.LentChain.{allocator_of, start_of, ids_of, init_of, version_of, len_of, position_of, missing_of, wanted_of, HasNoSectors, HasGained, HasKept, IsAsBefore, IsWholeChain, content_of, HasBytes};
 
-    /// Frees its sectors: then it has none.
+    /// Frees its sectors: then it has none. Where it had none nothing changes.
     ///
     /// `InvalidData` where the FAT sectors do not cover the file; `Medium` where the medium fails, and `Memory`. Nothing has changed
     /// where it is refused, but after `Medium`: then the sectors are free in memory, it has none, and of the file's bytes the FAT
@@ -413,8 +413,8 @@ impl<'a, F: Medium, A: Heap + Clone> Chain<'a, F, A> {
     }
 
     /// Writes a beginning of `from`, at least one byte of it, into the sector at the position from there on, goes on behind it, and
-    /// answers how many bytes that is: none exactly where `from` is empty. The chain has room for all of `from` then: where sectors
-    /// were missing it has gained them.
+    /// answers how many bytes that is: none exactly where `from` is empty, and then nothing changes. The chain has room for all of
+    /// `from` then: where sectors were missing it has gained them.
     ///
     /// Where sectors are missing: `InvalidData` where the FAT sectors do not cover the file, `Full` where fewer numbers are left than
     /// the missing sectors and the table sectors that they need, and `Memory`: nothing has changed then. `Medium` where the medium
@@ -464,6 +464,7 @@ impl<'a, F: Medium, A: Heap + Clone> Chain<'a, F, A> {
 
     /// Lets the chain have the sectors that so many bytes need: it gains those that are missing, or those behind are freed. Where it
     /// gains none, the bytes of the last one behind this length become zeros. The position stays, or is the end where it was past it.
+    /// The length that it has changes nothing.
     ///
     /// `InvalidData`, `Full` and `Memory` as in `write`: nothing has changed then. `Medium` where the medium fails: it has no sectors
     /// where a gain or a loss of sectors broke off.

@@ -1,4 +1,5 @@
 use Rattle.cfb.proofs.CallSteps.{Step-some, Step-one}
+use Rattle.cfb.proofs.StreamBounds.{StreamStep-some}
 use Rattle.cfb.proofs.laws.rules_are_complete.Goals as goal
 
 pub returns-clause-some : goal.returns-clause-some
@@ -6,3 +7,6 @@ returns-clause-some c = Step-some
 
 pub returns-clause-one : goal.returns-clause-one
 returns-clause-one c = Step-one
+
+pub returns-clause-on_stream : goal.returns-clause-on_stream
+returns-clause-on_stream c = StreamStep-some
