@@ -2,17 +2,7 @@
 #![tactic(auto)]
 
 #[cfg(test)]
-mod allocators;
-#[cfg(test)]
-mod chain_rows;
-#[cfg(test)]
-mod chain_streams;
-#[cfg(test)]
-mod chains;
-#[cfg(test)]
 mod empty_files;
-#[cfg(test)]
-mod fats;
 pub mod media;
 #[cfg(test)]
 mod one_stream;
@@ -22,11 +12,7 @@ pub mod refusing;
 #[cfg(test)]
 mod reopened;
 #[cfg(test)]
-mod sectors;
-#[cfg(test)]
 mod stream_failures;
-#[cfg(test)]
-mod tables;
 #[cfg(test)]
 mod tests;
 #[cfg(test)]

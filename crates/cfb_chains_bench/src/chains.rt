@@ -1,6 +1,6 @@
 //! Chains of sectors over media that serve single bytes or fail, and with requests for memory refused.
-use crate::media::{Failing, Kind, Sip};
-use crate::refusing::Refusing;
+use cfb_bench::media::{Failing, Kind, Sip};
+use cfb_bench::refusing::Refusing;
 use cfb_chains::alloc::Allocator;
 use cfb_chains::sector::{SectorInit, Sectors};
 use cfb_format::error::Error;

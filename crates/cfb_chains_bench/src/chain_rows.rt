@@ -1,7 +1,7 @@
 //! The worked changes of chains over media that serve single bytes or fail, with each request for
 //! memory refused, and with limits.
-use crate::media::{Counting, Failing, Kind, Sip};
-use crate::refusing::Refusing;
+use cfb_bench::media::{Counting, Failing, Kind, Sip};
+use cfb_bench::refusing::Refusing;
 use cfb_chains::alloc::Allocator;
 use cfb_chains::sector::{SectorInit, Sectors};
 use cfb_format::consts::END_OF_CHAIN;

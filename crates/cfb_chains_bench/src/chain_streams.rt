@@ -1,8 +1,8 @@
 //! A chain that is read and written as one list of bytes: over media that serve single bytes or
 //! fail, with each request for memory refused, and with a limit.
 use crate::chains::{has_first_chain, is_unchanged, one_sector, opened, two_chains};
-use crate::media::{Failing, Kind, Sip};
-use crate::refusing::Refusing;
+use cfb_bench::media::{Failing, Kind, Sip};
+use cfb_bench::refusing::Refusing;
 use cfb_chains::alloc::Allocator;
 use cfb_chains::chain::Chain;
 use cfb_chains::sector::SectorInit;
