@@ -8,7 +8,7 @@ use Rattle.std.proofs.lemmas.Bool.{cases_eq, cases_lt}
 use Rattle.cfb_format.specs.Bytes.{free_sector}
 use Rattle.cfb_format.specs.Chain.{value}
 use Rattle.cfb_chains.specs.Changes.{ListsFree, NoneFree}
-use Rattle.cfb_chains.proofs.Members.{Contains-nil, Contains-here, Contains-there, Contains-cases, none_distinct, distinct-left, distinct-right, distinct-apart, distinct-push, value-below, value-set, value-set_other, value-left, value-right}
+use Rattle.cfb_chains.proofs.Members.{Contains-nil, Contains-here, Contains-there, Contains-cases, none_distinct, distinct-left, distinct-right, distinct-apart, distinct-push, value-below, value-past, value-set, value-set_other, value-left, value-right}
 
 -- going up through the table
 
@@ -123,7 +123,7 @@ bit_no y ne = ap (λ (b : Bool). cond {A = ℕ} b 1 0) (ne_eqb y free_sector ne)
 count-cons : (y : ℕ) (table : List ℕ) → free_count (y ∷ table) ≡ bit y + free_count table
 count-cons y table = sum_by-cons bit y table
 
-count-set : (table : List ℕ) (x w : ℕ) → x < length table → value table x ≡ free_sector → w ≢ free_sector → suc (free_count (set table x w)) ≡ free_count table
+pub count-set : (table : List ℕ) (x w : ℕ) → x < length table → value table x ≡ free_sector → w ≢ free_sector → suc (free_count (set table x w)) ≡ free_count table
 count-set [] x w lt is ne = absurd (omega (arith, lt))
 count-set (y ∷ table) zero w lt is ne =
     let a = bit_yes y is in let b = bit_no w ne in
@@ -131,6 +131,18 @@ count-set (y ∷ table) zero w lt is ne =
     omega (arith, a, b, p, q)
 count-set (y ∷ table) (suc x) w lt is ne =
     let rest = count-set table x w (omega (arith, lt)) is ne in
+    let p = count-cons y table in let q = count-cons y (set table x w) in
+    omega (arith, rest, p, q)
+
+-- what is in use and stays in use is not counted
+pub count-busy : (table : List ℕ) (x w : ℕ) → value table x ≢ free_sector → w ≢ free_sector → free_count (set table x w) ≡ free_count table
+count-busy [] x w was is = absurd (was (value-past [] x (omega arith)))
+count-busy (y ∷ table) zero w was is =
+    let a = bit_no y was in let b = bit_no w is in
+    let p = count-cons y table in let q = count-cons w table in
+    omega (arith, a, b, p, q)
+count-busy (y ∷ table) (suc x) w was is =
+    let rest = count-busy table x w was is in
     let p = count-cons y table in let q = count-cons y (set table x w) in
     omega (arith, rest, p, q)
 

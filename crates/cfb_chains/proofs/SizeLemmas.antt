@@ -238,6 +238,12 @@ pub room-grown-at : (v : Version) (limit : ℕ) (s t : Sizes) (k w : ℕ) → k 
 room-grown-at v limit s t k w e is r =
     subst (λ (g : Sizes). HasRoom v limit g.sectors g.fats g.difats w) (sym is) (room-grown v limit s w (subst (HasRoom v limit s.sectors s.fats s.difats) e r))
 
+-- some growths after others
+pub after-more : (v : Version) (i j : ℕ) (s : Sizes) → sizes_after v j (sizes_after v i s) ≡ sizes_after v (i + j) s
+unfolding sizes_after
+after-more v zero j s = let none : j ≡ 0 + j = omega arith in ap (λ k. sizes_after v k s) none
+after-more v (suc i) j s = after-more v i j (grown_sizes s (numbers_needed v s)) ∙ sym (after-one v (suc i + j) (i + j) s (omega arith))
+
 -- sizes only grow
 pub sizes-rise : (v : Version) (k : ℕ) (s : Sizes) → (s.sectors ≤ (sizes_after v k s).sectors) × (s.fats ≤ (sizes_after v k s).fats) × (s.difats ≤ (sizes_after v k s).difats)
 unfolding sizes_after

@@ -8,13 +8,13 @@ use Rattle.cfb_format.specs.declared.version.Version.{Version}
 use Rattle.cfb_format.specs.declared.version.Version.TheVariants.{V3, V4}
 use Rattle.cfb_format.specs.Bytes.{free_sector, end_of_chain, fat_sector, difat_sector, max_regular_sector, words_per_sector}
 use Rattle.cfb_format.specs.Chain.{value}
-use Rattle.cfb_format.specs.Full.{rounded_up}
+use Rattle.cfb_format.specs.Full.{free_count, rounded_up}
 use Rattle.cfb_format.specs.Header.{header_difat_len}
 use Rattle.cfb_chains.specs.Changes.{NoneFree}
-use Rattle.cfb_chains.specs.Tables.{TableState, HasTaken, HasExactTables, IsKept, sizes_of, numbers_needed, grown_state}
+use Rattle.cfb_chains.specs.Tables.{TableState, HasTaken, HasExactTables, IsKept, sizes_of, sizes_after, numbers_needed, grown_sizes, grown_state}
 use Rattle.cfb_chains.proofs.Members.{Contains-nil, Contains-cases, Contains-one, Contains-or, in_three, first_of_three, second_of_three, third_of_three, none_distinct, one_distinct, distinct-join, value-below, value-past, value-set, value-set_other, value-left, value-right}
-use Rattle.cfb_chains.proofs.FreeLemmas.{none-free}
-use Rattle.cfb_chains.proofs.SizeLemmas.{needed-cases}
+use Rattle.cfb_chains.proofs.FreeLemmas.{none-free, count-set, count-busy, count-none}
+use Rattle.cfb_chains.proofs.SizeLemmas.{needed-cases, after-none, after-one, after-more}
 use Rattle.cfb_chains.proofs.KeptLemmas.{sizes-grown}
 use Rattle.cfb_chains.proofs.TableCounts.{Counts, HasPlaces, counts-same, counts-grown, counts-then, counts-of}
 
@@ -23,6 +23,13 @@ counts-set : (t : TableState) (fat : List ℕ) → length fat ≡ length t.fat �
 counts-set t fat same places =
     counts-same t.version (sizes_of t) (sizes_of (record t { fat = fat })) (λ i. record { sectors = same i; fats = length t.fat_sectors; difats = length t.difat_sectors }) places
 
+-- as many numbers are free, so nothing comes past the end
+sizes-set : (t : TableState) (fat : List ℕ) (k : ℕ) → length fat ≡ length t.fat → k ≤ free_count t.fat
+    → sizes_of (record t { fat = fat }) ≡ sizes_after t.version (k - free_count t.fat) (sizes_of t)
+sizes-set t fat k same enough =
+    (λ i. record { sectors = same i; fats = length t.fat_sectors; difats = length t.difat_sectors })
+    ∙ sym (after-none t.version (k - free_count t.fat) (sizes_of t) (omega (arith, enough)))
+
 -- ---- a free number is taken
 
 pub taken-pop : (t : TableState) (free : List ℕ) (x : ℕ) → IsKept t (free ++ x ∷ []) → HasTaken t (record t { fat = set t.fat x end_of_chain }) [] (x ∷ [])
@@ -30,6 +37,7 @@ taken-pop t free x k =
     let top = k.listed.sound x (Contains-push free x) in
     let same = length-set t.fat x end_of_chain in
     let counts = counts-set t (set t.fat x end_of_chain) same k.sizes.places in
+    let fewer = count-set t.fat x end_of_chain top.0 top.1 (λ e. omega (arith, e)) in
     record {
       fats = [];
       difats = [];
@@ -48,6 +56,8 @@ taken-pop t free x k =
       longer = omega (arith, same);
       none_free = λ more. absurd (omega (arith, same, more));
       limited = λ more. absurd (omega (arith, same, more));
+      left = omega (arith, fewer);
+      sizes = sizes-set t (set t.fat x end_of_chain) 1 same (omega (arith, fewer));
       exact = λ e. record { fats = e.fats ∙ ap (λ n. rounded_up n (words_per_sector t.version)) (sym same); difats = e.difats };
       covered = counts.covered;
       fat_count = counts.fats;
@@ -64,6 +74,7 @@ taken-link t last next places ended regular =
     let below = value-below t.fat last (λ e. omega (arith, e, ended)) in
     let same = length-set t.fat last next in
     let counts = counts-set t (set t.fat last next) same places in
+    let free = count-busy t.fat last next (λ e. omega (arith, e, ended)) (λ e. omega (arith, e, regular)) in
     record {
       fats = [];
       difats = [];
@@ -82,6 +93,8 @@ taken-link t last next places ended regular =
       longer = omega (arith, same);
       none_free = λ more. absurd (omega (arith, same, more));
       limited = λ more. absurd (omega (arith, same, more));
+      left = omega (arith, free);
+      sizes = sizes-set t (set t.fat last next) 0 same (omega arith);
       exact = λ e. record { fats = e.fats ∙ ap (λ n. rounded_up n (words_per_sector t.version)) (sym same); difats = e.difats };
       covered = counts.covered;
       fat_count = counts.fats;
@@ -119,9 +132,12 @@ module _ (t : TableState) (x : ℕ) (words fats difats : List ℕ) where
       → ((i : ℕ) → Contains difats i → value (t.fat ++ words) i ≡ difat_sector)
       → IsDistinct nat_eq fats → IsDistinct nat_eq difats → value (t.fat ++ words) x ≡ end_of_chain
       → length t.fat + length words ≤ t.max_sectors → (HasExactTables t → HasExactTables after)
-      → Counts t.version t.version (sizes_of t) (sizes_of after) → HasTaken t after [] (x ∷ [])
-  taken-words none busy new all marks difat_marks fats_once difats_once ended limit exact counts =
+      → Counts t.version t.version (sizes_of t) (sizes_of after) → sizes_of after ≡ grown_sizes (sizes_of t) (numbers_needed t.version (sizes_of t))
+      → HasTaken t after [] (x ∷ [])
+  taken-words none busy new all marks difat_marks fats_once difats_once ended limit exact counts sized =
       let len = length-append t.fat words in
+      let was = count-none t.fat none in
+      let is = count-none (t.fat ++ words) (none-appended t.fat words none busy) in
       record {
         fats = fats;
         difats = difats;
@@ -146,6 +162,8 @@ module _ (t : TableState) (x : ℕ) (words fats difats : List ℕ) where
         longer = omega (arith, len);
         none_free = λ more. none-appended t.fat words none busy;
         limited = λ more. omega (arith, len, limit);
+        left = omega (arith, was, is);
+        sizes = sized ∙ sym (after-one t.version (1 - free_count t.fat) 0 (sizes_of t) (omega (arith, was)) ∙ after-none t.version 0 (grown_sizes (sizes_of t) (numbers_needed t.version (sizes_of t))) refl);
         exact = exact;
         covered = counts.covered;
         fat_count = counts.fats;
@@ -183,8 +201,13 @@ module _ (t : TableState) (x : ℕ) (none : NoneFree t.fat) where
   abbrev W : ℕ
   W = words_per_sector t.version
 
-  taken-one : x + 1 ≡ n + 1 → n + 1 ≤ t.max_sectors → n < length t.fat_sectors * W → Counts t.version t.version (sizes_of t) (sizes_of (grown_state t 1)) → HasTaken t (grown_state t 1) [] (x ∷ [])
-  taken-one is fits covered counts = taken-words t x (end_of_chain ∷ []) [] [] none
+  -- growing by so many numbers is what the sizes need
+  abbrev IsSized : ℕ → Type 0
+  IsSized j = sizes_of (grown_state t j) ≡ grown_sizes (sizes_of t) (numbers_needed t.version (sizes_of t))
+
+  taken-one : x + 1 ≡ n + 1 → n + 1 ≤ t.max_sectors → n < length t.fat_sectors * W → Counts t.version t.version (sizes_of t) (sizes_of (grown_state t 1)) → IsSized 1
+      → HasTaken t (grown_state t 1) [] (x ∷ [])
+  taken-one is fits covered counts sized = taken-words t x (end_of_chain ∷ []) [] [] none
       (λ i lt e. elim (cases_eq i 0) [ inl z ↦ (let w : value (end_of_chain ∷ []) i ≡ end_of_chain = ap (value (end_of_chain ∷ [])) z in omega (arith, w, e)) | inr ne ↦ omega (arith, lt, ne) ])
       (λ i m. let e = Contains-one x i m in omega (arith, e, is))
       (λ i ge lt. (0, omega arith, omega (arith, ge, lt, is)))
@@ -199,6 +222,7 @@ module _ (t : TableState) (x : ℕ) (none : NoneFree t.fat) where
         difats = ap length (append-nil t.difat_sectors) ∙ e.difats ∙ ap (λ (z : List ℕ). rounded_up (length z - header_difat_len) (W - 1)) (sym (append-nil t.fat_sectors));
       })
       counts
+      sized
 
   busy-two : NoneFree (fat_sector ∷ end_of_chain ∷ [])
   busy-two zero lt e = omega (arith, e)
@@ -206,8 +230,8 @@ module _ (t : TableState) (x : ℕ) (none : NoneFree t.fat) where
   busy-two (suc (suc i)) lt e = omega (arith, lt)
 
   taken-two : x + 1 ≡ n + 2 → n + 2 ≤ t.max_sectors → length t.fat_sectors * W ≤ n → length t.fat_sectors < header_difat_len + length t.difat_sectors * (W - 1)
-      → Counts t.version t.version (sizes_of t) (sizes_of (grown_state t 2)) → HasTaken t (grown_state t 2) [] (x ∷ [])
-  taken-two is fits full places counts = taken-words t x (fat_sector ∷ end_of_chain ∷ []) (n ∷ []) [] none busy-two
+      → Counts t.version t.version (sizes_of t) (sizes_of (grown_state t 2)) → IsSized 2 → HasTaken t (grown_state t 2) [] (x ∷ [])
+  taken-two is fits full places counts sized = taken-words t x (fat_sector ∷ end_of_chain ∷ []) (n ∷ []) [] none busy-two
       (λ i m. elim (Contains-cases x (n ∷ []) i m) [ inl e ↦ omega (arith, e, is) | inr r ↦ (let e = Contains-one n i r in omega (arith, e)) ])
       (λ i ge lt. elim (cases_eq n i) [ inl e ↦ (1, omega arith, e) | inr ne ↦ (0, omega arith, omega (arith, ge, lt, is, ne)) ])
       (λ i m. at-end t.fat (fat_sector ∷ end_of_chain ∷ []) i 0 (let e = Contains-one n i m in omega (arith, e)))
@@ -222,6 +246,7 @@ module _ (t : TableState) (x : ℕ) (none : NoneFree t.fat) where
             ∙ ap (λ k. rounded_up (k - header_difat_len) (W - 1)) (sym (length-append t.fat_sectors (n ∷ [])));
       })
       counts
+      sized
 
   busy-three : NoneFree (fat_sector ∷ difat_sector ∷ end_of_chain ∷ [])
   busy-three zero lt e = omega (arith, e)
@@ -230,8 +255,8 @@ module _ (t : TableState) (x : ℕ) (none : NoneFree t.fat) where
   busy-three (suc (suc (suc i))) lt e = omega (arith, lt)
 
   taken-three : x + 1 ≡ n + 3 → n + 3 ≤ t.max_sectors → length t.fat_sectors * W ≤ n → header_difat_len + length t.difat_sectors * (W - 1) ≤ length t.fat_sectors
-      → Counts t.version t.version (sizes_of t) (sizes_of (grown_state t 3)) → HasTaken t (grown_state t 3) [] (x ∷ [])
-  taken-three is fits full places counts = taken-words t x (fat_sector ∷ difat_sector ∷ end_of_chain ∷ []) (n ∷ []) ((n + 1) ∷ []) none busy-three
+      → Counts t.version t.version (sizes_of t) (sizes_of (grown_state t 3)) → IsSized 3 → HasTaken t (grown_state t 3) [] (x ∷ [])
+  taken-three is fits full places counts sized = taken-words t x (fat_sector ∷ difat_sector ∷ end_of_chain ∷ []) (n ∷ []) ((n + 1) ∷ []) none busy-three
       (λ i m. elim (Contains-cases x (n ∷ (n + 1) ∷ []) i m) [
         | inl e ↦ omega (arith, e, is)
         | inr r ↦ elim (Contains-cases n ((n + 1) ∷ []) i r) [ inl e ↦ omega (arith, e) | inr q ↦ (let e = Contains-one (n + 1) i q in omega (arith, e)) ]
@@ -252,6 +277,7 @@ module _ (t : TableState) (x : ℕ) (none : NoneFree t.fat) where
             ∙ ap (λ k. rounded_up (k - header_difat_len) (W - 1)) (sym (length-append t.fat_sectors (n ∷ [])));
       })
       counts
+      sized
 
 pub grown-ended : (t : TableState) (x : ℕ) → let m = numbers_needed t.version (sizes_of t) in x + 1 ≡ length t.fat + m → value (grown_state t m).fat x ≡ end_of_chain
 grown-ended t x is = elim (needed-cases t.version (sizes_of t)) [
@@ -270,11 +296,13 @@ taken-grown t x k is fits =
     let all = subst (Counts t.version t.version (sizes_of t)) (sym (sizes-grown t)) (counts-grown t.version (sizes_of t) k.sizes.places) in
     let counts : (j : ℕ) → m ≡ j → Counts t.version t.version (sizes_of t) (sizes_of (grown_state t j)) =
     λ j e. subst (λ j. Counts t.version t.version (sizes_of t) (sizes_of (grown_state t j))) e all in
+    let sized : (j : ℕ) → m ≡ j → sizes_of (grown_state t j) ≡ grown_sizes (sizes_of t) m =
+    λ j e. subst (λ j. sizes_of (grown_state t j) ≡ grown_sizes (sizes_of t) m) e (sizes-grown t) in
     elim (needed-cases t.version (sizes_of t)) [
-      | inl c ↦ subst (λ j. HasTaken t (grown_state t j) [] (x ∷ [])) (sym c.0) (taken-one t x none (omega (arith, is, c.0)) (omega (arith, fits, c.0)) c.1 (counts 1 c.0))
+      | inl c ↦ subst (λ j. HasTaken t (grown_state t j) [] (x ∷ [])) (sym c.0) (taken-one t x none (omega (arith, is, c.0)) (omega (arith, fits, c.0)) c.1 (counts 1 c.0) (sized 1 c.0))
       | inr q ↦ elim q [
-        | inl c ↦ subst (λ j. HasTaken t (grown_state t j) [] (x ∷ [])) (sym c.0) (taken-two t x none (omega (arith, is, c.0)) (omega (arith, fits, c.0)) c.1 c.2 (counts 2 c.0))
-        | inr c ↦ subst (λ j. HasTaken t (grown_state t j) [] (x ∷ [])) (sym c.0) (taken-three t x none (omega (arith, is, c.0)) (omega (arith, fits, c.0)) c.1 c.2 (counts 3 c.0))
+        | inl c ↦ subst (λ j. HasTaken t (grown_state t j) [] (x ∷ [])) (sym c.0) (taken-two t x none (omega (arith, is, c.0)) (omega (arith, fits, c.0)) c.1 c.2 (counts 2 c.0) (sized 2 c.0))
+        | inr c ↦ subst (λ j. HasTaken t (grown_state t j) [] (x ∷ [])) (sym c.0) (taken-three t x none (omega (arith, is, c.0)) (omega (arith, fits, c.0)) c.1 c.2 (counts 3 c.0) (sized 3 c.0))
       ]
     ]
 
@@ -382,6 +410,16 @@ module _ (a b c : TableState) (t m u w : List ℕ) (f : HasTaken a b t m) (s : H
       let len = ap length s.fat_sectors ∙ length-append b.fat_sectors s.fats in
       counts-then a.version b.version c.version (sizes_of a) (sizes_of b) (sizes_of c) s.same_version longer (omega (arith, len)) (counts-of a b t m f) (counts-of b c u w s)
 
+  sizes-then : sizes_of c ≡ sizes_after a.version (length (m ++ w) - free_count a.fat) (sizes_of a)
+  sizes-then =
+      let left = f.left in
+      let len = length-append m w in
+      let both : (length m - free_count a.fat) + (length w - free_count b.fat) ≡ length (m ++ w) - free_count a.fat = omega (arith, left, len) in
+      s.sizes
+      ∙ (λ i. sizes_after (f.same_version i) (length w - free_count b.fat) (f.sizes i))
+      ∙ after-more a.version (length m - free_count a.fat) (length w - free_count b.fat) (sizes_of a)
+      ∙ ap (λ k. sizes_after a.version k (sizes_of a)) both
+
   pub taken-then : HasTaken a c t (m ++ w)
   taken-then = record {
     fats = f.fats ++ s.fats;
@@ -422,6 +460,8 @@ module _ (a b c : TableState) (t m u w : List ℕ) (f : HasTaken a b t m) (s : H
     longer = let p = f.longer in let q = s.longer in omega (arith, p, q);
     none_free = none-then;
     limited = limited-then;
+    left = let p = f.left in let q = s.left in let len = length-append m w in omega (arith, p, q, len);
+    sizes = sizes-then;
     exact = λ e. s.exact (f.exact e);
     covered = counts-both.covered;
     fat_count = counts-both.fats;
@@ -451,6 +491,8 @@ taken-still t touched places ended = record {
   longer = omega arith;
   none_free = λ more. absurd (omega (arith, more));
   limited = λ more. absurd (omega (arith, more));
+  left = omega arith;
+  sizes = sym (after-none t.version (0 - free_count t.fat) (sizes_of t) (omega arith));
   exact = λ e. e;
   covered = λ covers. covers;
   fat_count = (counts-same t.version (sizes_of t) (sizes_of t) refl places).fats;

@@ -125,6 +125,9 @@ pub record HasTaken (old new : TableState) (touched more : List ℕ) : Type 0 wh
   pub longer : length old.fat ≤ length new.fat
   pub none_free : length old.fat < length new.fat → NoneFree new.fat
   pub limited : length old.fat < length new.fat → length new.fat ≤ old.max_sectors
+  -- the free numbers are taken first, and past the end come the sectors that fullness counts, no more
+  pub left : free_count new.fat ≡ free_count old.fat - length more
+  pub sizes : sizes_of new ≡ sizes_after old.version (length more - free_count old.fat) (sizes_of old)
   pub exact : HasExactTables old → HasExactTables new
   -- the FAT sectors cover the file again, if they did
   pub covered : IsCovered old → IsCovered new
