@@ -19,11 +19,11 @@ use Rattle.cfb.specs.Steps.{outcome, unsound_refusal, Step}
 -- ---- what is found after a change within a storage
 
 -- the object with a change of what is in it
-abbrev inner_object : (Objects → Objects) → Object → Object
+abbrev pub inner_object : (Objects → Objects) → Object → Object
 inner_object f (a_storage info inside) = a_storage info (f inside)
 inner_object f (a_stream info) = a_stream info
 
-abbrev inner : (Objects → Objects) → Found → Found
+abbrev pub inner : (Objects → Objects) → Found → Found
 inner f x = record { name = x.name; object = inner_object f x.object }
 
 module _ (cases : Cases) where
@@ -54,7 +54,7 @@ module _ (cases : Cases) where
   below_stream k info f [] = refl
   below_stream k info f (name ∷ names) = refl
 
-  found_changed : (f : Objects → Objects) (names : List (List ℕ)) (k : List ℕ) (info : StorageInfo) (objects : Objects)
+  pub found_changed : (f : Objects → Objects) (names : List (List ℕ)) (k : List ℕ) (info : StorageInfo) (objects : Objects)
       → found_from cases (record { name = k; object = a_storage info (changed_at cases f names objects) }) names
       ≡ option_map (inner f) (found_from cases (record { name = k; object = a_storage info objects }) names)
   found_changed f [] k info objects = refl
@@ -79,7 +79,7 @@ module _ (cases : Cases) where
 
   -- ---- the last of some names
 
-  found_last : (start : Found) (name : List ℕ) (names : List (List ℕ))
+  pub found_last : (start : Found) (name : List ℕ) (names : List (List ℕ))
       → found_from cases start (name ∷ names)
       ≡ option_and_then (λ (x : Found). child_named cases (last_name (name ∷ names)) x.object) (found_from cases start (parent_names (name ∷ names)))
   found_last start name [] = go (child_named cases name start.object)
@@ -99,7 +99,7 @@ module _ (cases : Cases) where
 
   -- ---- a new stream
 
-  same_itself : (name : List ℕ) → is_same_name cases name name ≡ true
+  pub same_itself : (name : List ℕ) → is_same_name cases name name ≡ true
   same_itself name = ap is_eq ((name_cmp-equal cases name name).1 refl)
 
   put_found : (name : List ℕ) (objects : Objects) → object_named cases name objects ≡ None
@@ -142,7 +142,7 @@ module _ (cases : Cases) where
     allowed_place None parent e = (refl, e)
     allowed_place (Some object) parent e = cc
 
-    allowed_name : (b : Bool) (o : Option Refusal) → (if b then o else Some invalid_input) ≡ None → o ≡ None
+    pub allowed_name : (b : Bool) (o : Option Refusal) → (if b then o else Some invalid_input) ≡ None → o ≡ None
     allowed_name true o e = e
     allowed_name false o e = cc
 
@@ -156,7 +156,7 @@ module _ (cases : Cases) where
         ap object_of (after ∙ ap child_of within)
         ∙ in_parent (found_at cases tree parents) (sym (ap object_of before) ∙ free.0) free.1
 
-no_refusal : (o : Option Refusal) (rest : Option Refusal) → option_map_or (λ (r : Refusal). Some r) o rest ≡ None → o ≡ None
+pub no_refusal : (o : Option Refusal) (rest : Option Refusal) → option_map_or (λ (r : Refusal). Some r) o rest ≡ None → o ≡ None
 no_refusal None rest e = refl
 no_refusal (Some r) rest e = cc
 

@@ -19,3 +19,4 @@ pub mod OrderKept
 pub mod StreamSteps
 pub mod StreamBounds
 pub mod CreatedFound
+pub mod FoundAfter

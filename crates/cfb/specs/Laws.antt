@@ -1,8 +1,8 @@
 -- What the rules of calls promise.
-use Rattle.std.specs.Prelude.{ℕ, ◌≡◌, List, Bool, Option, Some, None}
+use Rattle.std.specs.Prelude.{ℕ, ◌≡◌, List, [], ◌∷◌, Bool, Option, Some, None, option_map}
 use Rattle.cfb_format.specs.Names.{Cases}
 use Rattle.cfb_format.specs.Path.{names_of_path}
-use Rattle.cfb_format.specs.Tree.{Tree, IsOrdered, a_stream}
+use Rattle.cfb_format.specs.Tree.{StorageInfo, StreamInfo, Tree, IsOrdered, a_stream}
 use Rattle.cfb_format.specs.declared.version.Version.{Version}
 use Rattle.cfb_format.specs.Meaning.{Means}
 use Rattle.cfb_format.specs.Reading.{IsStrictFile}
@@ -10,8 +10,8 @@ use Rattle.cfb_format.specs.Soundness.{IsSoundFile}
 use Rattle.cfb_format.specs.Created.{created_bytes}
 use Rattle.cfb.specs.OneStream.{OneStream, HoldsOne, tree_with}
 use Rattle.cfb.specs.Refusal.{Refusal}
-use Rattle.cfb.specs.Calls.{Call, create_new_stream, Reply, done, refused}
-use Rattle.cfb.specs.CallChanges.{new_stream}
+use Rattle.cfb.specs.Calls.{Call, create_stream, create_new_stream, Reply, done, refused}
+use Rattle.cfb.specs.CallChanges.{new_stream, emptied, object_with, fields_changed_at, removed_at}
 use Rattle.cfb.specs.Finding.{object_at}
 use Rattle.cfb.specs.Steps.{Step}
 use Rattle.cfb.specs.StreamCalls.{StreamSetting, StreamState, StreamCall, StreamReply, not_done, StreamStep, IsStream}
@@ -39,6 +39,22 @@ OneReplyFits = (cases : Cases) (sound : Bool) (mini_stream_len : ℕ) (tree t u 
 abbrev pub CreatedStreamIsFound : Type 0
 CreatedStreamIsFound = (cases : Cases) (sound : Bool) (mini_stream_len : ℕ) (tree tree' : Tree) (path : List ℕ) (names : List (List ℕ))
     → names_of_path path ≡ Some names → Step cases sound mini_stream_len tree (create_new_stream path) done tree' → object_at cases tree' names ≡ Some (a_stream new_stream)
+
+-- so does one that may have been there: then it keeps its bits, and it is empty
+abbrev pub EmptiedStreamIsFound : Type 0
+EmptiedStreamIsFound = (cases : Cases) (sound : Bool) (mini_stream_len : ℕ) (tree tree' : Tree) (path : List ℕ) (names : List (List ℕ))
+    → names_of_path path ≡ Some names → Step cases sound mini_stream_len tree (create_stream path) done tree'
+    → object_at cases tree' names ≡ Some (emptied (object_at cases tree names))
+
+-- an object whose fields were set has them, and holds what it held
+abbrev pub SetFieldsAreFound : Type 0
+SetFieldsAreFound = (cases : Cases) (f : StorageInfo → StorageInfo) (g : StreamInfo → StreamInfo) (names : List (List ℕ)) (tree : Tree)
+    → object_at cases (fields_changed_at cases f g names tree) names ≡ option_map (object_with f g) (object_at cases tree names)
+
+-- what was removed is not there
+abbrev pub RemovedIsNotFound : Type 0
+RemovedIsNotFound = (cases : Cases) (name : List ℕ) (names : List (List ℕ)) (tree : Tree) → IsOrdered cases tree.objects
+    → object_at cases (removed_at cases (name ∷ names) tree) (name ∷ names) ≡ None
 
 -- a call on a stream that the rules refuse leaves its state as it was
 abbrev pub RefusedStreamCallsChangeNothing : Type 0

@@ -1,6 +1,6 @@
 //! What the rules of calls promise. None of these functions does anything: each has a law as its
 //! contract.
-ghost use Rattle.cfb.specs.Laws.{RefusedCallsChangeNothing, CallsKeepOrder, CreatedStreamIsFound, SomeReplyFits, OneReplyFits, RefusedStreamCallsChangeNothing, SomeStreamReplyFits, StreamsKeepTheirBounds, OneStreamMeansItsTree, OneStreamIsStrict, OneStreamIsSound, CreatedHoldsNone};
+ghost use Rattle.cfb.specs.Laws.{RefusedCallsChangeNothing, CallsKeepOrder, CreatedStreamIsFound, EmptiedStreamIsFound, SetFieldsAreFound, RemovedIsNotFound, SomeReplyFits, OneReplyFits, RefusedStreamCallsChangeNothing, SomeStreamReplyFits, StreamsKeepTheirBounds, OneStreamMeansItsTree, OneStreamIsStrict, OneStreamIsSound, CreatedHoldsNone};
 
 /// A refused call changes nothing.
 pub fn refused_calls_change_nothing()
@@ -15,9 +15,16 @@ pub fn rules_are_complete()
     ensures on_stream { SomeStreamReplyFits }
 {}
 
-/// What was created is there.
+/// What was created is there: a new stream is empty, and one that was there is emptied.
 pub fn created_streams_are_found()
-    ensures { CreatedStreamIsFound }
+    ensures new { CreatedStreamIsFound }
+    ensures emptied { EmptiedStreamIsFound }
+{}
+
+/// What was set is there, and what was removed is not.
+pub fn changes_are_found()
+    ensures set { SetFieldsAreFound }
+    ensures removed { RemovedIsNotFound }
 {}
 
 /// A tree stays a map by name.
