@@ -3,15 +3,15 @@ use Rattle.std.proofs.Common.{◌≡◌, ℕ, List, [], ◌∷◌, Bool, true, f
 use Rattle.std.specs.Prelude.{Option, Some, None, MatchOption, option_and_then, option_map, if◌then◌else◌}
 use Rattle.std.specs.Option.{option_map_or}
 use Rattle.std.specs.Ordering.{is_eq}
-use Rattle.cfb_format.specs.Names.{Cases, name_cmp, is_valid_name}
+use Rattle.cfb_format.specs.Names.{Cases, is_valid_name}
 use Rattle.cfb_format.specs.Path.{names_of_path}
 use Rattle.cfb_format.specs.Tree.{StorageInfo, StreamInfo, Objects, nothing, storage, stream, Tree, Object, a_storage, a_stream, Found, is_same_name, object_named, put_in_order}
 use Rattle.cfb_format.proofs.NameOrder.{name_cmp-equal}
 use Rattle.cfb_format.proofs.TreeMap.{object_named-put_in_order}
-use Rattle.cfb.specs.Refusal.{Refusal, already_exists, invalid_input, not_found}
-use Rattle.cfb.specs.Calls.{Call, create_new_stream, Reply, done, flag, one_entry, entries, refused}
-use Rattle.cfb.specs.CallChanges.{inside_changed, changed_at, new_stream, with_objects, stream_added_at, tree_after, at_path}
-use Rattle.cfb.specs.CallRefusals.{creation_refusal, never, parent_refusal, place_refusal, path_refusal, unless, is_a_storage, refusal_of}
+use Rattle.cfb.specs.Refusal.{Refusal, invalid_input}
+use Rattle.cfb.specs.Calls.{create_new_stream, done, refused}
+use Rattle.cfb.specs.CallChanges.{inside_changed, changed_at, new_stream, stream_added_at, tree_after}
+use Rattle.cfb.specs.CallRefusals.{creation_refusal, never, parent_refusal, place_refusal, unless, is_a_storage, refusal_of}
 use Rattle.cfb.specs.CallReplies.{reply_of}
 use Rattle.cfb.specs.Finding.{child_named, found_from, root_of, found_at, last_name, parent_names, object_at}
 use Rattle.cfb.specs.Steps.{outcome, unsound_refusal, Step}
@@ -27,7 +27,7 @@ abbrev pub inner : (Objects → Objects) → Found → Found
 inner f x = record { name = x.name; object = inner_object f x.object }
 
 module _ (cases : Cases) where
-  named_inside : (name : List ℕ) (f : Objects → Objects) (objects : Objects)
+  pub named_inside : (name : List ℕ) (f : Objects → Objects) (objects : Objects)
       → object_named cases name (inside_changed cases name f objects) ≡ option_map (inner f) (object_named cases name objects)
   named_inside name f nothing = refl
   named_inside name f (storage other info inside rest) = go (is_same_name cases name other) refl (named_inside name f rest)

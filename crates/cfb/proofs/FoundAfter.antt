@@ -1,5 +1,5 @@
 -- What is found at the names of an object that was set, emptied or removed.
-use Rattle.std.proofs.Common.{◌≡◌, ℕ, List, [], ◌∷◌, Bool, true, false, refl, sym, ◌∙◌, ap, subst}
+use Rattle.std.proofs.Common.{◌≡◌, ℕ, List, [], ◌∷◌, Bool, true, false, refl, sym, ◌∙◌, ap}
 use Rattle.std.specs.Prelude.{⊤, Option, Some, None, MatchOption, is_some, option_and_then, option_map, if◌then◌else◌}
 use Rattle.std.specs.Option.{option_map_or}
 use Rattle.cfb_format.specs.Names.{Cases, is_valid_name}
@@ -8,18 +8,18 @@ use Rattle.cfb_format.specs.Tree.{StorageInfo, StreamInfo, Objects, nothing, sto
 use Rattle.cfb_format.proofs.TreeMap.{object_named-without}
 use Rattle.cfb.specs.Refusal.{Refusal, invalid_input}
 use Rattle.cfb.specs.Calls.{create_stream, done, refused}
-use Rattle.cfb.specs.CallChanges.{object_with, with_fields, fields_changed_at, new_stream, same_storage, with_content, stream_added_at, stream_created_at, emptied, removed_at, tree_after}
-use Rattle.cfb.specs.CallRefusals.{creation_refusal, never, is_a_stream, parent_refusal, place_refusal, refusal_of}
+use Rattle.cfb.specs.CallChanges.{object_with, with_fields, fields_changed_at, same_storage, with_content, stream_added_at, stream_created_at, emptied, removed_at, tree_after}
+use Rattle.cfb.specs.CallRefusals.{creation_refusal, never, is_a_stream, place_refusal, refusal_of}
 use Rattle.cfb.specs.CallReplies.{reply_of}
 use Rattle.cfb.specs.Finding.{child_named, found_from, root_of, found_at, last_name, parent_names, object_at}
 use Rattle.cfb.specs.Steps.{outcome, unsound_refusal, Step}
-use Rattle.cfb.proofs.CreatedFound.{inner_object, inner, found_changed, found_last, same_itself, added_found, allowed_name, no_refusal}
+use Rattle.cfb.proofs.CreatedFound.{inner_object, inner, found_changed, found_last, same_itself, added_found, no_refusal}
 
-abbrev object_of : Option Found → Option Object
+abbrev pub object_of : Option Found → Option Object
 object_of o = option_map (λ (x : Found). x.object) o
 
 -- the object of that name in what was found
-abbrev child_of : Cases → List ℕ → Option Found → Option Found
+abbrev pub child_of : Cases → List ℕ → Option Found → Option Found
 child_of cases name o = option_and_then (λ (x : Found). child_named cases name x.object) o
 
 -- ---- fields that were set
@@ -118,15 +118,15 @@ emptied_found cases sound mini_stream_len tree tree' path names at = go (outcome
 
 module _ (cases : Cases) where
   -- what is in an object is in order
-  abbrev IsOrderedInside : Object → Type 0
+  abbrev pub IsOrderedInside : Object → Type 0
   IsOrderedInside (a_storage info inside) = IsOrdered cases inside
   IsOrderedInside (a_stream info) = ⊤
 
-  abbrev IsOrderedFound : Option Found → Type 0
+  abbrev pub IsOrderedFound : Option Found → Type 0
   IsOrderedFound None = ⊤
   IsOrderedFound (Some x) = IsOrderedInside x.object
 
-  named_ordered : (name : List ℕ) (objects : Objects) → IsOrdered cases objects → IsOrderedFound (object_named cases name objects)
+  pub named_ordered : (name : List ℕ) (objects : Objects) → IsOrdered cases objects → IsOrderedFound (object_named cases name objects)
   named_ordered name nothing o = tt
   named_ordered name (storage other info inside rest) o = go (is_same_name cases name other) (named_ordered name rest o.2)
     where

@@ -20,3 +20,4 @@ pub mod StreamSteps
 pub mod StreamBounds
 pub mod CreatedFound
 pub mod FoundAfter
+pub mod OthersStay

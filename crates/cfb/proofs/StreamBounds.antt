@@ -1,5 +1,5 @@
 -- Calls on a stream: some outcome fits each, and what holds of a stream goes on to hold.
-use Rattle.std.proofs.Common.{◌≡◌, ◌≤◌, ◌<◌, ◌+◌, ◌-◌, ◌∙◌, ℕ, zero, suc, List, Bool, true, false, refl, inl, inr, sym, ap, subst, arith, length-append, length-take, length-drop}
+use Rattle.std.proofs.Common.{◌≡◌, ◌≤◌, ◌<◌, ◌+◌, ◌-◌, ◌∙◌, ℕ, List, Bool, true, false, refl, inl, inr, sym, ap, subst, arith, length-append, length-take, length-drop}
 use Rattle.std.specs.Prelude.{Option, Some, None, MatchOption, MatchBool, [], ◌++◌, length, take, drop, replicate, min, max, nat_lt, nat_le, IsTrue, option_and_then, if◌then◌else◌, ◌==◌, ◌||◌, ◌&&◌}
 use Rattle.std.proofs.lemmas.Bool.{cases_lt, eqb-false, le-leb, leb-true, ltb-true, ltb-false}
 use Rattle.std.proofs.lemmas.List.{length-replicate}

@@ -113,6 +113,33 @@ touched_at cases moment (name ∷ names) tree =
 abbrev pub at_path : (List (List ℕ) → Tree → Tree) → List ℕ → Tree → Tree
 at_path change path tree = option_map_or (λ names. change names tree) (names_of_path path) tree
 
+-- the names at which a call changes the tree, if it changes it
+abbrev pub changed_names : Call → Option (List (List ℕ))
+changed_names (create_storage path moment) = names_of_path path
+changed_names (create_storage_all path moment) = names_of_path path
+changed_names (create_stream path) = names_of_path path
+changed_names (create_new_stream path) = names_of_path path
+changed_names (open_stream path) = None
+changed_names (open_read_stream path) = None
+changed_names (remove_storage path) = names_of_path path
+changed_names (remove_storage_all path) = names_of_path path
+changed_names (remove_stream path) = names_of_path path
+changed_names (set_storage_clsid path clsid) = names_of_path path
+changed_names (set_state_bits path bits) = names_of_path path
+changed_names (set_created_time path moment) = names_of_path path
+changed_names (set_modified_time path moment) = names_of_path path
+changed_names (touch path moment) = names_of_path path
+changed_names flush = None
+changed_names (exists path) = None
+changed_names (is_stream path) = None
+changed_names (is_storage path) = None
+changed_names root_entry = None
+changed_names read_root_storage = None
+changed_names walk = None
+changed_names (entry path) = None
+changed_names (read_storage path) = None
+changed_names (walk_storage path) = None
+
 -- the tree after a call that isn't refused
 abbrev pub tree_after : Cases → Call → Tree → Tree
 tree_after cases (create_storage path moment) tree = at_path (storage_added_at cases moment) path tree

@@ -1,8 +1,8 @@
 -- Finding an object by its names.
-use Rattle.std.specs.Prelude.{ℕ, List, [], ◌∷◌, Option, Some, None, option_and_then, option_map}
+use Rattle.std.specs.Prelude.{ℕ, ◌≡◌, ◌⊎◌, List, [], ◌∷◌, true, false, Option, Some, None, option_and_then, option_map}
 use Rattle.cfb_format.specs.Names.{Cases}
 use Rattle.cfb_format.specs.DirectoryEntry.{root_name}
-use Rattle.cfb_format.specs.Tree.{Tree, Object, a_storage, a_stream, Found, object_named}
+use Rattle.cfb_format.specs.Tree.{Tree, Object, a_storage, a_stream, Found, is_same_name, object_named}
 
 -- the object of that name in another object; there is nothing in a stream
 abbrev pub child_named : Cases → List ℕ → Object → Option Found
@@ -36,3 +36,10 @@ parent_names (name ∷ next ∷ names) = name ∷ parent_names (next ∷ names)
 -- the object alone
 abbrev pub object_at : Cases → Tree → List (List ℕ) → Option Object
 object_at cases tree names = option_map (λ found. found.object) (found_at cases tree names)
+
+-- two lists of names part: before either ends they have names of different keys at one place, and of one key before it
+abbrev pub Part : Cases → List (List ℕ) → List (List ℕ) → Type 0
+Part cases [] others = ⊥
+Part cases (name ∷ names) [] = ⊥
+Part cases (name ∷ names) (other ∷ others) =
+    (is_same_name cases other name ≡ false) ⊎ ((is_same_name cases other name ≡ true) × Part cases names others)

@@ -1,5 +1,5 @@
 -- What the rules of calls promise.
-use Rattle.std.specs.Prelude.{ℕ, ◌≡◌, List, [], ◌∷◌, Bool, Option, Some, None, option_map}
+use Rattle.std.specs.Prelude.{ℕ, ◌≡◌, List, ◌∷◌, Bool, Option, Some, None, option_map}
 use Rattle.cfb_format.specs.Names.{Cases}
 use Rattle.cfb_format.specs.Path.{names_of_path}
 use Rattle.cfb_format.specs.Tree.{StorageInfo, StreamInfo, Tree, IsOrdered, a_stream}
@@ -11,8 +11,8 @@ use Rattle.cfb_format.specs.Created.{created_bytes}
 use Rattle.cfb.specs.OneStream.{OneStream, HoldsOne, tree_with}
 use Rattle.cfb.specs.Refusal.{Refusal}
 use Rattle.cfb.specs.Calls.{Call, create_stream, create_new_stream, Reply, done, refused}
-use Rattle.cfb.specs.CallChanges.{new_stream, emptied, object_with, fields_changed_at, removed_at}
-use Rattle.cfb.specs.Finding.{object_at}
+use Rattle.cfb.specs.CallChanges.{new_stream, emptied, object_with, fields_changed_at, removed_at, changed_names}
+use Rattle.cfb.specs.Finding.{object_at, Part}
 use Rattle.cfb.specs.Steps.{Step}
 use Rattle.cfb.specs.StreamCalls.{StreamSetting, StreamState, StreamCall, StreamReply, not_done, StreamStep, IsStream}
 
@@ -55,6 +55,17 @@ SetFieldsAreFound = (cases : Cases) (f : StorageInfo → StorageInfo) (g : Strea
 abbrev pub RemovedIsNotFound : Type 0
 RemovedIsNotFound = (cases : Cases) (name : List ℕ) (names : List (List ℕ)) (tree : Tree) → IsOrdered cases tree.objects
     → object_at cases (removed_at cases (name ∷ names) tree) (name ∷ names) ≡ None
+
+-- what stands at names that part from those of a call that changes the tree is as before
+abbrev pub OthersAreFoundAsBefore : Type 0
+OthersAreFoundAsBefore = (cases : Cases) (sound : Bool) (mini_stream_len : ℕ) (tree tree' : Tree) (call : Call) (reply : Reply) (names others : List (List ℕ))
+    → changed_names call ≡ Some names → Part cases names others → IsOrdered cases tree.objects → Step cases sound mini_stream_len tree call reply tree'
+    → object_at cases tree' others ≡ object_at cases tree others
+
+-- a call that changes no names changes no tree
+abbrev pub OnlyNamedCallsChange : Type 0
+OnlyNamedCallsChange = (cases : Cases) (sound : Bool) (mini_stream_len : ℕ) (tree tree' : Tree) (call : Call) (reply : Reply)
+    → changed_names call ≡ None → Step cases sound mini_stream_len tree call reply tree' → tree' ≡ tree
 
 -- a call on a stream that the rules refuse leaves its state as it was
 abbrev pub RefusedStreamCallsChangeNothing : Type 0

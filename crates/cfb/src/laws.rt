@@ -1,6 +1,6 @@
 //! What the rules of calls promise. None of these functions does anything: each has a law as its
 //! contract.
-ghost use Rattle.cfb.specs.Laws.{RefusedCallsChangeNothing, CallsKeepOrder, CreatedStreamIsFound, EmptiedStreamIsFound, SetFieldsAreFound, RemovedIsNotFound, SomeReplyFits, OneReplyFits, RefusedStreamCallsChangeNothing, SomeStreamReplyFits, StreamsKeepTheirBounds, OneStreamMeansItsTree, OneStreamIsStrict, OneStreamIsSound, CreatedHoldsNone};
+ghost use Rattle.cfb.specs.Laws.{RefusedCallsChangeNothing, CallsKeepOrder, CreatedStreamIsFound, EmptiedStreamIsFound, SetFieldsAreFound, RemovedIsNotFound, OthersAreFoundAsBefore, OnlyNamedCallsChange, SomeReplyFits, OneReplyFits, RefusedStreamCallsChangeNothing, SomeStreamReplyFits, StreamsKeepTheirBounds, OneStreamMeansItsTree, OneStreamIsStrict, OneStreamIsSound, CreatedHoldsNone};
 
 /// A refused call changes nothing.
 pub fn refused_calls_change_nothing()
@@ -25,6 +25,12 @@ pub fn created_streams_are_found()
 pub fn changes_are_found()
     ensures set { SetFieldsAreFound }
     ensures removed { RemovedIsNotFound }
+{}
+
+/// A call changes nothing of what stands at other names than its own.
+pub fn others_stay()
+    ensures found { OthersAreFoundAsBefore }
+    ensures unnamed { OnlyNamedCallsChange }
 {}
 
 /// A tree stays a map by name.
