@@ -16,14 +16,14 @@ use Rattle.cfb_format.specs.Path.{names_of_path, names_left}
 use Rattle.cfb_format.specs.Refused.{CountsError}
 use Rattle.cfb_format.specs.Tree.{Tree, Object}
 use Rattle.cfb_format.specs.Laws.{AtMostOneTree}
-use Rattle.cfb.specs.Refusal.{Refusal, IsRefusal, not_found, already_exists, invalid_input, failed_earlier, out_of_memory, medium_failed, not_sound}
-use Rattle.cfb.specs.Calls.{Call, Reply, done, refused, open_stream}
-use Rattle.cfb.specs.Finding.{object_at, last_name, parent_names}
-use Rattle.cfb.specs.CallRefusals.{refusal_of, is_a_stream, object_refusal, creation_refusal, place_refusal, parent_refusal, unless}
-use Rattle.cfb.specs.CallReplies.{reply_of}
-use Rattle.cfb.specs.CallChanges.{tree_after, stream_created_at, stream_added_at}
-use Rattle.cfb.specs.Steps.{kind_of, changing, unsound_refusal}
-use Rattle.cfb.specs.Runs.{Causes, Setting, CallRuns, OnFailed, MayBreak, may_fail}
+use Rattle.cfb_rules.specs.Refusal.{Refusal, IsRefusal, not_found, already_exists, invalid_input, failed_earlier, out_of_memory, medium_failed, not_sound}
+use Rattle.cfb_rules.specs.Calls.{Call, Reply, done, refused, open_stream}
+use Rattle.cfb_rules.specs.Finding.{object_at, last_name, parent_names}
+use Rattle.cfb_rules.specs.CallRefusals.{refusal_of, is_a_stream, object_refusal, creation_refusal, place_refusal, parent_refusal, unless}
+use Rattle.cfb_rules.specs.CallReplies.{reply_of}
+use Rattle.cfb_rules.specs.CallChanges.{tree_after, stream_created_at, stream_added_at}
+use Rattle.cfb_rules.specs.Steps.{kind_of, changing, unsound_refusal}
+use Rattle.cfb_rules.specs.Runs.{Causes, Setting, CallRuns, OnFailed, MayBreak, may_fail}
 use Rattle.cfb.specs.OneStream.{OneStream, tree_with, sectors_for, content_sectors, header_sector, fat_bytes, directory_bytes, IsServed, HoldsOne}
 use Rattle.cfb.specs.Files.{FileState, Agrees}
 use Rattle.cfb.specs.Laws.{OneStreamMeansItsTree}

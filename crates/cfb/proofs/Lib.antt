@@ -13,11 +13,3 @@ pub mod RestRunning
 pub mod Pieces
 pub mod OpeningLemmas
 pub mod Refusing
-pub mod CallFacts
-pub mod CallSteps
-pub mod OrderKept
-pub mod StreamSteps
-pub mod StreamBounds
-pub mod CreatedFound
-pub mod FoundAfter
-pub mod OthersStay

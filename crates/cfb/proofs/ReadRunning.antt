@@ -8,9 +8,9 @@ use Rattle.cfb_format.specs.declared.medium.MediumFault.{MediumFault}
 use Rattle.cfb_format.specs.Bytes.{sector_len}
 use Rattle.cfb_format.specs.Medium.{part, FailsBy}
 use Rattle.cfb_format.proofs.ByteLemmas.{part_at, length-part}
-use Rattle.cfb.specs.Refusal.{medium_failed}
-use Rattle.cfb.specs.StreamCalls.{read, got, not_done, Read}
-use Rattle.cfb.specs.Runs.{reading, WorkMayBreak, StaysUnfailed}
+use Rattle.cfb_rules.specs.Refusal.{medium_failed}
+use Rattle.cfb_rules.specs.StreamCalls.{read, got, not_done, Read}
+use Rattle.cfb_rules.specs.Runs.{reading, WorkMayBreak, StaysUnfailed}
 use Rattle.cfb.specs.OneStream.{OneStream, content_sectors, content_of, HoldsOne, IsLinked}
 use Rattle.cfb.specs.Files.{FileState}
 use Rattle.cfb.specs.Answers.{causes_of, state_at, held_len, IsOpen, StreamRunsOn, IsStreamRefusedBy, never_yet}

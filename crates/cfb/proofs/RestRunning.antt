@@ -8,9 +8,9 @@ use Rattle.cfb_format.specs.declared.error.Error.TheVariants.{Medium, Memory}
 use Rattle.cfb_format.specs.declared.medium.MediumFault.{MediumFault}
 use Rattle.cfb_format.specs.Bytes.{sector_len}
 use Rattle.cfb_format.specs.Medium.{part, FailsBy}
-use Rattle.cfb.specs.Refusal.{Refusal, medium_failed, out_of_memory}
-use Rattle.cfb.specs.StreamCalls.{read_to_end, got, not_done, ReadToEnd}
-use Rattle.cfb.specs.Runs.{reading, WorkMayBreak, CalmWorkMayBreak, StaysUnfailed}
+use Rattle.cfb_rules.specs.Refusal.{Refusal, medium_failed, out_of_memory}
+use Rattle.cfb_rules.specs.StreamCalls.{read_to_end, got, not_done, ReadToEnd}
+use Rattle.cfb_rules.specs.Runs.{reading, WorkMayBreak, CalmWorkMayBreak, StaysUnfailed}
 use Rattle.cfb.specs.OneStream.{OneStream, content_of, HoldsOne}
 use Rattle.cfb.specs.Files.{FileState}
 use Rattle.cfb.specs.Answers.{causes_of, state_at, held_len, IsOpen, StreamRunsOn, IsStreamRefusedBy, never_yet}

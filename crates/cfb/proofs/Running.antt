@@ -7,11 +7,11 @@ use Rattle.cfb_format.specs.Names.{Cases}
 use Rattle.cfb_format.specs.Path.{names_of_path, names_left}
 use Rattle.cfb_format.specs.Tree.{Tree, Object, a_stream, is_same_name}
 use Rattle.cfb_format.specs.Laws.{AtMostOneTree}
-use Rattle.cfb.specs.Calls.{Call, Reply, flag, exists, is_stream}
-use Rattle.cfb.specs.Finding.{object_at, found_from}
-use Rattle.cfb.specs.CallRefusals.{is_a_stream, always}
-use Rattle.cfb.specs.CallReplies.{has_object}
-use Rattle.cfb.specs.Runs.{Causes, CallRuns}
+use Rattle.cfb_rules.specs.Calls.{Call, Reply, flag, exists, is_stream}
+use Rattle.cfb_rules.specs.Finding.{object_at, found_from}
+use Rattle.cfb_rules.specs.CallRefusals.{is_a_stream, always}
+use Rattle.cfb_rules.specs.CallReplies.{has_object}
+use Rattle.cfb_rules.specs.Runs.{Causes, CallRuns}
 use Rattle.cfb.specs.OneStream.{OneStream, HoldsOne, tree_with, content_of}
 use Rattle.cfb.specs.Files.{FileState, Agrees, IsAsCreated}
 use Rattle.cfb.specs.Laws.{OneStreamMeansItsTree, CreatedHoldsNone}

@@ -9,9 +9,9 @@ use Rattle.cfb_format.specs.declared.medium.MediumFault.{MediumFault}
 use Rattle.cfb_format.specs.declared.version.Version.{Version}
 use Rattle.cfb_format.specs.declared.version.Version.TheVariants.{V3, V4}
 use Rattle.cfb_format.specs.Bytes.{sector_len, max_stream_len}
-use Rattle.cfb.specs.Refusal.{Refusal, failed_earlier, out_of_memory, medium_failed}
-use Rattle.cfb.specs.StreamCalls.{StreamCall, write, StreamReply, count, not_done, StreamStep, Write, Wrote}
-use Rattle.cfb.specs.Runs.{no_work, taking, work_of, WorkMayBreak, CalmWorkMayBreak, StaysUnfailed, may_leave_failed, is_never_refused, StreamOnFailed, IsStreamBroken}
+use Rattle.cfb_rules.specs.Refusal.{Refusal, failed_earlier, out_of_memory, medium_failed}
+use Rattle.cfb_rules.specs.StreamCalls.{StreamCall, write, StreamReply, count, not_done, StreamStep, Write, Wrote}
+use Rattle.cfb_rules.specs.Runs.{no_work, taking, work_of, WorkMayBreak, CalmWorkMayBreak, StaysUnfailed, may_leave_failed, is_never_refused, StreamOnFailed, IsStreamBroken}
 use Rattle.cfb.specs.OneStream.{OneStream, content_of, HoldsOne, sectors_for}
 use Rattle.cfb.specs.Files.{FileState}
 use Rattle.cfb.specs.Answers.{setting_of, causes_of, state_at, stream_run, held_len, IsOpen, StreamRunsOn, IsStreamRefusedBy, IsFillable, IsNotFillable, IsFilled, IsNotPut, IsNotYetWritten}

@@ -12,12 +12,12 @@ use Rattle.std.specs.Option.{option_map_or}
 use Rattle.cfb_format.specs.Refused.{CountsError, number_of}
 use Rattle.cfb_format.specs.Tree.{Tree, Object, is_same_name}
 use Rattle.cfb_format.specs.Meaning.{Means}
-use Rattle.cfb.specs.Refusal.{Refusal, IsRefusal, not_found, already_exists, invalid_input, failed_earlier}
-use Rattle.cfb.specs.Calls.{Call, Reply, refused, create_stream, create_new_stream}
-use Rattle.cfb.specs.CallRefusals.{refusal_of, creation_refusal, is_a_stream, never}
+use Rattle.cfb_rules.specs.Refusal.{Refusal, IsRefusal, not_found, already_exists, invalid_input, failed_earlier}
+use Rattle.cfb_rules.specs.Calls.{Call, Reply, refused, create_stream, create_new_stream}
+use Rattle.cfb_rules.specs.CallRefusals.{refusal_of, creation_refusal, is_a_stream, never}
 use Rattle.cfb.specs.OneStream.{fat_bytes, directory_bytes, sectors_for}
-use Rattle.cfb.specs.Runs.{Causes, Setting, CallRuns, StreamRun, StreamCallRuns}
-use Rattle.cfb.specs.StreamCalls.{StreamState, StreamCall, StreamReply, not_done, opened}
+use Rattle.cfb_rules.specs.Runs.{Causes, Setting, CallRuns, StreamRun, StreamCallRuns}
+use Rattle.cfb_rules.specs.StreamCalls.{StreamState, StreamCall, StreamReply, not_done, opened}
 use Rattle.cfb.specs.OneStream.{OneStream, IsServedName, tree_with, content_of}
 use Rattle.cfb.specs.Files.{FileState, Agrees}
 

@@ -2,15 +2,6 @@ pub mod OneStream
 pub mod Files
 pub mod Opening
 pub mod Head
-pub mod Refusal
-pub mod Calls
-pub mod Finding
-pub mod CallRefusals
-pub mod CallChanges
-pub mod CallReplies
-pub mod Steps
-pub mod StreamCalls
-pub mod Runs
 pub mod Answers
 pub mod Streams
 pub mod Laws

@@ -4,7 +4,7 @@ ghost use Rattle.std.specs.List.{list_all};
 ghost use Rattle.cfb_format.specs.Bytes.{sector_len, words_per_sector};
 ghost use Rattle.cfb_format.specs.Names.{is_valid_name};
 ghost use Rattle.cfb_format.specs.Path.{names_left};
-ghost use Rattle.cfb.specs.Finding.{last_name};
+ghost use Rattle.cfb_rules.specs.Finding.{last_name};
 ghost use Rattle.cfb.specs.Answers.{is_nil, IsInvalidName};
 
 use crate::content::{Sectors, piece_len, read_piece, read_rest, write_stream};
@@ -122,7 +122,7 @@ fn is_root(path: &str) -> bool
 impl<F: ReadMedium, A: Allocator> CompoundFile<F, A> {
     ghost use Rattle.std.specs.Prelude.{◌||◌, is_some};
     ghost use Rattle.cfb_format.specs.Path.{names_of_path};
-    ghost use Rattle.cfb.specs.Calls.{flag, exists as asks_exists, is_stream as asks_stream};
+    ghost use Rattle.cfb_rules.specs.Calls.{flag, exists as asks_exists, is_stream as asks_stream};
     ghost use Rattle.cfb.specs.Files.{Agrees};
     ghost use Rattle.cfb.specs.Answers.{is_held, has_stream, held_len, causes_of, RunsOn, IsNoStream, IsPlace, NotCreated};
     ghost use Rattle.std.specs.Prelude.{◌⊎◌};
@@ -377,8 +377,8 @@ impl<F: Medium, A: Allocator + Clone> CompoundFile<F, A> {
 
 impl<F: Medium, A: Allocator + Clone> CompoundFile<F, A> {
     ghost use Rattle.std.specs.Prelude.{None, Some};
-    ghost use Rattle.cfb.specs.Calls.{done};
-    ghost use Rattle.cfb.specs.StreamCalls.{read, read_to_end, write, count, got};
+    ghost use Rattle.cfb_rules.specs.Calls.{done};
+    ghost use Rattle.cfb_rules.specs.StreamCalls.{read, read_to_end, write, count, got};
     ghost use Rattle.std.specs.Prelude.{◌++◌, ◌%◌, ◌^◌, ℕ, drop, take};
     ghost use Rattle.cfb_format.specs.Medium.{part, FailsBy};
     ghost use Rattle.cfb.specs.OneStream.{IsLinked};

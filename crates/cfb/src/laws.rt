@@ -1,47 +1,6 @@
-//! What the rules of calls promise. None of these functions does anything: each has a law as its
-//! contract.
-ghost use Rattle.cfb.specs.Laws.{RefusedCallsChangeNothing, CallsKeepOrder, CreatedStreamIsFound, EmptiedStreamIsFound, SetFieldsAreFound, RemovedIsNotFound, OthersAreFoundAsBefore, OnlyNamedCallsChange, SomeReplyFits, OneReplyFits, RefusedStreamCallsChangeNothing, SomeStreamReplyFits, StreamsKeepTheirBounds, OneStreamMeansItsTree, OneStreamIsStrict, OneStreamIsSound, CreatedHoldsNone};
-
-/// A refused call changes nothing.
-pub fn refused_calls_change_nothing()
-    ensures by_path { RefusedCallsChangeNothing }
-    ensures on_stream { RefusedStreamCallsChangeNothing }
-{}
-
-/// The rules say of each call what it answers and what it makes of the tree.
-pub fn rules_are_complete()
-    ensures some { SomeReplyFits }
-    ensures one { OneReplyFits }
-    ensures on_stream { SomeStreamReplyFits }
-{}
-
-/// What was created is there: a new stream is empty, and one that was there is emptied.
-pub fn created_streams_are_found()
-    ensures new { CreatedStreamIsFound }
-    ensures emptied { EmptiedStreamIsFound }
-{}
-
-/// What was set is there, and what was removed is not.
-pub fn changes_are_found()
-    ensures set { SetFieldsAreFound }
-    ensures removed { RemovedIsNotFound }
-{}
-
-/// A call changes nothing of what stands at other names than its own.
-pub fn others_stay()
-    ensures found { OthersAreFoundAsBefore }
-    ensures unnamed { OnlyNamedCallsChange }
-{}
-
-/// A tree stays a map by name.
-pub fn calls_keep_order()
-    ensures { CallsKeepOrder }
-{}
-
-/// A stream's position stays within it, and its length within what the version has.
-pub fn streams_keep_their_bounds()
-    ensures { StreamsKeepTheirBounds }
-{}
+//! What holds of files with at most one stream. None of these functions does anything: each has
+//! laws as its contract.
+ghost use Rattle.cfb.specs.Laws.{OneStreamMeansItsTree, OneStreamIsStrict, OneStreamIsSound, CreatedHoldsNone};
 
 /// A file with at most one stream means the root with that stream, is strict and sound; a file that
 /// was just created is one without a stream.

@@ -15,7 +15,7 @@ pub struct Stream<'a, F: Medium, A: Allocator = Global> {
 }
 
 impl<F: Medium, A: Allocator + Clone> CompoundFile<F, A> {
-    ghost use Rattle.cfb.specs.Calls.{done, open_stream as opens};
+    ghost use Rattle.cfb_rules.specs.Calls.{done, open_stream as opens};
     ghost use Rattle.cfb.specs.Files.{Agrees};
     ghost use Rattle.cfb.specs.Answers.{causes_of, RunsOn, IsRefusedBy, IsNotYet, IsOpen, creation, never_yet};
     ghost use Rattle.cfb.specs.Streams.{file_of, position_of, file_rests};
@@ -93,9 +93,9 @@ impl<F: Medium, A: Allocator + Clone> CompoundFile<F, A> {
 }
 
 impl<'a, F: Medium, A: Allocator> Stream<'a, F, A> {
-    ghost use Rattle.cfb.specs.Runs.{Closes};
+    ghost use Rattle.cfb_rules.specs.Runs.{Closes};
     ghost use Rattle.std.specs.Prelude.{drop, ◌++◌};
-    ghost use Rattle.cfb.specs.StreamCalls.{read, read_to_end, write, count, got};
+    ghost use Rattle.cfb_rules.specs.StreamCalls.{read, read_to_end, write, count, got};
     ghost use Rattle.cfb.specs.Answers.{held_len, causes_of, stream_run, closing, IsOpen, StreamRunsOn, IsStreamRefusedBy, IsNotYetWritten, never_yet};
     ghost use Rattle.cfb.specs.Streams.{file_of, position_of};
 

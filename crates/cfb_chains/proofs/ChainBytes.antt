@@ -9,7 +9,7 @@ use Rattle.cfb_format.specs.declared.version.Version.TheVariants.{V3, V4}
 use Rattle.cfb_format.specs.Bytes.{byte_at, sector_len, sector_start}
 use Rattle.cfb_format.specs.Content.{in_file, place_in_chain, placed_from}
 use Rattle.cfb_format.specs.Medium.{part}
-use Rattle.cfb_chains.specs.Sectors.{SectorFile, place, sectors_end}
+use Rattle.cfb_sectors.specs.Sectors.{SectorFile, place, sectors_end}
 
 -- ---- places within a sector
 

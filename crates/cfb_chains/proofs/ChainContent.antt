@@ -12,12 +12,12 @@ use Rattle.cfb_format.specs.Bytes.{sector_len, sector_start, sector_bytes}
 use Rattle.cfb_format.specs.Content.{bytes_along}
 use Rattle.cfb_format.specs.Medium.{part, written}
 use Rattle.cfb_format.proofs.ByteLemmas.{length-written, written_below, written_at, written_above, written_from_bytes, written_inside, part_at, length-part}
-use Rattle.cfb_chains.specs.Agreement.{HasSectors, KeepsSectors}
-use Rattle.cfb_chains.specs.Alloc.{IsFilled}
-use Rattle.cfb_chains.specs.Sectors.{SectorStays, copies, init_bytes}
-use Rattle.cfb_chains.specs.declared.sector.SectorInit.{SectorInit}
-use Rattle.cfb_chains.proofs.Listed.{in_rest, place_once}
-use Rattle.cfb_chains.proofs.Members.{distinct-left}
+use Rattle.cfb_alloc.specs.Agreement.{HasSectors, KeepsSectors}
+use Rattle.cfb_alloc.specs.Alloc.{IsFilled}
+use Rattle.cfb_sectors.specs.Sectors.{SectorStays, copies, init_bytes}
+use Rattle.cfb_sectors.specs.declared.sector.SectorInit.{SectorInit}
+use Rattle.cfb_alloc.proofs.Listed.{in_rest, place_once}
+use Rattle.cfb_tables.proofs.Members.{distinct-left}
 
 -- ---- one sector and those behind it
 

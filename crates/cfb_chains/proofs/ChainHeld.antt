@@ -9,21 +9,21 @@ use Rattle.cfb_format.specs.Bytes.{sector_len, sector_start, sector_count, fat_s
 use Rattle.cfb_format.specs.Chain.{value, chain_from}
 use Rattle.cfb_format.specs.Medium.{ChangesOnly, written}
 use Rattle.cfb_format.proofs.ByteLemmas.{length-written, written_below, written_above}
-use Rattle.cfb_chains.specs.Agreement.{IsStrictBut}
-use Rattle.cfb_chains.specs.Alloc.{AllocatorState, HoldsTables, ChangesSectors}
-use Rattle.cfb_chains.specs.Sectors.{SectorFile, SectorStays}
-use Rattle.cfb_chains.specs.Words.{Stays}
-use Rattle.cfb_chains.proofs.AgreementLemmas.{agreement_stays}
-use Rattle.cfb_chains.proofs.ChainLemmas.{follows-values, members-busy}
-use Rattle.cfb_chains.proofs.ChainView.{found_chain}
-use Rattle.cfb_chains.proofs.CountLemmas.{sector_count-written}
-use Rattle.cfb_chains.proofs.DifatLemmas.{listing_stays}
-use Rattle.cfb_chains.proofs.FrameLemmas.{changes_in_sector}
-use Rattle.cfb_chains.proofs.HeldLemmas.{listed_whole, sector_past_header, header_long}
-use Rattle.cfb_chains.proofs.Members.{Contains-one, value-at}
-use Rattle.cfb_chains.proofs.SectorLemmas.{Stays_apart}
-use Rattle.cfb_chains.proofs.SeekLemmas.{strict_stays}
-use Rattle.cfb_chains.proofs.StrictLemmas.{if_strict}
+use Rattle.cfb_alloc.specs.Agreement.{IsStrictBut}
+use Rattle.cfb_alloc.specs.Alloc.{AllocatorState, HoldsTables, ChangesSectors}
+use Rattle.cfb_sectors.specs.Sectors.{SectorFile, SectorStays}
+use Rattle.cfb_sectors.specs.Words.{Stays}
+use Rattle.cfb_alloc.proofs.AgreementLemmas.{agreement_stays}
+use Rattle.cfb_tables.proofs.ChainLemmas.{follows-values, members-busy}
+use Rattle.cfb_alloc.proofs.ChainView.{found_chain}
+use Rattle.cfb_sectors.proofs.CountLemmas.{sector_count-written}
+use Rattle.cfb_alloc.proofs.DifatLemmas.{listing_stays}
+use Rattle.cfb_alloc.proofs.FrameLemmas.{changes_in_sector}
+use Rattle.cfb_alloc.proofs.HeldLemmas.{listed_whole, sector_past_header, header_long}
+use Rattle.cfb_tables.proofs.Members.{Contains-one, value-at}
+use Rattle.cfb_sectors.proofs.SectorLemmas.{Stays_apart}
+use Rattle.cfb_alloc.proofs.SeekLemmas.{strict_stays}
+use Rattle.cfb_alloc.proofs.StrictLemmas.{if_strict}
 
 header_there : (v : Version) (bytes : List ℕ) (i : ℕ) → i < sector_count v bytes → sector_len v ≤ length bytes
 header_there V3 bytes i lt = omega arith

@@ -9,17 +9,18 @@ use Rattle.cfb_format.specs.declared.error.Error.TheVariants.{NotFound, AlreadyE
 use Rattle.cfb_format.specs.Bytes.{end_of_chain, max_regular_sector}
 use Rattle.cfb_format.specs.Chain.{value, IsChain, chain_from}
 use Rattle.cfb_format.proofs.Unique.{IsChain-unique}
-use Rattle.cfb_chains.specs.Alloc.{AllocatorState}
+use Rattle.cfb_alloc.specs.Alloc.{AllocatorState}
 use Rattle.cfb_chains.specs.ChainLists.{Leaves, Shortens, gained, last_of}
-use Rattle.cfb_chains.specs.Changes.{NoChain, IsFreed}
-use Rattle.cfb_chains.specs.Refused.{BreaksOff}
-use Rattle.cfb_chains.specs.Tables.{TableState, HasTaken, FreesChain, CutsChain, ending, start_of as first_of}
-use Rattle.cfb_chains.proofs.AllocLemmas.{ending_other}
-use Rattle.cfb_chains.proofs.Answering.{on_ok, all_ok}
-use Rattle.cfb_chains.proofs.AttachLemmas.{extended, last-known}
-use Rattle.cfb_chains.proofs.ChainLemmas.{chain-turn, chain-rest, members-busy, regular-le}
-use Rattle.cfb_chains.proofs.ChainView.{found_chain, chain_found}
-use Rattle.cfb_chains.proofs.Members.{Contains-nil, Contains-here, Contains-one, none_distinct, distinct-apart, value-below}
+use Rattle.cfb_tables.specs.Changes.{NoChain, IsFreed}
+use Rattle.cfb_alloc.specs.Broken.{BreaksOff}
+use Rattle.cfb_tables.specs.Tables.{TableState, HasTaken, FreesChain, CutsChain, ending, start_of as first_of}
+use Rattle.cfb_alloc.proofs.AllocLemmas.{ending_other}
+use Rattle.cfb_alloc.proofs.Answering.{on_ok, all_ok}
+use Rattle.cfb_tables.proofs.AttachLemmas.{extended, last-known}
+use Rattle.cfb_tables.proofs.ChainLemmas.{chain-turn, chain-rest, members-busy, regular-le}
+use Rattle.cfb_alloc.proofs.ChainView.{found_chain, chain_found}
+use Rattle.cfb_alloc.proofs.EmptyChain.{none_freed}
+use Rattle.cfb_tables.proofs.Members.{Contains-nil, Contains-here, Contains-one, none_distinct, distinct-apart, value-below}
 
 pub on_err : {T E : Type 0} (P Q : E → Type 0) (r : Result T E) → ((e : E) → P e → Q e) → IfErr r P → IfErr r Q
 on_err P Q (Ok x) f p = tt
@@ -162,14 +163,6 @@ shortened_frees old new s ids e cut = record {
   was = found_chain old.fat s ids e;
   freed = record { same_length = cut.same_length; free = cut.free; only = cut.only };
   rest = cut.rest;
-}
-
-pub none_freed : (t : TableState) (s : ℕ) → chain_from t.fat s ≡ Some [] → FreesChain s t t
-none_freed t s e = record {
-  list = [];
-  was = found_chain t.fat s [] e;
-  freed = record { same_length = refl; free = λ i m. absurd (Contains-nil i m); only = λ i out. refl };
-  rest = refl;
 }
 
 pub freed_of : {T : Type 0} (r : Result T Error) (old new : AllocatorState) (s : ℕ) (ids : List ℕ) → chain_from old.tables.fat s ≡ Some ids

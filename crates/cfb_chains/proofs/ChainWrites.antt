@@ -12,7 +12,7 @@ use Rattle.cfb_format.specs.Full.{rounded_up}
 use Rattle.cfb_chains.specs.ChainLists.{AfterMedium}
 use Rattle.cfb_format.specs.Medium.{part, written}
 use Rattle.cfb_format.proofs.ByteLemmas.{part_written}
-use Rattle.cfb_chains.specs.Sectors.{SectorFile, IsMediumError}
+use Rattle.cfb_sectors.specs.Sectors.{SectorFile, IsMediumError}
 
 pub not_end : (v : Version) (k m : ℕ) → k ≤ m * sector_len v → (k % sector_len v ≡ 0 → ⊥) → k < m * sector_len v
 not_end V3 k m le some = omega arith

@@ -3,9 +3,9 @@ use Rattle.std.proofs.Common.{◌≡◌, ℕ, ap}
 use Rattle.std.specs.Prelude.{Result, Ok, Err, OnOk, IfErr}
 use Rattle.cfb_format.specs.declared.error.Error.{Error}
 use Rattle.cfb_format.specs.declared.error.Error.TheVariants.{NotFound, AlreadyExists, InvalidInput, InvalidData, Medium, Memory, Full, Unsound, Failed, Unsupported}
-use Rattle.cfb_chains.specs.Alloc.{AllocatorState}
-use Rattle.cfb_chains.specs.Refused.{BreaksOff}
-use Rattle.cfb_chains.specs.Tables.{TableState, FreesChain}
+use Rattle.cfb_alloc.specs.Alloc.{AllocatorState}
+use Rattle.cfb_alloc.specs.Broken.{BreaksOff}
+use Rattle.cfb_tables.specs.Tables.{TableState, FreesChain}
 
 same_version : (old new : AllocatorState) → new ≡ old → new.tables.version ≡ old.tables.version
 same_version old new same = ap (λ (a : AllocatorState). a.tables.version) same

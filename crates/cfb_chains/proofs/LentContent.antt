@@ -13,14 +13,14 @@ use Rattle.cfb_format.specs.Chain.{value, chain_from}
 use Rattle.cfb_format.specs.Content.{bytes_along}
 use Rattle.cfb_format.specs.Full.{rounded_up}
 use Rattle.cfb_format.specs.Medium.{part, written}
-use Rattle.cfb_chains.specs.Agreement.{HasSectors, KeepsSectors}
-use Rattle.cfb_chains.specs.Alloc.{AllocatorState, HoldsTables, ChangesSectors, OthersStay, IsFilled}
-use Rattle.cfb_chains.specs.Sectors.{copies, init_bytes}
-use Rattle.cfb_chains.specs.declared.sector.SectorInit.{SectorInit}
+use Rattle.cfb_alloc.specs.Agreement.{HasSectors, KeepsSectors}
+use Rattle.cfb_alloc.specs.Alloc.{AllocatorState, HoldsTables, ChangesSectors, OthersStay, IsFilled}
+use Rattle.cfb_sectors.specs.Sectors.{copies, init_bytes}
+use Rattle.cfb_sectors.specs.declared.sector.SectorInit.{SectorInit}
 use Rattle.cfb_chains.proofs.ChainContent.{along_len, along_stays, sectors_stay, along_grown, grown_has, along_written, written_has, along_read, along_cut, cut_has, written_to_end}
-use Rattle.cfb_chains.proofs.ChainLemmas.{follows-values, members-busy}
-use Rattle.cfb_chains.proofs.ChainView.{found_chain}
-use Rattle.cfb_chains.proofs.Members.{value-at}
+use Rattle.cfb_tables.proofs.ChainLemmas.{follows-values, members-busy}
+use Rattle.cfb_alloc.proofs.ChainView.{found_chain}
+use Rattle.cfb_tables.proofs.Members.{value-at}
 
 -- the chain has each of its sectors whole, and these are its bytes
 abbrev pub HasContent : Version → List ℕ → List ℕ → List ℕ → Type 0

@@ -1,6 +1,6 @@
 -- What a chain's own write leaves alone: every sector of others, and the header.
 use Rattle.std.proofs.Common.{◌≡◌, ◌<◌, ◌≤◌, ◌+◌, ◌-◌, ◌*◌, ◌/◌, ◌%◌, ◌⊎◌, inl, inr, ℕ, zero, suc, List, [], ◌∷◌, ◌++◌, length, min, take, drop, refl, sym, ap, subst, ◌∙◌, arith}
-use Rattle.std.specs.Prelude.{Bool, Contains, slice_index, nat_lt, true, false, if◌then◌else◌}
+use Rattle.std.specs.Prelude.{Bool, Contains, slice_index, nat_lt, if◌then◌else◌}
 use Rattle.std.proofs.lemmas.Bool.{cases_lt, lt-ltb, le-ltb}
 use Rattle.std.proofs.lemmas.List.{take-append-drop}
 use Rattle.std.proofs.lemmas.List.Elements.{Contains-append_left, Contains-append_cases}
@@ -10,13 +10,13 @@ use Rattle.cfb_format.specs.Bytes.{sector_len, sector_start, free_sector}
 use Rattle.cfb_format.specs.Chain.{value}
 use Rattle.cfb_format.specs.Full.{rounded_up}
 use Rattle.cfb_format.specs.Medium.{ChangesOnly}
-use Rattle.cfb_chains.specs.Alloc.{AllocatorState, ChangesSectors, OthersStay, OthersStayBut}
-use Rattle.cfb_chains.specs.Tables.{HasTaken}
-use Rattle.cfb_chains.proofs.ChainView.{sector_member}
+use Rattle.cfb_alloc.specs.Alloc.{AllocatorState, ChangesSectors, OthersStay, OthersStayBut}
+use Rattle.cfb_tables.specs.Tables.{HasTaken}
+use Rattle.cfb_alloc.proofs.ChainView.{sector_member}
 use Rattle.cfb_chains.proofs.ChainWrites.{not_end, rest_short}
-use Rattle.cfb_chains.proofs.FrameLemmas.{changes_in_sector}
-use Rattle.cfb_chains.proofs.Members.{Contains-one, first_of_three}
-use Rattle.cfb_chains.proofs.SectorLemmas.{SectorStays_refl, SectorStays_trans}
+use Rattle.cfb_alloc.proofs.FrameLemmas.{changes_in_sector}
+use Rattle.cfb_tables.proofs.Members.{Contains-one, first_of_three}
+use Rattle.cfb_sectors.proofs.SectorLemmas.{SectorStays_refl, SectorStays_trans}
 
 -- a sector that is the chain's own, or was free
 abbrev IsOwn : List ℕ → AllocatorState → ℕ → Type 0

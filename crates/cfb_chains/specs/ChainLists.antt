@@ -4,8 +4,8 @@ use Rattle.cfb_format.specs.Bytes.{end_of_chain, free_sector}
 use Rattle.cfb_format.specs.Chain.{value}
 use Rattle.cfb_format.specs.declared.error.Error.{Error}
 use Rattle.cfb_format.specs.declared.error.Error.TheVariants.{NotFound, AlreadyExists, InvalidInput, InvalidData, Medium, Memory, Full, Unsound, Failed, Unsupported}
-use Rattle.cfb_chains.specs.Changes.{ChangesOnly}
-use Rattle.cfb_chains.specs.Tables.{TableState, ending}
+use Rattle.cfb_tables.specs.Changes.{ChangesOnly}
+use Rattle.cfb_tables.specs.Tables.{TableState, ending}
 
 -- the last sector of a chain, or END where it has none
 abbrev pub last_of : List ℕ → ℕ

@@ -8,13 +8,13 @@ use Rattle.cfb_format.specs.Full.{rounded_up}
 use Rattle.cfb_format.specs.declared.error.Error.{Error}
 use Rattle.cfb_format.specs.declared.medium.ReadMedium as medium
 use Rattle.cfb_format.specs.declared.version.Version.{Version}
-use Rattle.cfb_chains.specs.Agreement.{HasSectors}
-use Rattle.cfb_chains.specs.Alloc.{AllocatorState}
+use Rattle.cfb_alloc.specs.Agreement.{HasSectors}
+use Rattle.cfb_alloc.specs.Alloc.{AllocatorState}
 use Rattle.cfb_chains.specs.ChainLists.{gained}
 use Rattle.cfb_chains.specs.declared.chain.Chain.{Chain}
 use Rattle.cfb_chains.specs.declared.chain.Numbers as numbers
-use Rattle.cfb_chains.specs.declared.sector.SectorInit.{SectorInit}
-use Rattle.cfb_chains.specs.contracts.alloc.Allocator.{the_row}
+use Rattle.cfb_sectors.specs.declared.sector.SectorInit.{SectorInit}
+use Rattle.cfb_alloc.specs.contracts.alloc.Allocator.{the_row}
 
 module _ {F A : Type 0} {g : medium.Ghosts F} {n : numbers.Ghosts (Vec ℕ A)} where
   -- the allocator that it is borrowed from

@@ -1,17 +1,2 @@
-pub mod Words
-pub mod Sectors
-pub mod Difat
-pub mod Clean
-pub mod Alloc
-pub mod Lent
 pub mod ChainLists
 pub mod LentChain
-pub mod Agreement
-pub mod Changes
-pub mod Tables
-pub mod Refused
-pub mod Owners
-pub mod ReadFat
-pub mod Held
-pub mod InSector
-pub mod LentSector

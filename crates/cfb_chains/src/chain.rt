@@ -6,18 +6,19 @@ ghost use Rattle.cfb_format.specs.Chain.{IsChain, chain_from, value};
 ghost use Rattle.cfb_format.specs.Content.{place_in_chain, placed_from};
 ghost use Rattle.cfb_format.specs.Medium.{ChangesOnly, part, written};
 ghost use Rattle.cfb_format.specs.Refused.{CountsFailure, IsInvalidData};
-ghost use Rattle.cfb_chains.specs.Alloc.{ChangesSectors, HoldsTables, IsFilled, IsUsable, OthersStay, OthersStayBut};
-ghost use Rattle.cfb_chains.specs.Clean.{IsUnnamed};
-ghost use Rattle.cfb_chains.specs.Sectors.{copies, init_bytes, IsMediumError, IsRaised, SectorStays};
-ghost use Rattle.cfb_chains.specs.Refused.{WalkRefused, ChangeRefused, BreaksOff, IsInvalidInput};
-ghost use Rattle.cfb_chains.specs.Tables.{FreesChain, HasTaken, TakesFor, IsTooFew, ending, start_of as first_of};
+ghost use Rattle.cfb_alloc.specs.Alloc.{ChangesSectors, HoldsTables, IsFilled, IsUsable, OthersStay, OthersStayBut};
+ghost use Rattle.cfb_tables.specs.Clean.{IsUnnamed};
+ghost use Rattle.cfb_sectors.specs.Sectors.{copies, init_bytes, IsMediumError, IsRaised, SectorStays};
+ghost use Rattle.cfb_tables.specs.Refused.{WalkRefused, ChangeRefused, IsInvalidInput};
+ghost use Rattle.cfb_alloc.specs.Broken.{BreaksOff};
+ghost use Rattle.cfb_tables.specs.Tables.{FreesChain, HasTaken, TakesFor, IsTooFew, ending, start_of as first_of};
 ghost use Rattle.cfb_chains.specs.ChainLists.{AfterMedium, Leaves, Shortens, gained, last_of};
 
-use crate::alloc::Allocator;
-use crate::sector::SectorInit;
+use cfb_alloc::alloc::Allocator;
 use cfb_format::consts::END_OF_CHAIN;
 use cfb_format::error::{Detail, Error};
 use cfb_format::medium::{Medium, ReadMedium};
+use cfb_sectors::sector::SectorInit;
 use std::alloc::{Allocator as Heap, Global};
 
 /// A list of numbers of sectors.
@@ -53,36 +54,12 @@ pub struct Chain<'a, F: ReadMedium, A: Heap = Global, L: Numbers = Vec<u32, A>> 
     ghost chained: { chain_from allocator.now.tables.fat start ≡ Some (L.list ids) },
 }
 
-impl<F: ReadMedium, A: Heap + Clone> Allocator<F, A> {
+impl<'a, F: ReadMedium, A: Heap + Clone> Chain<'a, F, A> {
     ghost use Rattle.std.specs.Borrow.{sem};
     ghost use Rattle.cfb_chains.specs.LentChain.{allocator_of, start_of, ids_of, init_of, position_of, allocator_rests};
 
     /// Lends the chain from `start`, at its first byte. A sector that it gains holds what `init` says. `InvalidData` where there is no
     /// such chain, and `Memory`.
-    pub fn open_chain(&mut self, start: u32, init: SectorInit) -> Result<Chain<'_, F, A>, Error>
-        ensures* refused { sem 𝓛 (allocator_rests F.row A.row F.ReadMedium A.Allocator self.entry result) }
-        ensures same_allocator { IfOk result (λ c. (allocator_of c).ghost_name ≡ self.entry.ghost_name) }
-        ensures allocator { IfOk result (λ c. (allocator_of c).now ≡ self.old) }
-        ensures chain { IfOk result (λ c. IsChain self.old.tables.fat start (ids_of c)) }
-        ensures there { IfOk result (λ c. (start_of c ≡ start) × (init_of c ≡ init) × (position_of c ≡ 0)) }
-        ensures err { IfErr result (WalkRefused self.old.tables.fat start) }
-    {
-        let ids = self.chain(start)?;
-        Ok(Chain {
-            allocator: self,
-            ids,
-            start,
-            init,
-            position: 0,
-        })
-    }
-}
-
-impl<'a, F: ReadMedium, A: Heap + Clone> Chain<'a, F, A> {
-    ghost use Rattle.std.specs.Borrow.{sem};
-    ghost use Rattle.cfb_chains.specs.LentChain.{allocator_of, start_of, ids_of, init_of, position_of, allocator_rests};
-
-    /// The chain from `start`, as `Allocator::open_chain` lends it.
     pub fn new(
         allocator: &'a mut Allocator<F, A>,
         start: u32,
@@ -95,7 +72,14 @@ impl<'a, F: ReadMedium, A: Heap + Clone> Chain<'a, F, A> {
         ensures there { IfOk result (λ c. (start_of c ≡ start) × (init_of c ≡ init) × (position_of c ≡ 0)) }
         ensures err { IfErr result (WalkRefused allocator.old.tables.fat start) }
     {
-        allocator.open_chain(start, init)
+        let ids = allocator.chain(start)?;
+        Ok(Chain {
+            allocator,
+            ids,
+            start,
+            init,
+            position: 0,
+        })
     }
 }
 

@@ -1,11 +1,11 @@
 //! Allocators over a file in memory: what their changes write, and pieces of it that are sought.
-use cfb_chains::alloc::Allocator;
-use cfb_chains::sector::{SectorInit, Sectors};
+use cfb_alloc::alloc::Allocator;
 use cfb_format::consts::{FAT_SECTOR, FREE_SECTOR};
 use cfb_format::error::Error;
 use cfb_format::memory::MemoryMedium;
 use cfb_format::validate::Validation;
 use cfb_format::version::Version;
+use cfb_sectors::sector::{SectorInit, Sectors};
 use std::alloc::Global;
 use std::test::Fail;
 

@@ -1,15 +1,15 @@
 //! A chain that is read and written as one list of bytes: over media that serve single bytes or
 //! fail, with each request for memory refused, and with a limit.
 use crate::chains::{has_first_chain, is_unchanged, one_sector, opened, two_chains};
+use cfb_alloc::alloc::Allocator;
 use cfb_bench::media::{Failing, Kind, Sip};
 use cfb_bench::refusing::Refusing;
-use cfb_chains::alloc::Allocator;
 use cfb_chains::chain::Chain;
-use cfb_chains::sector::SectorInit;
 use cfb_format::consts::END_OF_CHAIN;
 use cfb_format::error::Error;
 use cfb_format::medium::Medium;
 use cfb_format::memory::MemoryMedium;
+use cfb_sectors::sector::SectorInit;
 use std::alloc::{Allocator as Heap, Global};
 use std::test::Fail;
 
@@ -108,7 +108,7 @@ fn a_new_chain_is_written_and_read(rt: HostRuntime) -> Result<(), Fail> {
     let bytes = numbered(rt.alloc(), 1300)?;
     let mut into = vec![in rt.alloc(); 0xff; 1536]?;
     let mut allocator = opened(rt.alloc(), one_sector(rt.alloc())?)?;
-    let mut chain = allocator.open_chain(END_OF_CHAIN, SectorInit::Zero)?;
+    let mut chain = Chain::new(&mut allocator, END_OF_CHAIN, SectorInit::Zero)?;
     assert_eq!(rt; chain.write(&[]), Ok(0));
     assert_eq!(rt; chain.start_sector_id(), END_OF_CHAIN);
     assert_eq!(rt; write_all(&mut chain, start_of(&bytes, 700)), Ok(700));
@@ -117,7 +117,7 @@ fn a_new_chain_is_written_and_read(rt: HostRuntime) -> Result<(), Fail> {
     let start = chain.start_sector_id();
     chain.end();
     let mut again = opened(rt.alloc(), allocator.into_inner())?;
-    let mut chain = again.open_chain(start, SectorInit::Zero)?;
+    let mut chain = Chain::new(&mut again, start, SectorInit::Zero)?;
     assert_eq!(rt; chain.num_sectors(), 3);
     assert_eq!(rt; chain.len(), 1536);
     assert_eq!(rt; read_all(&mut chain, &mut into), Ok(1536));
@@ -132,7 +132,7 @@ fn a_chain_gets_other_lengths(rt: HostRuntime) -> Result<(), Fail> {
     let bytes = numbered(rt.alloc(), 1300)?;
     let mut into = vec![in rt.alloc(); 0xff; 1024]?;
     let mut allocator = opened(rt.alloc(), one_sector(rt.alloc())?)?;
-    let mut chain = allocator.open_chain(END_OF_CHAIN, SectorInit::Zero)?;
+    let mut chain = Chain::new(&mut allocator, END_OF_CHAIN, SectorInit::Zero)?;
     assert_eq!(rt; write_all(&mut chain, &bytes), Ok(1300));
     assert_eq!(rt; chain.set_len(100), Ok(()));
     assert_eq!(rt; chain.sector_ids(), [1].as_slice());
@@ -154,7 +154,7 @@ fn a_chain_gets_other_lengths(rt: HostRuntime) -> Result<(), Fail> {
 #[test]
 fn a_chain_is_sought_to_its_end(rt: HostRuntime) -> Result<(), Fail> {
     let mut allocator = opened(rt.alloc(), two_chains(rt.alloc())?)?;
-    let mut chain = allocator.open_chain(1, SectorInit::Zero)?;
+    let mut chain = Chain::new(&mut allocator, 1, SectorInit::Zero)?;
     assert_eq!(rt; chain.seek(700), Ok(()));
     assert_eq!(rt; number_of(&chain.seek(1537)), 3);
     assert_eq!(rt; chain.position(), 700);
@@ -169,12 +169,12 @@ fn a_chain_is_sought_to_its_end(rt: HostRuntime) -> Result<(), Fail> {
 fn a_freed_chain_leaves_its_sectors(rt: HostRuntime) -> Result<(), Fail> {
     let bytes = numbered(rt.alloc(), 1300)?;
     let mut allocator = opened(rt.alloc(), two_chains(rt.alloc())?)?;
-    let mut chain = allocator.open_chain(1, SectorInit::Zero)?;
+    let mut chain = Chain::new(&mut allocator, 1, SectorInit::Zero)?;
     assert_eq!(rt; chain.free(), Ok(()));
     assert_eq!(rt; chain.num_sectors(), 0);
     assert_eq!(rt; chain.start_sector_id(), END_OF_CHAIN);
     chain.end();
-    let mut chain = allocator.open_chain(END_OF_CHAIN, SectorInit::Zero)?;
+    let mut chain = Chain::new(&mut allocator, END_OF_CHAIN, SectorInit::Zero)?;
     assert_eq!(rt; write_all(&mut chain, &bytes), Ok(1300));
     assert_eq!(rt; chain.sector_ids(), [3, 2, 1].as_slice());
     chain.end();
@@ -199,7 +199,7 @@ fn change<F: Medium, A: Heap + Clone>(
 fn changed<F: Medium>(alloc: Global, medium: F) -> Result<F, Error> {
     let bytes = numbered(alloc, 1300)?;
     let mut allocator = opened(alloc, medium)?;
-    let mut chain = allocator.open_chain(END_OF_CHAIN, SectorInit::Zero)?;
+    let mut chain = Chain::new(&mut allocator, END_OF_CHAIN, SectorInit::Zero)?;
     let answer = change(&mut chain, &bytes);
     chain.end();
     answer?;
@@ -230,7 +230,7 @@ fn limited(alloc: Global, limit: u32) -> Result<(u8, bool), Error> {
     let bytes = numbered(alloc, 2000)?;
     let mut allocator = opened(alloc, two_chains(alloc)?)?;
     allocator.set_max_sectors(limit);
-    let mut chain = allocator.open_chain(1, SectorInit::Zero)?;
+    let mut chain = Chain::new(&mut allocator, 1, SectorInit::Zero)?;
     let answer = write_at(&mut chain, 1000, &bytes);
     let same = is_first_chain(&chain, 1000);
     chain.end();
@@ -254,7 +254,7 @@ fn written_twice<A: Heap + Clone>(
     served: u64,
     bytes: &[u8],
 ) -> Result<(u8, u8, bool), Error> {
-    let mut chain = allocator.open_chain(1, SectorInit::Zero)?;
+    let mut chain = Chain::new(allocator, 1, SectorInit::Zero)?;
     heap.refuse_after(served);
     let first = write_at(&mut chain, 1000, bytes);
     let same = is_first_chain(&chain, 1000);
@@ -270,7 +270,7 @@ fn written_once<A: Heap + Clone>(
     served: u64,
     bytes: &[u8],
 ) -> Result<(u8, u64), Error> {
-    let mut chain = allocator.open_chain(1, SectorInit::Zero)?;
+    let mut chain = Chain::new(allocator, 1, SectorInit::Zero)?;
     let before = heap.asked();
     heap.refuse_after(served);
     let answer = write_at(&mut chain, 1000, bytes);
@@ -340,7 +340,7 @@ fn failed(alloc: Global, nth: u64) -> Result<(u8, u64, usize, bool), Error> {
     let bytes = numbered(alloc, 1400)?;
     let medium = Failing::once(two_chains(alloc)?, Kind::Write, nth);
     let mut allocator = opened(alloc, medium)?;
-    let mut chain = allocator.open_chain(4, SectorInit::Zero)?;
+    let mut chain = Chain::new(&mut allocator, 4, SectorInit::Zero)?;
     let answer = write_at(&mut chain, 63_400, &bytes);
     let count = chain.num_sectors();
     chain.end();

@@ -1,8 +1,8 @@
 //! The FAT that is read of the words of the FAT sectors.
-use cfb_chains::fat::read_fat;
 use cfb_format::consts::{DIFAT_SECTOR, END_OF_CHAIN, FAT_SECTOR, FREE_SECTOR, INVALID_SECTOR};
 use cfb_format::error::Error;
 use cfb_format::validate::Validation;
+use cfb_tables::fat::read_fat;
 use std::alloc::Global;
 use std::test::Fail;
 

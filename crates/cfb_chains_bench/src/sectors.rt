@@ -2,10 +2,10 @@
 ghost use Rattle.std.specs.Prelude.{◌≡◌, ◌≤◌, IfOk};
 ghost use Rattle.cfb_format.specs.Bytes.{sector_len as sector_len_of};
 
-use cfb_chains::sector::{SectorInit, Sectors};
 use cfb_format::error::Error;
 use cfb_format::memory::MemoryMedium;
 use cfb_format::version::Version;
+use cfb_sectors::sector::{SectorInit, Sectors};
 use std::alloc::Global;
 use std::test::Fail;
 

@@ -1,9 +1,9 @@
 //! Tables that take and free numbers, over no medium.
 use crate::fats::refusal;
-use cfb_chains::tables::Tables;
 use cfb_format::consts::FAT_SECTOR;
 use cfb_format::error::Error;
 use cfb_format::version::Version;
+use cfb_tables::tables::Tables;
 use std::alloc::Global;
 use std::test::Fail;
 

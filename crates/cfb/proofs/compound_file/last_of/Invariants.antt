@@ -2,7 +2,7 @@ use Rattle.std.proofs.Common.{◌≡◌, ◌∷◌, length, chars}
 use denote.Text.{Utf8}
 use denote.Shadow.{shadow}
 use Rattle.cfb_format.specs.Path.{names_left}
-use Rattle.cfb.specs.Finding.{last_name}
+use Rattle.cfb_rules.specs.Finding.{last_name}
 use Rattle.cfb.proofs.compound_file.last_of.Given as goal
 
 -- says that each `&str` the loop changes is text: keep it, and add clauses with ×

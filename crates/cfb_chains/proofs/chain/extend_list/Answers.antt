@@ -1,9 +1,9 @@
 use Rattle.std.proofs.Common.{◌≡◌, ℕ, List, ◌++◌, ap, sym, subst, ◌∙◌}
 use Rattle.std.specs.Prelude.{Some, Contains}
 use Rattle.cfb_chains.specs.ChainLists.{last_of}
-use Rattle.cfb_chains.specs.Tables.{TakesFor, ending, start_of as first_of}
-use Rattle.cfb_chains.proofs.AllocLemmas.{others_refl}
-use Rattle.cfb_chains.proofs.ChainView.{chain_few, only_first}
+use Rattle.cfb_tables.specs.Tables.{TakesFor, ending, start_of as first_of}
+use Rattle.cfb_alloc.proofs.AllocLemmas.{others_refl}
+use Rattle.cfb_alloc.proofs.ChainView.{chain_few, only_first}
 use Rattle.cfb_chains.proofs.ChainLists.{gained_is, grown_found, last_ends, left_found}
 use Rattle.cfb_chains.proofs.chain.extend_list.Goals as goal
 

@@ -1,9 +1,9 @@
 use Rattle.std.proofs.Common.{refl, ◌-◌, take, drop, arith}
 use Rattle.std.specs.Prelude.{slice_index}
 use Rattle.cfb_chains.specs.ChainLists.{Shortens}
-use Rattle.cfb_chains.specs.Tables.{FreesChain, CutsChain}
-use Rattle.cfb_chains.proofs.Answering.{on_ok}
-use Rattle.cfb_chains.proofs.ChainView.{only_first, some_chain, started}
+use Rattle.cfb_tables.specs.Tables.{FreesChain, CutsChain}
+use Rattle.cfb_alloc.proofs.Answering.{on_ok}
+use Rattle.cfb_alloc.proofs.ChainView.{only_first, some_chain, started}
 use Rattle.cfb_chains.proofs.ChainLists.{on_err, breaks_map, freed_shortens, cut_shortens, behind_found}
 use Rattle.cfb_chains.proofs.chain.free_behind.Goals as goal
 

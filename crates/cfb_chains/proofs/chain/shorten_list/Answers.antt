@@ -1,7 +1,7 @@
 use Rattle.std.proofs.Common.{ℕ, List, take, drop, ap, subst, ◌∙◌}
 use Rattle.cfb_chains.specs.ChainLists.{Shortens}
-use Rattle.cfb_chains.specs.Tables.{start_of as first_of}
-use Rattle.cfb_chains.proofs.ChainView.{chain_few}
+use Rattle.cfb_tables.specs.Tables.{start_of as first_of}
+use Rattle.cfb_alloc.proofs.ChainView.{chain_few}
 use Rattle.cfb_chains.proofs.ChainLists.{cut_found, left_found}
 use Rattle.cfb_chains.proofs.chain.shorten_list.Goals as goal
 

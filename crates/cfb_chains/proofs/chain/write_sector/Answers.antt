@@ -1,7 +1,7 @@
 use Rattle.std.proofs.Common.{ap, ◌+◌}
 use Rattle.cfb_format.specs.Bytes.{sector_start}
 use Rattle.cfb_chains.proofs.ChainBytes.{inside_place}
-use Rattle.cfb_chains.proofs.SectorLemmas.{other_sector}
+use Rattle.cfb_sectors.proofs.SectorLemmas.{other_sector}
 use Rattle.cfb_chains.proofs.chain.write_sector.Goals as goal
 
 pub returns-clause-err : goal.returns-clause-err

@@ -4,7 +4,7 @@ use borrow.Rule.Slice.PartMut.{put_mid}
 use Rattle.cfb_format.specs.declared.error.Error.TheVariants.{Medium}
 use Rattle.cfb_format.specs.Bytes.{sector_len}
 use Rattle.cfb_format.specs.Medium.{part}
-use Rattle.cfb.specs.StreamCalls.{read_to_end, got}
+use Rattle.cfb_rules.specs.StreamCalls.{read_to_end, got}
 use Rattle.cfb.specs.OneStream.{content_sectors}
 use Rattle.cfb.specs.Answers.{held_len, StreamRunsOn, IsStreamRefusedBy, never_yet}
 use Rattle.cfb.proofs.StreamRunning.{failed-before}

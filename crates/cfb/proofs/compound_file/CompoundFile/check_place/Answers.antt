@@ -2,7 +2,7 @@ use Rattle.std.proofs.Common.{rules, ◌≡◌, ◌∙◌, sym, ap, List, ℕ, �
 use Rattle.std.specs.Prelude.{Some, is_some}
 use Rattle.cfb_format.specs.Names.{is_valid_name}
 use Rattle.cfb_format.specs.Path.{names_of_path, names_left}
-use Rattle.cfb.specs.Finding.{last_name}
+use Rattle.cfb_rules.specs.Finding.{last_name}
 use Rattle.cfb.proofs.Running.{there-or-not}
 use Rattle.cfb.proofs.CallRunning.{no-parent}
 use Rattle.cfb.proofs.compound_file.CompoundFile.check_place.Goals as goal

@@ -1,5 +1,5 @@
 use Rattle.std.proofs.Common.{chars}
-use Rattle.cfb.specs.Calls.{flag, exists}
+use Rattle.cfb_rules.specs.Calls.{flag, exists}
 use Rattle.cfb.specs.Answers.{causes_of}
 use Rattle.cfb.proofs.Running.{runs-from, asks-there}
 use Rattle.cfb.proofs.compound_file.CompoundFile.exists.Goals as goal

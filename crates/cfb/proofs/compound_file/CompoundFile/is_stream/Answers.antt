@@ -1,5 +1,5 @@
 use Rattle.std.proofs.Common.{chars}
-use Rattle.cfb.specs.Calls.{flag, is_stream}
+use Rattle.cfb_rules.specs.Calls.{flag, is_stream}
 use Rattle.cfb.specs.Answers.{causes_of}
 use Rattle.cfb.proofs.Running.{runs-from, asks-stream}
 use Rattle.cfb.proofs.compound_file.CompoundFile.is_stream.Goals as goal

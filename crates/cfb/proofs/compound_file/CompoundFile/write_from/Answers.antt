@@ -1,6 +1,6 @@
 use Rattle.std.proofs.Common.{◌∙◌, sym, subst, refl, length, arith, chars, string_bytes, add-zero}
 use Rattle.std.proofs.lemmas.Bool.{eqb-true, eqb-false}
-use Rattle.cfb.specs.StreamCalls.{write, count}
+use Rattle.cfb_rules.specs.StreamCalls.{write, count}
 use Rattle.cfb.specs.Answers.{StreamRunsOn, IsNotYetWritten, IsFilled}
 use Rattle.cfb.proofs.StreamRunning.{failed-before, wrote-none, wrote-open, wrote-all, not-fillable, not-filled, whole-start}
 use Rattle.cfb.proofs.compound_file.CompoundFile.write_from.Goals as goal

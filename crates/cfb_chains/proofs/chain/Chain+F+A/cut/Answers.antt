@@ -1,7 +1,7 @@
 use Rattle.std.proofs.Common.{arith}
 use Rattle.cfb_chains.specs.LentChain.{allocator_of, start_of, ids_of, version_of}
-use Rattle.cfb_chains.proofs.Answering.{on_ok}
-use Rattle.cfb_chains.proofs.FrameLemmas.{changes_refl}
+use Rattle.cfb_alloc.proofs.Answering.{on_ok}
+use Rattle.cfb_alloc.proofs.FrameLemmas.{changes_refl}
 use Rattle.cfb_chains.proofs.LentContent.{content_cut, content_uncut}
 use Rattle.cfb_chains.proofs.chain.Chain+F+A.cut.Goals as goal
 

@@ -1,7 +1,7 @@
 use Rattle.std.proofs.Common.{[]}
 use Rattle.cfb_chains.specs.ChainLists.{Shortens}
 use Rattle.cfb_chains.specs.LentChain.{allocator_of, start_of, ids_of}
-use Rattle.cfb_chains.specs.Tables.{FreesChain}
+use Rattle.cfb_tables.specs.Tables.{FreesChain}
 use Rattle.cfb_chains.proofs.ChainLists.{on_err, breaks_map, shortened_frees, freed_of}
 use Rattle.cfb_chains.proofs.chain.Chain+F+A.free.Goals as goal
 

@@ -1,6 +1,6 @@
 use Rattle.cfb_chains.specs.ChainLists.{gained}
 use Rattle.cfb_chains.specs.LentChain.{allocator_of, start_of, ids_of, init_of}
-use Rattle.cfb_chains.proofs.Answering.{on_three}
+use Rattle.cfb_alloc.proofs.Answering.{on_three}
 use Rattle.cfb_chains.proofs.LentContent.{content_grown}
 use Rattle.cfb_chains.proofs.chain.Chain+F+A.grow.Goals as goal
 

@@ -1,5 +1,5 @@
 use Rattle.std.proofs.Common.{arith}
-use Rattle.cfb_chains.proofs.ReadLemmas.{rest_after_read}
+use Rattle.cfb_sectors.proofs.ReadLemmas.{rest_after_read}
 use Rattle.cfb_chains.proofs.ChainBytes.{none_placed}
 use Rattle.cfb_chains.proofs.chain.Chain+F+A.read.Goals as goal
 

@@ -1,5 +1,5 @@
 use Rattle.std.proofs.Common.{arith, ap}
-use Rattle.cfb_chains.specs.Tables.{TableState}
+use Rattle.cfb_tables.specs.Tables.{TableState}
 use Rattle.cfb_chains.proofs.ChainBytes.{read_is_placed, step_inside}
 use Rattle.cfb_chains.proofs.LentContent.{content_read}
 use Rattle.cfb_chains.proofs.chain.Chain+F+A.read_here.Goals as goal

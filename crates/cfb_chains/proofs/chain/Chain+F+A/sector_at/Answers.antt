@@ -2,7 +2,7 @@ use Rattle.std.proofs.Common.{◌≡◌, ◌<◌, ◌/◌, ℕ, rules, sym, subs
 use Rattle.std.specs.Prelude.{slice_index, Contains}
 use Rattle.cfb_format.specs.Bytes.{sector_len}
 use Rattle.cfb_chains.specs.LentChain.{allocator_of, ids_of, version_of}
-use Rattle.cfb_chains.proofs.ChainView.{sector_inside, sector_member}
+use Rattle.cfb_alloc.proofs.ChainView.{sector_inside, sector_member}
 use Rattle.cfb_chains.proofs.chain.Chain+F+A.sector_at.Goals as goal
 
 pub returns-clause-member : goal.returns-clause-member

@@ -3,7 +3,7 @@ use Rattle.std.specs.Prelude.{slice_index}
 use Rattle.std.specs.Result.{OnOk}
 use Rattle.cfb_format.specs.Full.{rounded_up}
 use Rattle.cfb_format.specs.Refused.{CountsFailure}
-use Rattle.cfb_chains.specs.Sectors.{copies, init_bytes}
+use Rattle.cfb_sectors.specs.Sectors.{copies, init_bytes}
 use Rattle.cfb_chains.proofs.LentContent.{content_long, shortened_of, taken_len, wanted_is}
 use Rattle.std.proofs.lemmas.List.Elements.{Contains-append_left}
 use Rattle.cfb_format.specs.Bytes.{sector_len, sector_start}
@@ -11,7 +11,7 @@ use Rattle.cfb_format.specs.declared.version.Version.{Version}
 use Rattle.cfb_chains.specs.LentChain.{allocator_of, ids_of, init_of, version_of, tail_of, tail_place, content_of, HasBytes}
 use Rattle.cfb_chains.proofs.ChainWrites.{none_wanted, same_rest, same_wanted, zeroed_of}
 use Rattle.cfb_chains.proofs.OwnWrites.{enough_kept, own_freed, own_kept, own_taken, own_zeroed}
-use Rattle.cfb_chains.proofs.SectorLemmas.{SectorStays_next}
+use Rattle.cfb_sectors.proofs.SectorLemmas.{SectorStays_next}
 use Rattle.cfb_chains.proofs.chain.Chain+F+A.set_len.Goals as goal
 
 pub returns-then-sectors-have-clause-filled : goal.returns-then-sectors-have-clause-filled

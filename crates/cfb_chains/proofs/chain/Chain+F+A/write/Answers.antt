@@ -3,15 +3,15 @@ use Rattle.std.specs.Prelude.{slice_index, IfOk}
 use Rattle.std.proofs.lemmas.List.{append-nil}
 use Rattle.cfb_format.specs.Medium.{written}
 use Rattle.cfb_format.specs.Refused.{CountsFailure}
-use Rattle.cfb_chains.specs.Sectors.{copies, init_bytes}
+use Rattle.cfb_sectors.specs.Sectors.{copies, init_bytes}
 use Rattle.cfb_format.specs.Bytes.{sector_len, sector_start}
 use Rattle.cfb_chains.specs.ChainLists.{gained, last_of}
-use Rattle.cfb_chains.specs.Tables.{ending}
+use Rattle.cfb_tables.specs.Tables.{ending}
 use Rattle.cfb_chains.specs.LentChain.{allocator_of, ids_of, init_of, missing_of, place_of, position_of, room_of, version_of, content_of, HasBytes}
-use Rattle.cfb_chains.proofs.Answering.{all_ok}
+use Rattle.cfb_alloc.proofs.Answering.{all_ok}
 use Rattle.cfb_chains.proofs.ChainWrites.{goes_nowhere, if_ok, none_needed, rest_short, room_after, there_of}
 use Rattle.cfb_chains.proofs.OwnWrites.{own_gained, own_none, own_taken, own_written}
-use Rattle.cfb_chains.proofs.SectorLemmas.{SectorStays_next}
+use Rattle.cfb_sectors.proofs.SectorLemmas.{SectorStays_next}
 use Rattle.cfb_chains.proofs.chain.Chain+F+A.write.Goals as goal
 
 pub returns-clause-count : goal.returns-clause-count

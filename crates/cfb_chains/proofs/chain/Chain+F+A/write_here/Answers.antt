@@ -2,11 +2,11 @@ use Rattle.std.proofs.Common.{◌≡◌, ◌+◌, ◌/◌, ◌%◌, ap, arith, r
 use Rattle.std.specs.Prelude.{slice_index}
 use Rattle.cfb_format.specs.Bytes.{sector_len, sector_start}
 use Rattle.cfb_chains.specs.LentChain.{allocator_of, start_of, ids_of, position_of, version_of}
-use Rattle.cfb_chains.specs.Sectors.{SectorFile}
-use Rattle.cfb_chains.specs.Tables.{TableState}
+use Rattle.cfb_sectors.specs.Sectors.{SectorFile}
+use Rattle.cfb_tables.specs.Tables.{TableState}
 use Rattle.cfb_chains.proofs.ChainBytes.{step_inside}
 use Rattle.cfb_chains.proofs.ChainHeld.{held_written}
-use Rattle.cfb_chains.proofs.ChainView.{found_chain}
+use Rattle.cfb_alloc.proofs.ChainView.{found_chain}
 use Rattle.cfb_chains.proofs.LentContent.{content_written}
 use Rattle.cfb_chains.proofs.chain.Chain+F+A.write_here.Goals as goal
 

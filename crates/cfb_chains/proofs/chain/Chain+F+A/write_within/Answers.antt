@@ -1,4 +1,4 @@
-use Rattle.cfb_chains.proofs.SectorLemmas.{SectorStays_refl}
+use Rattle.cfb_sectors.proofs.SectorLemmas.{SectorStays_refl}
 use Rattle.cfb_chains.proofs.chain.Chain+F+A.write_within.Goals as goal
 
 pub returns-then-room-eq0-clause-sectors : goal.returns-then-room-eq0-clause-sectors

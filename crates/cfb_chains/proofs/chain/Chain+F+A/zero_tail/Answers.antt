@@ -3,15 +3,15 @@ use Rattle.std.specs.Prelude.{slice_index}
 use Rattle.std.proofs.lemmas.List.{length-replicate}
 use Rattle.cfb_format.specs.Bytes.{sector_len, sector_start}
 use Rattle.cfb_format.specs.Medium.{written}
-use Rattle.cfb_chains.specs.Sectors.{SectorFile}
-use Rattle.cfb_chains.specs.Tables.{TableState}
+use Rattle.cfb_sectors.specs.Sectors.{SectorFile}
+use Rattle.cfb_tables.specs.Tables.{TableState}
 use Rattle.cfb_chains.specs.LentChain.{allocator_of, start_of, ids_of, version_of}
-use Rattle.cfb_chains.proofs.Answering.{on_ok}
+use Rattle.cfb_alloc.proofs.Answering.{on_ok}
 use Rattle.cfb_chains.proofs.ChainHeld.{held_zeroed}
-use Rattle.cfb_chains.proofs.ChainView.{found_chain}
+use Rattle.cfb_alloc.proofs.ChainView.{found_chain}
 use Rattle.cfb_chains.proofs.ChainWrites.{not_end, rest_fits}
 use Rattle.cfb_chains.proofs.LentContent.{content_written}
-use Rattle.cfb_chains.proofs.SectorLemmas.{SectorStays_refl}
+use Rattle.cfb_sectors.proofs.SectorLemmas.{SectorStays_refl}
 use Rattle.cfb_chains.proofs.chain.Chain+F+A.zero_tail.Goals as goal
 
 pub returns-then-rest-eq0-clause-sectors : goal.returns-then-rest-eq0-clause-sectors

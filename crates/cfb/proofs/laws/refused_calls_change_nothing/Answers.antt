@@ -1,9 +1,0 @@
-use Rattle.cfb.proofs.CallSteps.{Step-refused}
-use Rattle.cfb.proofs.StreamSteps.{StreamStep-refused}
-use Rattle.cfb.proofs.laws.refused_calls_change_nothing.Goals as goal
-
-pub returns-clause-by_path : goal.returns-clause-by_path
-returns-clause-by_path c = Step-refused
-
-pub returns-clause-on_stream : goal.returns-clause-on_stream
-returns-clause-on_stream c = StreamStep-refused

@@ -1,0 +1,87 @@
+use Rattle.std.proofs.Common.{[], arith, sym, subst, refl, ℕ, List}
+use Rattle.std.specs.Prelude.{Contains}
+use Rattle.std.proofs.lemmas.Result.{err_from_is_err_and}
+use Rattle.cfb_alloc.proofs.AllocLemmas.{others_refl, others_unchanged, placed_reserved, placed_written, shown_below, shown_taken, others_written, held_counted, fats_apart_shown, clean_taken, fats_known, difats_known, refused_changed}
+use Rattle.cfb_format.specs.Chain.{IsChain}
+use Rattle.cfb_tables.specs.Tables.{HasTaken, start_of}
+use Rattle.cfb_tables.proofs.ChainLemmas.{chain_of}
+use Rattle.cfb_tables.proofs.TakenLemmas.{taken-nothing}
+use Rattle.cfb_alloc.proofs.alloc.Allocator.begin_chain_by.Goals as goal
+
+pub returns-in_err-before-clause-others : goal.returns-in_err-before-clause-others
+returns-in_err-before-clause-others g c told = others_refl c.args.self.now
+
+pub returns-in_err-clone-clause-others : goal.returns-in_err-clone-clause-others
+returns-in_err-clone-clause-others g c told = others_refl c.args.self.now
+
+pub returns-then-count-eq0-clause-taken : goal.returns-then-count-eq0-clause-taken
+returns-then-count-eq0-clause-taken g c =
+    let t = c.args.self.now.tables in
+    subst (HasTaken t t []) (sym c.new.ensures.items) (taken-nothing t c.in_ok-before.ensures.sizes.places)
+
+pub returns-then-count-eq0-clause-chain : goal.returns-then-count-eq0-clause-chain
+returns-then-count-eq0-clause-chain g c =
+    let fat = c.args.self.now.tables.fat in
+    subst (λ (z : List ℕ). IsChain fat (start_of z) z) (sym c.new.ensures.items) (chain_of fat (start_of []) [] refl)
+
+pub returns-then-count-eq0-clause-others : goal.returns-then-count-eq0-clause-others
+returns-then-count-eq0-clause-others g c told = others_refl c.args.self.now
+
+pub returns-in_err-clone-2-clause-others : goal.returns-in_err-clone-2-clause-others
+returns-in_err-clone-2-clause-others g c told = others_unchanged c.self.view_is c.self.inside.tables refl
+
+pub returns-in_err-list-clause-others : goal.returns-in_err-list-clause-others
+returns-in_err-list-clause-others g c told = others_unchanged c.self.view_is c.take_by.new.self c.in_err-list.ensures.unchanged
+
+pub returns-in_err-list-clause-err : goal.returns-in_err-list-clause-err
+returns-in_err-list-clause-err g c =
+    let p = err_from_is_err_and c.from_residual-in_err-list.result c.from_residual-in_err-list.ensures.1 in
+    rw (p.1, p.2) (refused_changed _ _ _ _ c.in_err-list.field-0.0 (rw (← c.self.view_is) c.in_err-list.ensures.err))
+
+pub write_taken-requires-clause-placed : goal.write_taken-requires-clause-placed
+write_taken-requires-clause-placed g c =
+    placed_reserved c.deref.result.now c.deref.ensures.value c.self.view_is c.in_ok-list.ensures.taken
+    c.reserve_sectors.new.self c.len.result c.reserve_sectors.ensures c.len.ensures.len c.self.invariant
+
+pub write_taken-requires-clause-more : goal.write_taken-requires-clause-more
+write_taken-requires-clause-more g c = shown_below c.deref.result.now c.deref.ensures.value c.self.view_is c.in_ok-list.ensures.taken
+
+pub invariant_of-self-in_err-write_taken : goal.invariant_of-self-in_err-write_taken
+invariant_of-self-in_err-write_taken g c =
+    placed_written c.deref.result.now c.deref.ensures.value c.self.view_is c.in_ok-list.ensures.taken
+    c.reserve_sectors.new.self c.write_taken.new.sectors c.len.result c.reserve_sectors.ensures c.write_taken.ensures.kept c.len.ensures.len c.self.invariant
+
+pub returns-in_err-write_taken-clause-others : goal.returns-in_err-write_taken-clause-others
+returns-in_err-write_taken-clause-others g c told =
+    others_written c.deref.result.now c.deref.ensures.value c.self.view_is c.in_ok-list.ensures.taken
+    c.reserve_sectors.new.self c.write_taken.new.sectors c.len.result c.reserve_sectors.ensures (c.write_taken.ensures.changes told)
+
+pub invariant_of-self-2 : goal.invariant_of-self-2
+invariant_of-self-2 g c =
+    placed_written c.deref.result.now c.deref.ensures.value c.self.view_is c.in_ok-list.ensures.taken
+    c.reserve_sectors.new.self c.write_taken.new.sectors c.len.result c.reserve_sectors.ensures c.write_taken.ensures.kept c.len.ensures.len c.self.invariant
+
+pub returns-clause-filled : goal.returns-clause-filled
+returns-clause-filled g c told validation h i m =
+    c.in_ok-write_taken.ensures.filled told
+    (fats_apart_shown c.deref.result.now c.deref.ensures.value c.self.view_is c.in_ok-list.ensures.taken validation h) i
+    (subst (λ (xs : List ℕ). Contains xs i) (sym c.deref.ensures.value) m)
+
+pub returns-clause-holds : goal.returns-clause-holds
+returns-clause-holds g c told validation h =
+    let now = c.deref.result.now in
+    let same = c.deref.ensures.value in
+    let taken = c.in_ok-list.ensures.taken in
+    let clean = clean_taken now same c.self.view_is taken validation h (start_of c.in_ok-list.list.items) c.in_ok-list.ensures.chain (omega arith) in
+    record {
+      holds = c.in_ok-write_taken.ensures.holds told validation c.self.inside.tables (shown_taken now same c.self.view_is taken) clean
+          (fats_known now same c.self.view_is taken c.in_ok-before.before.fats c.in_ok-before.ensures.ok.0)
+          (difats_known now same c.self.view_is taken c.in_ok-before.before.difats c.in_ok-before.ensures.ok.1)
+          (held_counted now same c.self.view_is taken validation h c.reserve_sectors.new.self c.len.result c.reserve_sectors.ensures);
+      clean = clean;
+    }
+
+pub returns-clause-others : goal.returns-clause-others
+returns-clause-others g c told =
+    others_written c.deref.result.now c.deref.ensures.value c.self.view_is c.in_ok-list.ensures.taken
+    c.reserve_sectors.new.self c.write_taken.new.sectors c.len.result c.reserve_sectors.ensures (c.write_taken.ensures.changes told)

@@ -1,0 +1,605 @@
+//! The allocator of sectors: chains are begun, extended, cut and freed (MS-CFB 2.3 and 2.5).
+ghost use Rattle.std.specs.Prelude.{◌≡◌, ◌≢◌, ℕ, List, [], ◌∷◌, max, min, length, true, false, IsTrue, IfOk, IfErr, OnOk, take, drop, ◌++◌, ◌⊎◌, ◌+◌, ◌-◌, ◌<◌, ◌≤◌, Contains, IsErrAnd, MatchResult, vec_len};
+ghost use Rattle.cfb_format.specs.declared.validate.Validation.{Validation};
+ghost use Rattle.cfb_format.specs.Bytes.{sector_len as sector_len_of, max_regular_sector, end_of_chain};
+ghost use Rattle.cfb_format.specs.Chain.{IsChain, value};
+ghost use Rattle.cfb_format.specs.Refused.{CountsFailure, IsInvalidData};
+ghost use Rattle.cfb_alloc.specs.Alloc.{AreListed, ChangesSectors, HoldsTables, IsPlaced, IsUsable, IsFilled, OthersStay};
+ghost use Rattle.cfb_tables.specs.ReadFat.{AcceptsFat, AcceptsNoFat};
+ghost use Rattle.cfb_tables.specs.Changes.{IsNextOf, NoChain};
+ghost use Rattle.cfb_tables.specs.Refused.{Refused, NextRefused, NoLast, WalkRefused, ChangeRefused};
+ghost use Rattle.cfb_alloc.specs.Broken.{BreaksOff};
+ghost use Rattle.cfb_tables.specs.Tables.{HasTaken, TakesFor, Extended, ExtendsFrom, FreesChain, CutsChain, AreSizes, IsTooFew, ending, start_of, sizes_of, tables_of};
+ghost use Rattle.cfb_tables.specs.Clean.{IsUnnamed};
+ghost use Rattle.cfb_sectors.specs.Sectors.{IsMediumError, IsRaised, OtherSectorsStay, place, sectors_end};
+ghost use Rattle.cfb_format.specs.Medium.{ChangesOnly, part, written};
+
+use crate::writing::{TableSizes, write_taken, write_values};
+use cfb_format::consts::{END_OF_CHAIN, NUM_DIFAT_ENTRIES_IN_HEADER};
+use cfb_format::error::{Detail, Error};
+use cfb_format::medium::{Medium, ReadMedium};
+use cfb_format::validate::Validation;
+use cfb_format::version::Version;
+use cfb_sectors::sector::{SectorInit, Sectors};
+use cfb_tables::fat::read_fat;
+use cfb_tables::lists::words_per_sector;
+use cfb_tables::tables::Tables;
+use std::alloc::{Allocator as Heap, Global};
+use std::marker::Model;
+
+/// The sectors of a file, and the tables that chain them.
+#[derive(Drop)]
+pub struct Allocator<F: ReadMedium, A: Heap = Global> {
+    sectors: Sectors<F>,
+    tables: Tables<A>,
+    heap: A,
+}
+
+impl<F: ReadMedium, A: Heap> Model for Allocator<F, A> {
+    ghost use Rattle.cfb_alloc.specs.Alloc.{AllocatorState, IsPlaced};
+
+    ghost Value = { AllocatorState };
+
+    ghost view = { λ a. record { file = a.sectors; tables = a.tables } };
+
+    ghost invariant = { λ a. IsPlaced a.sectors a.tables };
+}
+
+impl<F: ReadMedium, A: Heap + Clone> Allocator<F, A> {
+    /// The allocator over the sectors of a file: its DIFAT sectors and its FAT sectors in order, and the words that stand in the
+    /// latter (MS-CFB 2.3 and 2.5). The file may grow to the greatest number of sectors.
+    ///
+    /// `InvalidData` where a listed sector is none of the file's or more FAT sectors are listed than there are places for, and where
+    /// `read_fat` refuses the words in this mode; `Memory`.
+    pub fn new(
+        heap: A,
+        sectors: Sectors<F>,
+        difat_sectors: Vec<u32, A>,
+        fat_sectors: Vec<u32, A>,
+        words: Vec<u32, A>,
+        validation: Validation,
+    ) -> Result<Allocator<F, A>, Error>
+        ensures file { IfOk result (λ a. a.file ≡ sectors) }
+        ensures tables { IfOk result (λ a. a.tables ≡ tables_of sectors.version max_regular_sector a.tables.fat fat_sectors.items difat_sectors.items) }
+        ensures fat { IfOk result (λ a. AcceptsFat validation sectors.num_sectors words.items fat_sectors.items difat_sectors.items a.tables.fat) }
+        ensures err { IfErr result (Refused
+            (AreListed sectors.version sectors.num_sectors fat_sectors.items difat_sectors.items
+            → AcceptsNoFat validation sectors.num_sectors words.items fat_sectors.items difat_sectors.items)
+            Unit ⊥) }
+    {
+        let count = sectors.num_sectors();
+        let version = sectors.version();
+        if !are_listed(version, count, &fat_sectors, &difat_sectors) {
+            return Err(unlisted(count));
+        }
+        let fat = read_fat(
+            heap.clone()?,
+            count,
+            words,
+            &fat_sectors,
+            &difat_sectors,
+            validation,
+        )?;
+        let tables = Tables::new(heap.clone()?, version, fat, fat_sectors, difat_sectors)?;
+        Ok(Allocator {
+            sectors,
+            tables,
+            heap,
+        })
+    }
+}
+
+/// Whether the FAT sectors and DIFAT sectors are sectors of the file, and all of them have places.
+fn are_listed(version: Version, count: u32, fat_sectors: &[u32], difat_sectors: &[u32]) -> bool
+    requires { count ≤ max_regular_sector }
+    ensures listed { IsTrue result → AreListed version count fat_sectors.now difat_sectors.now }
+    ensures not_listed { result ≡ false → AreListed version count fat_sectors.now difat_sectors.now → ⊥ }
+{
+    if difat_sectors.len() > count as usize {
+        return false;
+    }
+    let entries = words_per_sector(version) - 1;
+    if fat_sectors.len() > NUM_DIFAT_ENTRIES_IN_HEADER + difat_sectors.len() * entries {
+        return false;
+    }
+    if !are_below(fat_sectors, count) {
+        return false;
+    }
+    are_below(difat_sectors, count)
+}
+
+/// Whether all of these numbers are below this one.
+fn are_below(numbers: &[u32], count: u32) -> bool
+    ensures below { IsTrue result → (i : ℕ) → Contains numbers.now i → i < count }
+    ensures not_below { result ≡ false → ((i : ℕ) → Contains numbers.now i → i < count) → ⊥ }
+{
+    for number in numbers {
+        if *number >= count {
+            return false;
+        }
+    }
+    true
+}
+
+/// A refusal of table sectors that the file does not have.
+fn unlisted(count: u32) -> Error
+    ensures { ChangeRefused Unit ⊥ ⊥ ⊥ result }
+{
+    Error::InvalidData(Detail {
+        text: "table sector beyond the sectors of the file",
+        numbers: [count as u64, 0],
+    })
+}
+
+impl<F: ReadMedium, A: Heap> Allocator<F, A> {
+    /// The version of the file.
+    pub fn version(&self) -> Version
+        ensures { result ≡ self.now.tables.version }
+    {
+        self.tables.version()
+    }
+
+    /// The length of a sector, in bytes.
+    pub fn sector_len(&self) -> usize
+        ensures { result ≡ sector_len_of self.now.tables.version }
+    {
+        self.tables.version().sector_len()
+    }
+
+    /// The medium.
+    pub fn inner(&self) -> &F
+        ensures bytes { F.bytes result.now ≡ self.now.file.bytes }
+        ensures failures { F.failures result.now ≡ self.now.file.failures }
+    {
+        self.sectors.inner()
+    }
+
+    /// How long the file is known to be, in bytes.
+    pub fn file_len(&self) -> u64
+        ensures len { result ≡ self.now.file.len }
+        ensures end { self.now.file.len ≤ sectors_end self.now.file }
+        ensures placed { IsPlaced self.now.file self.now.tables }
+    {
+        let _ = self.sectors.num_sectors();
+        self.sectors.len()
+    }
+
+    /// Gives the medium back.
+    pub fn into_inner(self) -> F
+        ensures bytes { F.bytes result ≡ self.file.bytes }
+        ensures failures { F.failures result ≡ self.file.failures }
+    {
+        let Allocator {
+            sectors,
+            tables: _,
+            heap: _,
+        } = self;
+        sectors.into_inner()
+    }
+
+    /// Whether a write or a flush of the medium was asked for since the last `end_change`, or ever.
+    pub fn begun(&self) -> bool
+        ensures { result ≡ self.now.file.begun }
+    {
+        self.sectors.begun()
+    }
+
+    /// Says that the change that was begun, if one was, has ended well.
+    pub fn end_change(&mut self)
+        ensures { self.new ≡ record self.old { file = record self.old.file { begun = false } } }
+    {
+        self.sectors.end_change();
+    }
+
+    /// Lets the file grow to so many sectors, and to no more. No number above the greatest regular one is taken.
+    pub fn set_max_sectors(&mut self, max_sectors: u32)
+        ensures { self.new ≡ record self.old { tables = record self.old.tables { max_sectors = min max_sectors max_regular_sector } } }
+    {
+        self.tables.set_max_sectors(max_sectors);
+    }
+
+    /// The value of each sector (MS-CFB 2.3).
+    pub fn fat(&self) -> &[u32]
+        ensures { result.now ≡ self.now.tables.fat }
+    {
+        self.tables.fat()
+    }
+
+    /// The FAT sectors, in order.
+    pub fn fat_sectors(&self) -> &[u32]
+        ensures { result.now ≡ self.now.tables.fat_sectors }
+    {
+        self.tables.fat_sectors()
+    }
+
+    /// The DIFAT sectors, in order (MS-CFB 2.5).
+    pub fn difat_sectors(&self) -> &[u32]
+        ensures { result.now ≡ self.now.tables.difat_sectors }
+    {
+        self.tables.difat_sectors()
+    }
+
+    /// The sector that comes after this one in its chain, or END (MS-CFB 2.3). `InvalidData` where the sector or what its word
+    /// names is no sector of the file.
+    pub fn next(&self, sector: u32) -> Result<u32, Error>
+        ensures ok { IfOk result (λ next. IsNextOf self.now.tables.fat sector next) }
+        ensures err { IfErr result (NextRefused self.now.tables.fat sector) }
+    {
+        self.tables.next(sector)
+    }
+
+    /// How many FAT sectors and DIFAT sectors there are, if the FAT sectors have a place for each sector's value. `InvalidData`
+    /// where they have not: such tables cannot be changed.
+    fn usable_sizes(&self) -> Result<TableSizes, Error>
+        ensures ok { IfOk result (λ sizes. (sizes.fats ≡ length self.now.tables.fat_sectors) × (sizes.difats ≡ length self.now.tables.difat_sectors)) }
+        ensures usable { OnOk result (IsUsable self.now.tables) }
+        ensures sizes { OnOk result (AreSizes self.now.tables.version (sizes_of self.now.tables)) }
+        ensures placed { OnOk result (IsPlaced self.now.file self.now.tables) }
+        ensures err { IfErr result (ChangeRefused (IsUsable self.now.tables → ⊥) ⊥ ⊥ ⊥) }
+    {
+        let (sectors, fats) = (self.tables.len(), self.tables.fat_sectors().len());
+        let words = self.sector_len() / 4;
+        if fats > sectors || sectors.div_ceil(words) > fats {
+            return Err(uncovered(sectors, fats));
+        }
+        Ok(TableSizes {
+            fats,
+            difats: self.tables.difat_sectors().len(),
+        })
+    }
+}
+
+/// A refusal to change tables that the FAT sectors have no place for.
+fn uncovered(sectors: usize, fats: usize) -> Error
+    ensures { ChangeRefused Unit ⊥ ⊥ ⊥ result }
+{
+    Error::InvalidData(Detail {
+        text: "FAT sectors that do not cover the file",
+        numbers: [sectors as u64, fats as u64],
+    })
+}
+
+impl<F: Medium, A: Heap> Allocator<F, A> {
+    /// Begins a chain of one sector, which holds what `init` says, and gives its number.
+    ///
+    /// `Medium` where the medium fails, `Memory`, and `Full` where no number is free and fewer are left than the sector and the
+    /// table sectors that it takes. `InvalidData` where the FAT sectors do not cover the file. Nothing has changed where it is
+    /// refused, but after `Medium`: then the tables in memory have the sector, and of the file's bytes no sector in use has
+    /// changed but the table sectors.
+    #[tactic(auto, using(crate::proofs::AllocLemmas::refused_changed))]
+    pub fn begin_chain(&mut self, init: SectorInit) -> Result<u32, Error>
+        ensures taken { IfOk result (λ x. HasTaken self.old.tables self.new.tables [] (x ∷ [])) }
+        ensures chain { IfOk result (λ x. IsChain self.new.tables.fat x (x ∷ [])) }
+        ensures filled { IsTrue F.tells → (validation : Validation) → HoldsTables validation self.old
+            → IfOk result (λ x. IsFilled self.new.tables.version init self.new.file.bytes x) }
+        ensures holds { IsTrue F.tells → (validation : Validation) → HoldsTables validation self.old → OnOk result (HoldsTables validation self.new) }
+        ensures others { IsTrue F.tells → OthersStay self.old self.new }
+        ensures enough { OnOk result (IsTooFew self.old.tables 1 → ⊥) }
+        ensures begun { OnOk result (self.new.file.begun ≡ true) }
+        ensures refused { IfErr result (BreaksOff (TakesFor []) self.old self.new) }
+        ensures err { IfErr result (ChangeRefused (IsUsable self.old.tables → ⊥) Unit (IsTooFew self.old.tables 1) Unit) }
+        ensures counts { IsTrue F.tells → CountsFailure F.write_faults result self.old.file.failures self.new.file.failures }
+    {
+        let before = self.usable_sizes()?;
+        let sector = self.tables.take()?;
+        self.sectors.reserve_sectors(self.tables.len() as u32);
+        write_taken(
+            &mut self.sectors,
+            &self.tables,
+            before,
+            &[],
+            &[sector],
+            init,
+        )?;
+        Ok(sector)
+    }
+}
+
+impl<F: ReadMedium, A: Heap + Clone> Allocator<F, A> {
+    /// The sectors of the chain from `start`, in order (MS-CFB 2.3). `InvalidData` where there is no such chain, and `Memory`.
+    pub fn chain(&self, start: u32) -> Result<Vec<u32, A>, Error>
+        ensures ok { IfOk result (λ list. IsChain self.now.tables.fat start list.items) }
+        ensures few { IfOk result (λ list. vec_len list ≤ max_regular_sector) }
+        ensures err { IfErr result (WalkRefused self.now.tables.fat start) }
+    {
+        let sectors = self.tables.len();
+        let list = self.tables.chain(self.heap.clone()?, start)?;
+        let _met = sectors;
+        Ok(list)
+    }
+}
+
+impl<F: Medium, A: Heap + Clone> Allocator<F, A> {
+    /// Adds a sector, which holds what `init` says, at the end of the chain from `start`, and gives its number.
+    ///
+    /// `InvalidData` where there is no such chain, where it is empty, and where the FAT sectors do not cover the file; `Medium`,
+    /// `Memory` and `Full` as in `begin_chain`.
+    #[tactic(auto, using(crate::proofs::AllocLemmas::refused_changed))]
+    pub fn extend_chain(&mut self, start: u32, init: SectorInit) -> Result<u32, Error>
+        ensures extended { IfOk result (λ x. Extended self.old.tables self.new.tables start (x ∷ [])) }
+        ensures filled { IsTrue F.tells → (validation : Validation) → HoldsTables validation self.old
+            → IfOk result (λ x. IsFilled self.new.tables.version init self.new.file.bytes x) }
+        ensures holds { IsTrue F.tells → (validation : Validation) → HoldsTables validation self.old → OnOk result (HoldsTables validation self.new) }
+        ensures others { IsTrue F.tells → OthersStay self.old self.new }
+        ensures enough { OnOk result (IsTooFew self.old.tables 1 → ⊥) }
+        ensures begun { OnOk result (self.new.file.begun ≡ true) }
+        ensures refused { IfErr result (BreaksOff (ExtendsFrom start) self.old self.new) }
+        ensures err { IfErr result (ChangeRefused ((IsUsable self.old.tables → ⊥) ⊎ NoLast self.old.tables.fat start) Unit (IsTooFew self.old.tables 1) Unit) }
+        ensures counts { IsTrue F.tells → CountsFailure F.write_faults result self.old.file.failures self.new.file.failures }
+    {
+        let before = self.usable_sizes()?;
+        let last = self.tables.last(start)?;
+        let sector = self.tables.attach(last)?;
+        self.sectors.reserve_sectors(self.tables.len() as u32);
+        write_taken(
+            &mut self.sectors,
+            &self.tables,
+            before,
+            &[last],
+            &[sector],
+            init,
+        )?;
+        Ok(sector)
+    }
+
+    /// Adds so many sectors, which hold what `init` says, behind the last sector of a chain, or as a new chain where `last` is END,
+    /// and gives their numbers. Where none is to be added nothing changes.
+    ///
+    /// `InvalidData` where `last` is neither END nor a sector that ends a chain, and where the FAT sectors do not cover the file;
+    /// `Medium`, `Memory` and `Full` as in `begin_chain`: all of them are taken or none is.
+    pub fn extend_chain_by(
+        &mut self,
+        last: u32,
+        count: usize,
+        init: SectorInit,
+    ) -> Result<Vec<u32, A>, Error>
+        ensures taken { IfOk result (λ list. HasTaken self.old.tables self.new.tables (ending last) list.items) }
+        ensures chain { IfOk result (λ list. IsChain self.new.tables.fat (start_of (ending last ++ list.items)) (ending last ++ list.items)) }
+        ensures count { IfOk result (λ list. vec_len list ≡ count) }
+        ensures none { count ≡ 0 → self.new ≡ self.old }
+        ensures filled { IsTrue F.tells → (validation : Validation) → HoldsTables validation self.old
+            → IfOk result (λ list. (i : ℕ) → Contains list.items i → IsFilled self.new.tables.version init self.new.file.bytes i) }
+        ensures holds { IsTrue F.tells → (validation : Validation) → HoldsTables validation self.old → OnOk result (HoldsTables validation self.new) }
+        ensures others { IsTrue F.tells → OthersStay self.old self.new }
+        ensures enough { OnOk result (IsTooFew self.old.tables count → ⊥) }
+        ensures begun { OnOk result (IsRaised (0 < count) self.old.file self.new.file) }
+        ensures refused { IfErr result (BreaksOff (TakesFor (ending last)) self.old self.new) }
+        ensures err { IfErr result (ChangeRefused
+            ((IsUsable self.old.tables → ⊥) ⊎ ((last ≢ end_of_chain) × (value self.old.tables.fat last ≢ end_of_chain)))
+            Unit (IsTooFew self.old.tables count) Unit) }
+        ensures counts { IsTrue F.tells → CountsFailure F.write_faults result self.old.file.failures self.new.file.failures }
+    {
+        if last == END_OF_CHAIN {
+            return self.begin_chain_by(count, init);
+        }
+        self.append_by(last, count, init)
+    }
+
+    /// Frees the chain from `start`. The empty one, from END, changes nothing.
+    ///
+    /// `InvalidData` where there is no such chain, and where the FAT sectors do not cover the file; `Medium` where the medium fails,
+    /// and `Memory`. Nothing has changed where it is refused, but after `Medium`: then the chain is free in memory, and of the
+    /// file's bytes the FAT sectors alone have changed.
+    pub fn free_chain(&mut self, start: u32) -> Result<(), Error>
+        ensures freed { OnOk result (FreesChain start self.old.tables self.new.tables) }
+        ensures none { start ≡ end_of_chain → self.new ≡ self.old }
+        ensures holds { IsTrue F.tells → (validation : Validation) → HoldsTables validation self.old → IsUnnamed self.old.tables.fat start
+            → OnOk result (HoldsTables validation self.new) }
+        ensures changes { IsTrue F.tells → ChangesSectors self.old.tables.fat_sectors self.old.tables.version self.old.file.bytes self.new.file.bytes }
+        ensures begun { OnOk result (IsRaised (start ≢ end_of_chain) self.old.file self.new.file) }
+        ensures refused { IfErr result (BreaksOff (FreesChain start) self.old self.new) }
+        ensures err { IfErr result (ChangeRefused ((IsUsable self.old.tables → ⊥) ⊎ NoChain self.old.tables.fat start) Unit ⊥ Unit) }
+        ensures counts { IsTrue F.tells → CountsFailure F.write_faults result self.old.file.failures self.new.file.failures }
+    {
+        self.usable_sizes()?;
+        if start == END_OF_CHAIN {
+            return Ok(());
+        }
+        let freed = self.tables.free(self.heap.clone()?, start)?;
+        write_values(&mut self.sectors, &self.tables, &freed)
+    }
+
+    /// Ends a chain at this sector, and frees the ones behind it.
+    ///
+    /// `InvalidData` where no chain goes on from the sector, and where the FAT sectors do not cover the file; `Medium` and `Memory`
+    /// as in `free_chain`.
+    pub fn free_chain_after(&mut self, sector: u32) -> Result<(), Error>
+        ensures cut { OnOk result (CutsChain sector self.old.tables self.new.tables) }
+        ensures holds { IsTrue F.tells → (validation : Validation) → HoldsTables validation self.old → OnOk result (HoldsTables validation self.new) }
+        ensures changes { IsTrue F.tells → ChangesSectors self.old.tables.fat_sectors self.old.tables.version self.old.file.bytes self.new.file.bytes }
+        ensures begun { OnOk result (self.new.file.begun ≡ true) }
+        ensures refused { IfErr result (BreaksOff (CutsChain sector) self.old self.new) }
+        ensures err { IfErr result (ChangeRefused ((IsUsable self.old.tables → ⊥) ⊎ NoChain self.old.tables.fat (value self.old.tables.fat sector)) Unit ⊥ Unit) }
+        ensures counts { IsTrue F.tells → CountsFailure F.write_faults result self.old.file.failures self.new.file.failures }
+    {
+        self.usable_sizes()?;
+        self.tables.next(sector)?;
+        let freed = self.tables.free_after(self.heap.clone()?, sector)?;
+        write_values(&mut self.sectors, &self.tables, &freed)?;
+        write_values(&mut self.sectors, &self.tables, &[sector])
+    }
+
+    /// Takes so many sectors as a new chain.
+    #[tactic(auto, using(crate::proofs::AllocLemmas::refused_changed))]
+    fn begin_chain_by(&mut self, count: usize, init: SectorInit) -> Result<Vec<u32, A>, Error>
+        ensures taken { IfOk result (λ list. HasTaken self.old.tables self.new.tables [] list.items) }
+        ensures chain { IfOk result (λ list. IsChain self.new.tables.fat (start_of list.items) list.items) }
+        ensures count { IfOk result (λ list. vec_len list ≡ count) }
+        ensures none { count ≡ 0 → self.new ≡ self.old }
+        ensures filled { IsTrue F.tells → (validation : Validation) → HoldsTables validation self.old
+            → IfOk result (λ list. (i : ℕ) → Contains list.items i → IsFilled self.new.tables.version init self.new.file.bytes i) }
+        ensures holds { IsTrue F.tells → (validation : Validation) → HoldsTables validation self.old → OnOk result (HoldsTables validation self.new) }
+        ensures others { IsTrue F.tells → OthersStay self.old self.new }
+        ensures enough { OnOk result (IsTooFew self.old.tables count → ⊥) }
+        ensures begun { OnOk result (IsRaised (0 < count) self.old.file self.new.file) }
+        ensures refused { IfErr result (BreaksOff (TakesFor []) self.old self.new) }
+        ensures err { IfErr result (ChangeRefused (IsUsable self.old.tables → ⊥) Unit (IsTooFew self.old.tables count) Unit) }
+        ensures counts { IsTrue F.tells → CountsFailure F.write_faults result self.old.file.failures self.new.file.failures }
+    {
+        let before = self.usable_sizes()?;
+        if count == 0 {
+            return Ok(Vec::new(self.heap.clone()?));
+        }
+        let list = self.tables.take_by(self.heap.clone()?, count)?;
+        self.sectors.reserve_sectors(self.tables.len() as u32);
+        write_taken(&mut self.sectors, &self.tables, before, &[], &list, init)?;
+        Ok(list)
+    }
+
+    /// Adds so many sectors behind the last one of a chain.
+    #[tactic(auto, using(crate::proofs::AllocLemmas::refused_changed))]
+    fn append_by(&mut self, last: u32, count: usize, init: SectorInit) -> Result<Vec<u32, A>, Error>
+        ensures taken { IfOk result (λ list. HasTaken self.old.tables self.new.tables (last ∷ []) list.items) }
+        ensures chain { IfOk result (λ list. IsChain self.new.tables.fat last (last ∷ list.items)) }
+        ensures count { IfOk result (λ list. vec_len list ≡ count) }
+        ensures none { count ≡ 0 → self.new ≡ self.old }
+        ensures filled { IsTrue F.tells → (validation : Validation) → HoldsTables validation self.old
+            → IfOk result (λ list. (i : ℕ) → Contains list.items i → IsFilled self.new.tables.version init self.new.file.bytes i) }
+        ensures holds { IsTrue F.tells → (validation : Validation) → HoldsTables validation self.old → OnOk result (HoldsTables validation self.new) }
+        ensures others { IsTrue F.tells → OthersStay self.old self.new }
+        ensures enough { OnOk result (IsTooFew self.old.tables count → ⊥) }
+        ensures begun { OnOk result (IsRaised (0 < count) self.old.file self.new.file) }
+        ensures refused { IfErr result (BreaksOff (TakesFor (last ∷ [])) self.old self.new) }
+        ensures err { IfErr result (ChangeRefused ((IsUsable self.old.tables → ⊥) ⊎ (value self.old.tables.fat last ≢ end_of_chain))
+            Unit (IsTooFew self.old.tables count) Unit) }
+        ensures counts { IsTrue F.tells → CountsFailure F.write_faults result self.old.file.failures self.new.file.failures }
+    {
+        let before = self.usable_sizes()?;
+        if self.tables.next(last)? != END_OF_CHAIN {
+            return Err(goes_on(last));
+        }
+        if count == 0 {
+            return Ok(Vec::new(self.heap.clone()?));
+        }
+        let list = self.tables.attach_by(self.heap.clone()?, last, count)?;
+        self.sectors.reserve_sectors(self.tables.len() as u32);
+        write_taken(
+            &mut self.sectors,
+            &self.tables,
+            before,
+            &[last],
+            &list,
+            init,
+        )?;
+        Ok(list)
+    }
+}
+
+/// A refusal to go on from a sector that does not end its chain.
+fn goes_on(sector: u32) -> Error
+    ensures { ChangeRefused Unit ⊥ ⊥ ⊥ result }
+{
+    Error::InvalidData(Detail {
+        text: "chain goes on from there",
+        numbers: [sector as u64, 0],
+    })
+}
+
+impl<F: ReadMedium, A: Heap> Allocator<F, A> {
+    /// Reads from a sector on and through those that follow it in the file, as far as `into` has room and the file goes, and answers
+    /// how many bytes that is. `InvalidData` exactly where `into` has room for more than the sectors have, and `Medium` where the
+    /// medium fails.
+    pub fn read_contiguous(
+        &mut self,
+        sector: u32,
+        offset: usize,
+        into: &mut [u8],
+    ) -> Result<usize, Error>
+        requires { offset ≤ sector_len_of self.old.tables.version }
+        ensures tables { self.new.tables ≡ self.old.tables }
+        ensures kept { self.new.file ≡ record self.old.file { bytes = self.new.file.bytes; failures = self.new.file.failures } }
+        ensures count { IfOk result (λ n. n ≡ min (length into.old) (self.old.file.len - place self.old.file sector offset)) }
+        ensures ok { IsTrue F.tells → IfOk result (λ n. take n into.new ≡ part self.old.file.bytes (place self.old.file sector offset) n) }
+        ensures rest { IfOk result (λ n. drop n into.new ≡ drop n into.old) }
+        ensures past { sectors_end self.old.file < place self.old.file sector offset + length into.old → IsErrAnd result IsInvalidData × (self.new ≡ self.old) }
+        ensures inside { place self.old.file sector offset + length into.old ≤ sectors_end self.old.file → IfErr result IsMediumError }
+        ensures same { IsTrue F.tells → OnOk result (self.new ≡ self.old) }
+        ensures bytes { IsTrue F.tells → self.new.file.bytes ≡ self.old.file.bytes }
+        ensures counts { IsTrue F.tells → CountsFailure F.read_faults result self.old.file.failures self.new.file.failures }
+    {
+        self.sectors.read_contiguous(sector, offset, into)
+    }
+}
+
+impl<F: Medium, A: Heap> Allocator<F, A> {
+    /// Writes all of `from` from a sector on and through those that follow it in the file. Where the file ends before `offset`, zeros
+    /// fill the gap. `InvalidData` exactly where the sectors have no room for all of it, and `Medium` where the medium fails: then no
+    /// byte has changed but where `from` was to go, and past the old end.
+    pub fn write_contiguous(&mut self, sector: u32, offset: usize, from: &[u8]) -> Result<(), Error>
+        requires within { offset ≤ sector_len_of self.old.tables.version }
+        requires some { 0 < length from.now }
+        ensures tables { self.new.tables ≡ self.old.tables }
+        ensures ok { IsTrue F.tells → OnOk result (self.new.file ≡ record self.old.file {
+          bytes = written self.old.file.bytes (place self.old.file sector offset) from.now;
+          len = max self.old.file.len (place self.old.file sector offset + length from.now);
+          begun = true;
+        }) }
+        ensures kept { self.new.file ≡ record self.old.file {
+          len = self.new.file.len;
+          bytes = self.new.file.bytes;
+          failures = self.new.file.failures;
+          begun = self.new.file.begun;
+        } }
+        ensures len { MatchResult result
+            (λ _. self.new.file.len ≡ max self.old.file.len (place self.old.file sector offset + length from.now))
+            (λ _. self.new.file.len ≡ self.old.file.len) }
+        ensures past { sectors_end self.old.file < place self.old.file sector offset + length from.now → IsErrAnd result IsInvalidData × (self.new ≡ self.old) }
+        ensures inside { place self.old.file sector offset + length from.now ≤ sectors_end self.old.file → IfErr result IsMediumError × (self.new.file.begun ≡ true) }
+        ensures others { IsTrue F.tells → ChangesOnly (place self.old.file sector offset) (length from.now) self.old.file.bytes self.new.file.bytes }
+        ensures sectors { IsTrue F.tells → OtherSectorsStay self.old.file.version (place self.old.file sector offset) (length from.now) self.old.file.bytes self.new.file.bytes }
+        ensures counts { IsTrue F.tells → CountsFailure F.write_faults result self.old.file.failures self.new.file.failures }
+    {
+        self.sectors.write_contiguous(sector, offset, from)
+    }
+
+    /// Has the medium hand on what was written. `Medium` where it fails.
+    pub fn flush(&mut self) -> Result<(), Error>
+        ensures tables { self.new.tables ≡ self.old.tables }
+        ensures ok { IsTrue F.tells → OnOk result (self.new.file ≡ record self.old.file { begun = true }) }
+        ensures kept { self.new.file ≡ record self.old.file { bytes = self.new.file.bytes; failures = self.new.file.failures; begun = true } }
+        ensures bytes { IsTrue F.tells → self.new.file.bytes ≡ self.old.file.bytes }
+        ensures err { IfErr result IsMediumError }
+        ensures counts { IsTrue F.tells → CountsFailure F.write_faults result self.old.file.failures self.new.file.failures }
+    {
+        self.sectors.flush()
+    }
+}
+
+impl<F: ReadMedium, A: Heap> Allocator<F, A> {
+    /// Reads what is there of the bytes from `at` on, as far as `into` has room.
+    pub(crate) fn read_at(&mut self, at: u64, into: &mut [u8]) -> Result<usize, Error>
+        ensures tables { self.new.tables ≡ self.old.tables }
+        ensures kept { self.new.file ≡ record self.old.file { bytes = self.new.file.bytes; failures = self.new.file.failures } }
+        ensures count { IfOk result (λ n. n ≡ min (length into.old) (self.old.file.len - at)) }
+        ensures ok { IsTrue F.tells → IfOk result (λ n. take n into.new ≡ part self.old.file.bytes at n) }
+        ensures rest { IfOk result (λ n. drop n into.new ≡ drop n into.old) }
+        ensures err { IfErr result IsMediumError }
+        ensures same { IsTrue F.tells → OnOk result (self.new ≡ self.old) }
+        ensures bytes { IsTrue F.tells → self.new.file.bytes ≡ self.old.file.bytes }
+        ensures counts { IsTrue F.tells → CountsFailure F.read_faults result self.old.file.failures self.new.file.failures }
+    {
+        self.sectors.read_at(at, into)
+    }
+}
+
+impl<F: Medium, A: Heap> Allocator<F, A> {
+    /// Writes all of `from` at `at`.
+    pub(crate) fn write_at(&mut self, at: u64, from: &[u8]) -> Result<(), Error>
+        requires some { 0 < length from.now }
+        requires inside { at + length from.now ≤ sectors_end self.old.file }
+        ensures tables { self.new.tables ≡ self.old.tables }
+        ensures ok { IsTrue F.tells → OnOk result (self.new.file ≡ record self.old.file {
+          bytes = written self.old.file.bytes at from.now;
+          len = max self.old.file.len (at + length from.now);
+          begun = true;
+        }) }
+        ensures kept { self.new.file ≡ record self.old.file { len = self.new.file.len; bytes = self.new.file.bytes; failures = self.new.file.failures; begun = true } }
+        ensures len { MatchResult result
+            (λ _. self.new.file.len ≡ max self.old.file.len (at + length from.now))
+            (λ e. IsMediumError e × (self.new.file.len ≡ self.old.file.len)) }
+        ensures others { IsTrue F.tells → ChangesOnly at (length from.now) self.old.file.bytes self.new.file.bytes }
+        ensures counts { IsTrue F.tells → CountsFailure F.write_faults result self.old.file.failures self.new.file.failures }
+    {
+        self.sectors.write_at(at, from)
+    }
+}

@@ -1,5 +1,0 @@
-use Rattle.cfb_chains.proofs.ChainView.{chain_found}
-use Rattle.cfb_chains.proofs.alloc.Allocator.open_chain.Goals as goal
-
-pub invariant_of-result-clause-chained : goal.invariant_of-result-clause-chained
-invariant_of-result-clause-chained g c = chain_found _ _ _ c.in_ok-ids.ensures.ok

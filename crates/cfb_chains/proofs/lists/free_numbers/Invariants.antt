@@ -1,5 +1,0 @@
-use Rattle.cfb_chains.specs.Changes.{ListsFree}
-use Rattle.cfb_chains.proofs.lists.free_numbers.Given as goal
-
-abbrev pub invariant-loop-number : goal.invariant-loop-number
-invariant-loop-number g l = record { listed : ListsFree l.number l.free.items l.fat }

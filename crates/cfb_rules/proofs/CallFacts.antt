@@ -1,0 +1,299 @@
+-- Worked examples of calls by path.
+use Rattle.std.proofs.Common.{◌≡◌, ℕ, List, [], ◌∷◌, Bool, true, false, refl, replicate, length, map, inl, lit≤, inr}
+use Rattle.std.specs.Prelude.{codes, Option, Some, None}
+use Rattle.cfb_format.specs.declared.objtype.ObjType.TheVariants.{Storage, Stream}
+use Rattle.cfb_format.specs.Names.{default_cases}
+use Rattle.cfb_format.specs.Path.{names_of_path}
+use Rattle.cfb_rules.specs.Refusal.{not_found, already_exists, invalid_input, not_sound, medium_failed, out_of_memory, failed_earlier}
+use Rattle.cfb_format.specs.Tree.{Tree, nothing, storage, stream}
+use Rattle.cfb_format.specs.Created.{empty_tree}
+use Rattle.cfb_rules.specs.Calls.{Call, create_storage, create_storage_all, create_stream, create_new_stream, remove_storage, remove_storage_all, remove_stream, set_state_bits, set_created_time, set_modified_time, touch, exists, walk, entry, read_storage, walk_storage, Reply, done, flag, entries, one_entry, refused, EntryInfo}
+use Rattle.cfb_rules.specs.Steps.{outcome}
+use Rattle.cfb_rules.specs.CallChanges.{tree_after}
+use Rattle.cfb_rules.specs.CallReplies.{reply_of}
+use Rattle.cfb_rules.specs.StreamCalls.{read, write, seek, set_len, read_to_end, ask_position, from_start, got, count, place, ready, not_done}
+use Rattle.cfb_rules.specs.Runs.{IsLegal, Setting, TreeState, StreamRun, Command, by_path, on_stream, creates_new, replied, streamed, opens}
+
+abbrev run : List Call → Tree → Tree
+run [] tree = tree
+run (call ∷ calls) tree = run calls (tree_after default_cases call tree)
+
+abbrev with_s : Tree
+with_s = run (create_stream (codes "/s") ∷ []) empty_tree
+
+abbrev refusal : Tree → Call → Option Reply
+refusal tree call = elim (outcome default_cases true tree call) [ None ↦ None | Some e ↦ Some (refused e) ]
+
+pub under_stream : refusal with_s (create_stream (codes "/s/x")) ≡ Some (refused invalid_input)
+unfolding names_of_path
+under_stream = refl
+
+pub under_nothing : refusal with_s (create_stream (codes "/s/x/y")) ≡ Some (refused not_found)
+unfolding names_of_path
+under_nothing = refl
+
+pub the_root : refusal with_s (create_storage (codes "/") 0) ≡ Some (refused already_exists)
+unfolding names_of_path
+the_root = refl
+
+pub over_stream : refusal with_s (create_storage (codes "/S") 0) ≡ Some (refused already_exists)
+unfolding names_of_path
+over_stream = refl
+
+pub again : refusal with_s (create_stream (codes "/S")) ≡ None
+unfolding names_of_path
+again = refl
+
+pub wrong_name : refusal with_s (create_storage (codes "/a:b") 0) ≡ Some (refused invalid_input)
+unfolding names_of_path
+wrong_name = refl
+
+pub unsound : outcome default_cases false with_s (remove_stream (codes "/s")) ≡ Some not_sound
+unfolding names_of_path
+unsound = refl
+
+-- a wrong name comes before a parent that is missing
+pub name_first : refusal with_s (create_storage (codes "/t/a:b") 0) ≡ Some (refused invalid_input)
+unfolding names_of_path
+name_first = refl
+
+-- a way that leaves the root comes before all else
+pub path_first : refusal with_s (create_storage (codes "/../s") 0) ≡ Some (refused invalid_input)
+unfolding names_of_path
+path_first = refl
+
+-- the rules come before soundness, which is asked even where nothing would change
+pub rules_first : outcome default_cases false with_s (create_storage (codes "/s") 0) ≡ Some already_exists
+unfolding names_of_path
+rules_first = refl
+
+pub unsound_root : outcome default_cases false with_s (create_storage_all (codes "/") 0) ≡ Some not_sound
+unfolding names_of_path
+unsound_root = refl
+
+pub all_of_root : refusal with_s (create_storage_all (codes "/") 0) ≡ None
+unfolding names_of_path
+all_of_root = refl
+
+-- a stream on the way
+pub all_over_stream : refusal with_s (create_storage_all (codes "/s/x/y") 0) ≡ Some (refused already_exists)
+unfolding names_of_path
+all_over_stream = refl
+
+pub all_names : refusal with_s (create_storage_all (codes "/s/x:/y") 0) ≡ Some (refused invalid_input)
+unfolding names_of_path
+all_names = refl
+
+-- removing: the root, a stream, nothing there
+pub remove_root : refusal with_s (remove_storage (codes "/")) ≡ Some (refused invalid_input)
+unfolding names_of_path
+remove_root = refl
+
+pub remove_wrong_kind : refusal with_s (remove_storage (codes "/s")) ≡ Some (refused invalid_input)
+unfolding names_of_path
+remove_wrong_kind = refl
+
+pub remove_missing : refusal with_s (remove_storage (codes "/t")) ≡ Some (refused not_found)
+unfolding names_of_path
+remove_missing = refl
+
+pub remove_root_as_stream : refusal with_s (remove_stream (codes "/")) ≡ Some (refused invalid_input)
+unfolding names_of_path
+remove_root_as_stream = refl
+
+pub remove_all_of_stream : refusal with_s (remove_storage_all (codes "/s")) ≡ None
+unfolding names_of_path
+remove_all_of_stream = refl
+
+-- in the order 3, 1, 2, then a storage with a stream
+abbrev several : Tree
+several = run (create_stream (codes "/3") ∷ create_stream (codes "/1") ∷ create_stream (codes "/2") ∷ create_storage (codes "/S") 0 ∷ create_stream (codes "/s/k") ∷ []) empty_tree
+
+abbrev paths : Reply → List (List ℕ)
+paths (entries es) = map (λ e. e.path) es
+paths done = []
+paths (flag b) = []
+paths (one_entry e) = e.path ∷ []
+paths (refused e) = []
+
+pub walk_all : paths (reply_of default_cases 0 several walk) ≡ codes "/" ∷ codes "/1" ∷ codes "/2" ∷ codes "/3" ∷ codes "/S" ∷ codes "/S/k" ∷ []
+unfolding names_of_path
+walk_all = refl
+
+pub walk_s : paths (reply_of default_cases 0 several (walk_storage (codes "/s"))) ≡ codes "/S" ∷ codes "/S/k" ∷ []
+unfolding names_of_path
+walk_s = refl
+
+pub read_s : paths (reply_of default_cases 0 several (read_storage (codes "/s"))) ≡ codes "/s/k" ∷ []
+unfolding names_of_path
+read_s = refl
+
+pub walk_removed : paths (reply_of default_cases 0 (run (remove_storage_all (codes "/S") ∷ remove_stream (codes "/2") ∷ []) several) walk) ≡ codes "/" ∷ codes "/1" ∷ codes "/3" ∷ []
+unfolding names_of_path
+walk_removed = refl
+
+-- settings of a storage
+abbrev marked : Tree
+marked = run (create_storage_all (codes "/p/q") 0 ∷ set_state_bits (codes "/p") 7 ∷ set_created_time (codes "/p") 1 ∷ set_modified_time (codes "/p") 2 ∷ touch (codes "/p") 3 ∷ touch (codes "/") 9 ∷ []) empty_tree
+
+pub entry_p : reply_of default_cases 0 marked (entry (codes "/p"))
+    ≡ one_entry (record { name = codes "p"; path = codes "/p"; obj_type = Storage; len = 0; clsid = replicate 16 0; state_bits = 7; created = 1; modified = 3 })
+unfolding names_of_path
+entry_p = refl
+
+pub entry_q : reply_of default_cases 0 marked (exists (codes "p/q/../Q")) ≡ flag true
+unfolding names_of_path
+entry_q = refl
+
+pub root_untouched : marked.root ≡ empty_tree.root
+unfolding names_of_path
+root_untouched = refl
+
+-- names that no path reaches
+abbrev strange : Tree
+strange = record { root = empty_tree.root; objects = stream [] (record { state_bits = 0; len = 0; content = [] }) (stream (codes "..") (record { state_bits = 0; len = 0; content = [] }) nothing) }
+
+pub strange_walk : paths (reply_of default_cases 0 strange walk) ≡ codes "/" ∷ codes "/" ∷ codes "/.." ∷ []
+strange_walk = refl
+
+pub strange_entry : refusal strange (entry (codes "/..")) ≡ Some (refused invalid_input)
+unfolding names_of_path
+strange_entry = refl
+
+pub emptied : tree_after default_cases (remove_storage_all (codes "/")) strange ≡ empty_tree
+unfolding names_of_path
+emptied = refl
+
+-- ---- a run
+
+abbrev setting : Setting
+setting = record { cases = default_cases; stream = record { limit = 0xFFFF_FFFF; sound = true } }
+
+abbrev tree1 : Tree
+tree1 = run (create_storage (codes "/s") 0 ∷ []) empty_tree
+
+abbrev tree2 : Tree
+tree2 = run (create_new_stream (codes "/s/x") ∷ []) tree1
+
+abbrev tree3 : Tree
+tree3 = record {
+  root = empty_tree.root;
+  objects = storage (codes "s") (record { clsid = replicate 16 0; state_bits = 0; created = 0; modified = 0 })
+      (stream (codes "x") (record { state_bits = 0; len = 1; content = codes "a" }) nothing) nothing;
+}
+
+abbrev unfailed : Tree → TreeState
+unfailed tree = record { tree = tree; failed = false }
+
+abbrev state : List ℕ → ℕ → Bool → StreamRun
+state content position pending = record { stream = record { len = length content; content = content; position = position; ahead = 0; pending = pending }; failed = false }
+
+abbrev commands : List Command
+commands = by_path (create_storage (codes "/s") 0)
+    ∷ on_stream creates_new (codes "/s/x") (write (codes "abc") ∷ seek (from_start 1) ∷ read 5 ∷ read 5 ∷ set_len 1 ∷ ask_position ∷ read_to_end ∷ [])
+    ∷ by_path (entry (codes "/S/X")) ∷ []
+
+abbrev x_info : EntryInfo
+x_info = record { name = codes "x"; path = codes "/S/X"; obj_type = Stream; len = 1; clsid = replicate 16 0; state_bits = 0; created = 0; modified = 0 }
+
+pub a_run : IsLegal setting (unfailed empty_tree) commands
+    (replied done
+    ∷ streamed (count 3 ∷ place 1 ∷ got (codes "bc") ∷ got [] ∷ ready ∷ place 1 ∷ got [] ∷ []) None
+    ∷ replied (one_entry x_info) ∷ [])
+    (unfailed tree3)
+unfolding names_of_path
+a_run = (
+  unfailed tree1,
+  inl ((0, (refl, refl)), refl),
+  (
+    unfailed tree3,
+    (
+      refl,
+      record {
+        tree = tree2;
+        opening = (refl, refl);
+        stream = state (codes "a") 1 false;
+        calls_run = (
+          state (codes "abc") 3 true,
+          inl ((3, lit≤ tt, lit≤ tt, lit≤ tt, refl, record { len = refl; content = refl; position = refl; ahead = refl }), refl),
+          (
+            state (codes "abc") 1 true,
+            inl ((refl, record { len = refl; content = refl; position = refl; ahead = refl; pending = λ h. h }), refl),
+            (
+              state (codes "abc") 3 true,
+              inl ((2, lit≤ tt, lit≤ tt, lit≤ tt, refl, record { len = refl; content = refl; position = refl; ahead = refl; pending = λ h. h }), refl),
+              (
+                state (codes "abc") 3 true,
+                inl ((refl, record { len = refl; content = refl; position = refl; ahead = refl; pending = λ h. h }), refl),
+                (
+                  state (codes "a") 1 false,
+                  inl ((refl, record { len = refl; content = refl; position = refl; ahead = refl; pending = λ h. cc }, refl), refl),
+                  (
+                    state (codes "a") 1 false,
+                    inl ((refl, refl), refl),
+                    (
+                      state (codes "a") 1 false,
+                      inl ((refl, record { len = refl; content = refl; position = refl; ahead = refl; pending = λ h. h }), refl),
+                      refl,
+                    ),
+                  ),
+                ),
+              ),
+            ),
+          ),
+        );
+        closes = refl;
+        closed = refl;
+      },
+    ),
+    (unfailed tree3, inl ((0, (refl, refl)), refl), refl),
+  ),
+)
+
+-- ---- a run that breaks off
+
+-- memory is refused once and nothing is changed; then the medium fails in a write, the file is failed, and what comes after is told so
+pub a_broken_run : IsLegal setting (unfailed tree2)
+    (by_path (create_storage (codes "/t") 0)
+    ∷ on_stream opens (codes "/s/X") (write (codes "abc") ∷ ask_position ∷ read 1 ∷ [])
+    ∷ by_path (remove_stream (codes "/s/x")) ∷ by_path walk ∷ [])
+    (replied (refused out_of_memory)
+    ∷ streamed (not_done medium_failed ∷ place 7 ∷ not_done failed_earlier ∷ []) (Some failed_earlier)
+    ∷ replied (refused failed_earlier) ∷ replied done ∷ [])
+    (record { tree = tree1; failed = true })
+unfolding names_of_path
+a_broken_run = (
+  unfailed tree2,
+  inr ((out_of_memory, tt, refl), inl refl),
+  (
+    record { tree = tree1; failed = true },
+    (
+      refl,
+      record {
+        tree = tree2;
+        opening = (refl, refl);
+        stream = record { stream = (state [] 0 false).stream; failed = true };
+        calls_run = (
+          record { stream = (state [] 0 false).stream; failed = true },
+          inr (medium_failed, tt, refl, inr (refl, refl)),
+          (
+            record { stream = (state [] 0 false).stream; failed = true },
+            (refl, tt),
+            (
+              record { stream = (state [] 0 false).stream; failed = true },
+              (refl, refl),
+              refl,
+            ),
+          ),
+        );
+        closes = (refl, refl);
+        closed = tt;
+      },
+    ),
+    (
+      record { tree = tree1; failed = true },
+      (refl, refl),
+      (record { tree = tree1; failed = true }, refl, refl),
+    ),
+  ),
+)

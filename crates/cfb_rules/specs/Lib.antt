@@ -1,0 +1,10 @@
+pub mod Refusal
+pub mod Calls
+pub mod Finding
+pub mod CallRefusals
+pub mod CallChanges
+pub mod CallReplies
+pub mod Steps
+pub mod StreamCalls
+pub mod Runs
+pub mod Laws

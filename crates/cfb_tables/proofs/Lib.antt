@@ -1,0 +1,16 @@
+pub mod Members
+pub mod ChainLemmas
+pub mod WalkLemmas
+pub mod RefusedLemmas
+pub mod SizeLemmas
+pub mod FreeLemmas
+pub mod KeptLemmas
+pub mod TableCounts
+pub mod TakenLemmas
+pub mod PreparedLemmas
+pub mod AttachLemmas
+pub mod UseLemmas
+pub mod FullLemmas
+pub mod CleanLemmas
+pub mod FatLemmas
+pub mod FatLaws

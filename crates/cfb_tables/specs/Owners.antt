@@ -1,0 +1,70 @@
+-- Which numbers of a table are in use, and how that changes as chains grow and are freed.
+use Rattle.std.specs.Prelude.{ℕ, ◌≡◌, ◌≢◌, List, [], ◌∷◌, ◌++◌, nat_eq, Contains}
+use Rattle.std.specs.List.{IsDistinct}
+use Rattle.cfb_format.specs.Bytes.{free_sector}
+use Rattle.cfb_format.specs.Chain.{value}
+use Rattle.cfb_format.specs.Soundness.{KeepsLoose}
+use Rattle.cfb_tables.specs.Changes.{ChangesOnly, IsFreed, IsCut}
+use Rattle.cfb_tables.specs.Tables.{TableState, HasTaken}
+
+-- nothing is used twice, what is used isn't free, and what is loose points to loose numbers alone
+pub record Uses (table used : List ℕ) : Type 0 where
+  pub distinct : IsDistinct nat_eq used
+  pub there : (i : ℕ) → Contains used i → value table i ≢ free_sector
+  pub loose : KeepsLoose table used
+
+-- nothing is loose
+abbrev pub AllUsed : List ℕ → List ℕ → Type 0
+AllUsed table used = (i : ℕ) → value table i ≢ free_sector → Contains used i
+
+-- from one table and what is used of it to the next: what is taken was free, what is given back is free, the rest stays
+pub record UseChanges (old used new used' : List ℕ) : Type 0 where
+  pub distinct : IsDistinct nat_eq used → IsDistinct nat_eq used'
+  pub there : ((i : ℕ) → Contains used i → value old i ≢ free_sector) → (i : ℕ) → Contains used' i → value new i ≢ free_sector
+  pub taken : (i : ℕ) → Contains used' i → (Contains used i → ⊥) → value old i ≡ free_sector
+  pub given_back : (i : ℕ) → Contains used i → (Contains used' i → ⊥) → value new i ≡ free_sector
+  pub stays : (i : ℕ) → (Contains used i → ⊥) → (Contains used' i → ⊥) → value new i ≡ value old i
+
+-- numbers are taken for the owner of xs: a chain is begun (xs empty) or grown, or a table sector is added
+pub record Takes (old new xs more : List ℕ) : Type 0 where
+  pub only : ChangesOnly (xs ++ more) old new
+  pub once : IsDistinct nat_eq more
+  pub fresh : (i : ℕ) → Contains more i → value old i ≡ free_sector
+  pub busy : (i : ℕ) → Contains (xs ++ more) i → value new i ≢ free_sector
+
+-- the owner of xs keeps these and gives the others back: a chain is cut, or freed (xs empty)
+pub record Frees (old new xs gone : List ℕ) : Type 0 where
+  pub only : ChangesOnly (xs ++ gone) old new
+  pub free : (i : ℕ) → Contains gone i → value new i ≡ free_sector
+  pub busy : (i : ℕ) → Contains xs i → value new i ≢ free_sector
+
+-- ---- laws
+
+abbrev pub UsesAreKept : Type 0
+UsesAreKept = (old used new used' : List ℕ) → UseChanges old used new used' → Uses old used → Uses new used'
+
+abbrev pub NothingLooseIsKept : Type 0
+NothingLooseIsKept = (old used new used' : List ℕ) → UseChanges old used new used' → AllUsed old used → AllUsed new used'
+
+abbrev pub UseChangesFollow : Type 0
+UseChangesFollow = (old used mid used' new used'' : List ℕ) → UseChanges old used mid used' → UseChanges mid used' new used'' → UseChanges old used new used''
+
+abbrev pub TakingChanges : Type 0
+TakingChanges = (old new front xs more back : List ℕ) → Takes old new xs more → ((i : ℕ) → Contains (front ++ xs ++ back) i → value old i ≢ free_sector)
+    → UseChanges old (front ++ xs ++ back) new (front ++ (xs ++ more) ++ back)
+
+abbrev pub FreeingChanges : Type 0
+FreeingChanges = (old new front xs gone back : List ℕ) → Frees old new xs gone → IsDistinct nat_eq (front ++ (xs ++ gone) ++ back)
+    → UseChanges old (front ++ (xs ++ gone) ++ back) new (front ++ xs ++ back)
+
+-- what the tables take is taken in this sense, the new FAT sectors and DIFAT sectors among it
+abbrev pub TakenIsTaking : Type 0
+TakenIsTaking = (old new : TableState) (touched more : List ℕ) (taken : HasTaken old new touched more)
+    → Takes old.fat new.fat touched (more ++ taken.fats ++ taken.difats)
+
+-- what is freed is given back
+abbrev pub FreedIsFreeing : Type 0
+FreedIsFreeing = (old new list : List ℕ) → IsFreed list old new → Frees old new [] list
+
+abbrev pub CutIsFreeing : Type 0
+CutIsFreeing = (old new list : List ℕ) (member : ℕ) → IsCut member list old new → Frees old new (member ∷ []) list

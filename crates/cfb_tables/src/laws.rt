@@ -1,0 +1,43 @@
+//! What the definitions promise about each other. None of these functions does anything: each has a law
+//! as its contract.
+ghost use Rattle.cfb_tables.specs.Changes.{ChainsStay, OtherChainsStay, ChainsTurn, MembersAreBusy};
+ghost use Rattle.cfb_tables.specs.Clean.{CleanPointsWithin, TakenIsClean, ExtendedIsClean, FreedIsClean, CutIsClean};
+ghost use Rattle.cfb_tables.specs.Tables.{FullIsTooFew, TooFewIsNoRoom, EnoughIsRoom};
+ghost use Rattle.cfb_tables.specs.Owners.{UsesAreKept, NothingLooseIsKept, UseChangesFollow, TakingChanges, FreeingChanges, TakenIsTaking, FreedIsFreeing, CutIsFreeing};
+
+/// A chain stays while the table changes elsewhere, and turns where one member's value changes.
+pub fn chains_follow_changes()
+    ensures stay { ChainsStay }
+    ensures others { OtherChainsStay }
+    ensures turn { ChainsTurn }
+    ensures busy { MembersAreBusy }
+{}
+
+/// There are too few numbers exactly where the tables have no room, if the FAT covers the file.
+pub fn fullness_is_want_of_room()
+    ensures full { FullIsTooFew }
+    ensures few { TooFewIsNoRoom }
+    ensures enough { EnoughIsRoom }
+{}
+
+/// What is used of a table stays in order while sectors are taken and freed.
+pub fn uses_follow_changes()
+    ensures kept { UsesAreKept }
+    ensures nothing_loose { NothingLooseIsKept }
+    ensures follow { UseChangesFollow }
+    ensures taking { TakingChanges }
+    ensures freeing { FreeingChanges }
+    ensures taken { TakenIsTaking }
+    ensures freed { FreedIsFreeing }
+    ensures cut { CutIsFreeing }
+{}
+
+/// A table in which no number is named twice and no free one is named stays so while sectors are taken and freed, and its
+/// pointers are numbers of it.
+pub fn tables_stay_clean()
+    ensures within { CleanPointsWithin }
+    ensures taken { TakenIsClean }
+    ensures extended { ExtendedIsClean }
+    ensures freed { FreedIsClean }
+    ensures cut { CutIsClean }
+{}

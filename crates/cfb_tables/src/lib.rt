@@ -1,0 +1,8 @@
+//! The tables of chains in memory (MS-CFB 2.3 and 2.5).
+#![tactic(auto)]
+
+pub mod fat;
+pub mod laws;
+pub mod lists;
+pub mod tables;
+pub mod walk;

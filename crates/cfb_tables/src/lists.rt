@@ -1,0 +1,570 @@
+//! The lists that the tables are made of. Each growth of memory is reserved here before anything changes, and what was
+//! reserved for cannot fail.
+ghost use Rattle.std.specs.Prelude.{◌≡◌, ◌≢◌, ℕ, nat_eq, List, Contains, ◌+◌, ◌-◌, ◌*◌, ◌<◌, ◌≤◌, [], ◌∷◌, ◌++◌, length, min, slice_set, IfOk, IfErr, IfSome, IfNone, OnErr, OnOk, vec_len, vec_capacity};
+ghost use Rattle.cfb_format.specs.Bytes.{max_regular_sector, end_of_chain, free_sector, words_per_sector as words_of};
+ghost use Rattle.cfb_format.specs.Chain.{value, IsChain};
+ghost use Rattle.cfb_format.specs.Full.{free_count};
+ghost use Rattle.std.specs.List.{IsDistinct};
+ghost use Rattle.cfb_tables.specs.Changes.{IsNextOf, ListsFree, IsFreed, IsCut};
+ghost use Rattle.cfb_tables.specs.Tables.{TableState, Kept, IsKept, AreSizes, CanHold, TakesNext, IsPrepared, IsTooFew, PassesLimit, HasTaken, Added, Extended, start_of, wiped, tables_of, sizes_of, sizes_after, grown_sizes, numbers_needed as needed, grown, grown_fats, grown_difats};
+ghost use Rattle.cfb_tables.specs.Refused.{Refused, WalkRefused, LastRefused, NextRefused, ExtendRefused};
+
+use crate::walk::{last_of, next_in, walk};
+use cfb_format::consts::{
+    DIFAT_SECTOR, END_OF_CHAIN, FAT_SECTOR, FREE_SECTOR, MAX_REGULAR_SECTOR,
+    NUM_DIFAT_ENTRIES_IN_HEADER,
+};
+use cfb_format::error::Error;
+use cfb_format::version::Version;
+use std::alloc::{Allocator, Global};
+use std::marker::Model;
+
+/// How many words a sector holds.
+pub fn words_per_sector(version: Version) -> usize
+    ensures { result ≡ words_of version }
+{
+    version.sector_len() / 4
+}
+
+/// How many sectors, FAT sectors and DIFAT sectors there are.
+#[derive(Clone, Copy)]
+pub struct Sizes {
+    pub sectors: usize,
+    pub fats: usize,
+    pub difats: usize,
+}
+
+impl Sizes {
+    /// How many numbers past the end one more sector takes.
+    fn numbers_needed(self, version: Version) -> usize
+        requires { AreSizes version self }
+        ensures { result ≡ needed version self }
+    {
+        let words = words_per_sector(version);
+        if self.sectors < self.fats * words {
+            1
+        } else if self.fats < NUM_DIFAT_ENTRIES_IN_HEADER + self.difats * (words - 1) {
+            2
+        } else {
+            3
+        }
+    }
+
+    /// The sizes with one sector more past the end, if the numbers it takes don't pass the limit.
+    fn with_one_more(self, version: Version, limit: usize) -> Option<Sizes>
+        requires are { AreSizes version self }
+        requires limit { limit ≤ max_regular_sector }
+        ensures sizes { IfSome result (λ sizes. sizes ≡ grown_sizes self (needed version self)) }
+        ensures are { IfSome result (λ sizes. AreSizes version sizes) }
+        ensures limited { IfSome result (λ sizes. sizes.sectors ≤ limit) }
+        ensures none { IfNone result (limit - self.sectors < needed version self) }
+    {
+        let numbers = self.numbers_needed(version);
+        if limit.saturating_sub(self.sectors) < numbers {
+            return None;
+        }
+        Some(Sizes {
+            sectors: self.sectors + numbers,
+            fats: if numbers < 2 {
+                self.fats
+            } else {
+                self.fats + 1
+            },
+            difats: if numbers < 3 {
+                self.difats
+            } else {
+                self.difats + 1
+            },
+        })
+    }
+
+    /// The sizes with so many sectors more past the end. `Full` where they would pass the limit.
+    pub fn with_more(self, version: Version, limit: usize, more: usize) -> Result<Sizes, Error>
+        requires are { AreSizes version self }
+        requires limit { limit ≤ max_regular_sector }
+        ensures sizes { IfOk result (λ sizes. sizes ≡ sizes_after version more self) }
+        ensures are { IfOk result (λ sizes. AreSizes version sizes) }
+        ensures limited { IfOk result (λ sizes. (0 < more) → sizes.sectors ≤ limit) }
+        ensures err { IfErr result (Refused ⊥ ⊥ (PassesLimit version limit self more)) }
+    {
+        let mut sizes = self;
+        for turn in 0..more {
+            let _grown = turn;
+            let Some(next) = sizes.with_one_more(version, limit) else {
+                return Err(Error::Full);
+            };
+            sizes = next;
+        }
+        Ok(sizes)
+    }
+}
+
+/// Appends a word, for which there is room, and gives its number.
+fn append<A: Allocator>(fat: &mut Vec<u32, A>, word: u32) -> u32
+    requires room { vec_len fat.old < vec_capacity fat.old }
+    requires short { vec_len fat.old < max_regular_sector }
+    ensures number { result ≡ vec_len fat.old }
+    ensures items { fat.new.items ≡ fat.old.items ++ word ∷ [] }
+    ensures capacity { vec_capacity fat.new ≡ vec_capacity fat.old }
+{
+    let number = fat.len() as u32;
+    fat.push_reserved(word);
+    number
+}
+
+/// Appends so many numbers: the sector that is asked for, and before it a FAT sector and a DIFAT sector where they are
+/// needed.
+fn grow<A: Allocator>(
+    fat: &mut Vec<u32, A>,
+    fat_sectors: &mut Vec<u32, A>,
+    difat_sectors: &mut Vec<u32, A>,
+    numbers: usize,
+) -> u32
+    requires some { 0 < numbers }
+    requires few { numbers < 4 }
+    requires room { vec_len fat.old + numbers ≤ vec_capacity fat.old }
+    requires fat_room { (1 < numbers) → vec_len fat_sectors.old < vec_capacity fat_sectors.old }
+    requires difat_room { (2 < numbers) → vec_len difat_sectors.old < vec_capacity difat_sectors.old }
+    requires short { vec_len fat.old + numbers ≤ max_regular_sector }
+    ensures number { result + 1 ≡ vec_len fat.old + numbers }
+    ensures fat { fat.new.items ≡ fat.old.items ++ grown numbers }
+    ensures fat_sectors { fat_sectors.new.items ≡ fat_sectors.old.items ++ grown_fats numbers (vec_len fat.old) }
+    ensures difat_sectors { difat_sectors.new.items ≡ difat_sectors.old.items ++ grown_difats numbers (vec_len fat.old) }
+    ensures capacity { vec_capacity fat.new ≡ vec_capacity fat.old }
+    ensures fat_capacity { vec_capacity fat_sectors.new ≡ vec_capacity fat_sectors.old }
+    ensures difat_capacity { vec_capacity difat_sectors.new ≡ vec_capacity difat_sectors.old }
+{
+    if numbers < 2 {
+        return append(fat, END_OF_CHAIN);
+    }
+    let number = append(fat, FAT_SECTOR);
+    fat_sectors.push_reserved(number);
+    if numbers < 3 {
+        return append(fat, END_OF_CHAIN);
+    }
+    let number = append(fat, DIFAT_SECTOR);
+    difat_sectors.push_reserved(number);
+    append(fat, END_OF_CHAIN)
+}
+
+/// The numbers that are free, in order.
+fn free_numbers<A: Allocator>(alloc: A, fat: &[u32]) -> Result<Vec<u32, A>, Error>
+    requires short { length fat.now ≤ max_regular_sector }
+    ensures ok { IfOk result (λ free. ListsFree (length fat.now) free.items fat.now) }
+    ensures err { IfErr result (Refused ⊥ Unit ⊥) }
+{
+    let mut free = Vec::new(alloc);
+    for number in 0..fat.len() {
+        if fat[number] == FREE_SECTOR {
+            free.push(number as u32)?;
+        }
+    }
+    Ok(free)
+}
+
+/// The tables, and the numbers that are free, the one freed last at the end.
+#[derive(Drop)]
+pub struct Lists<A: Allocator = Global> {
+    version: Version,
+    max_sectors: u32,
+    fat: Vec<u32, A>,
+    fat_sectors: Vec<u32, A>,
+    difat_sectors: Vec<u32, A>,
+    free: Vec<u32, A>,
+}
+
+impl<A: Allocator> Model for Lists<A> {
+    ghost use Rattle.std.specs.Prelude.{vec_capacity};
+    ghost use Rattle.cfb_tables.specs.Tables.{Kept, IsKept, tables_of};
+
+    ghost Value = { Kept };
+
+    ghost view = { λ l. record {
+      state = tables_of l.version l.max_sectors l.fat.items l.fat_sectors.items l.difat_sectors.items;
+      free = l.free.items;
+      fat_capacity = vec_capacity l.fat;
+      fats_capacity = vec_capacity l.fat_sectors;
+      difats_capacity = vec_capacity l.difat_sectors;
+      free_capacity = vec_capacity l.free;
+    } };
+
+    ghost invariant = { λ l. IsKept (tables_of l.version l.max_sectors l.fat.items l.fat_sectors.items l.difat_sectors.items) l.free.items };
+}
+
+impl<A: Allocator> Lists<A> {
+    /// The tables of a file that was read.
+    pub fn new(
+        alloc: A,
+        version: Version,
+        fat: Vec<u32, A>,
+        fat_sectors: Vec<u32, A>,
+        difat_sectors: Vec<u32, A>,
+    ) -> Result<Lists<A>, Error>
+        requires sizes { AreSizes version (record { sectors = vec_len fat; fats = vec_len fat_sectors; difats = vec_len difat_sectors }) }
+        ensures ok { IfOk result (λ lists. lists.state ≡ tables_of version max_regular_sector fat.items fat_sectors.items difat_sectors.items) }
+        ensures err { IfErr result (Refused ⊥ Unit ⊥) }
+    {
+        let free = free_numbers(alloc, &fat)?;
+        Ok(Lists {
+            version,
+            max_sectors: MAX_REGULAR_SECTOR,
+            fat,
+            fat_sectors,
+            difat_sectors,
+            free,
+        })
+    }
+
+    /// How many sectors, FAT sectors and DIFAT sectors there are.
+    pub fn sizes(&self) -> Sizes
+        ensures sizes { result ≡ sizes_of self.now.state }
+        ensures kept { IsKept self.now.state self.now.free }
+    {
+        Sizes {
+            sectors: self.fat.len(),
+            fats: self.fat_sectors.len(),
+            difats: self.difat_sectors.len(),
+        }
+    }
+
+    /// Reserves the memory for lists of these sizes. `Memory`.
+    fn reserve(&mut self, sizes: Sizes) -> Result<(), Error>
+        ensures ok { OnOk result (CanHold self.new sizes) }
+        ensures rest { self.new ≡ record self.old { fat_capacity = self.new.fat_capacity; fats_capacity = self.new.fats_capacity; difats_capacity = self.new.difats_capacity } }
+        ensures err { IfErr result (Refused ⊥ Unit ⊥) }
+    {
+        self.fat
+            .reserve(sizes.sectors.saturating_sub(self.fat.len()))?;
+        self.fat_sectors
+            .reserve(sizes.fats.saturating_sub(self.fat_sectors.len()))?;
+        self.difat_sectors
+            .reserve(sizes.difats.saturating_sub(self.difat_sectors.len()))?;
+        Ok(())
+    }
+
+    /// How many of so many sectors no free number serves.
+    fn missing(&self, count: usize) -> usize
+        ensures listed { result ≡ count - length self.now.free }
+        ensures free { result ≡ count - free_count self.now.state.fat }
+    {
+        count.saturating_sub(self.free.len())
+    }
+
+    /// Reserves the memory that taking so many sectors needs. `Full` where there are too few numbers, and `Memory`.
+    pub fn prepare(&mut self, count: usize) -> Result<(), Error>
+        ensures ok { OnOk result (IsPrepared self.new count) }
+        ensures sizes { AreSizes self.old.state.version (sizes_of self.old.state) }
+        ensures rest { self.new ≡ record self.old { fat_capacity = self.new.fat_capacity; fats_capacity = self.new.fats_capacity; difats_capacity = self.new.difats_capacity } }
+        ensures err { IfErr result (Refused ⊥ Unit (IsTooFew self.old.state count)) }
+        ensures enough { OnOk result (IsTooFew self.old.state count → ⊥) }
+    {
+        let missing = self.missing(count);
+        let sizes = self
+            .sizes()
+            .with_more(self.version, self.max_sectors as usize, missing)?;
+        self.reserve(sizes)
+    }
+
+    /// Takes a sector, as the only one of a new chain: the one that was freed last, or one past the end, before which the
+    /// tables grow by the sectors that they need.
+    pub fn take_prepared(&mut self) -> u32
+        requires held { (self.old.free ≡ []) → CanHold self.old (grown_sizes (sizes_of self.old.state) (needed self.old.state.version (sizes_of self.old.state))) }
+        requires short { (self.old.free ≡ []) → length self.old.state.fat + needed self.old.state.version (sizes_of self.old.state) ≤ max_regular_sector }
+        ensures next { TakesNext self.old self.new result }
+        ensures kept { IsKept self.old.state self.old.free }
+    {
+        if let Some(sector) = self.free.pop() {
+            self.fat[sector as usize] = END_OF_CHAIN;
+            return sector;
+        }
+        let numbers = self.sizes().numbers_needed(self.version);
+        grow(
+            &mut self.fat,
+            &mut self.fat_sectors,
+            &mut self.difat_sectors,
+            numbers,
+        )
+    }
+
+    /// Lets the last sector of a chain name the next one.
+    pub fn link(&mut self, last: u32, next: u32)
+        requires ended { value self.old.state.fat last ≡ end_of_chain }
+        requires regular { next ≤ max_regular_sector }
+        ensures { self.new ≡ record self.old { state = record self.old.state { fat = slice_set self.old.state.fat last next } } }
+    {
+        self.fat[last as usize] = next;
+    }
+
+    /// Makes a sector in use the last one of its chain.
+    pub fn end(&mut self, last: u32)
+        requires busy { value self.old.state.fat last ≢ free_sector }
+        ensures { self.new ≡ record self.old { state = record self.old.state { fat = slice_set self.old.state.fat last end_of_chain } } }
+    {
+        self.fat[last as usize] = END_OF_CHAIN;
+    }
+
+    /// Reserves the memory that freeing so many sectors needs. `Memory`.
+    pub fn prepare_free(&mut self, count: usize) -> Result<(), Error>
+        ensures ok { OnOk result (length self.new.free + count ≤ self.new.free_capacity) }
+        ensures rest { self.new ≡ record self.old { free_capacity = self.new.free_capacity } }
+        ensures err { IfErr result (Refused ⊥ Unit ⊥) }
+    {
+        self.free.reserve(count)?;
+        Ok(())
+    }
+
+    /// Frees a sector.
+    fn release(&mut self, sector: u32)
+        requires busy { value self.old.state.fat sector ≢ free_sector }
+        requires room { length self.old.free < self.old.free_capacity }
+        ensures { self.new ≡ record self.old { free = self.old.free ++ sector ∷ []; state = record self.old.state { fat = slice_set self.old.state.fat sector free_sector } } }
+    {
+        self.fat[sector as usize] = FREE_SECTOR;
+        self.free.push_reserved(sector);
+    }
+
+    /// Adds so many sectors at the end of a chain, with the memory that was prepared for them, and appends them to the list.
+    pub fn attach_prepared(&mut self, last: u32, count: usize, list: &mut Vec<u32, A>)
+        requires prepared { IsPrepared self.old count }
+        requires sizes { AreSizes self.old.state.version (sizes_of self.old.state) }
+        requires ended { value self.old.state.fat last ≡ end_of_chain }
+        requires regular { last ≤ max_regular_sector }
+        requires room { vec_len list.old + count ≤ vec_capacity list.old }
+        ensures added { Added self.old.state self.new.state last list.old.items list.new.items }
+        ensures count { vec_len list.new ≡ vec_len list.old + count }
+    {
+        let mut end = last;
+        for turn in 0..count {
+            let _taken = turn;
+            let next = self.take_prepared();
+            self.link(end, next);
+            list.push_reserved(next);
+            end = next;
+        }
+    }
+
+    /// Takes so many sectors as a new chain, with the memory that was prepared for them, and lists them.
+    fn take_all_prepared(&mut self, count: usize, list: &mut Vec<u32, A>)
+        requires prepared { IsPrepared self.old count }
+        requires sizes { AreSizes self.old.state.version (sizes_of self.old.state) }
+        requires room { count ≤ vec_capacity list.old }
+        requires empty { list.old.items ≡ [] }
+        ensures taken { HasTaken self.old.state self.new.state [] list.new.items }
+        ensures chain { IsChain self.new.state.fat (start_of list.new.items) list.new.items }
+        ensures count { vec_len list.new ≡ count }
+    {
+        if count > 0 {
+            let first = self.take_prepared();
+            list.push_reserved(first);
+            self.attach_prepared(first, count - 1, list);
+        }
+    }
+
+    /// Frees these sectors.
+    pub fn free_all(&mut self, list: &[u32])
+        requires busy { (i : ℕ) → Contains list.now i → value self.old.state.fat i ≢ free_sector }
+        requires once { IsDistinct nat_eq list.now }
+        requires room { length self.old.free + length list.now ≤ self.old.free_capacity }
+        ensures { self.new ≡ record self.old { free = self.old.free ++ list.now; state = record self.old.state { fat = wiped self.old.state.fat list.now } } }
+    {
+        for sector in list {
+            self.release(*sector);
+        }
+    }
+
+    /// Takes a sector, as the only one of a new chain. `Full` and `Memory`.
+    pub fn take(&mut self) -> Result<u32, Error>
+        ensures sizes { AreSizes self.old.state.version (sizes_of self.old.state) }
+        ensures taken { IfOk result (λ x. HasTaken self.old.state self.new.state [] (x ∷ [])) }
+        ensures chain { IfOk result (λ x. IsChain self.new.state.fat x (x ∷ [])) }
+        ensures enough { OnOk result (IsTooFew self.old.state 1 → ⊥) }
+        ensures unchanged { OnErr result (self.new.state ≡ self.old.state) }
+        ensures err { IfErr result (Refused ⊥ Unit (IsTooFew self.old.state 1)) }
+    {
+        self.prepare(1)?;
+        Ok(self.take_prepared())
+    }
+
+    /// Adds a sector behind the last one of a chain. `Full` and `Memory`.
+    pub fn attach(&mut self, last: u32) -> Result<u32, Error>
+        requires ended { value self.old.state.fat last ≡ end_of_chain }
+        requires regular { last ≤ max_regular_sector }
+        ensures taken { IfOk result (λ x. HasTaken self.old.state self.new.state (last ∷ []) (x ∷ [])) }
+        ensures chain { IfOk result (λ x. IsChain self.new.state.fat last (last ∷ x ∷ [])) }
+        ensures enough { OnOk result (IsTooFew self.old.state 1 → ⊥) }
+        ensures unchanged { OnErr result (self.new.state ≡ self.old.state) }
+        ensures err { IfErr result (Refused ⊥ Unit (IsTooFew self.old.state 1)) }
+    {
+        let sector = self.take()?;
+        self.link(last, sector);
+        Ok(sector)
+    }
+
+    /// Adds a sector at the end of the chain from `start`. `InvalidData` where there is no such chain and where it is empty,
+    /// `Full` and `Memory`.
+    pub fn extend(&mut self, start: u32) -> Result<u32, Error>
+        ensures ok { IfOk result (λ x. Extended self.old.state self.new.state start (x ∷ [])) }
+        ensures enough { OnOk result (IsTooFew self.old.state 1 → ⊥) }
+        ensures unchanged { OnErr result (self.new.state ≡ self.old.state) }
+        ensures err { IfErr result (ExtendRefused self.old.state start 1) }
+    {
+        let last = self.last(start)?;
+        let sector = self.attach(last)?;
+        Ok(sector)
+    }
+
+    /// The sector that comes after this one in its chain, or END. `InvalidData` where the sector or what its word names is no
+    /// sector of the table.
+    pub fn next(&self, sector: u32) -> Result<u32, Error>
+        ensures ok { IfOk result (λ next. IsNextOf self.now.state.fat sector next) }
+        ensures err { IfErr result (NextRefused self.now.state.fat sector) }
+    {
+        next_in(&self.fat, sector)
+    }
+
+    /// Adds so many sectors behind the last one of a chain, and gives their numbers. `Full` and `Memory`.
+    pub fn attach_by(&mut self, alloc: A, last: u32, count: usize) -> Result<Vec<u32, A>, Error>
+        requires ended { value self.old.state.fat last ≡ end_of_chain }
+        requires regular { last ≤ max_regular_sector }
+        ensures taken { IfOk result (λ list. HasTaken self.old.state self.new.state (last ∷ []) list.items) }
+        ensures chain { IfOk result (λ list. IsChain self.new.state.fat last (last ∷ list.items)) }
+        ensures count { IfOk result (λ list. vec_len list ≡ count) }
+        ensures enough { OnOk result (IsTooFew self.old.state count → ⊥) }
+        ensures unchanged { OnErr result (self.new.state ≡ self.old.state) }
+        ensures err { IfErr result (Refused ⊥ Unit (IsTooFew self.old.state count)) }
+    {
+        let mut list = Vec::with_capacity(alloc, count)?;
+        self.prepare(count)?;
+        self.attach_prepared(last, count, &mut list);
+        Ok(list)
+    }
+
+    /// Takes so many sectors, as a new chain, and gives their numbers. `Full` and `Memory`.
+    pub fn take_by(&mut self, alloc: A, count: usize) -> Result<Vec<u32, A>, Error>
+        ensures taken { IfOk result (λ list. HasTaken self.old.state self.new.state [] list.items) }
+        ensures chain { IfOk result (λ list. IsChain self.new.state.fat (start_of list.items) list.items) }
+        ensures count { IfOk result (λ list. vec_len list ≡ count) }
+        ensures enough { OnOk result (IsTooFew self.old.state count → ⊥) }
+        ensures unchanged { OnErr result (self.new.state ≡ self.old.state) }
+        ensures err { IfErr result (Refused ⊥ Unit (IsTooFew self.old.state count)) }
+    {
+        let mut list = Vec::with_capacity(alloc, count)?;
+        self.prepare(count)?;
+        self.take_all_prepared(count, &mut list);
+        Ok(list)
+    }
+
+    /// Adds so many sectors at the end of the chain from `start`, and gives their numbers. `InvalidData` where there is no
+    /// such chain and where it is empty, `Full` and `Memory`.
+    pub fn extend_by(&mut self, alloc: A, start: u32, count: usize) -> Result<Vec<u32, A>, Error>
+        ensures ok { IfOk result (λ list. Extended self.old.state self.new.state start list.items) }
+        ensures count { IfOk result (λ list. vec_len list ≡ count) }
+        ensures enough { OnOk result (IsTooFew self.old.state count → ⊥) }
+        ensures unchanged { OnErr result (self.new.state ≡ self.old.state) }
+        ensures err { IfErr result (ExtendRefused self.old.state start count) }
+    {
+        let last = self.last(start)?;
+        let list = self.attach_by(alloc, last, count)?;
+        Ok(list)
+    }
+
+    /// The sectors of the chain from `start`. `InvalidData` where there is no such chain, and `Memory`.
+    pub fn chain(&self, alloc: A, start: u32) -> Result<Vec<u32, A>, Error>
+        ensures ok { IfOk result (λ list. IsChain self.now.state.fat start list.items) }
+        ensures err { IfErr result (WalkRefused self.now.state.fat start) }
+    {
+        walk(alloc, &self.fat, start)
+    }
+
+    /// The last sector of the chain from `start`. `InvalidData` where there is no such chain and where it is empty.
+    pub fn last(&self, start: u32) -> Result<u32, Error>
+        ensures ok { IfOk result (λ last. (front : List ℕ) × IsChain self.now.state.fat start (front ++ last ∷ [])) }
+        ensures err { IfErr result (LastRefused self.now.state.fat start) }
+    {
+        last_of(&self.fat, start)
+    }
+
+    /// The sectors behind this one in its chain.
+    fn behind(&self, alloc: A, sector: u32) -> Result<Vec<u32, A>, Error>
+        requires below { sector < length self.now.state.fat }
+        ensures ok { IfOk result (λ list. IsChain self.now.state.fat (value self.now.state.fat sector) list.items) }
+        ensures err { IfErr result (WalkRefused self.now.state.fat (value self.now.state.fat sector)) }
+        ensures short { length self.now.state.fat ≤ max_regular_sector }
+    {
+        walk(alloc, &self.fat, self.fat[sector as usize])
+    }
+
+    /// Frees the chain from `start`, and gives the numbers that it had. `InvalidData` where there is no such chain, and
+    /// `Memory`.
+    pub fn free(&mut self, alloc: A, start: u32) -> Result<Vec<u32, A>, Error>
+        ensures ok { IfOk result (λ list. IsChain self.old.state.fat start list.items) }
+        ensures freed { IfOk result (λ list. IsFreed list.items self.old.state.fat self.new.state.fat) }
+        ensures rest { self.new.state ≡ record self.old.state { fat = self.new.state.fat } }
+        ensures unchanged { OnErr result (self.new.state ≡ self.old.state) }
+        ensures err { IfErr result (WalkRefused self.old.state.fat start) }
+    {
+        let list = self.chain(alloc, start)?;
+        self.prepare_free(list.len())?;
+        self.free_all(&list);
+        Ok(list)
+    }
+
+    /// Ends a chain at this sector, and frees the ones behind it, whose numbers it gives. `InvalidData` where no chain goes
+    /// on from the sector, and `Memory`.
+    pub fn free_after(&mut self, alloc: A, sector: u32) -> Result<Vec<u32, A>, Error>
+        requires below { sector < length self.old.state.fat }
+        ensures ok { IfOk result (λ list. IsChain self.old.state.fat (value self.old.state.fat sector) list.items) }
+        ensures cut { IfOk result (λ list. IsCut sector list.items self.old.state.fat self.new.state.fat) }
+        ensures rest { self.new.state ≡ record self.old.state { fat = self.new.state.fat } }
+        ensures unchanged { OnErr result (self.new.state ≡ self.old.state) }
+        ensures err { IfErr result (WalkRefused self.old.state.fat (value self.old.state.fat sector)) }
+    {
+        let list = self.behind(alloc, sector)?;
+        self.prepare_free(list.len())?;
+        self.end(sector);
+        self.free_all(&list);
+        Ok(list)
+    }
+
+    /// Lets the file grow to so many sectors, and to no more.
+    pub fn set_max_sectors(&mut self, max_sectors: u32)
+        ensures { self.new ≡ record self.old { state = record self.old.state { max_sectors = min max_sectors max_regular_sector } } }
+    {
+        self.max_sectors = max_sectors.min(MAX_REGULAR_SECTOR);
+    }
+
+    /// The value of each sector.
+    pub fn fat(&self) -> &[u32]
+        ensures { result.now ≡ self.now.state.fat }
+    {
+        &self.fat
+    }
+
+    /// The FAT sectors, in order.
+    pub fn fat_sectors(&self) -> &[u32]
+        ensures { result.now ≡ self.now.state.fat_sectors }
+    {
+        &self.fat_sectors
+    }
+
+    /// The DIFAT sectors, in order.
+    pub fn difat_sectors(&self) -> &[u32]
+        ensures { result.now ≡ self.now.state.difat_sectors }
+    {
+        &self.difat_sectors
+    }
+
+    /// The version of the file.
+    pub fn version(&self) -> Version
+        ensures { result ≡ self.now.state.version }
+    {
+        self.version
+    }
+
+    /// How many sectors the file may grow to.
+    pub fn max_sectors(&self) -> u32
+        ensures { result ≡ self.now.state.max_sectors }
+    {
+        self.max_sectors
+    }
+}

@@ -1,0 +1,226 @@
+//! The tables of a file in memory: the value of each sector, the FAT sectors and the DIFAT sectors (MS-CFB 2.3 and 2.5). A
+//! change is made whole: what can be refused is refused before it begins.
+ghost use Rattle.std.specs.Prelude.{◌≡◌, ◌≢◌, ℕ, ◌-◌, ◌<◌, ◌≤◌, [], ◌∷◌, ◌++◌, List, length, min, IfOk, IfErr, OnErr, OnOk, vec_len};
+ghost use Rattle.cfb_format.specs.Bytes.{max_regular_sector, end_of_chain};
+ghost use Rattle.cfb_format.specs.Chain.{IsChain, value};
+ghost use Rattle.cfb_tables.specs.Changes.{IsNextOf, IsFreed, IsCut};
+ghost use Rattle.cfb_tables.specs.Tables.{AreSizes, HasTaken, Extended, IsTooFew, sizes_of, start_of, tables_of};
+ghost use Rattle.cfb_tables.specs.Refused.{Refused, WalkRefused, LastRefused, NextRefused, ExtendRefused};
+
+use crate::lists::Lists;
+use cfb_format::error::Error;
+use cfb_format::version::Version;
+use std::alloc::{Allocator, Global};
+use std::marker::Model;
+
+/// The tables of a file. The number that was freed last is taken first, and after reading the greatest free one.
+#[derive(Drop)]
+pub struct Tables<A: Allocator = Global> {
+    lists: Lists<A>,
+}
+
+impl<A: Allocator> Model for Tables<A> {
+    ghost use Rattle.cfb_tables.specs.Tables.{TableState};
+
+    ghost Value = { TableState };
+
+    ghost view = { λ t. t.lists.state };
+}
+
+impl<A: Allocator> Tables<A> {
+    /// The tables of a file that was read: the value of each sector, the FAT sectors and the DIFAT sectors in order. The file
+    /// may grow to the greatest number of sectors. `Memory`.
+    pub fn new(
+        alloc: A,
+        version: Version,
+        fat: Vec<u32, A>,
+        fat_sectors: Vec<u32, A>,
+        difat_sectors: Vec<u32, A>,
+    ) -> Result<Tables<A>, Error>
+        requires sizes { AreSizes version (record { sectors = vec_len fat; fats = vec_len fat_sectors; difats = vec_len difat_sectors }) }
+        ensures ok { IfOk result (λ tables. tables ≡ tables_of version max_regular_sector fat.items fat_sectors.items difat_sectors.items) }
+        ensures err { IfErr result (Refused ⊥ Unit ⊥) }
+    {
+        let lists = Lists::new(alloc, version, fat, fat_sectors, difat_sectors)?;
+        Ok(Tables { lists })
+    }
+
+    /// How many sectors there are.
+    pub fn len(&self) -> usize
+        ensures len { result ≡ length self.now.fat }
+        ensures sizes { AreSizes self.now.version (sizes_of self.now) }
+    {
+        self.lists.sizes().sectors
+    }
+
+    /// The version of the file.
+    pub fn version(&self) -> Version
+        ensures { result ≡ self.now.version }
+    {
+        self.lists.version()
+    }
+
+    /// How many sectors the file may grow to.
+    pub fn max_sectors(&self) -> u32
+        ensures { result ≡ self.now.max_sectors }
+    {
+        self.lists.max_sectors()
+    }
+
+    /// Lets the file grow to so many sectors, and to no more. No number above the greatest regular one is taken.
+    pub fn set_max_sectors(&mut self, max_sectors: u32)
+        ensures { self.new ≡ record self.old { max_sectors = min max_sectors max_regular_sector } }
+    {
+        self.lists.set_max_sectors(max_sectors);
+    }
+
+    /// The value of each sector (MS-CFB 2.3).
+    pub fn fat(&self) -> &[u32]
+        ensures { result.now ≡ self.now.fat }
+    {
+        self.lists.fat()
+    }
+
+    /// The FAT sectors, in order.
+    pub fn fat_sectors(&self) -> &[u32]
+        ensures { result.now ≡ self.now.fat_sectors }
+    {
+        self.lists.fat_sectors()
+    }
+
+    /// The DIFAT sectors, in order (MS-CFB 2.5).
+    pub fn difat_sectors(&self) -> &[u32]
+        ensures { result.now ≡ self.now.difat_sectors }
+    {
+        self.lists.difat_sectors()
+    }
+
+    /// The sectors of the chain from `start`, in order (MS-CFB 2.3). `InvalidData` where there is no such chain, and `Memory`.
+    pub fn chain(&self, alloc: A, start: u32) -> Result<Vec<u32, A>, Error>
+        ensures ok { IfOk result (λ list. IsChain self.now.fat start list.items) }
+        ensures err { IfErr result (WalkRefused self.now.fat start) }
+    {
+        self.lists.chain(alloc, start)
+    }
+
+    /// The last sector of the chain from `start`. `InvalidData` where there is no such chain and where it is empty.
+    pub fn last(&self, start: u32) -> Result<u32, Error>
+        ensures ok { IfOk result (λ last. (front : List ℕ) × IsChain self.now.fat start (front ++ last ∷ [])) }
+        ensures err { IfErr result (LastRefused self.now.fat start) }
+    {
+        self.lists.last(start)
+    }
+
+    /// Takes a sector, as the only one of a new chain: a free one if there is one, and else one past the end, before which
+    /// the tables grow where they are full (MS-CFB 2.3 and 2.5). `Full` where there is no number for them, and `Memory`; the
+    /// tables then stay as they were.
+    pub fn take(&mut self) -> Result<u32, Error>
+        ensures taken { IfOk result (λ x. HasTaken self.old self.new [] (x ∷ [])) }
+        ensures chain { IfOk result (λ x. IsChain self.new.fat x (x ∷ [])) }
+        ensures enough { OnOk result (IsTooFew self.old 1 → ⊥) }
+        ensures unchanged { OnErr result (self.new ≡ self.old) }
+        ensures err { IfErr result (Refused ⊥ Unit (IsTooFew self.old 1)) }
+    {
+        self.lists.take()
+    }
+
+    /// Takes so many sectors, as a new chain, and gives their numbers: none for 0, and then nothing changes. `Full` where there
+    /// are too few numbers, and `Memory`; the tables then stay as they were.
+    pub fn take_by(&mut self, alloc: A, count: usize) -> Result<Vec<u32, A>, Error>
+        ensures taken { IfOk result (λ list. HasTaken self.old self.new [] list.items) }
+        ensures chain { IfOk result (λ list. IsChain self.new.fat (start_of list.items) list.items) }
+        ensures count { IfOk result (λ list. vec_len list ≡ count) }
+        ensures enough { OnOk result (IsTooFew self.old count → ⊥) }
+        ensures unchanged { OnErr result (self.new ≡ self.old) }
+        ensures err { IfErr result (Refused ⊥ Unit (IsTooFew self.old count)) }
+    {
+        self.lists.take_by(alloc, count)
+    }
+
+    /// Adds a sector behind the last one of a chain. `Full` where there is no number for it, and `Memory`; the tables then stay
+    /// as they were.
+    pub fn attach(&mut self, last: u32) -> Result<u32, Error>
+        requires ended { value self.old.fat last ≡ end_of_chain }
+        requires regular { last ≤ max_regular_sector }
+        ensures taken { IfOk result (λ x. HasTaken self.old self.new (last ∷ []) (x ∷ [])) }
+        ensures chain { IfOk result (λ x. IsChain self.new.fat last (last ∷ x ∷ [])) }
+        ensures enough { OnOk result (IsTooFew self.old 1 → ⊥) }
+        ensures unchanged { OnErr result (self.new ≡ self.old) }
+        ensures err { IfErr result (Refused ⊥ Unit (IsTooFew self.old 1)) }
+    {
+        self.lists.attach(last)
+    }
+
+    /// Adds a sector at the end of the chain from `start`. `InvalidData` where there is no such chain and where it is empty,
+    /// `Full` where there is no number for it, and `Memory`; the tables then stay as they were.
+    pub fn extend(&mut self, start: u32) -> Result<u32, Error>
+        ensures ok { IfOk result (λ x. Extended self.old self.new start (x ∷ [])) }
+        ensures enough { OnOk result (IsTooFew self.old 1 → ⊥) }
+        ensures unchanged { OnErr result (self.new ≡ self.old) }
+        ensures err { IfErr result (ExtendRefused self.old start 1) }
+    {
+        self.lists.extend(start)
+    }
+
+    /// The sector that comes after this one in its chain, or END (MS-CFB 2.3). `InvalidData` where the sector or what its word
+    /// names is no sector of the file.
+    pub fn next(&self, sector: u32) -> Result<u32, Error>
+        ensures ok { IfOk result (λ next. IsNextOf self.now.fat sector next) }
+        ensures err { IfErr result (NextRefused self.now.fat sector) }
+    {
+        self.lists.next(sector)
+    }
+
+    /// Adds so many sectors behind the last one of a chain, and gives their numbers. `Full` where there are too few numbers,
+    /// and `Memory`; the tables then stay as they were.
+    pub fn attach_by(&mut self, alloc: A, last: u32, count: usize) -> Result<Vec<u32, A>, Error>
+        requires ended { value self.old.fat last ≡ end_of_chain }
+        requires regular { last ≤ max_regular_sector }
+        ensures taken { IfOk result (λ list. HasTaken self.old self.new (last ∷ []) list.items) }
+        ensures chain { IfOk result (λ list. IsChain self.new.fat last (last ∷ list.items)) }
+        ensures count { IfOk result (λ list. vec_len list ≡ count) }
+        ensures enough { OnOk result (IsTooFew self.old count → ⊥) }
+        ensures unchanged { OnErr result (self.new ≡ self.old) }
+        ensures err { IfErr result (Refused ⊥ Unit (IsTooFew self.old count)) }
+    {
+        self.lists.attach_by(alloc, last, count)
+    }
+
+    /// Adds so many sectors at the end of the chain from `start`, and gives their numbers. `InvalidData` where there is no
+    /// such chain and where it is empty, `Full` where there are too few numbers, and `Memory`; the tables then stay as they
+    /// were.
+    pub fn extend_by(&mut self, alloc: A, start: u32, count: usize) -> Result<Vec<u32, A>, Error>
+        ensures ok { IfOk result (λ list. Extended self.old self.new start list.items) }
+        ensures count { IfOk result (λ list. vec_len list ≡ count) }
+        ensures enough { OnOk result (IsTooFew self.old count → ⊥) }
+        ensures unchanged { OnErr result (self.new ≡ self.old) }
+        ensures err { IfErr result (ExtendRefused self.old start count) }
+    {
+        self.lists.extend_by(alloc, start, count)
+    }
+
+    /// Frees the chain from `start`, and gives the numbers that it had. `InvalidData` where there is no such chain, and
+    /// `Memory`; the tables then stay as they were.
+    pub fn free(&mut self, alloc: A, start: u32) -> Result<Vec<u32, A>, Error>
+        ensures ok { IfOk result (λ list. IsChain self.old.fat start list.items) }
+        ensures freed { IfOk result (λ list. IsFreed list.items self.old.fat self.new.fat) }
+        ensures rest { self.new ≡ record self.old { fat = self.new.fat } }
+        ensures unchanged { OnErr result (self.new ≡ self.old) }
+        ensures err { IfErr result (WalkRefused self.old.fat start) }
+    {
+        self.lists.free(alloc, start)
+    }
+
+    /// Ends a chain at this sector, and frees the ones behind it, whose numbers it gives. `InvalidData` where no chain goes
+    /// on from the sector, and `Memory`; the tables then stay as they were.
+    pub fn free_after(&mut self, alloc: A, sector: u32) -> Result<Vec<u32, A>, Error>
+        requires below { sector < length self.old.fat }
+        ensures ok { IfOk result (λ list. IsChain self.old.fat (value self.old.fat sector) list.items) }
+        ensures cut { IfOk result (λ list. IsCut sector list.items self.old.fat self.new.fat) }
+        ensures rest { self.new ≡ record self.old { fat = self.new.fat } }
+        ensures unchanged { OnErr result (self.new ≡ self.old) }
+        ensures err { IfErr result (WalkRefused self.old.fat (value self.old.fat sector)) }
+    {
+        self.lists.free_after(alloc, sector)
+    }
+}
