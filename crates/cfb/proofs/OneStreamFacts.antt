@@ -15,8 +15,8 @@ use Rattle.cfb_format.specs.Names.{utf16_units, is_forbidden, is_valid_name}
 use Rattle.cfb_format.specs.DirectoryEntry.{Entry, EntryFits, IsValidEntry, IsEntry, IsStrictEntry, AcceptsEntry, entry_bytes, slot_at, unallocated_entry}
 use Rattle.cfb_format.specs.Reading.{Reading, Outline, no_more, stream_at}
 use Rattle.cfb_format.specs.Created.{created_header}
-use Rattle.cfb_format.proofs.EntryBack.{entry_read_back}
-use Rattle.cfb_format.proofs.Utf16Back.{length-unit_bytes}
+use Rattle.cfb_codecs.proofs.EntryBack.{entry_read_back}
+use Rattle.cfb_codecs.proofs.Utf16Back.{length-unit_bytes}
 use Rattle.cfb.specs.OneStream.{OneStream, sectors_for, content_sectors, start_for, used_fat, all_fat_words, stream_entry, second_entry, child_of, root_with, entries_with, header_sector, fat_bytes, directory_bytes, IsServedLen, IsServed}
 use Rattle.cfb.proofs.ChainedFat.{length-word_bytes, all-replicate, used-length}
 

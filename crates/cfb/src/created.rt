@@ -7,9 +7,9 @@ ghost use Rattle.cfb_format.specs.Medium.{part, FailsBy};
 ghost use Rattle.cfb_format.specs.Header.{header_bytes};
 ghost use Rattle.cfb_format.specs.Created.{created_bytes, created_header as header_of};
 
+use cfb_codecs::direntry::DirEntry;
 use cfb_format::bytes::{put, put_words};
 use cfb_format::consts;
-use cfb_format::direntry::DirEntry;
 use cfb_format::error::Error;
 use cfb_format::header::Header;
 use cfb_format::medium::{Medium, MediumFault};

@@ -4,14 +4,14 @@ ghost use Rattle.std.specs.List.{list_all};
 ghost use Rattle.cfb_format.specs.Bytes.{sector_len, words_per_sector};
 ghost use Rattle.cfb_format.specs.Names.{is_valid_name};
 ghost use Rattle.cfb_format.specs.DirectoryEntry.{entry_bytes, unallocated_entry};
-ghost use Rattle.cfb_format.specs.EntryModel.{entry_of};
+ghost use Rattle.cfb_codecs.specs.EntryModel.{entry_of};
 ghost use Rattle.cfb.specs.OneStream.{OneStream, IsServed, IsServedLen, IsServedName, stream_entry, second_entry, root_with, child_of};
 
+use cfb_codecs::direntry::DirEntry;
+use cfb_codecs::timestamp::Timestamp;
 use cfb_format::consts;
-use cfb_format::direntry::DirEntry;
 use cfb_format::error::Error;
 use cfb_format::objtype::ObjType;
-use cfb_format::timestamp::Timestamp;
 use cfb_format::version::Version;
 use std::alloc::{Allocator, Global};
 use std::marker::Model;
@@ -27,7 +27,7 @@ pub struct HeldStream<A: Allocator = Global> {
 
 impl<A: Allocator> Model for HeldStream<A> {
     ghost use Rattle.std.specs.Prelude.{◌≡◌, ◌≤◌};
-    ghost use Rattle.cfb_format.specs.EntryModel.{entry_of};
+    ghost use Rattle.cfb_codecs.specs.EntryModel.{entry_of};
     ghost use Rattle.cfb.specs.OneStream.{OneStream, IsServedName, stream_entry, stream_of};
 
     ghost Value = { OneStream };

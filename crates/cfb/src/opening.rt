@@ -11,8 +11,9 @@ ghost use Rattle.cfb.specs.Head.{IsHead, IsLaidOut, IsDirectoryWith, HasNoStream
 use crate::created::{PIECES, lay_out_header};
 use crate::held::{HeldStream, stream_of_entry};
 use crate::layout::{directory_sector, lay_out_fat, sector_buffer, sectors_for};
+use cfb_codecs::direntry::DirEntry;
+use cfb_codecs::laws as entry_laws;
 use cfb_format::bytes::put;
-use cfb_format::direntry::DirEntry;
 use cfb_format::error::{Detail, Error};
 use cfb_format::header::Header;
 use cfb_format::medium::{MediumFault, ReadMedium};
@@ -161,7 +162,7 @@ fn held_in<A: Allocator>(
     ensures found { IfOk result (λ held. (one : Option OneStream) → IsServed version one → slot.now ≡ entry_bytes (second_entry one) → one ≡ held) }
     ensures err { IfErr result (λ e. e ≡ Error.Memory) }
 {
-    laws::entry_is_read_back();
+    entry_laws::entry_is_read_back();
     match DirEntry::read_from(alloc, slot, version, Validation::Strict) {
         Ok(entry) => Ok(stream_of_entry(version, entry)),
         Err(Error::InvalidData(_)) => Ok(None),
@@ -215,7 +216,7 @@ pub fn read_held<F: ReadMedium, A: Allocator + Clone>(
     ensures calm { IsTrue F.tells → OnOk result (F.failures medium.new ≡ F.failures medium.old) }
     ensures err { IsTrue F.tells → IfErr result (HoldsNoOne F.read_faults head.now.version (F.bytes medium.old)) }
 {
-    laws::entry_is_read_back();
+    entry_laws::entry_is_read_back();
     let mut found = sector_buffer(alloc.clone()?, head.version)?;
     read_piece(medium, 2, &head.first, &mut found)?;
     let held = match stream_in(alloc.clone()?, head.version, &found) {

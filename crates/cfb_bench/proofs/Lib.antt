@@ -1,4 +1,1 @@
-mod Counts
-mod Refusal
-mod Writes
 mod Reopening

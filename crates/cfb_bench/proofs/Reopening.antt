@@ -13,7 +13,7 @@ use Rattle.cfb_format.specs.Created.{created_bytes, created_header}
 use Rattle.cfb.specs.Files.{FileState, IsAsCreated}
 use Rattle.cfb.specs.Laws.{CreatedHoldsNone}
 use Rattle.cfb.specs.Opening.{HasHead, OpeningAnswers}
-use Rattle.cfb_bench.specs.Faults.{IsWantOfMemory}
+use Rattle.cfb_media.specs.Faults.{IsWantOfMemory}
 
 has_length : (version : Version) (bytes : List ℕ) → length bytes ≡ 3 * sector_len version → HasLength version bytes
 has_length V3 bytes e = record { header = omega arith; sector = omega arith; most = omega arith }

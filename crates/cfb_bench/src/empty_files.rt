@@ -1,7 +1,7 @@
 //! Files without objects: made, opened, and refused.
-use crate::media::{Counting, Failing, Kind, Sip, Stuck};
-use crate::refusing::Refusing;
 use cfb::{CompoundFile, Error, MediumFault, MemoryMedium, Version};
+use cfb_media::media::{Counting, Failing, Kind, Sip, Stuck};
+use cfb_media::refusing::Refusing;
 use std::alloc::{Allocator, Global};
 use std::test::Fail;
 

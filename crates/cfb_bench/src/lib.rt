@@ -1,14 +1,12 @@
-//! Test media, vectors and tests that cross the crates.
+//! Vectors, and tests that cross the crates.
 #![tactic(auto)]
 
 #[cfg(test)]
 mod empty_files;
-pub mod media;
 #[cfg(test)]
 mod one_stream;
 #[cfg(test)]
 mod refusals;
-pub mod refusing;
 #[cfg(test)]
 mod reopened;
 #[cfg(test)]

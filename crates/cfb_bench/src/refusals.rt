@@ -1,11 +1,11 @@
 //! Each request for memory of a call refused in turn: names, letters, paths, entries and runs.
-use crate::refusing::Refusing;
+use cfb_codecs::direntry::DirEntry;
+use cfb_codecs::path::{self, CaseMapper};
 use cfb_format::consts::{DIR_ENTRY_LEN, END_OF_CHAIN, Run, prettify};
-use cfb_format::direntry::DirEntry;
 use cfb_format::error::Error;
-use cfb_format::path::{self, CaseMapper};
 use cfb_format::validate::Validation;
 use cfb_format::version::Version;
+use cfb_media::refusing::Refusing;
 use std::alloc::Allocator;
 use std::cmp::Ordering;
 use std::test::Fail;

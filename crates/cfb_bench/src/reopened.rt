@@ -1,7 +1,7 @@
 //! Files with one stream, opened again.
-use crate::media::{Counting, Failing, Kind};
-use crate::refusing::Refusing;
 use cfb::{CompoundFile, Error, MediumFault, MemoryMedium, Version};
+use cfb_media::media::{Counting, Failing, Kind};
+use cfb_media::refusing::Refusing;
 use std::alloc::{Allocator, Global};
 use std::test::Fail;
 

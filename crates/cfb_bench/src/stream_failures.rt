@@ -2,9 +2,9 @@
 //! memory refused.
 ghost use Rattle.std.specs.Prelude.{◌≡◌, [], IsTrue};
 
-use crate::media::{Failing, Kind, Sip, Stuck};
-use crate::refusing::Refusing;
 use cfb::{CompoundFile, Error, Medium, MemoryMedium, Stream, Version};
+use cfb_media::media::{Failing, Kind, Sip, Stuck};
+use cfb_media::refusing::Refusing;
 use std::alloc::{AllocError, Allocator, Global};
 use std::test::Fail;
 

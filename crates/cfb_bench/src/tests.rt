@@ -1,10 +1,10 @@
 ghost use Rattle.std.specs.Prelude.{◌≡◌, ◌≤◌, IsTrue, IfOk, OnOk, length};
 
-use crate::media::{Counting, Failing, Kind, Sip, Stuck};
-use crate::refusing::Refusing;
 use cfb_format::medium::{Medium, MediumFault, ReadMedium};
 use cfb_format::memory::MemoryMedium;
 use cfb_format::transfer::{read_exact_at, write_all_at};
+use cfb_media::media::{Counting, Failing, Kind, Sip, Stuck};
+use cfb_media::refusing::Refusing;
 use std::alloc::{AllocError, Allocator, Global};
 use std::collections::HashMap;
 use std::test::Fail;

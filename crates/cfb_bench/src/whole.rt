@@ -5,14 +5,14 @@ ghost use Rattle.cfb_format.specs.Medium.{part, written};
 ghost use Rattle.cfb_format.specs.Refused.{number_of};
 ghost use Rattle.cfb_format.specs.declared.medium.MediumFault.TheVariants.{Memory};
 ghost use Rattle.cfb.specs.Files.{IsAsCreated};
-ghost use Rattle.cfb_bench.specs.Faults.{IsWantOfMemory};
+ghost use Rattle.cfb_media.specs.Faults.{IsWantOfMemory};
 
-use crate::media::Sip;
 use cfb::{CompoundFile, Error, Version};
 use cfb_format::laws;
 use cfb_format::medium::MediumFault;
 use cfb_format::memory::MemoryMedium;
 use cfb_format::transfer::{read_exact_at, write_all_at};
+use cfb_media::media::Sip;
 use std::alloc::Allocator;
 
 /// The first 512 bytes of a medium that has them. No fault comes.

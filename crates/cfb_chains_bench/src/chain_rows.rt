@@ -1,14 +1,14 @@
 //! The worked changes of chains over media that serve single bytes or fail, with each request for
 //! memory refused, and with limits.
 use cfb_alloc::alloc::Allocator;
-use cfb_bench::media::{Counting, Failing, Kind, Sip};
-use cfb_bench::refusing::Refusing;
 use cfb_format::consts::END_OF_CHAIN;
 use cfb_format::error::Error;
 use cfb_format::medium::{Medium, MediumFault};
 use cfb_format::memory::MemoryMedium;
 use cfb_format::validate::Validation;
 use cfb_format::version::Version;
+use cfb_media::media::{Counting, Failing, Kind, Sip};
+use cfb_media::refusing::Refusing;
 use cfb_sectors::sector::{SectorInit, Sectors};
 use std::alloc::{Allocator as Heap, Global};
 use std::test::Fail;

@@ -2,13 +2,13 @@
 //! fail, with each request for memory refused, and with a limit.
 use crate::chains::{has_first_chain, is_unchanged, one_sector, opened, two_chains};
 use cfb_alloc::alloc::Allocator;
-use cfb_bench::media::{Failing, Kind, Sip};
-use cfb_bench::refusing::Refusing;
 use cfb_chains::chain::Chain;
 use cfb_format::consts::END_OF_CHAIN;
 use cfb_format::error::Error;
 use cfb_format::medium::Medium;
 use cfb_format::memory::MemoryMedium;
+use cfb_media::media::{Failing, Kind, Sip};
+use cfb_media::refusing::Refusing;
 use cfb_sectors::sector::SectorInit;
 use std::alloc::{Allocator as Heap, Global};
 use std::test::Fail;

@@ -1,12 +1,12 @@
 //! Chains of sectors over media that serve single bytes or fail, and with requests for memory refused.
 use cfb_alloc::alloc::Allocator;
-use cfb_bench::media::{Failing, Kind, Sip};
-use cfb_bench::refusing::Refusing;
 use cfb_format::error::Error;
 use cfb_format::medium::{Medium, MediumFault};
 use cfb_format::memory::MemoryMedium;
 use cfb_format::validate::Validation;
 use cfb_format::version::Version;
+use cfb_media::media::{Failing, Kind, Sip};
+use cfb_media::refusing::Refusing;
 use cfb_sectors::sector::{SectorInit, Sectors};
 use std::alloc::{Allocator as Heap, Global};
 use std::test::Fail;

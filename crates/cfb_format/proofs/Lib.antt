@@ -15,17 +15,4 @@ pub mod Writing
 pub mod Words
 pub mod HeaderDifat
 pub mod HeaderStart
-pub mod NameUnits
-pub mod ClassIds
 pub mod Runs
-pub mod Refusals
-pub mod EntryReading
-pub mod EntryWriting
-pub mod Utf16Back
-pub mod EntryBack
-pub mod Units
-pub mod PathParts
-pub mod PathText
-pub mod PathWalks
-pub mod PathBack
-pub mod Moments

@@ -10,8 +10,6 @@ pub mod Names
 pub mod Path
 pub mod Timestamp
 pub mod DirectoryEntry
-pub mod EntryModel
-pub mod EntryParts
 pub mod Siblings
 pub mod Reading
 pub mod Content

@@ -18,48 +18,56 @@ number_of Unsound = 8
 number_of Failed = 9
 number_of Unsupported = 10
 
+-- what holds at an error of each kind. It is the one table of all kinds: a clause on refusals says it of the kinds that the call can
+-- answer, and leaves all others out
+pub record Reasons : Type 1 where
+  pub not_found : Type 0
+  pub already_exists : Type 0
+  pub invalid_input : Type 0
+  pub invalid_data : Type 0
+  pub medium : MediumFault → Type 0
+  pub memory : Type 0
+  pub full : Type 0
+  pub unsound : Type 0
+  pub failed : Type 0
+  pub unsupported : Type 0
+
+-- so much holds at this error
+abbrev pub HasReason : Reasons → Error → Type 0
+HasReason reasons (NotFound d) = reasons.not_found
+HasReason reasons (AlreadyExists d) = reasons.already_exists
+HasReason reasons (InvalidInput d) = reasons.invalid_input
+HasReason reasons (InvalidData d) = reasons.invalid_data
+HasReason reasons (Medium f) = reasons.medium f
+HasReason reasons Memory = reasons.memory
+HasReason reasons Full = reasons.full
+HasReason reasons Unsound = reasons.unsound
+HasReason reasons Failed = reasons.failed
+HasReason reasons Unsupported = reasons.unsupported
+
+-- the same at every error
+abbrev pub at_every_error : Type 0 → Reasons
+at_every_error P = record { not_found = P; already_exists = P; invalid_input = P; invalid_data = P; medium = λ f. P; memory = P; full = P; unsound = P; failed = P; unsupported = P }
+
+-- no error comes, but those of which more is said
+abbrev pub no_error : Reasons
+no_error = at_every_error ⊥
+
 -- the bytes are not acceptable
 abbrev pub IsInvalidData : Error → Type 0
 IsInvalidData e = number_of e ≡ 4
 
 -- the bytes are not acceptable, and then P holds; or memory was refused
 abbrev pub IsInvalidOrMemory : Type 0 → Error → Type 0
-IsInvalidOrMemory P (InvalidData d) = P
-IsInvalidOrMemory P Memory = ⊤
-IsInvalidOrMemory P (NotFound d) = ⊥
-IsInvalidOrMemory P (AlreadyExists d) = ⊥
-IsInvalidOrMemory P (InvalidInput d) = ⊥
-IsInvalidOrMemory P (Medium f) = ⊥
-IsInvalidOrMemory P Full = ⊥
-IsInvalidOrMemory P Unsound = ⊥
-IsInvalidOrMemory P Failed = ⊥
-IsInvalidOrMemory P Unsupported = ⊥
+IsInvalidOrMemory P = HasReason (record no_error { invalid_data = P; memory = ⊤ })
 
 -- the medium failed, by a fault of which P holds
 abbrev pub IsMediumAnd : (MediumFault → Type 0) → Error → Type 0
-IsMediumAnd P (Medium f) = P f
-IsMediumAnd P (NotFound d) = ⊥
-IsMediumAnd P (AlreadyExists d) = ⊥
-IsMediumAnd P (InvalidInput d) = ⊥
-IsMediumAnd P (InvalidData d) = ⊥
-IsMediumAnd P Memory = ⊥
-IsMediumAnd P Full = ⊥
-IsMediumAnd P Unsound = ⊥
-IsMediumAnd P Failed = ⊥
-IsMediumAnd P Unsupported = ⊥
+IsMediumAnd P = HasReason (record no_error { medium = P })
 
 -- an error is that of the medium exactly if the count of failures rose
 abbrev pub CountsError : (MediumFault → Bool) → ℕ → ℕ → Error → Type 0
-CountsError can_give old new (Medium f) = FailsBy can_give old new f
-CountsError can_give old new (NotFound d) = new ≡ old
-CountsError can_give old new (AlreadyExists d) = new ≡ old
-CountsError can_give old new (InvalidInput d) = new ≡ old
-CountsError can_give old new (InvalidData d) = new ≡ old
-CountsError can_give old new Memory = new ≡ old
-CountsError can_give old new Full = new ≡ old
-CountsError can_give old new Unsound = new ≡ old
-CountsError can_give old new Failed = new ≡ old
-CountsError can_give old new Unsupported = new ≡ old
+CountsError can_give old new = HasReason (record (at_every_error (new ≡ old)) { medium = FailsBy can_give old new })
 
 -- the call answered the medium's error exactly if the count of failures rose
 abbrev pub CountsFailure : {T : Type 0} → (MediumFault → Bool) → Result T Error → ℕ → ℕ → Type 0
@@ -71,13 +79,4 @@ IsMemory e = e ≡ Memory
 
 -- a wrong input is refused as such, and a right one only for want of memory
 abbrev pub RefusesInput : Bool → Error → Type 0
-RefusesInput wrong (InvalidInput d) = wrong ≡ true
-RefusesInput wrong Memory = wrong ≡ false
-RefusesInput wrong (NotFound d) = ⊥
-RefusesInput wrong (AlreadyExists d) = ⊥
-RefusesInput wrong (InvalidData d) = ⊥
-RefusesInput wrong (Medium f) = ⊥
-RefusesInput wrong Full = ⊥
-RefusesInput wrong Unsound = ⊥
-RefusesInput wrong Failed = ⊥
-RefusesInput wrong Unsupported = ⊥
+RefusesInput wrong = HasReason (record no_error { invalid_input = wrong ≡ true; memory = wrong ≡ false })

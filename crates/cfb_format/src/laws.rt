@@ -1,7 +1,6 @@
 //! What the definitions of the format promise about each other. None of these functions does
 //! anything: each has a law as its contract.
-ghost use Rattle.cfb_format.specs.Laws.{AtMostOneReading, AtMostOneTree, ChainIsWalked, OneListBelow, NamesAreOrdered, EqualByKey, CreatedMeansRoot, CreatedIsStrict, CreatedIsSound, CreatedIsOwned, CreatedHasExactTables, MeantTreesAreOrdered, BalancedIsLow, LargeStreamsLieAlongChains, PutIsFound, RemovedIsGone, HeaderIsReadBack, EntryIsReadBack, AtMostOneEntry, HeaderIsAtTheStart, AtMostOneHeader, CreatedIsThreeSectors, CreatedHeaderIsAccepted, NamesOfTheirPath};
-ghost use Rattle.cfb_format.specs.Timestamp.{UnixTimeIsReadBack};
+ghost use Rattle.cfb_format.specs.Laws.{AtMostOneReading, AtMostOneTree, ChainIsWalked, OneListBelow, NamesAreOrdered, EqualByKey, CreatedMeansRoot, CreatedIsStrict, CreatedIsSound, CreatedIsOwned, CreatedHasExactTables, MeantTreesAreOrdered, BalancedIsLow, LargeStreamsLieAlongChains, PutIsFound, RemovedIsGone, HeaderIsReadBack, HeaderIsAtTheStart, AtMostOneHeader, CreatedIsThreeSectors, CreatedHeaderIsAccepted};
 
 /// Bytes have at most one reading, and mean at most one tree.
 pub fn bytes_mean_at_most_one_tree()
@@ -31,12 +30,6 @@ pub fn header_is_read_back()
 pub fn header_is_at_the_start()
     ensures start { HeaderIsAtTheStart }
     ensures unique { AtMostOneHeader }
-{}
-
-/// An entry that its kind may have is read back as it was written.
-pub fn entry_is_read_back()
-    ensures back { EntryIsReadBack }
-    ensures alone { AtMostOneEntry }
 {}
 
 /// A storage is a finite map by name.
@@ -69,14 +62,4 @@ pub fn created_file_is_right()
     ensures tables { CreatedHasExactTables }
     ensures len { CreatedIsThreeSectors }
     ensures header { CreatedHeaderIsAccepted }
-{}
-
-/// The Unix time of a moment leads back to it.
-pub fn unix_times_are_read_back()
-    ensures { UnixTimeIsReadBack }
-{}
-
-/// The path of names that are not empty, not `.` or `..`, and have no `/`, says these names.
-pub fn names_of_a_path()
-    ensures { NamesOfTheirPath }
 {}

@@ -5,15 +5,12 @@
 pub mod bytes;
 pub mod color;
 pub mod consts;
-pub mod direntry;
 pub mod error;
 pub mod header;
 pub mod laws;
 pub mod medium;
 pub mod memory;
 pub mod objtype;
-pub mod path;
-pub mod timestamp;
 pub mod transfer;
 pub mod validate;
 pub mod version;

@@ -2,12 +2,12 @@
 ghost use Rattle.std.specs.Prelude.{◌≤◌, IfOk, length, chars};
 ghost use Rattle.cfb_format.specs.Names.{utf16_units};
 
+use cfb_codecs::direntry::DirEntry;
+use cfb_codecs::timestamp::Timestamp;
 use cfb_format::color::Color;
 use cfb_format::consts::{DIR_ENTRY_LEN, END_OF_CHAIN, NO_STREAM};
-use cfb_format::direntry::DirEntry;
 use cfb_format::error::Error;
 use cfb_format::objtype::ObjType;
-use cfb_format::timestamp::Timestamp;
 use cfb_format::validate::Validation;
 use cfb_format::version::Version;
 use std::alloc::{AllocError, Global};

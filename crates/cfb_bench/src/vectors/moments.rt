@@ -1,5 +1,5 @@
 //! Moments and Unix times.
-use cfb_format::timestamp::Timestamp;
+use cfb_codecs::timestamp::Timestamp;
 use std::test::Fail;
 
 #[test]

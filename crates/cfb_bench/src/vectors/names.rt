@@ -1,6 +1,6 @@
 //! Names, their letters and their order, and paths.
+use cfb_codecs::path::{self, CaseMapper};
 use cfb_format::error::Error;
-use cfb_format::path::{self, CaseMapper};
 use std::cmp::Ordering;
 use std::test::Fail;
 

@@ -1,7 +1,7 @@
 use Rattle.std.proofs.Common.{sym, subst}
 use Rattle.cfb_format.specs.declared.validate.Validation.TheVariants.{Strict}
 use Rattle.cfb_format.specs.DirectoryEntry.{AcceptsEntry}
-use Rattle.cfb_format.specs.EntryModel.{entry_of}
+use Rattle.cfb_codecs.specs.EntryModel.{entry_of}
 use Rattle.cfb.specs.OneStream.{second_entry}
 use Rattle.cfb.proofs.OneStreamFacts.{second-kept}
 use Rattle.cfb.proofs.OpeningLemmas.{read-second}

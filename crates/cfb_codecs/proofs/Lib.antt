@@ -1,0 +1,13 @@
+pub mod NameUnits
+pub mod ClassIds
+pub mod Refusals
+pub mod EntryReading
+pub mod EntryWriting
+pub mod Utf16Back
+pub mod EntryBack
+pub mod Units
+pub mod PathParts
+pub mod PathText
+pub mod PathWalks
+pub mod PathBack
+pub mod Moments

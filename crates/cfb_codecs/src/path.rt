@@ -1,0 +1,349 @@
+//! Names of storages and streams, and paths to them (MS-CFB 2.6.1 and 2.6.4).
+ghost use Rattle.std.specs.Prelude.{◌≡◌, ◌≤◌, ◌+◌, ◌*◌, ◌<◌, ℕ, not, true, false, map, length, [], ◌∷◌, List, Some, None, IfOk, IfErr, OnOk, IfSome, IfNone, is_some, string_bytes};
+ghost use Rattle.std.specs.Cmp.Lexicographic.{slice_cmp};
+ghost use Rattle.std.specs.Ordering.{nat_cmp};
+ghost use Rattle.std.specs.Str.{chars};
+ghost use Rattle.std.specs.List.{list_any};
+ghost use Rattle.cfb_format.specs.Names.{Cases, default_cases, paired, upper_case as upper_of, has_ascii_letter, utf16_units, name_key as key_of, name_cmp, is_forbidden as forbidden, is_valid_name};
+ghost use Rattle.cfb_format.specs.Path.{says_nothing as nothing, says_parent as parent, names_with, names_of_path, names_along, names_left, path_of_names, Leaves, Gives};
+ghost use Rattle.cfb_format.specs.Refused.{IsMemory, RefusesInput};
+
+use cfb_format::error::{Detail, Error};
+use std::alloc::{AllocError, Allocator, Global};
+use std::cmp::Ordering;
+use std::marker::Model;
+
+/// The greatest number of UTF-16 units in a name.
+const MAX_NAME_LEN: usize = 31;
+
+/// The letters past ASCII that have an upper case by default.
+const DEFAULT_PAIRS: [(char, char); 32] = [
+    ('\u{e0}', '\u{c0}'),
+    ('\u{e1}', '\u{c1}'),
+    ('\u{e2}', '\u{c2}'),
+    ('\u{e3}', '\u{c3}'),
+    ('\u{e4}', '\u{c4}'),
+    ('\u{e5}', '\u{c5}'),
+    ('\u{e6}', '\u{c6}'),
+    ('\u{e7}', '\u{c7}'),
+    ('\u{e8}', '\u{c8}'),
+    ('\u{e9}', '\u{c9}'),
+    ('\u{ea}', '\u{ca}'),
+    ('\u{eb}', '\u{cb}'),
+    ('\u{ec}', '\u{cc}'),
+    ('\u{ed}', '\u{cd}'),
+    ('\u{ee}', '\u{ce}'),
+    ('\u{ef}', '\u{cf}'),
+    ('\u{f0}', '\u{d0}'),
+    ('\u{f1}', '\u{d1}'),
+    ('\u{f2}', '\u{d2}'),
+    ('\u{f3}', '\u{d3}'),
+    ('\u{f4}', '\u{d4}'),
+    ('\u{f5}', '\u{d5}'),
+    ('\u{f6}', '\u{d6}'),
+    ('\u{f8}', '\u{d8}'),
+    ('\u{f9}', '\u{d9}'),
+    ('\u{fa}', '\u{da}'),
+    ('\u{fb}', '\u{db}'),
+    ('\u{fc}', '\u{dc}'),
+    ('\u{fd}', '\u{dd}'),
+    ('\u{fe}', '\u{de}'),
+    ('\u{ff}', '\u{178}'),
+    ('\u{b5}', '\u{39c}'),
+];
+
+/// What stands for upper case where names are compared (MS-CFB 2.6.4): `a` to `z` become `A` to
+/// `Z` always, the letters of a table become what it says, and any other character stands for
+/// itself.
+///
+/// A letter past ASCII is looked up along the whole table, pair by pair: the time grows with it.
+#[derive(Debug, Drop)]
+pub struct CaseMapper<A: Allocator = Global> {
+    pairs: Vec<(char, char), A>,
+}
+
+impl<A: Allocator> Model for CaseMapper<A> {
+    ghost use Rattle.cfb_format.specs.Names.{Cases};
+
+    ghost Value = { Cases };
+
+    ghost view = { λ mapper. mapper.pairs.items };
+}
+
+impl<A: Allocator + Clone> Clone for CaseMapper<A> {
+    ghost is_clone = { λ cases copy. copy ≡ cases };
+
+    /// The same table. It answers `AllocError` where memory for it is refused.
+    fn clone(&self) -> Result<CaseMapper<A>, AllocError> {
+        let pairs = self.pairs.clone()?;
+        Ok(CaseMapper { pairs })
+    }
+}
+
+impl<A: Allocator> CaseMapper<A> {
+    /// The default table, for the letters of Latin-1 and two more.
+    ///
+    /// It answers `Memory` where memory for the table is refused, and no other error.
+    pub fn new(alloc: A) -> Result<CaseMapper<A>, Error>
+        ensures ok { IfOk result (λ cases. cases ≡ default_cases) }
+        ensures refused { IfErr result IsMemory }
+    {
+        let mut pairs = Vec::new(alloc);
+        pairs.extend_from_slice(&DEFAULT_PAIRS)?;
+        Ok(CaseMapper { pairs })
+    }
+
+    /// A table of these letters, each with its upper case. The last pair for a letter counts.
+    ///
+    /// It answers `InvalidInput` exactly where a first letter is ASCII, and else `Memory` where
+    /// memory for the table is refused.
+    pub fn from_pairs(alloc: A, letters: &[(char, char)]) -> Result<CaseMapper<A>, Error>
+        ensures table { IfOk result (λ cases. cases ≡ letters.now) }
+        ensures past_ascii { OnOk result (has_ascii_letter letters.now ≡ false) }
+        ensures refused { IfErr result (RefusesInput (has_ascii_letter letters.now)) }
+    {
+        if letters.iter().any(|letter| letter.0.is_ascii()) {
+            return Err(Error::InvalidInput(Detail::text(
+                "an ASCII letter has its upper case always",
+            )));
+        }
+        let mut pairs = Vec::new(alloc);
+        pairs.extend_from_slice(letters)?;
+        Ok(CaseMapper { pairs })
+    }
+
+    /// The upper case of a character past ASCII.
+    fn paired(&self, letter: char) -> char
+        ensures { result ≡ paired self.now letter }
+    {
+        let mut found = letter;
+        for pair in &self.pairs {
+            if pair.0 == letter {
+                found = pair.1;
+            }
+        }
+        found
+    }
+
+    /// The upper case of a character.
+    fn upper_case(&self, letter: char) -> char
+        ensures { result ≡ upper_of self.now letter }
+    {
+        if letter.is_ascii() {
+            letter.to_ascii_uppercase()
+        } else {
+            self.paired(letter)
+        }
+    }
+}
+
+/// What names are told apart by: two names are the same exactly where their keys are equal.
+#[derive(Debug, PartialEq, Eq, Hash, Drop)]
+pub struct NameKey<A: Allocator = Global> {
+    /// The number of UTF-16 units.
+    pub units: usize,
+    /// The characters in upper case.
+    pub letters: Vec<char, A>,
+}
+
+/// The key of a name.
+///
+/// It answers `Memory` where memory for the key is refused, and no other error.
+pub fn name_key<A: Allocator>(
+    alloc: A,
+    cases: &CaseMapper<A>,
+    name: &str,
+) -> Result<NameKey<A>, Error>
+    ensures units { IfOk result (λ key. key.units ≡ (key_of cases.now (chars name.now)).0) }
+    ensures letters { IfOk result (λ key. key.letters.items ≡ (key_of cases.now (chars name.now)).1) }
+    ensures refused { IfErr result IsMemory }
+{
+    let units = unit_count(name);
+    // One request for all of them: `collect` takes a refusal for a wrong guess and asks again.
+    let mut letters = Vec::with_capacity(alloc, units)?;
+    letters.extend(name.chars().map(|letter| cases.upper_case(letter)))?;
+    Ok(NameKey { units, letters })
+}
+
+/// The order of two names: fewer UTF-16 units first, then by the characters in upper case
+/// (MS-CFB 2.6.4).
+pub fn compare_names<A: Allocator>(cases: &CaseMapper<A>, a: &str, b: &str) -> Ordering
+    ensures { result ≡ name_cmp cases.now (chars a.now) (chars b.now) }
+{
+    unit_count(a)
+        .cmp(&unit_count(b))
+        .then_with(|| compare_letters(cases, a, b))
+}
+
+/// The order of the characters in upper case.
+fn compare_letters<A: Allocator>(cases: &CaseMapper<A>, a: &str, b: &str) -> Ordering
+    ensures { result ≡ slice_cmp nat_cmp (map (upper_of cases.now) (chars a.now)) (map (upper_of cases.now) (chars b.now)) }
+{
+    let others = b.chars().map(|letter| cases.upper_case(letter));
+    a.chars().map(|letter| cases.upper_case(letter)).cmp(others)
+}
+
+/// The number of UTF-16 units of a name.
+fn unit_count(name: &str) -> usize
+    ensures { result ≡ length (utf16_units (chars name.now)) }
+{
+    name.encode_utf16().count()
+}
+
+/// The UTF-16 units of a name that an object may be given: at most 31, and none of the
+/// characters `/`, `\`, `:` and `!` (MS-CFB 2.6.1). The empty name is valid.
+///
+/// It answers `InvalidInput` exactly where the name is not valid, and else `Memory` where memory
+/// for the units is refused.
+pub fn validate_name<A: Allocator>(alloc: A, name: &str) -> Result<Vec<u16, A>, Error>
+    ensures units { IfOk result (λ units. units.items ≡ utf16_units (chars name.now)) }
+    ensures valid { OnOk result (is_valid_name (chars name.now) ≡ true) }
+    ensures refused { IfErr result (RefusesInput (not (is_valid_name (chars name.now)))) }
+{
+    let count = unit_count(name);
+    if count > MAX_NAME_LEN {
+        return Err(Error::InvalidInput(Detail::text("a name has at most 31 UTF-16 units")));
+    }
+    if has_forbidden(name) {
+        return Err(Error::InvalidInput(Detail::text("a name has none of the characters / \\ : !")));
+    }
+    // One request, as in `name_key`.
+    let mut units = Vec::with_capacity(alloc, count)?;
+    units.extend(name.encode_utf16())?;
+    Ok(units)
+}
+
+/// Whether `/`, `\`, `:` or `!` stands in the name.
+pub(crate) fn has_forbidden(name: &str) -> bool
+    ensures { result ≡ list_any forbidden (chars name.now) }
+{
+    name.chars().any(is_forbidden)
+}
+
+fn is_forbidden(letter: char) -> bool
+    ensures { result ≡ forbidden letter }
+{
+    matches!(letter, '/' | '\\' | ':' | '!')
+}
+
+/// The names that a path says, from the root down, and none for the root itself.
+///
+/// The parts of a path stand between `/`. An empty part and `.` say nothing, and `..` takes the
+/// last name away. It answers `InvalidInput` exactly where a `..` finds no name to take away,
+/// and else `Memory` where memory for the names is refused.
+pub fn name_chain_from_path<A: Allocator>(alloc: A, path: &str) -> Result<Vec<&str, A>, Error>
+    ensures ok { IfOk result (λ chain. names_of_path (chars path.now) ≡ Some (map (λ name. chars name.now) chain.items)) }
+    ensures refused { IfErr result (RefusesInput (not (is_some (names_of_path (chars path.now))))) }
+{
+    if !stays_below_root(path) {
+        return Err(Error::InvalidInput(Detail::text("a path stays below the root")));
+    }
+    let mut chain = Vec::new(alloc);
+    let mut left = path;
+    while !left.is_empty() {
+        let (part, rest) = first_part(left);
+        left = rest;
+        if says_parent(part) {
+            chain.pop();
+        } else if !says_nothing(part) {
+            chain.push(part)?;
+        }
+    }
+    Ok(chain)
+}
+
+/// The path of names: a `/` before each, and `/` alone for no names.
+///
+/// It answers `Memory` where memory for the path is refused, and no other error.
+pub fn path_from_name_chain<A: Allocator>(alloc: A, names: &[&str]) -> Result<String<A>, Error>
+    ensures ok { IfOk result (λ path. chars (string_bytes path) ≡ path_of_names (map (λ name. chars name.now) names.now)) }
+    ensures refused { IfErr result IsMemory }
+{
+    let mut path = String::new(alloc);
+    for name in names {
+        path.push('/')?;
+        path.push_str(name)?;
+    }
+    if names.is_empty() {
+        path.push('/')?;
+    }
+    Ok(path)
+}
+
+/// Whether no `..` of a path finds no name to take away. It takes no memory.
+pub fn stays_below_root(path: &str) -> bool
+    ensures { result ≡ is_some (names_of_path (chars path.now)) }
+{
+    after_parent(path).is_none()
+}
+
+/// The first name of a path and a path of the names after it, or none where the path has no
+/// names or does not stay below the root. It takes no memory.
+pub fn next_name(path: &str) -> Option<(&str, &str)>
+    ensures some { IfSome result (λ r. names_left (chars path.now) ≡ chars r.0.now ∷ names_left (chars r.1.now)) }
+    ensures none { IfNone result (names_left (chars path.now) ≡ []) }
+    ensures shorter { IfSome result (λ r. length r.1.now < length path.now) }
+{
+    let mut left = path;
+    while !left.is_empty() {
+        let (part, rest) = first_part(left);
+        left = rest;
+        if says_parent(part) {
+            return None;
+        }
+        if says_nothing(part) {
+            continue;
+        }
+        match after_parent(rest) {
+            Some(tail) => left = tail,
+            None => return Some((part, rest)),
+        }
+    }
+    None
+}
+
+/// What stands after the first `..` that takes away a name from before this path.
+fn after_parent(path: &str) -> Option<&str>
+    ensures leaves { IfSome result (λ rest. Leaves (chars path.now) (chars rest.now)) }
+    ensures stays { IfNone result (Gives (chars path.now)) }
+    ensures shorter { IfSome result (λ rest. length rest.now < length path.now) }
+{
+    let mut left = path;
+    let mut depth: usize = 0;
+    while !left.is_empty() {
+        let (part, rest) = first_part(left);
+        left = rest;
+        if says_parent(part) {
+            if depth == 0 {
+                return Some(rest);
+            }
+            depth -= 1;
+        } else if !says_nothing(part) {
+            depth += 1;
+        }
+    }
+    None
+}
+
+/// The part before the first `/`, and what stands after it: nothing where there is no `/`.
+fn first_part(path: &str) -> (&str, &str)
+    ensures step { (names : List (List ℕ)) → names_along (chars path.now) (Some names) ≡ names_along (chars result.1.now) (names_with (chars result.0.now) names) }
+    ensures shorter { 0 < length path.now → length result.1.now < length path.now }
+{
+    match path.split_once('/') {
+        Some(parts) => parts,
+        None => (path, ""),
+    }
+}
+
+fn says_nothing(part: &str) -> bool
+    ensures { result ≡ nothing (chars part.now) }
+{
+    part.is_empty() || part == "."
+}
+
+fn says_parent(part: &str) -> bool
+    ensures { result ≡ parent (chars part.now) }
+{
+    part == ".."
+}
