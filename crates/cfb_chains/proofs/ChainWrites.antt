@@ -3,13 +3,14 @@ use Rattle.std.proofs.Common.{◌≡◌, ◌<◌, ◌≤◌, ◌+◌, ◌-◌, �
 use Rattle.std.specs.Prelude.{Result, Ok, Err, IfOk, MatchResult, OnOk, nat_lt, if◌then◌else◌}
 use Rattle.std.proofs.lemmas.Bool.{cases_lt, lt-ltb}
 use Rattle.std.proofs.lemmas.List.{take-replicate, length-replicate}
+use Rattle.cfb_format.specs.Refused.{AfterMedium}
 use Rattle.cfb_format.specs.declared.error.Error.{Error}
 use Rattle.cfb_format.specs.declared.error.Error.TheVariants.{NotFound, AlreadyExists, InvalidInput, InvalidData, Medium, Memory, Full, Unsound, Failed, Unsupported}
 use Rattle.cfb_format.specs.declared.version.Version.{Version}
 use Rattle.cfb_format.specs.declared.version.Version.TheVariants.{V3, V4}
 use Rattle.cfb_format.specs.Bytes.{sector_len}
 use Rattle.cfb_format.specs.Full.{rounded_up}
-use Rattle.cfb_chains.specs.ChainLists.{AfterMedium}
+use Rattle.cfb_chains.specs.ChainLists.{}
 use Rattle.cfb_format.specs.Medium.{part, written}
 use Rattle.cfb_format.proofs.ByteLemmas.{part_written}
 use Rattle.cfb_sectors.specs.Sectors.{SectorFile, IsMediumError}

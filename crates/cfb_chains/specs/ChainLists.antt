@@ -3,7 +3,7 @@ use Rattle.std.specs.Prelude.{◌≡◌, ℕ, ◌-◌, List, ◌++◌, length, d
 use Rattle.cfb_format.specs.Bytes.{end_of_chain, free_sector}
 use Rattle.cfb_format.specs.Chain.{value}
 use Rattle.cfb_format.specs.declared.error.Error.{Error}
-use Rattle.cfb_format.specs.declared.error.Error.TheVariants.{NotFound, AlreadyExists, InvalidInput, InvalidData, Medium, Memory, Full, Unsound, Failed, Unsupported}
+use Rattle.cfb_format.specs.Refused.{AfterMedium}
 use Rattle.cfb_tables.specs.Changes.{ChangesOnly}
 use Rattle.cfb_tables.specs.Tables.{TableState, ending}
 
@@ -17,29 +17,7 @@ gained old new = drop (length old) new
 
 -- after the medium's error it is none; after any other it is as before
 abbrev pub Leaves : {A : Type 0} → A → A → A → Error → Type 0
-Leaves none old new (Medium f) = new ≡ none
-Leaves none old new (NotFound d) = new ≡ old
-Leaves none old new (AlreadyExists d) = new ≡ old
-Leaves none old new (InvalidInput d) = new ≡ old
-Leaves none old new (InvalidData d) = new ≡ old
-Leaves none old new Memory = new ≡ old
-Leaves none old new Full = new ≡ old
-Leaves none old new Unsound = new ≡ old
-Leaves none old new Failed = new ≡ old
-Leaves none old new Unsupported = new ≡ old
-
--- after the medium's error so much holds, and after any other so much
-abbrev pub AfterMedium : Type 0 → Type 0 → Error → Type 0
-AfterMedium broken kept (Medium f) = broken
-AfterMedium broken kept (NotFound d) = kept
-AfterMedium broken kept (AlreadyExists d) = kept
-AfterMedium broken kept (InvalidInput d) = kept
-AfterMedium broken kept (InvalidData d) = kept
-AfterMedium broken kept Memory = kept
-AfterMedium broken kept Full = kept
-AfterMedium broken kept Unsound = kept
-AfterMedium broken kept Failed = kept
-AfterMedium broken kept Unsupported = kept
+Leaves none old new = AfterMedium (new ≡ none) (new ≡ old)
 
 -- of a chain these sectors are left, the ones behind them are freed, and nothing else changed
 pub record Shortens (left gone : List ℕ) (old new : TableState) : Type 0 where

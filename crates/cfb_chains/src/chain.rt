@@ -5,14 +5,14 @@ ghost use Rattle.cfb_format.specs.Bytes.{sector_len as sector_len_of, sector_sta
 ghost use Rattle.cfb_format.specs.Chain.{IsChain, chain_from, value};
 ghost use Rattle.cfb_format.specs.Content.{place_in_chain, placed_from};
 ghost use Rattle.cfb_format.specs.Medium.{ChangesOnly, part, written};
-ghost use Rattle.cfb_format.specs.Refused.{CountsFailure, IsInvalidData};
+ghost use Rattle.cfb_format.specs.Refused.{AfterMedium, CountsFailure, IsInvalidData};
 ghost use Rattle.cfb_alloc.specs.Alloc.{ChangesSectors, HoldsTables, IsFilled, IsUsable, OthersStay, OthersStayBut};
 ghost use Rattle.cfb_tables.specs.Clean.{IsUnnamed};
 ghost use Rattle.cfb_sectors.specs.Sectors.{copies, init_bytes, IsMediumError, IsRaised, SectorStays};
 ghost use Rattle.cfb_tables.specs.Refused.{WalkRefused, ChangeRefused, IsInvalidInput};
 ghost use Rattle.cfb_alloc.specs.Broken.{BreaksOff};
 ghost use Rattle.cfb_tables.specs.Tables.{FreesChain, HasTaken, TakesFor, IsTooFew, ending, start_of as first_of};
-ghost use Rattle.cfb_chains.specs.ChainLists.{AfterMedium, Leaves, Shortens, gained, last_of};
+ghost use Rattle.cfb_chains.specs.ChainLists.{Leaves, Shortens, gained, last_of};
 
 use cfb_alloc::alloc::Allocator;
 use cfb_format::consts::END_OF_CHAIN;

@@ -53,6 +53,10 @@ at_every_error P = record { not_found = P; already_exists = P; invalid_input = P
 abbrev pub no_error : Reasons
 no_error = at_every_error ⊥
 
+-- after the medium's error so much holds, and after any other so much
+abbrev pub AfterMedium : Type 0 → Type 0 → Error → Type 0
+AfterMedium broken kept = HasReason (record (at_every_error kept) { medium = λ f. broken })
+
 -- the bytes are not acceptable
 abbrev pub IsInvalidData : Error → Type 0
 IsInvalidData e = number_of e ≡ 4

@@ -1,24 +1,14 @@
 -- Why a call on the tables was refused: what holds at each error, and which errors the call can give.
 use Rattle.std.specs.Prelude.{ℕ, ◌≡◌, ◌≢◌, List, []}
 use Rattle.cfb_format.specs.declared.error.Error.{Error}
-use Rattle.cfb_format.specs.declared.error.Error.TheVariants.{NotFound, AlreadyExists, InvalidInput, InvalidData, Medium, Memory, Full, Unsound, Failed, Unsupported}
 use Rattle.cfb_format.specs.Chain.{IsChain}
-use Rattle.cfb_format.specs.Refused.{number_of}
+use Rattle.cfb_format.specs.Refused.{HasReason, no_error, number_of}
 use Rattle.cfb_tables.specs.Changes.{NoChain, IsNextOf}
 use Rattle.cfb_tables.specs.Tables.{TableState, IsTooFew}
 
 -- the error is one of these three, and so much holds of each
 abbrev pub Refused : Type 0 → Type 0 → Type 0 → Error → Type 0
-Refused invalid memory full (InvalidData d) = invalid
-Refused invalid memory full Memory = memory
-Refused invalid memory full Full = full
-Refused invalid memory full (NotFound d) = ⊥
-Refused invalid memory full (AlreadyExists d) = ⊥
-Refused invalid memory full (InvalidInput d) = ⊥
-Refused invalid memory full (Medium f) = ⊥
-Refused invalid memory full Unsound = ⊥
-Refused invalid memory full Failed = ⊥
-Refused invalid memory full Unsupported = ⊥
+Refused invalid memory full = HasReason (record no_error { invalid_data = invalid; memory = memory; full = full })
 
 abbrev pub WalkRefused : List ℕ → ℕ → Error → Type 0
 WalkRefused table start = Refused (NoChain table start) Unit ⊥
@@ -38,16 +28,7 @@ NextRefused table i = Refused ((next : ℕ) → IsNextOf table i next → ⊥) �
 
 -- a change was refused: so much holds of each error
 abbrev pub ChangeRefused : Type 0 → Type 0 → Type 0 → Type 0 → Error → Type 0
-ChangeRefused invalid memory full medium (InvalidData d) = invalid
-ChangeRefused invalid memory full medium Memory = memory
-ChangeRefused invalid memory full medium Full = full
-ChangeRefused invalid memory full medium (Medium f) = medium
-ChangeRefused invalid memory full medium (NotFound d) = ⊥
-ChangeRefused invalid memory full medium (AlreadyExists d) = ⊥
-ChangeRefused invalid memory full medium (InvalidInput d) = ⊥
-ChangeRefused invalid memory full medium Unsound = ⊥
-ChangeRefused invalid memory full medium Failed = ⊥
-ChangeRefused invalid memory full medium Unsupported = ⊥
+ChangeRefused invalid memory full medium = HasReason (record no_error { invalid_data = invalid; memory = memory; full = full; medium = λ f. medium })
 
 -- the input is wrong
 abbrev pub IsInvalidInput : Error → Type 0
