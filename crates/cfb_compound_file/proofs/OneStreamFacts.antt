@@ -17,8 +17,8 @@ use Rattle.cfb_format.specs.Reading.{Reading, Outline, no_more, stream_at}
 use Rattle.cfb_format.specs.Created.{created_header}
 use Rattle.cfb_codecs.proofs.EntryBack.{entry_read_back}
 use Rattle.cfb_codecs.proofs.Utf16Back.{length-unit_bytes}
-use Rattle.cfb_compound_file.specs.OneStream.{OneStream, sectors_for, content_sectors, start_for, used_fat, all_fat_words, stream_entry, second_entry, child_of, root_with, entries_with, header_sector, fat_bytes, directory_bytes, IsServedLen, IsServed}
-use Rattle.cfb_compound_file.proofs.ChainedFat.{length-word_bytes, all-replicate, used-length}
+use Rattle.cfb_compound_file.specs.OneStream.{OneStream, sectors_taken, content_sectors, start_for, used_fat, all_fat_words, held_entry, second_entry, child_of, root_with, entries_with, header_sector, fat_bytes, directory_bytes, IsServedLen, IsServed}
+use Rattle.cfb_compound_file.proofs.OneStreamFat.{length-word_bytes, all-replicate, used-length}
 
 -- ---- the parts
 
@@ -41,7 +41,7 @@ reading_with version held = record {
 
 -- ---- numbers
 
-sectors-few : (v : Version) (len : ℕ) → IsServedLen v len → sectors_for v len + 2 ≤ words_per_sector v
+sectors-few : (v : Version) (len : ℕ) → IsServedLen v len → sectors_taken v len + 2 ≤ words_per_sector v
 sectors-few V3 len (inl none) = omega arith
 sectors-few V4 len (inl none) = omega arith
 sectors-few V3 len (inr some) = omega arith
@@ -56,11 +56,11 @@ pub few-words : (v : Version) (m : ℕ) → m + 2 ≤ words_per_sector v → m �
 few-words V3 m h = omega arith
 few-words V4 m h = omega arith
 
-pub sectors-hold : (v : Version) (len : ℕ) → len ≤ sectors_for v len * sector_len v
+pub sectors-hold : (v : Version) (len : ℕ) → len ≤ sectors_taken v len * sector_len v
 sectors-hold V3 len = omega arith
 sectors-hold V4 len = omega arith
 
-pub some-sectors : (v : Version) (len : ℕ) → 4096 ≤ len → 1 ≤ sectors_for v len
+pub some-sectors : (v : Version) (len : ℕ) → 4096 ≤ len → 1 ≤ sectors_taken v len
 some-sectors V3 len h = omega arith
 some-sectors V4 len h = omega arith
 
@@ -102,7 +102,7 @@ name-short name valid = go (nat_le (length (utf16_units name)) 31) (not (list_an
 longer : (xs ys : List ℕ) (a b : ℕ) → length xs ≡ a → length ys ≡ b → length (xs ++ ys) ≡ a + b
 longer xs ys a b e f = let both = length-append xs ys in omega (arith, both, e, f)
 
-block-stream : (s : OneStream) → IsTrue (is_valid_name s.name) → IsBlock (stream_entry s)
+block-stream : (s : OneStream) → IsTrue (is_valid_name s.name) → IsBlock (held_entry s)
 unfolding IsBlock entry_bytes
 block-stream s valid =
     let us = utf16_units s.name in
@@ -187,9 +187,9 @@ start-small len = go (len == 0)
     go true = lit< tt
     go false = lit< tt
 
-kept-stream : (v : Version) (s : OneStream) → IsServed v (Some s) → IsKept v (stream_entry s)
+kept-stream : (v : Version) (s : OneStream) → IsServed v (Some s) → IsKept v (held_entry s)
 unfolding IsKept
-kept-stream v s served = entry_read_back Strict v (stream_entry s)
+kept-stream v s served = entry_read_back Strict v (held_entry s)
     (record { name = scalars-ascii s.name served.0.ascii; left_sibling = lit< tt; right_sibling = lit< tt; child = lit< tt; clsid = refl; state_bits = lit< tt; creation_time = lit< tt; modified_time = lit< tt; start_sector = start-small s.len; stream_len = (len-small v s.len served.1).1 })
     (record { name = served.0.valid; left_sibling = refl; right_sibling = refl; child = refl; clsid = refl; creation_time = refl; modified_time = refl; start_sector = refl; stream_len = refl; len_in_version = (len-small v s.len served.1).0 })
 

@@ -21,8 +21,9 @@ use Rattle.cfb_format.specs.Created.{empty_tree}
 use Rattle.cfb_format.proofs.Chains.{chain_from-IsChain}
 use Rattle.cfb_format.proofs.Along.{readable-large}
 use Rattle.cfb_format.proofs.ByteLemmas.{part_more, length-part}
-use Rattle.cfb_compound_file.specs.OneStream.{OneStream, sectors_for, content_sectors, start_for, fat_word, used_fat, stream_entry, entries_with, HoldsOne, content_of, tree_with}
-use Rattle.cfb_compound_file.proofs.ChainedFat.{used-length, used-at, word-inside, content-chain}
+use Rattle.cfb_compound_file.specs.OneStream.{OneStream, sectors_taken, content_sectors, start_for, fat_word, used_fat, held_entry, entries_with, HoldsOne, stream_content, tree_with}
+use Rattle.cfb_compound_file.specs.Laws.{OneStreamIsSound}
+use Rattle.cfb_compound_file.proofs.OneStreamFat.{used-length, used-at, word-inside, content-chain}
 use Rattle.cfb_compound_file.proofs.OneStreamFacts.{outline_with, reading_with, few-sectors, sectors-hold, some-sectors}
 use Rattle.cfb_compound_file.proofs.OneStreamReads.{few-content, whole-length, count-is, is-whole, raw-is, reads-one}
 
@@ -57,41 +58,41 @@ content-start V4 = refl
 
 -- ---- a large stream
 
-large-entry : (s : OneStream) → 4096 ≤ s.len → IsTrue (is_large (stream_entry s))
+large-entry : (s : OneStream) → 4096 ≤ s.len → IsTrue (is_large (held_entry s))
 large-entry s h = le-leb 4096 s.len h
 
 start-large : (len : ℕ) → 4096 ≤ len → start_for len ≡ 2
 start-large len h = ap (λ b. if b then end_of_chain else 2) (ne_eqb len 0 (λ e. omega (arith, h, e)))
 
 module _ (v : Version) (s : OneStream) (bytes : List ℕ) (holds : HoldsOne v (Some s) bytes) (large : 4096 ≤ s.len) where
-  large-chain : IsChain (used_fat (sectors_for v s.len)) (start_for s.len) (range_with_len 2 (sectors_for v s.len))
-  large-chain = subst (λ n. IsChain (used_fat (sectors_for v s.len)) n (range_with_len 2 (sectors_for v s.len))) (sym (start-large s.len large))
-      (content-chain (sectors_for v s.len) (few-content v (Some s) bytes holds) (some-sectors v s.len large))
+  large-chain : IsChain (used_fat (sectors_taken v s.len)) (start_for s.len) (range_with_len 2 (sectors_taken v s.len))
+  large-chain = subst (λ n. IsChain (used_fat (sectors_taken v s.len)) n (range_with_len 2 (sectors_taken v s.len))) (sym (start-large s.len large))
+      (content-chain (sectors_taken v s.len) (few-content v (Some s) bytes holds) (some-sectors v s.len large))
 
-  large-found : sector_chain (reading_with v (Some s)) (stream_entry s) ≡ Some (range_with_len 2 (sectors_for v s.len))
-  large-found = (chain_from-IsChain (used_fat (sectors_for v s.len)) (start_for s.len) (range_with_len 2 (sectors_for v s.len))).1 large-chain
+  large-found : sector_chain (reading_with v (Some s)) (held_entry s) ≡ Some (range_with_len 2 (sectors_taken v s.len))
+  large-found = (chain_from-IsChain (used_fat (sectors_taken v s.len)) (start_for s.len) (range_with_len 2 (sectors_taken v s.len))).1 large-chain
 
-  large-readable : readable bytes (reading_with v (Some s)) (stream_entry s) ≡ content_of v bytes s
+  large-readable : readable bytes (reading_with v (Some s)) (held_entry s) ≡ stream_content v bytes s
   large-readable =
-      readable-large bytes (reading_with v (Some s)) (stream_entry s) (range_with_len 2 (sectors_for v s.len)) (large-entry s large) large-chain
-      ∙ ap (take s.len) (along-range v bytes (sectors_for v s.len) 2 (λ j low. is-whole v (Some s) bytes holds j (omega arith)))
-      ∙ take-less s.len (sectors_for v s.len * sector_len v) (drop (sector_start v 2) bytes) (sectors-hold v s.len)
+      readable-large bytes (reading_with v (Some s)) (held_entry s) (range_with_len 2 (sectors_taken v s.len)) (large-entry s large) large-chain
+      ∙ ap (take s.len) (along-range v bytes (sectors_taken v s.len) 2 (λ j low. is-whole v (Some s) bytes holds j (omega arith)))
+      ∙ take-less s.len (sectors_taken v s.len * sector_len v) (drop (sector_start v 2) bytes) (sectors-hold v s.len)
       ∙ ap (λ n. part bytes n s.len) (content-start v)
 
 -- ---- an empty one
 
-empty-readable : (v : Version) (s : OneStream) (bytes : List ℕ) → s.len ≡ 0 → readable bytes (reading_with v (Some s)) (stream_entry s) ≡ content_of v bytes s
+empty-readable : (v : Version) (s : OneStream) (bytes : List ℕ) → s.len ≡ 0 → readable bytes (reading_with v (Some s)) (held_entry s) ≡ stream_content v bytes s
 unfolding placed_from
 empty-readable v s bytes none =
-    ap (placed_from bytes (place bytes (reading_with v (Some s)) (stream_entry s)) 0) none ∙ sym (ap (part bytes (3 * sector_len v)) none)
+    ap (placed_from bytes (place bytes (reading_with v (Some s)) (held_entry s)) 0) none ∙ sym (ap (part bytes (3 * sector_len v)) none)
 
-pub readable-is : (v : Version) (s : OneStream) (bytes : List ℕ) → HoldsOne v (Some s) bytes → readable bytes (reading_with v (Some s)) (stream_entry s) ≡ content_of v bytes s
+pub readable-is : (v : Version) (s : OneStream) (bytes : List ℕ) → HoldsOne v (Some s) bytes → readable bytes (reading_with v (Some s)) (held_entry s) ≡ stream_content v bytes s
 readable-is v s bytes holds = elim holds.served.1 [
   | inl none ↦ empty-readable v s bytes none
   | inr some ↦ large-readable v s bytes holds some.0
 ]
 
-second-is : (v : Version) (s : OneStream) → entry_at (entries_with v (Some s)) 1 ≡ stream_entry s
+second-is : (v : Version) (s : OneStream) → entry_at (entries_with v (Some s)) 1 ≡ held_entry s
 unfolding entries_with
 second-is v s = refl
 
@@ -133,7 +134,7 @@ used-holds m (suc (suc i)) h =
 UsedAre : Version → Option OneStream → Type 0
 UsedAre v held = used_sectors (reading_with v held) ≡ 0 ∷ 1 ∷ range_with_len 2 (content_sectors v held)
 
-no-sectors : (v : Version) → sectors_for v 0 ≡ 0
+no-sectors : (v : Version) → sectors_taken v 0 ≡ 0
 no-sectors V3 = refl
 no-sectors V4 = refl
 
@@ -163,15 +164,15 @@ used-are v (Some s) bytes holds = elim holds.served.1 [
 ]
 
 -- its chain
-chain-there : (v : Version) (s : OneStream) (bytes : List ℕ) → HoldsOne v (Some s) bytes → IsSome (content_chain (reading_with v (Some s)) (stream_entry s))
+chain-there : (v : Version) (s : OneStream) (bytes : List ℕ) → HoldsOne v (Some s) bytes → IsSome (content_chain (reading_with v (Some s)) (held_entry s))
 chain-there v s bytes holds = elim holds.served.1 [
-  | inl none ↦ subst (λ t. IsSome (content_chain (reading_with v (Some t)) (stream_entry t))) (λ i. record { name = s.name; len = sym none i }) (at-zero v s.name)
+  | inl none ↦ subst (λ t. IsSome (content_chain (reading_with v (Some t)) (held_entry t))) (λ i. record { name = s.name; len = sym none i }) (at-zero v s.name)
   | inr some ↦
-      (λ i. is_some (if large-entry s some.0 i then sector_chain (reading_with v (Some s)) (stream_entry s) else mini_chain (reading_with v (Some s)) (stream_entry s)))
+      (λ i. is_some (if large-entry s some.0 i then sector_chain (reading_with v (Some s)) (held_entry s) else mini_chain (reading_with v (Some s)) (held_entry s)))
       ∙ ap is_some (large-found v s bytes holds some.0)
 ]
   where
-    at-zero : (v : Version) (name : List ℕ) → IsSome (content_chain (reading_with v (Some (record { name = name; len = 0 }))) (stream_entry (record { name = name; len = 0 })))
+    at-zero : (v : Version) (name : List ℕ) → IsSome (content_chain (reading_with v (Some (record { name = name; len = 0 }))) (held_entry (record { name = name; len = 0 })))
     at-zero v name = refl
 
 -- no mini sector is used
@@ -262,3 +263,7 @@ sound-one v held bytes holds =
         let reg : IsTrue (is_regular (fat_word (content_sectors v held) i)) = subst (λ w. IsTrue (is_regular w)) word regular in
         let below = word-inside (content_sectors v held) (few-content v held bytes holds) i low reg in
         omega (arith, word, count, below)
+
+pub one-is-sound : OneStreamIsSound
+one-is-sound cases version held bytes holds =
+    record { reading = reading_with version held; reads = reads-one cases version held bytes holds; holds = sound-one version held bytes holds }

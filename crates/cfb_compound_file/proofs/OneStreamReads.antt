@@ -22,7 +22,7 @@ use Rattle.cfb_format.proofs.HeaderStart.{header_at_start}
 use Rattle.cfb_format.proofs.CreatedFacts.{header3}
 use Rattle.cfb_format.proofs.CreatedFacts4.{header4}
 use Rattle.cfb_compound_file.specs.OneStream.{OneStream, content_sectors, used_fat, all_fat_words, entries_with, header_sector, fat_bytes, directory_bytes, HoldsOne}
-use Rattle.cfb_compound_file.proofs.ChainedFat.{words-written, all-append, all-replicate, tests-replicate, used-points, used-length, used-at, used-fits, values-are, marks-are, pointers-are, directory-chain}
+use Rattle.cfb_compound_file.proofs.OneStreamFat.{words-written, all-append, all-replicate, tests-replicate, used-points, used-length, used-at, used-fits, values-are, marks-are, pointers-are, directory-chain}
 use Rattle.cfb_compound_file.proofs.OneStreamFacts.{outline_with, reading_with, few-sectors, few-words, length-header_sector, length-fat_bytes, length-directory_bytes, block-at, entries-blocks, entries-kept, entries-length, zip-each, zip-strict}
 
 drop-behind : (n : ℕ) (xs ys : List ℕ) → n ≡ length xs → drop n (xs ++ ys) ≡ ys

@@ -1,5 +1,7 @@
 -- What is seen of an open compound file.
-use Rattle.std.specs.Prelude.{◌≡◌, ℕ, List, Bool, true, false, Option, None}
+use Rattle.std.specs.Prelude.{◌≡◌, ℕ, List, Bool, true, false, Option, None, IsTrue, ⊤}
+use Rattle.cfb_format.specs.declared.error.Error.{Error}
+use Rattle.cfb_format.specs.declared.medium.MediumFault.{MediumFault}
 use Rattle.cfb_format.specs.declared.version.Version.{Version}
 use Rattle.cfb_format.specs.Names.{Cases, default_cases}
 use Rattle.cfb_format.specs.Reading.{IsStrictFile}
@@ -7,7 +9,8 @@ use Rattle.cfb_format.specs.Meaning.{Means}
 use Rattle.cfb_format.specs.Soundness.{IsSoundFile, IsOwnedFile}
 use Rattle.cfb_format.specs.Full.{HasExactTablesFile}
 use Rattle.cfb_format.specs.Created.{created_bytes, empty_tree}
-use Rattle.cfb_compound_file.specs.OneStream.{OneStream, HoldsOne, tree_with}
+use Rattle.cfb_format.specs.Refused.{HasReason, no_error}
+use Rattle.cfb_compound_file.specs.OneStream.{OneStream, HoldsOne}
 
 pub record FileState : Type 0 where
   pub version : Version
@@ -29,8 +32,12 @@ pub record IsAsCreated (file : FileState) : Type 0 where
   pub cases : file.cases ≡ default_cases
   pub held : file.held ≡ None
 
+-- why creating was refused: only by the medium, by a fault that it can give by writing, or for memory
+abbrev pub CreatingRefused : (MediumFault → Bool) → Error → Type 0
+CreatingRefused can_write = HasReason (record no_error { medium = λ fault. IsTrue (can_write fault); memory = ⊤ })
+
 -- what is kept of a file that has not failed is what its bytes say
-pub record Agrees (file : FileState) : Type 0 where
+pub record AgreesWithBytes (file : FileState) : Type 0 where
   pub sound : file.is_sound ≡ true
   pub holds : file.is_failed ≡ false → HoldsOne file.version file.held file.bytes
 
@@ -42,8 +49,9 @@ pub record IsEmptyFile (bytes : List ℕ) : Type 0 where
   pub owned : (cases : Cases) → IsOwnedFile cases bytes
   pub tables : (cases : Cases) → HasExactTablesFile cases bytes
 
--- whatever the letters, the bytes mean the root with this stream or alone, are strict and sound
-pub record IsRightFile (version : Version) (held : Option OneStream) (bytes : List ℕ) : Type 0 where
-  pub means : (cases : Cases) → Means cases bytes (tree_with version bytes held)
-  pub strict : (cases : Cases) → IsStrictFile cases bytes
-  pub sound : (cases : Cases) → IsSoundFile cases bytes
+-- a call changes no setting of the file, and what it leaves is sound where the bytes were, unless the file has failed
+pub record KeepsSetting (old new : FileState) : Type 0 where
+  pub version : new.version ≡ old.version
+  pub cases : new.cases ≡ old.cases
+  pub is_sound : new.is_sound ≡ old.is_sound
+  pub stays_sound : new.is_failed ≡ false → IsSoundFile old.cases old.bytes → IsSoundFile new.cases new.bytes

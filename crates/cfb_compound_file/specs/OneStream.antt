@@ -19,13 +19,13 @@ pub record OneStream : Type 0 where
   pub len : ℕ
 
 -- how many sectors a stream of this length takes
-abbrev pub sectors_for : Version → ℕ → ℕ
-sectors_for version len = (len + (sector_len version - 1)) / sector_len version
+abbrev pub sectors_taken : Version → ℕ → ℕ
+sectors_taken version len = (len + (sector_len version - 1)) / sector_len version
 
 -- how many sectors lie behind the directory's
 abbrev pub content_sectors : Version → Option OneStream → ℕ
 content_sectors version None = 0
-content_sectors version (Some s) = sectors_for version s.len
+content_sectors version (Some s) = sectors_taken version s.len
 
 -- the first of them, if there is one
 abbrev pub start_for : ℕ → ℕ
@@ -44,8 +44,8 @@ abbrev pub all_fat_words : Version → ℕ → List ℕ
 all_fat_words version m = used_fat m ++ replicate (words_per_sector version - (m + 2)) free_sector
 
 -- a black entry without siblings, whose sectors begin behind the directory's (MS-CFB 2.6.3)
-abbrev pub stream_entry : OneStream → Entry
-stream_entry s = record {
+abbrev pub held_entry : OneStream → Entry
+held_entry s = record {
   name = s.name;
   obj_type = Stream;
   color = Black;
@@ -67,7 +67,7 @@ stream_of e = record { name = e.name; len = e.stream_len }
 -- what stands in slot 1
 abbrev pub second_entry : Option OneStream → Entry
 second_entry None = unallocated_entry
-second_entry (Some s) = stream_entry s
+second_entry (Some s) = held_entry s
 
 -- the root's child
 abbrev pub child_of : Option OneStream → ℕ
@@ -124,15 +124,15 @@ pub record HoldsOne (version : Version) (held : Option OneStream) (bytes : List 
   pub bytes_are : bytes ≡ tables_with version held ++ content
 
 -- the stream's bytes: the first of the sectors behind the directory's
-abbrev pub content_of : Version → List ℕ → OneStream → List ℕ
-content_of version bytes s = part bytes (3 * sector_len version) s.len
+abbrev pub stream_content : Version → List ℕ → OneStream → List ℕ
+stream_content version bytes s = part bytes (3 * sector_len version) s.len
 
 -- the tree of such a file
 abbrev pub tree_with : Version → List ℕ → Option OneStream → Tree
 tree_with version bytes None = empty_tree
 tree_with version bytes (Some s) = record {
   root = empty_tree.root;
-  objects = stream s.name (record { state_bits = 0; len = s.len; content = content_of version bytes s }) nothing;
+  objects = stream s.name (record { state_bits = 0; len = s.len; content = stream_content version bytes s }) nothing;
 }
 
 -- each of the m sectors behind the directory's names the next one, but the last

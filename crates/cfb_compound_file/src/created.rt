@@ -1,11 +1,11 @@
 //! The bytes of a file that is just created: header, FAT sector, directory sector.
 ghost use Rattle.std.specs.Prelude.{◌≡◌, ◌+◌, ◌-◌, ◌*◌, ◌<◌, ◌≤◌, ◌++◌, ◌∷◌, [], length, replicate, IsTrue, OnOk, IfErr};
 ghost use Rattle.std.specs.List.{repeat};
-ghost use Rattle.cfb_format.specs.Bytes.{sector_len as len_of, entries_per_sector, word_bytes, free_sector, fat_sector, end_of_chain};
+ghost use Rattle.cfb_format.specs.Bytes.{sector_len, entries_per_sector, word_bytes, free_sector, fat_sector, end_of_chain};
 ghost use Rattle.cfb_format.specs.DirectoryEntry.{entry_bytes, empty_root_entry, unallocated_entry};
 ghost use Rattle.cfb_format.specs.Medium.{part, FailsBy};
 ghost use Rattle.cfb_format.specs.Header.{header_bytes};
-ghost use Rattle.cfb_format.specs.Created.{created_bytes, created_header as header_of};
+ghost use Rattle.cfb_format.specs.Created.{created_bytes, created_header};
 
 use cfb_codecs::direntry::DirEntry;
 use cfb_format::bytes::{put, put_words};
@@ -46,8 +46,8 @@ impl EmptySlots {
 /// sector.
 pub fn lay_out(version: Version, piece: usize, slots: &EmptySlots, into: &mut [u8])
     requires piece { piece < 3 }
-    requires len { length into.old ≡ len_of version }
-    ensures { into.new ≡ part (created_bytes version) (piece * len_of version) (len_of version) }
+    requires len { length into.old ≡ sector_len version }
+    ensures { into.new ≡ part (created_bytes version) (piece * sector_len version) (sector_len version) }
 {
     match piece {
         0 => lay_out_header(version, into),
@@ -57,8 +57,8 @@ pub fn lay_out(version: Version, piece: usize, slots: &EmptySlots, into: &mut [u
 }
 
 /// Sector 0 is the FAT, sector 1 the directory.
-fn created_header(version: Version) -> Header
-    ensures { result ≡ header_of version }
+fn new_header(version: Version) -> Header
+    ensures { result ≡ created_header version }
 {
     let mut initial_difat_entries = [consts::FREE_SECTOR; consts::NUM_DIFAT_ENTRIES_IN_HEADER];
     initial_difat_entries[0] = 0;
@@ -82,10 +82,10 @@ fn created_header(version: Version) -> Header
 /// same.
 pub fn lay_out_header(version: Version, into: &mut [u8])
     requires { 512 ≤ length into.old }
-    ensures { into.new ≡ header_bytes (header_of version) ++ replicate (length into.old - 512) 0 }
+    ensures { into.new ≡ header_bytes (created_header version) ++ replicate (length into.old - 512) 0 }
 {
     let mut bytes = [0; consts::HEADER_LEN];
-    created_header(version).write_to(&mut bytes);
+    new_header(version).write_to(&mut bytes);
     into.fill(0);
     put(into, 0, &bytes);
 }
@@ -116,7 +116,7 @@ pub fn write_created<F: Medium>(
     slots: &EmptySlots,
     sector: &mut [u8],
 ) -> Result<(), MediumFault>
-    requires len { length sector.old ≡ len_of version }
+    requires len { length sector.old ≡ sector_len version }
     requires empty { IsTrue F.tells → F.bytes medium.old ≡ [] }
     ensures ok { IsTrue F.tells → OnOk result (F.bytes medium.new ≡ created_bytes version) }
     ensures calm { IsTrue F.tells → OnOk result (F.failures medium.new ≡ F.failures medium.old) }

@@ -2,12 +2,9 @@
 #![tactic(auto)]
 
 mod compound_file;
-mod content;
 mod created;
-mod held;
 pub mod laws;
-mod layout;
-mod opening;
+mod one_stream;
 mod stream;
 
 pub use compound_file::CompoundFile;

@@ -15,9 +15,11 @@ pub struct Stream<'a, F: Medium, A: Allocator = Global> {
 }
 
 impl<F: Medium, A: Allocator + Clone> CompoundFile<F, A> {
-    ghost use Rattle.cfb_rules.specs.Calls.{done, open_stream as opens};
-    ghost use Rattle.cfb_compound_file.specs.Files.{Agrees};
-    ghost use Rattle.cfb_compound_file.specs.Answers.{causes_of, RunsOn, IsRefusedBy, IsNotYet, IsOpen, creation, never_yet};
+    ghost use Rattle.cfb_rules.specs.Calls.{done, open_stream};
+    ghost use Rattle.cfb_compound_file.specs.Files.{AgreesWithBytes};
+    ghost use Rattle.cfb_compound_file.specs.Answers.{IsAnsweredBy, IsRefusedBy, creation, never_yet};
+    ghost use Rattle.cfb_compound_file.specs.OneStreamCreating.{IsNotYet};
+    ghost use Rattle.cfb_compound_file.specs.OneStreamStates.{IsOpen};
     ghost use Rattle.cfb_compound_file.specs.Streams.{file_of, position_of, file_rests};
 
     /// Opens the stream at this path. `Failed` on a failed file; `InvalidInput` where the path leaves
@@ -26,18 +28,16 @@ impl<F: Medium, A: Allocator + Clone> CompoundFile<F, A> {
         ensures lent { IfOk result (λ s. (file_of s).ghost_name ≡ self.entry.ghost_name) }
         ensures same { IfOk result (λ s. (file_of s).now ≡ self.old) }
         ensures start { IfOk result (λ s. position_of s ≡ 0) }
-        ensures is_open { IsTrue F.tells → Agrees self.old → IfOk result (λ s. IsOpen (file_of s).now (position_of s)) }
-        ensures runs { IsTrue F.tells → Agrees self.old
-            → IfOk result (λ s. RunsOn (causes_of self.old (file_of s).now) self.old (opens (chars path.now)) done (file_of s).now) }
+        ensures is_open { IsTrue F.tells → AgreesWithBytes self.old → IfOk result (λ s. IsOpen (file_of s).now (position_of s)) }
+        ensures runs { IsTrue F.tells → AgreesWithBytes self.old
+            → IfOk result (λ s. IsAnsweredBy self.old (open_stream (chars path.now)) done (file_of s).now) }
         ensures* refused { sem 𝓛 (file_rests F.row A.row F.ReadMedium A.Allocator
-            (λ old last e. (last ≡ old) × (IsTrue F.tells → Agrees old → IsRefusedBy F.write_faults old (opens (chars path.now)) never_yet last e))
+            (λ old last e. (last ≡ old) × (IsTrue F.tells → AgreesWithBytes old → IsRefusedBy F.write_faults old (open_stream (chars path.now)) never_yet last e))
             self.entry result) }
     {
         cfb_format::laws::bytes_mean_at_most_one_tree();
         crate::laws::one_stream_file_is_right();
-        if let Err(e) = self.look_up(path) {
-            return Err(e);
-        }
+        self.look_up(path)?;
         Ok(Stream {
             file: self,
             position: 0,
@@ -52,17 +52,15 @@ impl<F: Medium, A: Allocator + Clone> CompoundFile<F, A> {
     pub fn create_stream(&mut self, path: &str) -> Result<Stream<'_, F, A>, Error>
         ensures lent { IfOk result (λ s. (file_of s).ghost_name ≡ self.entry.ghost_name) }
         ensures start { IfOk result (λ s. position_of s ≡ 0) }
-        ensures is_open { IsTrue F.tells → Agrees self.old → IfOk result (λ s. IsOpen (file_of s).now (position_of s)) }
-        ensures runs { IsTrue F.tells → Agrees self.old
-            → IfOk result (λ s. RunsOn (causes_of self.old (file_of s).now) self.old (creation true (chars path.now)) done (file_of s).now) }
+        ensures is_open { IsTrue F.tells → AgreesWithBytes self.old → IfOk result (λ s. IsOpen (file_of s).now (position_of s)) }
+        ensures runs { IsTrue F.tells → AgreesWithBytes self.old
+            → IfOk result (λ s. IsAnsweredBy self.old (creation true (chars path.now)) done (file_of s).now) }
         ensures* refused { sem 𝓛 (file_rests F.row A.row F.ReadMedium A.Allocator
-            (λ old last e. IsTrue F.tells → Agrees old
+            (λ old last e. IsTrue F.tells → AgreesWithBytes old
             → IsRefusedBy F.write_faults old (creation true (chars path.now)) (IsNotYet old (creation true (chars path.now)) (chars path.now)) last e)
             self.entry result) }
     {
-        if let Err(e) = self.add_stream(path, true) {
-            return Err(e);
-        }
+        self.add_stream(path, true)?;
         Ok(Stream {
             file: self,
             position: 0,
@@ -74,17 +72,15 @@ impl<F: Medium, A: Allocator + Clone> CompoundFile<F, A> {
     pub fn create_new_stream(&mut self, path: &str) -> Result<Stream<'_, F, A>, Error>
         ensures lent { IfOk result (λ s. (file_of s).ghost_name ≡ self.entry.ghost_name) }
         ensures start { IfOk result (λ s. position_of s ≡ 0) }
-        ensures is_open { IsTrue F.tells → Agrees self.old → IfOk result (λ s. IsOpen (file_of s).now (position_of s)) }
-        ensures runs { IsTrue F.tells → Agrees self.old
-            → IfOk result (λ s. RunsOn (causes_of self.old (file_of s).now) self.old (creation false (chars path.now)) done (file_of s).now) }
+        ensures is_open { IsTrue F.tells → AgreesWithBytes self.old → IfOk result (λ s. IsOpen (file_of s).now (position_of s)) }
+        ensures runs { IsTrue F.tells → AgreesWithBytes self.old
+            → IfOk result (λ s. IsAnsweredBy self.old (creation false (chars path.now)) done (file_of s).now) }
         ensures* refused { sem 𝓛 (file_rests F.row A.row F.ReadMedium A.Allocator
-            (λ old last e. IsTrue F.tells → Agrees old
+            (λ old last e. IsTrue F.tells → AgreesWithBytes old
             → IsRefusedBy F.write_faults old (creation false (chars path.now)) (IsNotYet old (creation false (chars path.now)) (chars path.now)) last e)
             self.entry result) }
     {
-        if let Err(e) = self.add_stream(path, false) {
-            return Err(e);
-        }
+        self.add_stream(path, false)?;
         Ok(Stream {
             file: self,
             position: 0,
@@ -96,7 +92,9 @@ impl<'a, F: Medium, A: Allocator> Stream<'a, F, A> {
     ghost use Rattle.cfb_rules.specs.Runs.{Closes};
     ghost use Rattle.std.specs.Prelude.{drop, ◌++◌};
     ghost use Rattle.cfb_rules.specs.StreamCalls.{read, read_to_end, write, count, got};
-    ghost use Rattle.cfb_compound_file.specs.Answers.{held_len, causes_of, stream_run, closing, IsOpen, StreamRunsOn, IsStreamRefusedBy, IsNotYetWritten, never_yet};
+    ghost use Rattle.cfb_compound_file.specs.Answers.{IsStreamAnsweredBy, IsStreamRefusedBy, causes_of, close_refusal, never_yet};
+    ghost use Rattle.cfb_compound_file.specs.OneStreamStates.{IsOpen, held_len, stream_run};
+    ghost use Rattle.cfb_compound_file.specs.OneStreamWriting.{IsNotYetWritten};
     ghost use Rattle.cfb_compound_file.specs.Streams.{file_of, position_of};
 
     /// The length of the stream, in bytes.
@@ -115,17 +113,14 @@ impl<'a, F: Medium, A: Allocator> Stream<'a, F, A> {
         ensures same_file { (file_of self.new).ghost_name ≡ (file_of self.old).ghost_name }
         ensures bound { IfOk result (λ n. n ≤ length into.new) }
         ensures runs { IsTrue F.tells → IsOpen (file_of self.old).now (position_of self.old) → IfOk result (λ n.
-            StreamRunsOn (file_of self.old).now (position_of self.old) (read (length into.old)) (got (take n into.new)) (file_of self.new).now (position_of self.new)) }
+            IsStreamAnsweredBy (file_of self.old).now (position_of self.old) (read (length into.old)) (got (take n into.new)) (file_of self.new).now (position_of self.new)) }
         ensures is_open { IsTrue F.tells → IsOpen (file_of self.old).now (position_of self.old)
             → OnOk result (IsOpen (file_of self.new).now (position_of self.new)) }
         ensures refused { IsTrue F.tells → IsOpen (file_of self.old).now (position_of self.old) → IfErr result (IsStreamRefusedBy F.read_faults
             (file_of self.old).now (position_of self.old) (read (length into.old)) never_yet (file_of self.new).now (position_of self.new)) }
     {
-        let served = match self.file.read_from(self.position, into) {
-            Ok(served) => served,
-            Err(e) => return Err(e),
-        };
-        self.position = place_after(self.position, served, self.file.held_len());
+        let served = self.file.read_from(self.position, into)?;
+        self.position = position_after(self.position, served, self.file.held_len());
         Ok(served)
     }
 
@@ -139,18 +134,15 @@ impl<'a, F: Medium, A: Allocator> Stream<'a, F, A> {
             × (into.new.items ≡ into.old.items ++ drop (length into.old.items) into.new.items)) }
         ensures nothing { IfErr result (λ e. into.new.items ≡ into.old.items) }
         ensures runs { IsTrue F.tells → IsOpen (file_of self.old).now (position_of self.old) → IfOk result (λ n.
-            StreamRunsOn (file_of self.old).now (position_of self.old) read_to_end (got (drop (length into.old.items) into.new.items))
+            IsStreamAnsweredBy (file_of self.old).now (position_of self.old) read_to_end (got (drop (length into.old.items) into.new.items))
             (file_of self.new).now (position_of self.new)) }
         ensures is_open { IsTrue F.tells → IsOpen (file_of self.old).now (position_of self.old)
             → OnOk result (IsOpen (file_of self.new).now (position_of self.new)) }
         ensures refused { IsTrue F.tells → IsOpen (file_of self.old).now (position_of self.old) → IfErr result (IsStreamRefusedBy F.read_faults
             (file_of self.old).now (position_of self.old) read_to_end never_yet (file_of self.new).now (position_of self.new)) }
     {
-        let served = match self.file.append_from(self.position, into) {
-            Ok(served) => served,
-            Err(e) => return Err(e),
-        };
-        self.position = place_after(self.position, served, self.file.held_len());
+        let served = self.file.append_from(self.position, into)?;
+        self.position = position_after(self.position, served, self.file.held_len());
         Ok(served)
     }
 
@@ -163,18 +155,15 @@ impl<'a, F: Medium, A: Allocator> Stream<'a, F, A> {
         A: Clone,
         ensures same_file { (file_of self.new).ghost_name ≡ (file_of self.old).ghost_name }
         ensures runs { IsTrue F.tells → IsOpen (file_of self.old).now (position_of self.old) → IfOk result (λ n.
-            StreamRunsOn (file_of self.old).now (position_of self.old) (write bytes.now) (count n) (file_of self.new).now (position_of self.new)) }
+            IsStreamAnsweredBy (file_of self.old).now (position_of self.old) (write bytes.now) (count n) (file_of self.new).now (position_of self.new)) }
         ensures is_open { IsTrue F.tells → IsOpen (file_of self.old).now (position_of self.old)
             → OnOk result (IsOpen (file_of self.new).now (position_of self.new)) }
         ensures refused { IsTrue F.tells → IsOpen (file_of self.old).now (position_of self.old) → IfErr result (IsStreamRefusedBy F.write_faults
             (file_of self.old).now (position_of self.old) (write bytes.now) (IsNotYetWritten (file_of self.old).now (length bytes.now))
             (file_of self.new).now (position_of self.new)) }
     {
-        let written = match self.file.write_from(self.position, bytes) {
-            Ok(written) => written,
-            Err(e) => return Err(e),
-        };
-        self.position = place_after(self.position, written, self.file.held_len());
+        let written = self.file.write_from(self.position, bytes)?;
+        self.position = position_after(self.position, written, self.file.held_len());
         Ok(written)
     }
 
@@ -185,7 +174,7 @@ impl<'a, F: Medium, A: Allocator> Stream<'a, F, A> {
         ensures ok { OnOk result ((file_of self.entry).now.is_failed ≡ false) }
         ensures failed { IfErr result (λ e. (e ≡ Error.Failed) × ((file_of self.entry).now.is_failed ≡ true)) }
         ensures closes { Closes (causes_of (file_of self.entry).now (file_of self.entry).now)
-            (stream_run (file_of self.entry).now (position_of self.entry)) (closing result) (file_of self.entry).now.is_failed }
+            (stream_run (file_of self.entry).now (position_of self.entry)) (close_refusal result) (file_of self.entry).now.is_failed }
     {
         let Stream { file, position: _ } = self;
         finish(file)
@@ -193,7 +182,7 @@ impl<'a, F: Medium, A: Allocator> Stream<'a, F, A> {
 }
 
 /// The place `count` bytes behind a position, in a stream of this length.
-fn place_after(position: u64, count: usize, len: u64) -> u64
+fn position_after(position: u64, count: usize, len: u64) -> u64
     requires { len ≤ 4186112 }
     ensures { position + count ≤ len → result ≡ position + count }
 {

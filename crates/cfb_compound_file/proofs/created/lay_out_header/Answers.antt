@@ -8,6 +8,6 @@ pub returns : goal.returns
 returns c =
     put_over_filled (header_bytes (created_header c.args.version)) c.fill.new.self c.put.new.into (length c.args.into.now) c.put.result 512 0
     (let end : c.put.result ≡ 512 = omega (arith, c.put.ensures.end, c.write_to.array_long) in end)
-    (c.put.ensures.before ∙ c.write_to.ensures ∙ ap header_bytes c.created_header.ensures)
+    (c.put.ensures.before ∙ c.write_to.ensures ∙ ap header_bytes c.new_header.ensures)
     c.put.ensures.after
     (c.fill.ensures.after (λ y e. e))

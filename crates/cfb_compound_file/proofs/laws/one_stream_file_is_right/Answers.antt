@@ -9,7 +9,7 @@ use Rattle.cfb_format.specs.Created.{created_bytes}
 use Rattle.cfb_compound_file.specs.OneStream.{HoldsOne, header_sector, fat_bytes, directory_bytes, entries_with, used_fat, tables_with}
 use Rattle.cfb_compound_file.proofs.OneStreamFacts.{reading_with}
 use Rattle.cfb_compound_file.proofs.OneStreamReads.{reads-one, strict-one}
-use Rattle.cfb_compound_file.proofs.OneStreamMeans.{means-one, sound-one}
+use Rattle.cfb_compound_file.proofs.OneStreamMeans.{means-one, one-is-sound}
 use Rattle.cfb_compound_file.proofs.laws.one_stream_file_is_right.Goals as goal
 
 pub returns-clause-means : goal.returns-clause-means
@@ -19,7 +19,7 @@ pub returns-clause-strict : goal.returns-clause-strict
 returns-clause-strict c = λ cases version held bytes holds. record { reading = reading_with version held; reads = reads-one cases version held bytes holds; holds = strict-one version held bytes holds }
 
 pub returns-clause-sound : goal.returns-clause-sound
-returns-clause-sound c = λ cases version held bytes holds. record { reading = reading_with version held; reads = reads-one cases version held bytes holds; holds = sound-one version held bytes holds }
+returns-clause-sound c = one-is-sound
 
 tables : (version : Version) → created_bytes version ≡ tables_with version None
 unfolding created_bytes header_sector fat_bytes directory_bytes entries_with used_fat header_bytes word_bytes unit_bytes entry_bytes

@@ -1,6 +1,6 @@
 use Rattle.std.proofs.Common.{rules, refl, sym, subst}
 use Rattle.cfb_format.specs.Created.{created_bytes}
-use Rattle.cfb_compound_file.proofs.Running.{created-agrees}
+use Rattle.cfb_compound_file.proofs.OneStreamRuns.{created-agrees}
 use Rattle.cfb_compound_file.specs.Files.{IsEmptyFile}
 use Rattle.cfb_compound_file.proofs.compound_file.CompoundFile.create_with_version.Goals as goal
 

@@ -1,7 +1,7 @@
 use Rattle.std.proofs.Common.{chars}
 use Rattle.cfb_rules.specs.Calls.{flag, exists}
 use Rattle.cfb_compound_file.specs.Answers.{causes_of}
-use Rattle.cfb_compound_file.proofs.Running.{runs-from, asks-there}
+use Rattle.cfb_compound_file.proofs.OneStreamRuns.{runs-from, asks-there}
 use Rattle.cfb_compound_file.proofs.compound_file.CompoundFile.exists.Goals as goal
 
 pub returns : goal.returns

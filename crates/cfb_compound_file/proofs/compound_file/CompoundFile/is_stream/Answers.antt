@@ -1,7 +1,7 @@
 use Rattle.std.proofs.Common.{chars}
 use Rattle.cfb_rules.specs.Calls.{flag, is_stream}
 use Rattle.cfb_compound_file.specs.Answers.{causes_of}
-use Rattle.cfb_compound_file.proofs.Running.{runs-from, asks-stream}
+use Rattle.cfb_compound_file.proofs.OneStreamRuns.{runs-from, asks-stream}
 use Rattle.cfb_compound_file.proofs.compound_file.CompoundFile.is_stream.Goals as goal
 
 pub returns : goal.returns
