@@ -1,25 +1,25 @@
-//! Compound files (MS-CFB): a tree of storages and streams in one file.
+//! Compound files (MS-CFB): a tree of storages and streams in one file. It has no code of its own,
+//! but gives the public names of all crates of the library.
 #![tactic(auto)]
 
-mod compound_file;
-mod content;
-mod created;
-mod held;
-pub mod laws;
-mod layout;
-mod opening;
-mod stream;
-
+pub use cfb_compound_file::{CompoundFile, Stream, laws};
 pub use cfb_format::error::{Detail, Error};
 pub use cfb_format::medium::{Medium, MediumFault, ReadMedium};
 pub use cfb_format::memory::MemoryMedium;
 pub use cfb_format::version::Version;
-pub use compound_file::CompoundFile;
-pub use stream::Stream;
 
 /// The layers that compound files are made of.
 pub mod internal {
+    pub use cfb_alloc::alloc::Allocator;
+    pub use cfb_alloc::seeking::AllocatedSector;
+    pub use cfb_chains::chain::Chain;
+    pub use cfb_codecs::direntry::DirEntry;
+    pub use cfb_codecs::path::{self, CaseMapper};
+    pub use cfb_codecs::timestamp::Timestamp;
+    pub use cfb_format::color::Color;
+    pub use cfb_format::consts;
     pub use cfb_format::header::Header;
+    pub use cfb_format::objtype::ObjType;
     pub use cfb_format::validate::Validation;
-    pub use cfb_format::{color, consts, objtype};
+    pub use cfb_sectors::sector::{Sector, SectorInit, Sectors};
 }
