@@ -17,7 +17,7 @@ use Rattle.cfb_format.specs.Reading.{Reading, Reads, IsStrictFile}
 use Rattle.cfb_format.specs.Meaning.{Means}
 use Rattle.cfb_format.specs.Soundness.{IsSoundFile, IsOwnedFile}
 use Rattle.cfb_format.specs.Full.{HasExactTablesFile}
-use Rattle.cfb_format.specs.Tree.{Tree, Objects, stream, StreamInfo, IsOrdered, object_named, is_same_name, a_stream, put_in_order, without}
+use Rattle.cfb_format.specs.Tree.{Tree, Objects, Object, IsOrdered, object_named, is_same_name, put_before, put_in_order, without}
 use Rattle.cfb_format.specs.Content.{readable, is_large, bytes_along}
 use Rattle.cfb_format.specs.Created.{created_bytes, created_header, empty_tree}
 
@@ -79,11 +79,11 @@ abbrev pub LargeStreamsLieAlongChains : Type 0
 LargeStreamsLieAlongChains = (bytes : List ℕ) (r : Reading) (e : Entry) (list : List ℕ) → IsTrue (is_large e) → IsChain r.fat e.start_sector list
     → readable bytes r e ≡ take e.stream_len (bytes_along r.header.version bytes list)
 
--- what is in a storage is a map by name: an object that is put is found, one that is removed isn't, and the others are as before
+-- what is in a storage is a map by name: a storage or stream that is put is found, and the others are as before
 abbrev pub PutIsFound : Type 0
-PutIsFound = (cases : Cases) (name : List ℕ) (info : StreamInfo) (q : List ℕ) (objects : Objects) → object_named cases name objects ≡ None
-    → object_named cases q (put_in_order cases name (stream name info) objects)
-    ≡ (if is_same_name cases q name then Some (record { name = name; object = a_stream info }) else object_named cases q objects)
+PutIsFound = (cases : Cases) (name : List ℕ) (object : Object) (q : List ℕ) (objects : Objects) → object_named cases name objects ≡ None
+    → object_named cases q (put_in_order cases name (put_before name object) objects)
+    ≡ (if is_same_name cases q name then Some (record { name = name; object = object }) else object_named cases q objects)
 
 -- one that is removed is not found, and the others are as before
 abbrev pub RemovedIsGone : Type 0

@@ -32,7 +32,8 @@ pub fn header_is_at_the_start()
     ensures unique { AtMostOneHeader }
 {}
 
-/// A storage is a finite map by name.
+/// A storage is a finite map by name: a storage or stream that is put is found, one that is removed is
+/// not, and the others are as before.
 pub fn storages_are_maps()
     ensures put { PutIsFound }
     ensures removed { RemovedIsGone }
