@@ -125,10 +125,7 @@ fn are_below(numbers: &[u32], count: u32) -> bool
 fn unlisted(count: u32) -> Error
     ensures { ChangeRefused Unit ⊥ ⊥ ⊥ result }
 {
-    Error::InvalidData(Detail {
-        text: "table sector beyond the sectors of the file",
-        numbers: [count as u64, 0],
-    })
+    Error::InvalidData(Detail::number("table sector beyond the sectors of the file", count as u64))
 }
 
 impl<F: ReadMedium, A: Heap> Allocator<F, A> {
@@ -253,10 +250,11 @@ impl<F: ReadMedium, A: Heap> Allocator<F, A> {
 fn uncovered(sectors: usize, fats: usize) -> Error
     ensures { ChangeRefused Unit ⊥ ⊥ ⊥ result }
 {
-    Error::InvalidData(Detail {
-        text: "FAT sectors that do not cover the file",
-        numbers: [sectors as u64, fats as u64],
-    })
+    Error::InvalidData(Detail::numbers(
+        "FAT sectors that do not cover the file",
+        sectors as u64,
+        fats as u64,
+    ))
 }
 
 impl<F: Medium, A: Heap> Allocator<F, A> {
@@ -489,10 +487,7 @@ impl<F: Medium, A: Heap + Clone> Allocator<F, A> {
 fn goes_on(sector: u32) -> Error
     ensures { ChangeRefused Unit ⊥ ⊥ ⊥ result }
 {
-    Error::InvalidData(Detail {
-        text: "chain goes on from there",
-        numbers: [sector as u64, 0],
-    })
+    Error::InvalidData(Detail::number("chain goes on from there", sector as u64))
 }
 
 impl<F: ReadMedium, A: Heap> Allocator<F, A> {

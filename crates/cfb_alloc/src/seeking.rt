@@ -141,10 +141,11 @@ impl<F: ReadMedium, A: Heap> Allocator<F, A> {
 fn unknown(sector: u32, count: usize) -> Error
     ensures { IsInvalidData result }
 {
-    Error::InvalidData(Detail {
-        text: "sector beyond the sectors of the file",
-        numbers: [sector as u64, count as u64],
-    })
+    Error::InvalidData(Detail::numbers(
+        "sector beyond the sectors of the file",
+        sector as u64,
+        count as u64,
+    ))
 }
 
 impl<'a, F: ReadMedium, A: Heap> AllocatedSector<'a, F, A> {

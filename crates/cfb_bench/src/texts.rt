@@ -28,16 +28,13 @@ fn errors(rt: HostRuntime) -> Result<(), Fail> {
 #[test]
 fn details(rt: HostRuntime) -> Result<(), Fail> {
     let all = [
-        ([0u64, 0], "sector"),
-        ([7, 0], "sector (7)"),
-        ([7, 12], "sector (7, 12)"),
-        ([0, 12], "sector (0, 12)"),
+        (Detail::text("sector"), "sector"),
+        (Detail::number("sector", 7), "sector (7)"),
+        (Detail::number("sector", 0), "sector (0)"),
+        (Detail::numbers("sector", 7, 12), "sector (7, 12)"),
+        (Detail::numbers("sector", 0, 0), "sector (0, 0)"),
     ];
-    for (numbers, text) in all {
-        let detail = Detail {
-            text: "sector",
-            numbers,
-        };
+    for (detail, text) in all {
         assert_eq!(rt; format!(in rt.alloc(); "{detail}")?.as_str(), text);
     }
     let fault = Error::Medium(MediumFault::Open);

@@ -833,18 +833,12 @@ fn first_zeros(zeros: &[u8], len: usize) -> &[u8]
 fn cut_off(sector: u32, at: u64) -> Error
     ensures { IsInvalidData result }
 {
-    Error::InvalidData(Detail {
-        text: "file ends inside the sector",
-        numbers: [sector as u64, at],
-    })
+    Error::InvalidData(Detail::numbers("file ends inside the sector", sector as u64, at))
 }
 
 /// A refusal of a place past the end of a chain.
 fn past_end(position: u64, len: u64) -> Error
     ensures { IsInvalidInput result }
 {
-    Error::InvalidInput(Detail {
-        text: "place past the end of the chain",
-        numbers: [position, len],
-    })
+    Error::InvalidInput(Detail::numbers("place past the end of the chain", position, len))
 }

@@ -6,7 +6,7 @@ use Rattle.std.specs.Ordering.{is_eq, is_lt, ordering_reverse}
 use Rattle.std.specs.declared.cmp.Ordering.{Ordering}
 use Rattle.std.specs.declared.cmp.Ordering.TheVariants.{Less, Equal, Greater}
 use Rattle.cfb_format.specs.Names.{Cases, name_cmp}
-use Rattle.cfb_format.specs.Tree.{Objects, nothing, storage, stream, names_in, IsOrdered, Found, a_storage, a_stream, is_same_name, object_named, put_in_order, without}
+use Rattle.cfb_format.specs.Tree.{Objects, nothing, storage, stream, names_in, IsOrdered, Object, Found, a_storage, a_stream, is_same_name, object_named, put_before, put_in_order, without}
 use Rattle.cfb_format.proofs.NameOrder.{name_cmp-total}
 
 equal_by_test : (o : Ordering) → is_eq o ≡ true → o ≡ Equal
@@ -66,6 +66,17 @@ module _ (cases : Cases) where
           ≡ (if is_same_name cases q name then Some x else object_named cases q (stream other info rest))
       go true apart next = is (stream other info rest)
       go false apart next = put_step q name other (Some (record { name = other; object = a_stream info })) x _ (object_named cases q rest) apart next
+
+  before_others : (name : List ℕ) (object : Object) (q : List ℕ) (rest : Objects)
+      → object_named cases q (put_before name object rest) ≡ (if is_same_name cases q name then Some (record { name = name; object = object }) else object_named cases q rest)
+  before_others name (a_storage info inside) q rest = refl
+  before_others name (a_stream info) q rest = refl
+
+  -- the same of a storage or stream by its name
+  pub put_is_found : (name : List ℕ) (object : Object) (q : List ℕ) (objects : Objects) → object_named cases name objects ≡ None
+      → object_named cases q (put_in_order cases name (put_before name object) objects)
+      ≡ (if is_same_name cases q name then Some (record { name = name; object = object }) else object_named cases q objects)
+  put_is_found name object q = object_named-put_in_order name (put_before name object) (record { name = name; object = object }) q (before_others name object q)
 
   -- ---- an object that is removed
 

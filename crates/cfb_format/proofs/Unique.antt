@@ -9,12 +9,12 @@ use Rattle.cfb_format.specs.declared.objtype.ObjType.TheVariants.{Storage, Strea
 use Rattle.cfb_format.specs.Bytes.{u32_at, u64_at, version_number, free_sector}
 use Rattle.cfb_format.specs.declared.header.Header.{Header}
 use Rattle.cfb_format.specs.Header.{IsHeader, dir_sectors_of}
-use Rattle.cfb_format.specs.Fat.{FollowsDifat, IsDifat, next_difat, fat_of, without_end, without_padding, all_difat_entries}
+use Rattle.cfb_format.specs.Fat.{FollowsDifat, IsDifat, IsFat, next_difat, without_end, without_padding, all_difat_entries}
 use Rattle.cfb_format.specs.Chain.{Follows, IsChain}
 use Rattle.cfb_format.specs.Names.{Cases}
 use Rattle.cfb_format.specs.DirectoryEntry.{Entry, IsEntry, name_for, unless_stream, unless_storage, stored_name, stored_clsid, stored_len, nil_clsid, slots}
 use Rattle.cfb_format.specs.Siblings.{SiblingTree, leaf, node, HangsAt, in_order, Below, entry_at}
-use Rattle.cfb_format.specs.Reading.{Reading, Reads, Outline, no_more, storage_at, stream_at, siblings, HasContents, IsOutline, IsDirectory, minifat_words}
+use Rattle.cfb_format.specs.Reading.{Reading, Reads, Outline, no_more, storage_at, stream_at, root_entry, siblings, HasContents, IsOutline, IsDirectory, IsMinifat, minifat_words}
 use Rattle.cfb_format.specs.Tree.{Tree}
 use Rattle.cfb_format.specs.Meaning.{Means, tree_of}
 
@@ -84,13 +84,19 @@ IsHeader-unique bytes h k a b =
       initial_difat_entries = (a.difat ∙ sym b.difat) i;
     }
 
-pub own-unique : (bytes : List ℕ) (h : Header) (list list' own own' : List ℕ) → IsDifat bytes h list own → IsDifat bytes h list' own' → own ≡ own'
+own-unique : (bytes : List ℕ) (h : Header) (list list' own own' : List ℕ) → IsDifat bytes h list own → IsDifat bytes h list' own' → own ≡ own'
 own-unique bytes h list list' own own' a b = FollowsDifat-unique h.version bytes h.first_difat_sector own own' a.sectors b.sectors
 
-pub list-unique : (bytes : List ℕ) (h : Header) (list list' own own' : List ℕ) → IsDifat bytes h list own → IsDifat bytes h list' own' → list ≡ list'
-list-unique bytes h list list' own own' a b =
-    a.entries ∙ ap (λ o. without_end (λ word. word == free_sector) (without_padding h (all_difat_entries h bytes o)))
-    (own-unique bytes h list list' own own' a b) ∙ sym b.entries
+pub IsDifat-unique : (bytes : List ℕ) (h : Header) (list list' own own' : List ℕ) → IsDifat bytes h list own → IsDifat bytes h list' own'
+    → (list ≡ list') × (own ≡ own')
+IsDifat-unique bytes h list list' own own' a b =
+    let owns = own-unique bytes h list list' own own' a b in (
+      a.entries ∙ ap (λ o. without_end (λ word. word == free_sector) (without_padding h (all_difat_entries h bytes o))) owns ∙ sym b.entries,
+      owns,
+    )
+
+pub IsFat-unique : (v : Version) (bytes list own fat fat' : List ℕ) → IsFat v bytes list own fat → IsFat v bytes list own fat' → fat ≡ fat'
+IsFat-unique v bytes list own fat fat' a b = a.values ∙ sym b.values
 
 -- ---- entries
 
@@ -168,59 +174,62 @@ pub IsOutline-unique : (cases : Cases) (entries : List Entry) (o p : Outline) �
 IsOutline-unique cases entries o p a b =
     outline-unique cases entries o p (Below-unique cases entries (entry_at entries 0).child (siblings o) (siblings p) a.children b.children) a.contents b.contents
 
+-- ---- directory and MiniFAT
+
+pub IsDirectory-unique : (v : Version) (bytes fat : List ℕ) (first : ℕ) (list list' : List ℕ) (ds es : List Entry)
+    → IsDirectory v bytes fat first list ds → IsDirectory v bytes fat first list' es → (list ≡ list') × (ds ≡ es)
+IsDirectory-unique v bytes fat first list list' ds es a b =
+    let lists = IsChain-unique fat first list list' a.chain b.chain in
+    (lists, entries-unique v (slots v bytes list) ds es a.slots (subst (λ d. AllZip (IsEntry v) (slots v bytes d) es) (sym lists) b.slots))
+
+pub IsMinifat-unique : (v : Version) (bytes fat : List ℕ) (first root_len : ℕ) (sectors sectors' minifat minifat' : List ℕ)
+    → IsMinifat v bytes fat first root_len sectors minifat → IsMinifat v bytes fat first root_len sectors' minifat'
+    → (sectors ≡ sectors') × (minifat ≡ minifat')
+IsMinifat-unique v bytes fat first root_len sectors sectors' minifat minifat' a b =
+    let lists = IsChain-unique fat first sectors sectors' a.chain b.chain in
+    (lists, a.values ∙ ap (λ list. take (root_len / 64) (minifat_words v bytes list)) lists ∙ sym b.values)
+
 -- ---- the parts of a file, one after the other
 
 module _ (cases : Cases) (bytes : List ℕ) (r s : Reading) (a : Reads cases bytes r) (b : Reads cases bytes s) where
   header_is : r.header ≡ s.header
   header_is = IsHeader-unique bytes r.header s.header a.header b.header
 
-  difat_there : IsDifat bytes r.header s.fat_sectors s.difat_sectors
-  difat_there = subst (λ h. IsDifat bytes h s.fat_sectors s.difat_sectors) (sym header_is) b.difat
-
-  own_is : r.difat_sectors ≡ s.difat_sectors
-  own_is = own-unique bytes r.header r.fat_sectors s.fat_sectors r.difat_sectors s.difat_sectors a.difat difat_there
-
-  list_is : r.fat_sectors ≡ s.fat_sectors
-  list_is = list-unique bytes r.header r.fat_sectors s.fat_sectors r.difat_sectors s.difat_sectors a.difat difat_there
+  difat_is : (r.fat_sectors ≡ s.fat_sectors) × (r.difat_sectors ≡ s.difat_sectors)
+  difat_is = IsDifat-unique bytes r.header r.fat_sectors s.fat_sectors r.difat_sectors s.difat_sectors a.difat
+      (subst (λ h. IsDifat bytes h s.fat_sectors s.difat_sectors) (sym header_is) b.difat)
 
   fat_is : r.fat ≡ s.fat
-  fat_is = a.fat.values ∙ (λ i. fat_of (header_is i).version bytes (list_is i) (own_is i)) ∙ sym b.fat.values
+  fat_is = IsFat-unique r.header.version bytes r.fat_sectors r.difat_sectors r.fat s.fat a.fat
+      (subst (λ (p : Header × List ℕ × List ℕ). IsFat p.0.version bytes p.1 p.2 s.fat) (λ i. (sym header_is i, sym difat_is.0 i, sym difat_is.1 i)) b.fat)
 
-  directory_there : IsDirectory r.header.version bytes r.fat r.header.first_dir_sector s.directory s.entries
-  directory_there = subst (λ (p : Header × List ℕ). IsDirectory p.0.version bytes p.1 p.0.first_dir_sector s.directory s.entries)
-      (λ i. (sym header_is i, sym fat_is i)) b.directory
-
-  directory_is : r.directory ≡ s.directory
-  directory_is = IsChain-unique r.fat r.header.first_dir_sector r.directory s.directory a.directory.chain directory_there.chain
-
-  entries_is : r.entries ≡ s.entries
-  entries_is = entries-unique r.header.version (slots r.header.version bytes r.directory) r.entries s.entries a.directory.slots
-      (subst (λ d. AllZip (IsEntry r.header.version) (slots r.header.version bytes d) s.entries) (sym directory_is) directory_there.slots)
+  directory_is : (r.directory ≡ s.directory) × (r.entries ≡ s.entries)
+  directory_is = IsDirectory-unique r.header.version bytes r.fat r.header.first_dir_sector r.directory s.directory r.entries s.entries a.directory
+      (subst (λ (p : Header × List ℕ). IsDirectory p.0.version bytes p.1 p.0.first_dir_sector s.directory s.entries)
+      (λ i. (sym header_is i, sym fat_is i)) b.directory)
 
   outline_is : r.outline ≡ s.outline
   outline_is = IsOutline-unique cases r.entries r.outline s.outline a.outline
-      (subst (λ es. IsOutline cases es s.outline) (sym entries_is) b.outline)
+      (subst (λ es. IsOutline cases es s.outline) (sym directory_is.1) b.outline)
 
-  minifat_sectors_is : r.minifat_sectors ≡ s.minifat_sectors
-  minifat_sectors_is = IsChain-unique r.fat r.header.first_minifat_sector r.minifat_sectors s.minifat_sectors a.minifat.chain
-      (subst (λ (p : Header × List ℕ). IsChain p.1 p.0.first_minifat_sector s.minifat_sectors) (λ i. (sym header_is i, sym fat_is i)) b.minifat.chain)
-
-  minifat_is : r.minifat ≡ s.minifat
-  minifat_is = a.minifat.values
-      ∙ (λ i. take ((entry_at (entries_is i) 0).stream_len / 64) (minifat_words (header_is i).version bytes (minifat_sectors_is i))) ∙ sym b.minifat.values
+  minifat_is : (r.minifat_sectors ≡ s.minifat_sectors) × (r.minifat ≡ s.minifat)
+  minifat_is = IsMinifat-unique r.header.version bytes r.fat r.header.first_minifat_sector (root_entry r).stream_len
+      r.minifat_sectors s.minifat_sectors r.minifat s.minifat a.minifat
+      (subst (λ (p : Header × List ℕ × List Entry). IsMinifat p.0.version bytes p.1 p.0.first_minifat_sector (entry_at p.2 0).stream_len s.minifat_sectors s.minifat)
+      (λ i. (sym header_is i, sym fat_is i, sym directory_is.1 i)) b.minifat)
 
   -- bytes have at most one reading
   pub Reads-unique : r ≡ s
   Reads-unique = λ i. record {
     header = header_is i;
-    fat_sectors = list_is i;
-    difat_sectors = own_is i;
+    fat_sectors = difat_is.0 i;
+    difat_sectors = difat_is.1 i;
     fat = fat_is i;
-    directory = directory_is i;
-    entries = entries_is i;
+    directory = directory_is.0 i;
+    entries = directory_is.1 i;
     outline = outline_is i;
-    minifat_sectors = minifat_sectors_is i;
-    minifat = minifat_is i;
+    minifat_sectors = minifat_is.0 i;
+    minifat = minifat_is.1 i;
   }
 
 -- bytes mean at most one tree

@@ -13,11 +13,12 @@ use Rattle.cfb_format.specs.Path.{names_of_path, path_of_names, is_plain_name}
 use Rattle.cfb_format.specs.Chain.{IsChain, chain_from}
 use Rattle.cfb_format.specs.DirectoryEntry.{Entry, EntryFits, IsValidEntry, IsEntry, AcceptsEntry, entry_bytes}
 use Rattle.cfb_format.specs.Siblings.{Below, Balanced, HangsAt, SiblingTree, depth, in_order}
-use Rattle.cfb_format.specs.Reading.{Reading, Reads, IsStrictFile}
+use Rattle.cfb_format.specs.Fat.{IsDifat, IsFat}
+use Rattle.cfb_format.specs.Reading.{Reading, Reads, Outline, IsDirectory, IsOutline, IsMinifat, IsStrictFile}
 use Rattle.cfb_format.specs.Meaning.{Means}
 use Rattle.cfb_format.specs.Soundness.{IsSoundFile, IsOwnedFile}
 use Rattle.cfb_format.specs.Full.{HasExactTablesFile}
-use Rattle.cfb_format.specs.Tree.{Tree, Objects, stream, StreamInfo, IsOrdered, object_named, is_same_name, a_stream, put_in_order, without}
+use Rattle.cfb_format.specs.Tree.{Tree, Objects, Object, IsOrdered, object_named, is_same_name, put_before, put_in_order, without}
 use Rattle.cfb_format.specs.Content.{readable, is_large, bytes_along}
 use Rattle.cfb_format.specs.Created.{created_bytes, created_header, empty_tree}
 
@@ -25,7 +26,36 @@ use Rattle.cfb_format.specs.Created.{created_bytes, created_header, empty_tree}
 abbrev pub AtMostOneReading : Type 0
 AtMostOneReading = (cases : Cases) (bytes : List ℕ) (r s : Reading) → Reads cases bytes r → Reads cases bytes s → r ≡ s
 
--- and so they mean at most one tree
+-- and no part of it could be another one for the parts before it: the header,
+abbrev pub AtMostOneHeader : Type 0
+AtMostOneHeader = (bytes : List ℕ) (h k : Header) → IsHeader bytes h → IsHeader bytes k → h ≡ k
+
+-- the FAT sectors and the DIFAT sectors,
+abbrev pub AtMostOneDifat : Type 0
+AtMostOneDifat = (bytes : List ℕ) (h : Header) (list list' own own' : List ℕ) → IsDifat bytes h list own → IsDifat bytes h list' own'
+    → (list ≡ list') × (own ≡ own')
+
+-- the FAT,
+abbrev pub AtMostOneFat : Type 0
+AtMostOneFat = (version : Version) (bytes list own fat fat' : List ℕ) → IsFat version bytes list own fat → IsFat version bytes list own fat' → fat ≡ fat'
+
+-- the directory's sectors and its entries,
+abbrev pub AtMostOneDirectory : Type 0
+AtMostOneDirectory = (version : Version) (bytes fat : List ℕ) (first : ℕ) (directory directory' : List ℕ) (entries entries' : List Entry)
+    → IsDirectory version bytes fat first directory entries → IsDirectory version bytes fat first directory' entries'
+    → (directory ≡ directory') × (entries ≡ entries')
+
+-- the outline,
+abbrev pub AtMostOneOutline : Type 0
+AtMostOneOutline = (cases : Cases) (entries : List Entry) (o p : Outline) → IsOutline cases entries o → IsOutline cases entries p → o ≡ p
+
+-- the MiniFAT's sectors and its values
+abbrev pub AtMostOneMinifat : Type 0
+AtMostOneMinifat = (version : Version) (bytes fat : List ℕ) (first root_len : ℕ) (sectors sectors' minifat minifat' : List ℕ)
+    → IsMinifat version bytes fat first root_len sectors minifat → IsMinifat version bytes fat first root_len sectors' minifat'
+    → (sectors ≡ sectors') × (minifat ≡ minifat')
+
+-- so they mean at most one tree
 abbrev pub AtMostOneTree : Type 0
 AtMostOneTree = (cases : Cases) (bytes : List ℕ) (t u : Tree) → Means cases bytes t → Means cases bytes u → t ≡ u
 
@@ -79,11 +109,11 @@ abbrev pub LargeStreamsLieAlongChains : Type 0
 LargeStreamsLieAlongChains = (bytes : List ℕ) (r : Reading) (e : Entry) (list : List ℕ) → IsTrue (is_large e) → IsChain r.fat e.start_sector list
     → readable bytes r e ≡ take e.stream_len (bytes_along r.header.version bytes list)
 
--- what is in a storage is a map by name: an object that is put is found, one that is removed isn't, and the others are as before
+-- what is in a storage is a map by name: a storage or stream that is put is found, and the others are as before
 abbrev pub PutIsFound : Type 0
-PutIsFound = (cases : Cases) (name : List ℕ) (info : StreamInfo) (q : List ℕ) (objects : Objects) → object_named cases name objects ≡ None
-    → object_named cases q (put_in_order cases name (stream name info) objects)
-    ≡ (if is_same_name cases q name then Some (record { name = name; object = a_stream info }) else object_named cases q objects)
+PutIsFound = (cases : Cases) (name : List ℕ) (object : Object) (q : List ℕ) (objects : Objects) → object_named cases name objects ≡ None
+    → object_named cases q (put_in_order cases name (put_before name object) objects)
+    ≡ (if is_same_name cases q name then Some (record { name = name; object = object }) else object_named cases q objects)
 
 -- one that is removed is not found, and the others are as before
 abbrev pub RemovedIsGone : Type 0
@@ -97,10 +127,6 @@ HeaderIsReadBack = (validation : Validation) (h : Header) → HeaderFits h → I
 -- a header stands in the first 512 bytes, and what follows them has no part in it
 abbrev pub HeaderIsAtTheStart : Type 0
 HeaderIsAtTheStart = (validation : Validation) (bytes : List ℕ) (h : Header) → AcceptsHeader validation (take 512 bytes) h ↔ AcceptsHeader validation bytes h
-
--- bytes hold at most one header
-abbrev pub AtMostOneHeader : Type 0
-AtMostOneHeader = (bytes : List ℕ) (h k : Header) → IsHeader bytes h → IsHeader bytes k → h ≡ k
 
 -- a created file has room for header, FAT sector and directory sector, and no more
 abbrev pub CreatedIsThreeSectors : Type 0

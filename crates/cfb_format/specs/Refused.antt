@@ -1,6 +1,9 @@
--- Which error a call answered.
-use Rattle.std.specs.Prelude.{◌≡◌, ℕ, Bool, true, false, Result, MatchResult, ⊤}
+-- Which error a call answered, and what it tells.
+use Rattle.std.specs.Prelude.{◌≡◌, ℕ, List, [], ◌∷◌, Bool, true, false, Result, MatchResult, ⊤}
 use Rattle.cfb_format.specs.Medium.{FailsBy}
+use Rattle.cfb_format.specs.declared.error.Detail.{Detail}
+use Rattle.cfb_format.specs.declared.error.Numbers.TheVariants.{Empty, One, Two}
+use Rattle.cfb_format.specs.declared.error.Numbers.{Numbers}
 use Rattle.cfb_format.specs.declared.error.Error.{Error}
 use Rattle.cfb_format.specs.declared.error.Error.TheVariants.{NotFound, AlreadyExists, InvalidInput, InvalidData, Medium, Memory, Full, Unsound, Failed, Unsupported}
 use Rattle.cfb_format.specs.declared.medium.MediumFault.{MediumFault}
@@ -17,6 +20,19 @@ number_of Full = 7
 number_of Unsound = 8
 number_of Failed = 9
 number_of Unsupported = 10
+
+-- the text of a detail
+abbrev pub text_of : Detail → List ℕ
+text_of detail = detail.text.now
+
+abbrev pub all_of : Numbers → List ℕ
+all_of Empty = []
+all_of (One first) = first ∷ []
+all_of (Two first second) = first ∷ second ∷ []
+
+-- the numbers that are printed behind it
+abbrev pub numbers_behind : Detail → List ℕ
+numbers_behind detail = all_of detail.numbers
 
 -- what holds at an error of each kind. It is the one table of all kinds: a clause on refusals says it of the kinds that the call can
 -- answer, and leaves all others out

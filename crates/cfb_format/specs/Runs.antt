@@ -1,5 +1,5 @@
 -- The words that a run of a table's words stands for, and which runs are as long as they can be.
-use Rattle.std.specs.Prelude.{ℕ, ◌+◌, ◌<◌, ◌^◌, ◌≡◌, List, [], ◌∷◌, Bool, false, ◌&&◌, ◌==◌, nat_lt, nat_le, length, replicate, ⊤}
+use Rattle.std.specs.Prelude.{ℕ, ◌+◌, ◌<◌, ◌≤◌, ◌^◌, ◌≡◌, List, [], ◌∷◌, Bool, false, ◌&&◌, ◌==◌, nat_lt, nat_le, length, replicate, ⊤}
 use Rattle.std.specs.List.{range_with_len}
 use Rattle.cfb_format.specs.declared.consts.Run.{Run}
 use Rattle.cfb_format.specs.declared.consts.Run.TheVariants.{Free, End, Fat, Difat, Numbers}
@@ -11,6 +11,14 @@ run_words End = end_of_chain ∷ []
 run_words (Fat count) = replicate count fat_sector
 run_words (Difat count) = replicate count difat_sector
 run_words (Numbers first more) = range_with_len first (more + 1)
+
+-- a run of numbers has no mark among its words: the marks begin behind the number that is none (MS-CFB 2.1)
+abbrev pub StaysBelowMarks : Run → Type 0
+StaysBelowMarks (Numbers first more) = first + more ≤ invalid_sector
+StaysBelowMarks (Free count) = ⊤
+StaysBelowMarks End = ⊤
+StaysBelowMarks (Fat count) = ⊤
+StaysBelowMarks (Difat count) = ⊤
 
 abbrev pub first_word : Run → ℕ
 first_word (Free count) = free_sector

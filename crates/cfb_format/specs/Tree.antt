@@ -78,6 +78,11 @@ object_named cases name (storage other info inside rest) =
 object_named cases name (stream other info rest) =
     if is_same_name cases name other then Some (record { name = other; object = a_stream info }) else object_named cases name rest
 
+-- an object of that name put before others
+abbrev pub put_before : List ℕ → Object → Objects → Objects
+put_before name (a_storage info inside) rest = storage name info inside rest
+put_before name (a_stream info) rest = stream name info rest
+
 -- an object put at its place in the name order, by a function that puts it before what comes after it
 abbrev pub put_in_order : Cases → List ℕ → (Objects → Objects) → Objects → Objects
 put_in_order cases name before nothing = before nothing

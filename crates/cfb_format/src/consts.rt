@@ -1,7 +1,7 @@
 //! The constants of the format, and how words of its tables are printed.
-ghost use Rattle.std.specs.Prelude.{◌≡◌, ◌+◌, ◌++◌, ◌∷◌, [], IfOk, IfErr, IfSome, IfNone, OnOk, false, flat_map};
+ghost use Rattle.std.specs.Prelude.{◌≡◌, ◌+◌, ◌++◌, ◌∷◌, [], All, IfOk, IfErr, IfSome, IfNone, OnOk, false, flat_map};
 ghost use Rattle.cfb_format.specs.declared.error.Error.TheVariants.{Memory};
-ghost use Rattle.cfb_format.specs.Runs.{run_words, first_word, counts_on, goes_on, AreLongest};
+ghost use Rattle.cfb_format.specs.Runs.{run_words, first_word, counts_on, goes_on, AreLongest, StaysBelowMarks};
 
 use crate::error::Error;
 use std::alloc::{AllocError, Allocator};
@@ -129,6 +129,7 @@ impl fmt::Debug for Runs<'_> {
 pub fn prettify<A: Allocator>(alloc: A, words: &[u32]) -> Result<Vec<Run, A>, Error>
     ensures ok { IfOk result (λ runs. flat_map run_words runs.items ≡ words.now) }
     ensures longest { IfOk result (λ runs. AreLongest runs.items) }
+    ensures numbers { IfOk result (λ runs. All StaysBelowMarks runs.items) }
     ensures err { IfErr result (λ e. e ≡ Memory) }
 {
     let mut runs = Vec::new(alloc);
@@ -142,6 +143,7 @@ pub fn prettify<A: Allocator>(alloc: A, words: &[u32]) -> Result<Vec<Run, A>, Er
 fn push_word<A: Allocator>(runs: &mut Vec<Run, A>, word: u32) -> Result<(), AllocError>
     ensures words { OnOk result (flat_map run_words runs.new.items ≡ flat_map run_words runs.old.items ++ word ∷ []) }
     ensures longest { AreLongest runs.old.items → OnOk result (AreLongest runs.new.items) }
+    ensures numbers { All StaysBelowMarks runs.old.items → OnOk result (All StaysBelowMarks runs.new.items) }
 {
     match runs.pop() {
         Some(last) => push_behind(runs, last, word),
@@ -153,6 +155,7 @@ fn push_word<A: Allocator>(runs: &mut Vec<Run, A>, word: u32) -> Result<(), Allo
 fn push_behind<A: Allocator>(runs: &mut Vec<Run, A>, last: Run, word: u32) -> Result<(), AllocError>
     ensures words { OnOk result (flat_map run_words runs.new.items ≡ flat_map run_words (runs.old.items ++ last ∷ []) ++ word ∷ []) }
     ensures longest { AreLongest (runs.old.items ++ last ∷ []) → OnOk result (AreLongest runs.new.items) }
+    ensures numbers { All StaysBelowMarks (runs.old.items ++ last ∷ []) → OnOk result (All StaysBelowMarks runs.new.items) }
 {
     let Some(longer) = longer_run(last, word) else {
         runs.push(last)?;
@@ -165,6 +168,7 @@ fn push_behind<A: Allocator>(runs: &mut Vec<Run, A>, last: Run, word: u32) -> Re
 pub fn run_of(word: u32) -> Run
     ensures words { run_words result ≡ word ∷ [] }
     ensures first { first_word result ≡ word }
+    ensures numbers { StaysBelowMarks result }
 {
     match word {
         END_OF_CHAIN => Run::End,
@@ -179,6 +183,7 @@ pub fn run_of(word: u32) -> Run
 fn longer_run(run: Run, word: u32) -> Option<Run>
     ensures words { IfSome result (λ longer. run_words longer ≡ run_words run ++ word ∷ []) }
     ensures first { IfSome result (λ longer. first_word longer ≡ first_word run) }
+    ensures numbers { IfSome result StaysBelowMarks }
     ensures longest { IfNone result (goes_on run word ≡ false) }
 {
     match run {
@@ -204,6 +209,7 @@ fn longer_count(mark: u32, count: u32, word: u32) -> Option<u32>
 fn longer_numbers(first: u32, more: u32, word: u32) -> Option<Run>
     ensures words { IfSome result (λ longer. run_words longer ≡ run_words (Run.Numbers first more) ++ word ∷ []) }
     ensures first { IfSome result (λ longer. first_word longer ≡ first) }
+    ensures numbers { IfSome result StaysBelowMarks }
     ensures longest { IfNone result (goes_on (Run.Numbers first more) word ≡ false) }
 {
     let more = more.checked_add(1)?;

@@ -1,31 +1,60 @@
 //! What a call may be refused with.
 ghost use Rattle.std.specs.Prelude.{◌≡◌, ◌∷◌, []};
 ghost use Rattle.cfb_format.specs.declared.error.Error.TheVariants.{Memory, Medium};
-ghost use Rattle.cfb_format.specs.Refused.{number_of};
+ghost use Rattle.cfb_format.specs.Refused.{number_of, text_of, numbers_behind};
 
 use crate::medium::MediumFault;
 use std::alloc::{AllocError, AllocFailed};
 use std::fmt;
 use thiserror::Error;
 
-/// What a refusal was about. It takes no memory.
+/// What a refusal was about: a text, and up to two numbers that say more, as of a sector or a
+/// length. It takes no memory.
 #[derive(Clone, Copy, Debug, PartialEq, Eq)]
 pub struct Detail {
-    /// The text that the error prints.
-    pub text: &'static str,
-    /// Numbers that say more, as of a sector or a length; 0 where there are none.
-    pub numbers: [u64; 2],
+    text: &'static str,
+    numbers: Numbers,
+}
+
+/// The numbers behind a text. None is told from the number 0.
+#[derive(Clone, Copy, Debug, PartialEq, Eq)]
+enum Numbers {
+    Empty,
+    One(u64),
+    Two(u64, u64),
 }
 
 impl Detail {
     /// A text alone.
     pub fn text(text: &'static str) -> Detail
-        ensures says { result.text.now ≡ text.now }
-        ensures numbers { result.numbers ≡ 0 ∷ 0 ∷ [] }
+        ensures text { text_of result ≡ text.now }
+        ensures numbers { numbers_behind result ≡ [] }
     {
         Detail {
             text,
-            numbers: [0, 0],
+            numbers: Numbers::Empty,
+        }
+    }
+
+    /// A text with one number behind it, printed as `text (1)`.
+    pub fn number(text: &'static str, first: u64) -> Detail
+        ensures text { text_of result ≡ text.now }
+        ensures numbers { numbers_behind result ≡ first ∷ [] }
+    {
+        Detail {
+            text,
+            numbers: Numbers::One(first),
+        }
+    }
+
+    /// A text with two numbers behind it, printed as `text (1, 2)`.
+    pub fn numbers(text: &'static str, first: u64, second: u64) -> Detail
+        ensures text { text_of result ≡ text.now }
+        ensures numbers { numbers_behind result ≡ first ∷ second ∷ [] }
+    {
+        Detail {
+            text,
+            numbers: Numbers::Two(first, second),
         }
     }
 }
@@ -34,9 +63,9 @@ impl fmt::Display for Detail {
     fn fmt<W: fmt::Write>(&self, f: &mut fmt::Formatter<W>) -> fmt::Result {
         f.write_str(self.text)?;
         match self.numbers {
-            [0, 0] => Ok(()),
-            [first, 0] => write!(f, " ({first})"),
-            [first, second] => write!(f, " ({first}, {second})"),
+            Numbers::Empty => Ok(()),
+            Numbers::One(first) => write!(f, " ({first})"),
+            Numbers::Two(first, second) => write!(f, " ({first}, {second})"),
         }
     }
 }

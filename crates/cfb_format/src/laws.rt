@@ -1,11 +1,22 @@
 //! What the definitions of the format promise about each other. None of these functions does
 //! anything: each has a law as its contract.
-ghost use Rattle.cfb_format.specs.Laws.{AtMostOneReading, AtMostOneTree, ChainIsWalked, OneListBelow, NamesAreOrdered, EqualByKey, CreatedMeansRoot, CreatedIsStrict, CreatedIsSound, CreatedIsOwned, CreatedHasExactTables, MeantTreesAreOrdered, BalancedIsLow, LargeStreamsLieAlongChains, PutIsFound, RemovedIsGone, HeaderIsReadBack, HeaderIsAtTheStart, AtMostOneHeader, CreatedIsThreeSectors, CreatedHeaderIsAccepted};
+ghost use Rattle.cfb_format.specs.Laws.{AtMostOneReading, AtMostOneTree, ChainIsWalked, OneListBelow, NamesAreOrdered, EqualByKey, CreatedMeansRoot, CreatedIsStrict, CreatedIsSound, CreatedIsOwned, CreatedHasExactTables, MeantTreesAreOrdered, BalancedIsLow, LargeStreamsLieAlongChains, PutIsFound, RemovedIsGone, HeaderIsReadBack, HeaderIsAtTheStart, AtMostOneHeader, AtMostOneDifat, AtMostOneFat, AtMostOneDirectory, AtMostOneOutline, AtMostOneMinifat, CreatedIsThreeSectors, CreatedHeaderIsAccepted};
 
 /// Bytes have at most one reading, and mean at most one tree.
 pub fn bytes_mean_at_most_one_tree()
     ensures reading { AtMostOneReading }
     ensures tree { AtMostOneTree }
+{}
+
+/// Each part of a reading is the only one that stands in the bytes for the parts before it: header,
+/// DIFAT, FAT, directory, outline and MiniFAT (MS-CFB 2.2 to 2.6).
+pub fn parts_are_unique()
+    ensures header { AtMostOneHeader }
+    ensures difat { AtMostOneDifat }
+    ensures fat { AtMostOneFat }
+    ensures directory { AtMostOneDirectory }
+    ensures outline { AtMostOneOutline }
+    ensures minifat { AtMostOneMinifat }
 {}
 
 /// A start has at most one chain, which walking finds, and a storage at most one list of children.
@@ -32,7 +43,8 @@ pub fn header_is_at_the_start()
     ensures unique { AtMostOneHeader }
 {}
 
-/// A storage is a finite map by name.
+/// A storage is a finite map by name: a storage or stream that is put is found, one that is removed is
+/// not, and the others are as before.
 pub fn storages_are_maps()
     ensures put { PutIsFound }
     ensures removed { RemovedIsGone }

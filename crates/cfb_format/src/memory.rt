@@ -1,6 +1,6 @@
 //! A medium in memory.
-ghost use Rattle.std.specs.Prelude.{◌≡◌, ◌+◌, ◌≤◌, true, false, [], OnOk, OnErr, length};
-ghost use Rattle.cfb_format.specs.Medium.{written};
+ghost use Rattle.std.specs.Prelude.{◌≡◌, ◌+◌, ◌-◌, ◌<◌, ◌≤◌, min, true, false, [], IsOk, IfOk, OnOk, OnErr, MatchResult, IsOkAnd, length};
+ghost use Rattle.cfb_format.specs.Medium.{FailsBy, ReadsAt, WritesAt, FailsToWriteAt, written};
 ghost use Rattle.cfb_format.specs.Memory.{is_refused_growth};
 
 use crate::medium::{Medium, MediumFault, ReadMedium};
@@ -65,11 +65,20 @@ impl<A: Allocator> ReadMedium for MemoryMedium<A> {
 
     ghost read_faults = { λ _. false };
 
-    fn length(&mut self) -> Result<u64, MediumFault> {
+    /// The number of bytes. Never refused.
+    fn length(&mut self) -> Result<u64, MediumFault>
+        ensures same { self.new ≡ self.old }
+        ensures answer { IsOkAnd result (λ n. n ≡ length self.old.bytes) }
+    {
         Ok(self.bytes.len() as u64)
     }
 
-    fn read_at(&mut self, at: u64, into: &mut [u8]) -> Result<usize, MediumFault> {
+    /// All bytes from `at` on that `into` has room for. Never refused.
+    fn read_at(&mut self, at: u64, into: &mut [u8]) -> Result<usize, MediumFault>
+        ensures same { self.new ≡ self.old }
+        ensures answer { IsOkAnd result (λ n. n ≡ min (length into.old) (length self.old.bytes - at)) }
+        ensures honest { IfOk result (λ n. ReadsAt (λ _. false) self.old.bytes self.old.failures self.new.failures at into.new n) }
+    {
         let len = self.bytes.len() as u64;
         if at >= len {
             return Ok(0);
@@ -84,7 +93,15 @@ impl<A: Allocator> ReadMedium for MemoryMedium<A> {
 impl<A: Allocator> Medium for MemoryMedium<A> {
     ghost write_faults = { is_refused_growth };
 
-    fn write_at(&mut self, at: u64, from: &[u8]) -> Result<usize, MediumFault> {
+    /// Writes all of `from`. Refused only where the bytes must grow, and then they stay as before.
+    fn write_at(&mut self, at: u64, from: &[u8]) -> Result<usize, MediumFault>
+        ensures whole { IfOk result (λ n. n ≡ length from.now) }
+        ensures room { OnErr result ((0 < length from.now) × (length self.old.bytes < at + length from.now)) }
+        ensures refused { OnErr result (self.new.bytes ≡ self.old.bytes) }
+        ensures honest { MatchResult result
+            (WritesAt is_refused_growth self.old.bytes self.new.bytes self.old.failures self.new.failures at from.now)
+            (FailsToWriteAt is_refused_growth self.old.bytes self.new.bytes self.old.failures self.new.failures at from.now) }
+    {
         if from.is_empty() {
             return Ok(0);
         }
@@ -95,7 +112,11 @@ impl<A: Allocator> Medium for MemoryMedium<A> {
         Ok(from.len())
     }
 
-    fn flush(&mut self) -> Result<(), MediumFault> {
+    /// Nothing is left to hand on. Never refused.
+    fn flush(&mut self) -> Result<(), MediumFault>
+        ensures same { self.new ≡ self.old }
+        ensures answer { IsOk result }
+    {
         Ok(())
     }
 }
@@ -103,7 +124,8 @@ impl<A: Allocator> Medium for MemoryMedium<A> {
 /// Writes all of `from`, or nothing where memory is refused.
 fn overwrite<A: Allocator>(bytes: &mut Vec<u8, A>, at: u64, from: &[u8]) -> Result<(), AllocError>
     ensures ok { OnOk result (bytes.new.items ≡ written bytes.old.items at from.now) }
-    ensures err { OnErr result (bytes.new.items ≡ bytes.old.items) }
+    ensures room { OnErr result (length bytes.old.items < at + length from.now) }
+    ensures refused { OnErr result (bytes.new.items ≡ bytes.old.items) }
 {
     let start = at as usize;
     let end = start.checked_add(from.len()).ok_or(AllocError)?;

@@ -438,10 +438,11 @@ impl<F: Medium> Sectors<F> {
 fn beyond(sector: u32, num_sectors: u32) -> Error
     ensures { IsInvalidData result }
 {
-    Error::InvalidData(Detail {
-        text: "beyond the sectors of the file",
-        numbers: [sector as u64, num_sectors as u64],
-    })
+    Error::InvalidData(Detail::numbers(
+        "beyond the sectors of the file",
+        sector as u64,
+        num_sectors as u64,
+    ))
 }
 
 /// What a fresh sector holds.

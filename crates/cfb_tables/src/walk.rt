@@ -13,10 +13,7 @@ use std::alloc::Allocator;
 fn no_chain(sector: u32) -> Error
     ensures { IsInvalidData result }
 {
-    Error::InvalidData(Detail {
-        text: "chain has no end",
-        numbers: [sector as u64, 0],
-    })
+    Error::InvalidData(Detail::number("chain has no end", sector as u64))
 }
 
 /// The sectors of the chain that begins at `start`, in order (MS-CFB 2.3 and 2.4). `InvalidData` where the table has no

@@ -39,10 +39,7 @@ pub struct Head {
 fn invalid(text: &'static str, number: u64) -> Error
     ensures { IsInvalidData result }
 {
-    Error::InvalidData(Detail {
-        text,
-        numbers: [number, 0],
-    })
+    Error::InvalidData(Detail::number(text, number))
 }
 
 /// Whether a file of this length has room for header, FAT sector and directory sector, and no more
