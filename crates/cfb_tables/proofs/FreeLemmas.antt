@@ -1,5 +1,5 @@
 -- The list of free numbers, as the table changes.
-use Rattle.std.proofs.Common.{◌≡◌, ◌≢◌, ℕ, zero, suc, ◌+◌, ◌-◌, ◌<◌, inl, inr, Bool, List, [], ◌∷◌, ◌++◌, length, set, refl, sym, ◌∙◌, ap, subst, arith, cond, ne_eqb, length-set, length-append}
+use Rattle.std.proofs.Common.{◌≡◌, ◌≢◌, ℕ, zero, suc, ◌+◌, ◌-◌, ◌<◌, ◌≤◌, inl, inr, Bool, List, [], ◌∷◌, ◌++◌, length, set, refl, sym, ◌∙◌, ap, subst, arith, cond, ne_eqb, length-set, length-append}
 use Rattle.std.specs.Prelude.{Contains, ◌==◌}
 use Rattle.cfb_format.specs.Full.{free_count}
 use Rattle.std.proofs.lemmas.List.Elements.{Contains-append_left, Contains-push, Contains-push_cases}
@@ -122,6 +122,16 @@ bit_no y ne = ap (λ (b : Bool). cond {A = ℕ} b 1 0) (ne_eqb y free_sector ne)
 
 count-cons : (y : ℕ) (table : List ℕ) → free_count (y ∷ table) ≡ bit y + free_count table
 count-cons y table = sum_by-cons bit y table
+
+pub count-most : (table : List ℕ) → free_count table ≤ length table
+count-most [] = omega arith
+count-most (y ∷ table) =
+    let p = count-cons y table in
+    let rest = count-most table in
+    elim (cases_eq y free_sector) [
+      | inl e ↦ let a = bit_yes y e in omega (arith, a, p, rest)
+      | inr ne ↦ let a = bit_no y ne in omega (arith, a, p, rest)
+    ]
 
 pub count-set : (table : List ℕ) (x w : ℕ) → x < length table → value table x ≡ free_sector → w ≢ free_sector → suc (free_count (set table x w)) ≡ free_count table
 count-set [] x w lt is ne = absurd (omega (arith, lt))

@@ -14,3 +14,6 @@ pub mod FullLemmas
 pub mod CleanLemmas
 pub mod FatLemmas
 pub mod FatLaws
+pub mod RoomLemmas
+pub mod ListedLemmas
+pub mod WordLemmas

@@ -24,8 +24,8 @@ module _ (k : Kept) (n : ℕ) (p : IsPrepared k (suc n)) (none : k.free ≡ []) 
       let a = ap (λ (z : Sizes). z.sectors) target in
       let b = ap (λ (z : Sizes). z.fats) target in
       let d = ap (λ (z : Sizes). z.difats) target in
-      let h = p.held.fat in let i = p.held.fats in let j = p.held.difats in
-      record { fat = omega (arith, r.0, a, h); fats = omega (arith, r.1, b, i); difats = omega (arith, r.2, d, j) }
+      let h = p.held.fat in let i = p.held.fats in let j = p.held.difats in let f = p.held.free in
+      record { fat = omega (arith, r.0, a, h); fats = omega (arith, r.1, b, i); difats = omega (arith, r.2, d, j); free = omega (arith, r.0, a, f) }
 
   pub prepared-short : length k.state.fat + numbers_needed k.state.version (sizes_of k.state) ≤ max_regular_sector
   prepared-short =
@@ -44,17 +44,17 @@ module _ (k : Kept) (n : ℕ) (p : IsPrepared k (suc n)) (none : k.free ≡ []) 
 
 -- from one state to the next with the same sizes in the end
 prepared-moves : (old new : Kept) (j n : ℕ) → new.state.version ≡ old.state.version → new.state.max_sectors ≡ old.state.max_sectors
-    → new.fat_capacity ≡ old.fat_capacity → new.fats_capacity ≡ old.fats_capacity → new.difats_capacity ≡ old.difats_capacity
+    → new.fat_capacity ≡ old.fat_capacity → new.fats_capacity ≡ old.fats_capacity → new.difats_capacity ≡ old.difats_capacity → new.free_capacity ≡ old.free_capacity
     → n - length new.free ≤ j - length old.free
     → sizes_after new.state.version (n - length new.free) (sizes_of new.state) ≡ sizes_after old.state.version (j - length old.free) (sizes_of old.state)
     → IsPrepared old j → IsPrepared new n
-prepared-moves old new j n version max a b d fewer same p =
+prepared-moves old new j n version max a b d f fewer same p =
     let x = ap (λ (z : Sizes). z.sectors) same in
     let y = ap (λ (z : Sizes). z.fats) same in
     let z = ap (λ (z : Sizes). z.difats) same in
-    let h = p.held.fat in let i = p.held.fats in let g = p.held.difats in
+    let h = p.held.fat in let i = p.held.fats in let g = p.held.difats in let q = p.held.free in
     record {
-      held = record { fat = omega (arith, x, h, a); fats = omega (arith, y, i, b); difats = omega (arith, z, g, d) };
+      held = record { fat = omega (arith, x, h, a); fats = omega (arith, y, i, b); difats = omega (arith, z, g, d); free = omega (arith, x, q, f) };
       are = subst (λ v. AreSizes v (sizes_after new.state.version (n - length new.free) (sizes_of new.state))) (sym version)
           (subst (AreSizes old.state.version) (sym same) p.are);
       limited = λ some. let l = p.limited (omega (arith, some, fewer)) in omega (arith, l, x, max);
@@ -69,7 +69,7 @@ prepared-next old new x n p (inl c) =
     let fats : new.state.fat_sectors ≡ old.state.fat_sectors = ap (λ (z : Kept). z.state.fat_sectors) c.1 in
     let difats : new.state.difat_sectors ≡ old.state.difat_sectors = ap (λ (z : Kept). z.state.difat_sectors) c.1 in
     prepared-moves old new (suc n) n version (ap (λ (z : Kept). z.state.max_sectors) c.1)
-    (ap (λ (z : Kept). z.fat_capacity) c.1) (ap (λ (z : Kept). z.fats_capacity) c.1) (ap (λ (z : Kept). z.difats_capacity) c.1)
+    (ap (λ (z : Kept). z.fat_capacity) c.1) (ap (λ (z : Kept). z.fats_capacity) c.1) (ap (λ (z : Kept). z.difats_capacity) c.1) (ap (λ (z : Kept). z.free_capacity) c.1)
     (omega (arith, count))
     (λ i. sizes_after (version i) (sym count i) (record { sectors = same i; fats = length (fats i); difats = length (difats i) }))
     p
@@ -82,7 +82,7 @@ prepared-next old new x n p (inr c) =
     let sizes : sizes_of new.state ≡ grown_sizes (sizes_of old.state) (numbers_needed old.state.version (sizes_of old.state)) =
     ap (λ (z : Kept). sizes_of z.state) c.2 ∙ sizes-grown old.state in
     prepared-moves old new (suc n) n version (ap (λ (z : Kept). z.state.max_sectors) c.2)
-    (ap (λ (z : Kept). z.fat_capacity) c.2) (ap (λ (z : Kept). z.fats_capacity) c.2) (ap (λ (z : Kept). z.difats_capacity) c.2)
+    (ap (λ (z : Kept). z.fat_capacity) c.2) (ap (λ (z : Kept). z.fats_capacity) c.2) (ap (λ (z : Kept). z.difats_capacity) c.2) (ap (λ (z : Kept). z.free_capacity) c.2)
     (omega (arith, none, same_free))
     ((λ i. sizes_after (version i) (n - length new.free) (sizes i))
     ∙ sym (after-one old.state.version (suc n - length old.free) (n - length new.free) (sizes_of old.state) count))
@@ -149,7 +149,7 @@ prepared-linked old new n x w e p =
     let free : new.free ≡ old.free = ap (λ (z : Kept). z.free) e in
     let count : n - length new.free ≡ n - length old.free = ap (λ (z : List ℕ). n - length z) free in
     prepared-moves old new n n version (ap (λ (z : Kept). z.state.max_sectors) e)
-    (ap (λ (z : Kept). z.fat_capacity) e) (ap (λ (z : Kept). z.fats_capacity) e) (ap (λ (z : Kept). z.difats_capacity) e)
+    (ap (λ (z : Kept). z.fat_capacity) e) (ap (λ (z : Kept). z.fats_capacity) e) (ap (λ (z : Kept). z.difats_capacity) e) (ap (λ (z : Kept). z.free_capacity) e)
     (omega (arith, count))
     (λ i. sizes_after (version i) (count i) (record { sectors = same i; fats = length (fats i); difats = length (difats i) }))
     p

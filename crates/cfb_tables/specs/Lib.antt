@@ -4,3 +4,6 @@ pub mod Refused
 pub mod Owners
 pub mod ReadFat
 pub mod Clean
+pub mod Room
+pub mod Listed
+pub mod ReadWords

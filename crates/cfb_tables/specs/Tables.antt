@@ -220,11 +220,17 @@ pub record IsKept (state : TableState) (free : List ℕ) : Type 0 where
   pub sizes : AreSizes state.version (sizes_of state)
   pub limit : state.max_sectors ≤ max_regular_sector
 
+-- and the list of free numbers has room for all of them, so that freeing asks for no memory
+pub record IsHeld (k : Kept) : Type 0 where
+  pub kept : IsKept k.state k.free
+  pub room : length k.state.fat ≤ k.free_capacity
+
 -- the lists can become so long
 pub record CanHold (k : Kept) (s : Sizes) : Type 0 where
   pub fat : s.sectors ≤ k.fat_capacity
   pub fats : s.fats ≤ k.fats_capacity
   pub difats : s.difats ≤ k.difats_capacity
+  pub free : s.sectors ≤ k.free_capacity
 
 -- exactly what changes as x is taken: the number that was freed last, or numbers past the end
 abbrev pub TakesNext : Kept → Kept → ℕ → Type 0

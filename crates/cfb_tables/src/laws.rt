@@ -3,6 +3,9 @@
 ghost use Rattle.cfb_tables.specs.Changes.{ChainsStay, OtherChainsStay, ChainsTurn, MembersAreBusy};
 ghost use Rattle.cfb_tables.specs.Clean.{CleanPointsWithin, TakenIsClean, ExtendedIsClean, FreedIsClean, CutIsClean};
 ghost use Rattle.cfb_tables.specs.Tables.{FullIsTooFew, TooFewIsNoRoom, EnoughIsRoom};
+ghost use Rattle.cfb_tables.specs.Room.{NothingGivenBack, TooFewIsNoRoomAfter, EnoughIsRoomAfter, MoreIsTooFew, RoomInTurn, AllTakenIsFull};
+ghost use Rattle.cfb_tables.specs.Listed.{ShortenedIsChain};
+ghost use Rattle.cfb_tables.specs.ReadWords.{PaddingIsApart, TableSectorsAreInFile, DifatSectorsAreFew};
 ghost use Rattle.cfb_tables.specs.Owners.{UsesAreKept, NothingLooseIsKept, UseChangesFollow, TakingChanges, FreeingChanges, TakenIsTaking, FreedIsFreeing, CutIsFreeing};
 
 /// A chain stays while the table changes elsewhere, and turns where one member's value changes.
@@ -18,6 +21,16 @@ pub fn fullness_is_want_of_room()
     ensures full { FullIsTooFew }
     ensures few { TooFewIsNoRoom }
     ensures enough { EnoughIsRoom }
+{}
+
+/// Room for several calls can be asked for at once, and with what is given back before them.
+pub fn room_can_be_asked_for()
+    ensures nothing_back { NothingGivenBack }
+    ensures few { TooFewIsNoRoomAfter }
+    ensures enough { EnoughIsRoomAfter }
+    ensures more { MoreIsTooFew }
+    ensures in_turn { RoomInTurn }
+    ensures all_taken { AllTakenIsFull }
 {}
 
 /// What is used of a table stays in order while sectors are taken and freed.
@@ -40,4 +53,16 @@ pub fn tables_stay_clean()
     ensures extended { ExtendedIsClean }
     ensures freed { FreedIsClean }
     ensures cut { CutIsClean }
+{}
+
+/// What is left of a chain that is cut by the list of its members is a chain.
+pub fn what_is_left_is_a_chain()
+    ensures { ShortenedIsChain }
+{}
+
+/// The words past the file's sectors are padding and nothing else, and the table sectors are sectors of the file.
+pub fn tables_lie_in_the_file()
+    ensures padding { PaddingIsApart }
+    ensures sectors { TableSectorsAreInFile }
+    ensures few { DifatSectorsAreFew }
 {}

@@ -1,12 +1,14 @@
 //! The lists that the tables are made of. Each growth of memory is reserved here before anything changes, and what was
 //! reserved for cannot fail.
-ghost use Rattle.std.specs.Prelude.{◌≡◌, ◌≢◌, ℕ, nat_eq, List, Contains, ◌+◌, ◌-◌, ◌*◌, ◌<◌, ◌≤◌, [], ◌∷◌, ◌++◌, length, min, slice_set, IfOk, IfErr, IfSome, IfNone, OnErr, OnOk, vec_len, vec_capacity};
+ghost use Rattle.std.specs.Prelude.{◌≡◌, ◌≢◌, ◌↔◌, IsTrue, ℕ, nat_eq, List, Contains, ◌+◌, ◌-◌, ◌*◌, ◌<◌, ◌≤◌, [], ◌∷◌, ◌++◌, length, take, drop, min, slice_set, IfOk, IfErr, IfSome, IfNone, OnErr, OnOk, vec_len, vec_capacity};
 ghost use Rattle.cfb_format.specs.Bytes.{max_regular_sector, end_of_chain, free_sector, words_per_sector as words_of};
 ghost use Rattle.cfb_format.specs.Chain.{value, IsChain};
 ghost use Rattle.cfb_format.specs.Full.{free_count};
 ghost use Rattle.std.specs.List.{IsDistinct};
 ghost use Rattle.cfb_tables.specs.Changes.{IsNextOf, ListsFree, IsFreed, IsCut};
 ghost use Rattle.cfb_tables.specs.Tables.{TableState, Kept, IsKept, AreSizes, CanHold, TakesNext, IsPrepared, IsTooFew, PassesLimit, HasTaken, Added, Extended, start_of, wiped, tables_of, sizes_of, sizes_after, grown_sizes, numbers_needed as needed, grown, grown_fats, grown_difats};
+ghost use Rattle.cfb_tables.specs.Room.{IsTooFewAfter};
+ghost use Rattle.cfb_tables.specs.Listed.{IsShortened};
 ghost use Rattle.cfb_tables.specs.Refused.{Refused, WalkRefused, LastRefused, NextRefused, ExtendRefused};
 
 use crate::walk::{last_of, next_in, walk};
@@ -78,6 +80,67 @@ impl Sizes {
         })
     }
 
+    /// How many of so many sectors find a word in the FAT that there is, and stay below the limit.
+    fn covered(self, version: Version, limit: usize, more: usize) -> usize
+        requires are { AreSizes version self }
+        ensures few { result ≤ more }
+        ensures words { (0 < result) → self.sectors + result ≤ self.fats * words_of version }
+        ensures limited { (0 < result) → self.sectors + result ≤ limit }
+    {
+        let words = (self.fats * words_per_sector(version)).saturating_sub(self.sectors);
+        words.min(limit.saturating_sub(self.sectors)).min(more)
+    }
+
+    /// The sizes with some of so many sectors more, and how many are left over: all that find a word in the FAT that there is, or
+    /// one that brings a FAT sector along. None where it would pass the limit.
+    fn with_some(self, version: Version, limit: usize, more: usize) -> Option<(Sizes, usize)>
+        requires are { AreSizes version self }
+        requires limit { limit ≤ max_regular_sector }
+        requires some { 0 < more }
+        ensures fewer { IfSome result (λ r. r.1 < more) }
+        ensures sizes { IfSome result (λ r. r.0 ≡ sizes_after version (more - r.1) self) }
+        ensures are { IfSome result (λ r. AreSizes version r.0) }
+        ensures limited { IfSome result (λ r. r.0.sectors ≤ limit) }
+        ensures none { IfNone result (limit - self.sectors < needed version self) }
+    {
+        let run = self.covered(version, limit, more);
+        if run > 0 {
+            let sizes = Sizes {
+                sectors: self.sectors + run,
+                fats: self.fats,
+                difats: self.difats,
+            };
+            return Some((sizes, more - run));
+        }
+        let Some(next) = self.with_one_more(version, limit) else {
+            return None;
+        };
+        Some((next, more - 1))
+    }
+
+    /// The sizes with so many sectors more past the end, or with as many as stay below the limit, and how many are left over.
+    /// It goes by FAT sectors, not by sectors.
+    fn with_most(self, version: Version, limit: usize, more: usize) -> (Sizes, usize)
+        requires are { AreSizes version self }
+        requires limit { limit ≤ max_regular_sector }
+        ensures few { result.1 ≤ more }
+        ensures sizes { result.0 ≡ sizes_after version (more - result.1) self }
+        ensures are { AreSizes version result.0 }
+        ensures limited { (result.1 < more) → result.0.sectors ≤ limit }
+        ensures full { (0 < result.1) → limit - result.0.sectors < needed version result.0 }
+    {
+        let mut sizes = self;
+        let mut left = more;
+        while left > 0 {
+            let Some((next, rest)) = sizes.with_some(version, limit, left) else {
+                return (sizes, left);
+            };
+            sizes = next;
+            left = rest;
+        }
+        (sizes, left)
+    }
+
     /// The sizes with so many sectors more past the end. `Full` where they would pass the limit.
     pub fn with_more(self, version: Version, limit: usize, more: usize) -> Result<Sizes, Error>
         requires are { AreSizes version self }
@@ -87,13 +150,9 @@ impl Sizes {
         ensures limited { IfOk result (λ sizes. (0 < more) → sizes.sectors ≤ limit) }
         ensures err { IfErr result (Refused ⊥ ⊥ (PassesLimit version limit self more)) }
     {
-        let mut sizes = self;
-        for turn in 0..more {
-            let _grown = turn;
-            let Some(next) = sizes.with_one_more(version, limit) else {
-                return Err(Error::Full);
-            };
-            sizes = next;
+        let (sizes, left) = self.with_most(version, limit, more);
+        if left > 0 {
+            return Err(Error::Full);
         }
         Ok(sizes)
     }
@@ -147,22 +206,24 @@ fn grow<A: Allocator>(
     append(fat, END_OF_CHAIN)
 }
 
-/// The numbers that are free, in order.
+/// The numbers that are free, in order, in a list that has room for all numbers.
 fn free_numbers<A: Allocator>(alloc: A, fat: &[u32]) -> Result<Vec<u32, A>, Error>
     requires short { length fat.now ≤ max_regular_sector }
     ensures ok { IfOk result (λ free. ListsFree (length fat.now) free.items fat.now) }
+    ensures room { IfOk result (λ free. length fat.now ≤ vec_capacity free) }
     ensures err { IfErr result (Refused ⊥ Unit ⊥) }
 {
-    let mut free = Vec::new(alloc);
+    let mut free = Vec::with_capacity(alloc, fat.len())?;
     for number in 0..fat.len() {
         if fat[number] == FREE_SECTOR {
-            free.push(number as u32)?;
+            free.push_reserved(number as u32);
         }
     }
     Ok(free)
 }
 
-/// The tables, and the numbers that are free, the one freed last at the end.
+/// The tables, and the numbers that are free, the one freed last at the end. Their list always has room for all numbers, so
+/// that freeing asks for no memory.
 #[derive(Drop)]
 pub struct Lists<A: Allocator = Global> {
     version: Version,
@@ -175,7 +236,7 @@ pub struct Lists<A: Allocator = Global> {
 
 impl<A: Allocator> Model for Lists<A> {
     ghost use Rattle.std.specs.Prelude.{vec_capacity};
-    ghost use Rattle.cfb_tables.specs.Tables.{Kept, IsKept, tables_of};
+    ghost use Rattle.cfb_tables.specs.Tables.{Kept, IsHeld, tables_of};
 
     ghost Value = { Kept };
 
@@ -188,7 +249,14 @@ impl<A: Allocator> Model for Lists<A> {
       free_capacity = vec_capacity l.free;
     } };
 
-    ghost invariant = { λ l. IsKept (tables_of l.version l.max_sectors l.fat.items l.fat_sectors.items l.difat_sectors.items) l.free.items };
+    ghost invariant = { λ l. IsHeld (record {
+      state = tables_of l.version l.max_sectors l.fat.items l.fat_sectors.items l.difat_sectors.items;
+      free = l.free.items;
+      fat_capacity = vec_capacity l.fat;
+      fats_capacity = vec_capacity l.fat_sectors;
+      difats_capacity = vec_capacity l.difat_sectors;
+      free_capacity = vec_capacity l.free;
+    }) };
 }
 
 impl<A: Allocator> Lists<A> {
@@ -230,7 +298,7 @@ impl<A: Allocator> Lists<A> {
     /// Reserves the memory for lists of these sizes. `Memory`.
     fn reserve(&mut self, sizes: Sizes) -> Result<(), Error>
         ensures ok { OnOk result (CanHold self.new sizes) }
-        ensures rest { self.new ≡ record self.old { fat_capacity = self.new.fat_capacity; fats_capacity = self.new.fats_capacity; difats_capacity = self.new.difats_capacity } }
+        ensures rest { self.new ≡ record self.old { fat_capacity = self.new.fat_capacity; fats_capacity = self.new.fats_capacity; difats_capacity = self.new.difats_capacity; free_capacity = self.new.free_capacity } }
         ensures err { IfErr result (Refused ⊥ Unit ⊥) }
     {
         self.fat
@@ -239,6 +307,8 @@ impl<A: Allocator> Lists<A> {
             .reserve(sizes.fats.saturating_sub(self.fat_sectors.len()))?;
         self.difat_sectors
             .reserve(sizes.difats.saturating_sub(self.difat_sectors.len()))?;
+        self.free
+            .reserve(sizes.sectors.saturating_sub(self.free.len()))?;
         Ok(())
     }
 
@@ -250,11 +320,35 @@ impl<A: Allocator> Lists<A> {
         count.saturating_sub(self.free.len())
     }
 
+    /// Whether so many sectors can be taken once `given_back` more are free.
+    pub fn can_take(&self, count: usize, given_back: usize) -> bool
+        ensures { IsTrue result ↔ (IsTooFewAfter self.now.state given_back count → ⊥) }
+    {
+        let missing = self.missing(count).saturating_sub(given_back);
+        let (_, left) = self
+            .sizes()
+            .with_most(self.version, self.max_sectors as usize, missing);
+        left == 0
+    }
+
+    /// How many of so many sectors can be taken.
+    pub fn takable(&self, wanted: usize) -> usize
+        ensures few { result ≤ wanted }
+        ensures fits { IsTooFew self.now.state result → ⊥ }
+        ensures most { (result < wanted) → IsTooFew self.now.state (result + 1) }
+    {
+        let missing = self.missing(wanted);
+        let (_, left) = self
+            .sizes()
+            .with_most(self.version, self.max_sectors as usize, missing);
+        wanted - left
+    }
+
     /// Reserves the memory that taking so many sectors needs. `Full` where there are too few numbers, and `Memory`.
     pub fn prepare(&mut self, count: usize) -> Result<(), Error>
         ensures ok { OnOk result (IsPrepared self.new count) }
         ensures sizes { AreSizes self.old.state.version (sizes_of self.old.state) }
-        ensures rest { self.new ≡ record self.old { fat_capacity = self.new.fat_capacity; fats_capacity = self.new.fats_capacity; difats_capacity = self.new.difats_capacity } }
+        ensures rest { self.new ≡ record self.old { fat_capacity = self.new.fat_capacity; fats_capacity = self.new.fats_capacity; difats_capacity = self.new.difats_capacity; free_capacity = self.new.free_capacity } }
         ensures err { IfErr result (Refused ⊥ Unit (IsTooFew self.old.state count)) }
         ensures enough { OnOk result (IsTooFew self.old.state count → ⊥) }
     {
@@ -303,20 +397,9 @@ impl<A: Allocator> Lists<A> {
         self.fat[last as usize] = END_OF_CHAIN;
     }
 
-    /// Reserves the memory that freeing so many sectors needs. `Memory`.
-    pub fn prepare_free(&mut self, count: usize) -> Result<(), Error>
-        ensures ok { OnOk result (length self.new.free + count ≤ self.new.free_capacity) }
-        ensures rest { self.new ≡ record self.old { free_capacity = self.new.free_capacity } }
-        ensures err { IfErr result (Refused ⊥ Unit ⊥) }
-    {
-        self.free.reserve(count)?;
-        Ok(())
-    }
-
     /// Frees a sector.
     fn release(&mut self, sector: u32)
         requires busy { value self.old.state.fat sector ≢ free_sector }
-        requires room { length self.old.free < self.old.free_capacity }
         ensures { self.new ≡ record self.old { free = self.old.free ++ sector ∷ []; state = record self.old.state { fat = slice_set self.old.state.fat sector free_sector } } }
     {
         self.fat[sector as usize] = FREE_SECTOR;
@@ -364,7 +447,6 @@ impl<A: Allocator> Lists<A> {
     pub fn free_all(&mut self, list: &[u32])
         requires busy { (i : ℕ) → Contains list.now i → value self.old.state.fat i ≢ free_sector }
         requires once { IsDistinct nat_eq list.now }
-        requires room { length self.old.free + length list.now ≤ self.old.free_capacity }
         ensures { self.new ≡ record self.old { free = self.old.free ++ list.now; state = record self.old.state { fat = wiped self.old.state.fat list.now } } }
     {
         for sector in list {
@@ -504,7 +586,6 @@ impl<A: Allocator> Lists<A> {
         ensures err { IfErr result (WalkRefused self.old.state.fat start) }
     {
         let list = self.chain(alloc, start)?;
-        self.prepare_free(list.len())?;
         self.free_all(&list);
         Ok(list)
     }
@@ -520,10 +601,32 @@ impl<A: Allocator> Lists<A> {
         ensures err { IfErr result (WalkRefused self.old.state.fat (value self.old.state.fat sector)) }
     {
         let list = self.behind(alloc, sector)?;
-        self.prepare_free(list.len())?;
         self.end(sector);
         self.free_all(&list);
         Ok(list)
+    }
+
+    /// Frees the chain that has just these sectors. It asks for no memory.
+    pub fn free_listed(&mut self, list: &[u32])
+        requires chain { IsChain self.old.state.fat (start_of list.now) list.now }
+        ensures freed { IsFreed list.now self.old.state.fat self.new.state.fat }
+        ensures rest { self.new.state ≡ record self.old.state { fat = self.new.state.fat } }
+    {
+        self.free_all(list);
+    }
+
+    /// Leaves so many sectors of the chain that has just these, and frees the ones behind them. It asks for no memory.
+    pub fn cut_listed(&mut self, list: &[u32], left: usize)
+        requires chain { IsChain self.old.state.fat (start_of list.now) list.now }
+        requires fewer { left ≤ length list.now }
+        ensures cut { IsShortened (take left list.now) (drop left list.now) self.old.state.fat self.new.state.fat }
+        ensures rest { self.new.state ≡ record self.old.state { fat = self.new.state.fat } }
+    {
+        if left == 0 {
+            return self.free_all(list);
+        }
+        self.end(list[left - 1]);
+        self.free_all(&list[left..]);
     }
 
     /// Lets the file grow to so many sectors, and to no more.

@@ -1,10 +1,12 @@
 //! The tables of a file in memory: the value of each sector, the FAT sectors and the DIFAT sectors (MS-CFB 2.3 and 2.5). A
 //! change is made whole: what can be refused is refused before it begins.
-ghost use Rattle.std.specs.Prelude.{◌≡◌, ◌≢◌, ℕ, ◌-◌, ◌<◌, ◌≤◌, [], ◌∷◌, ◌++◌, List, length, min, IfOk, IfErr, OnErr, OnOk, vec_len};
+ghost use Rattle.std.specs.Prelude.{◌≡◌, ◌≢◌, ◌↔◌, ℕ, ◌+◌, ◌-◌, ◌<◌, ◌≤◌, [], ◌∷◌, ◌++◌, List, length, take, drop, min, IsTrue, IfOk, IfErr, OnErr, OnOk, vec_len};
 ghost use Rattle.cfb_format.specs.Bytes.{max_regular_sector, end_of_chain};
 ghost use Rattle.cfb_format.specs.Chain.{IsChain, value};
 ghost use Rattle.cfb_tables.specs.Changes.{IsNextOf, IsFreed, IsCut};
 ghost use Rattle.cfb_tables.specs.Tables.{AreSizes, HasTaken, Extended, IsTooFew, sizes_of, start_of, tables_of};
+ghost use Rattle.cfb_tables.specs.Room.{IsTooFewAfter};
+ghost use Rattle.cfb_tables.specs.Listed.{IsShortened};
 ghost use Rattle.cfb_tables.specs.Refused.{Refused, WalkRefused, LastRefused, NextRefused, ExtendRefused};
 
 use crate::lists::Lists;
@@ -222,5 +224,50 @@ impl<A: Allocator> Tables<A> {
         ensures err { IfErr result (WalkRefused self.old.fat (value self.old.fat sector)) }
     {
         self.lists.free_after(alloc, sector)
+    }
+
+    /// Whether so many sectors can be taken once `given_back` more are free.
+    pub fn can_take(&self, count: usize, given_back: usize) -> bool
+        ensures { IsTrue result ↔ (IsTooFewAfter self.now given_back count → ⊥) }
+    {
+        self.lists.can_take(count, given_back)
+    }
+
+    /// How many of so many sectors can be taken.
+    pub fn takable(&self, wanted: usize) -> usize
+        ensures few { result ≤ wanted }
+        ensures fits { IsTooFew self.now result → ⊥ }
+        ensures most { (result < wanted) → IsTooFew self.now (result + 1) }
+    {
+        self.lists.takable(wanted)
+    }
+
+    /// Asks for the memory that taking so many sectors needs, so that taking them, at once or in parts, asks for none. `Full`
+    /// where there are too few numbers, and `Memory`. The tables stay as they were.
+    pub fn reserve(&mut self, count: usize) -> Result<(), Error>
+        ensures enough { OnOk result (IsTooFew self.old count → ⊥) }
+        ensures unchanged { self.new ≡ self.old }
+        ensures err { IfErr result (Refused ⊥ Unit (IsTooFew self.old count)) }
+    {
+        self.lists.prepare(count)
+    }
+
+    /// Frees the chain that has just these sectors. It asks for no memory.
+    pub fn free_listed(&mut self, list: &[u32])
+        requires chain { IsChain self.old.fat (start_of list.now) list.now }
+        ensures freed { IsFreed list.now self.old.fat self.new.fat }
+        ensures rest { self.new ≡ record self.old { fat = self.new.fat } }
+    {
+        self.lists.free_listed(list);
+    }
+
+    /// Leaves so many sectors of the chain that has just these, and frees the ones behind them. It asks for no memory.
+    pub fn cut_listed(&mut self, list: &[u32], left: usize)
+        requires chain { IsChain self.old.fat (start_of list.now) list.now }
+        requires fewer { left ≤ length list.now }
+        ensures cut { IsShortened (take left list.now) (drop left list.now) self.old.fat self.new.fat }
+        ensures rest { self.new ≡ record self.old { fat = self.new.fat } }
+    {
+        self.lists.cut_listed(list, left);
     }
 }

@@ -1,5 +1,10 @@
+use Rattle.std.proofs.Common.{◌≤◌, length, vec_len, vec_capacity}
 use Rattle.cfb_tables.specs.Changes.{ListsFree}
 use Rattle.cfb_tables.proofs.lists.free_numbers.Given as goal
 
 abbrev pub invariant-loop-number : goal.invariant-loop-number
-invariant-loop-number g l = record { listed : ListsFree l.number l.free.items l.fat }
+invariant-loop-number g l = record {
+  listed : ListsFree l.number l.free.items l.fat;
+  few : vec_len l.free ≤ l.number;
+  room : length l.fat ≤ vec_capacity l.free;
+}

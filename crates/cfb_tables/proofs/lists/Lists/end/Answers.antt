@@ -1,4 +1,5 @@
-use Rattle.std.proofs.Common.{arith}
+use Rattle.std.proofs.Common.{arith, length-set}
+use Rattle.cfb_format.specs.Bytes.{end_of_chain}
 use Rattle.cfb_tables.specs.Tables.{tables_of}
 use Rattle.cfb_tables.proofs.KeptLemmas.{kept-link}
 use Rattle.cfb_tables.proofs.lists.Lists.end.Goals as goal
@@ -7,4 +8,9 @@ pub invariant_of-self : goal.invariant_of-self
 invariant_of-self g c =
     let s = c.self.inside in
     let t = tables_of s.version s.max_sectors s.fat.items s.fat_sectors.items s.difat_sectors.items in
-    kept-link t s.free.items c.args.last _ (rw (← c.self.view_is) at c.requires.busy) (λ e. omega (arith, e)) c.self.invariant
+    let len = length-set s.fat.items c.args.last end_of_chain in
+    let room = c.self.invariant.room in
+    record {
+      kept = kept-link t s.free.items c.args.last _ (rw (← c.self.view_is) at c.requires.busy) (λ e. omega (arith, e)) c.self.invariant.kept;
+      room = omega (arith, len, room);
+    }

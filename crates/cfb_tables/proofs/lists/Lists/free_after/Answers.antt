@@ -1,6 +1,6 @@
-use Rattle.std.proofs.Common.{ℕ, List, ◌≤◌, set, sym, ◌∙◌, ap, subst, arith}
+use Rattle.std.proofs.Common.{ℕ, List, ◌≤◌, sym, ◌∙◌, ap, subst, arith}
 use Rattle.std.specs.Prelude.{Contains}
-use Rattle.cfb_format.specs.Bytes.{end_of_chain, max_regular_sector}
+use Rattle.cfb_format.specs.Bytes.{max_regular_sector}
 use Rattle.cfb_format.specs.Chain.{value}
 use Rattle.cfb_tables.specs.Changes.{IsCut}
 use Rattle.cfb_tables.specs.Tables.{Kept, wiped}
@@ -10,8 +10,7 @@ use Rattle.cfb_tables.proofs.lists.Lists.free_after.Goals as goal
 pub end-requires : goal.end-requires
 end-requires g c =
     let t = c.args.self.now.state.fat in
-    let fat = ap (λ (z : Kept). value z.state.fat c.args.sector) c.prepare_free.ensures.rest in
-    record { busy = λ e. start-busy t (value t c.args.sector) c.in_ok-list.list.items c.in_ok-list.ensures.ok (sym fat ∙ e) }
+    record { busy = start-busy t (value t c.args.sector) c.in_ok-list.list.items c.in_ok-list.ensures.ok }
 
 pub free_all-requires-clause-busy : goal.free_all-requires-clause-busy
 free_all-requires-clause-busy g c i m e =
@@ -19,8 +18,7 @@ free_all-requires-clause-busy g c i m e =
     let x = c.args.sector in
     let list = c.in_ok-list.list.items in
     let regular : x ≤ max_regular_sector = omega (arith, c.requires.below, c.in_ok-list.ensures.short) in
-    let was = ap (λ (z : Kept). z.state.fat) c.prepare_free.ensures.rest in
-    let ended = ap (λ (z : Kept). z.state.fat) c.end.ensures ∙ (λ j. set (was j) x end_of_chain) in
+    let ended = ap (λ (z : Kept). z.state.fat) c.end.ensures in
     let m' : Contains list i = subst (λ (z : List ℕ). Contains z i) c.deref.ensures.value m in
     behind-busy t list x c.requires.below regular c.in_ok-list.ensures.ok i m' (ap (λ (z : List ℕ). value z i) (sym ended) ∙ e)
 
@@ -30,7 +28,6 @@ returns-clause-cut g c =
     let x = c.args.sector in
     let list = c.in_ok-list.list.items in
     let regular : x ≤ max_regular_sector = omega (arith, c.requires.below, c.in_ok-list.ensures.short) in
-    let was = ap (λ (z : Kept). z.state.fat) c.prepare_free.ensures.rest in
-    let ended = ap (λ (z : Kept). z.state.fat) c.end.ensures ∙ (λ j. set (was j) x end_of_chain) in
+    let ended = ap (λ (z : Kept). z.state.fat) c.end.ensures in
     let now = ap (λ (z : Kept). z.state.fat) c.free_all.ensures ∙ (λ j. wiped (ended j) (c.deref.ensures.value j)) in
     subst (λ (z : List ℕ). IsCut x list t z) (sym now) (cut-freed t list x c.requires.below regular c.in_ok-list.ensures.ok)

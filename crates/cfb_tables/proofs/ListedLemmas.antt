@@ -1,0 +1,114 @@
+-- Chains that are freed and cut by a list of their members.
+use Rattle.std.proofs.Common.{◌≡◌, ◌≢◌, ℕ, ◌+◌, ◌-◌, ◌<◌, ◌≤◌, Bool, List, [], ◌∷◌, ◌++◌, length, set, take, drop, refl, sym, ◌∙◌, ap, subst, arith, length-set, length-append, append_assoc, ne_eqb}
+use Rattle.std.specs.Prelude.{Contains, slice_index, if◌then◌else◌}
+use Rattle.std.proofs.lemmas.List.{take_more, take_all, take-append-drop, get_or_push, length-drop}
+use Rattle.std.proofs.lemmas.List.Elements.{Contains-append_right}
+use Rattle.cfb_format.specs.Bytes.{free_sector, end_of_chain, max_regular_sector}
+use Rattle.cfb_format.specs.Chain.{value, IsChain}
+use Rattle.cfb_tables.specs.Changes.{IsFreed, IsCut}
+use Rattle.cfb_tables.specs.Tables.{TableState, IsKept, wiped, ending}
+use Rattle.cfb_tables.specs.Listed.{IsShortened, ShortenedIsChain, last_of}
+use Rattle.cfb_tables.proofs.Members.{Contains-nil, Contains-here, Contains-one, distinct-apart, value-below}
+use Rattle.cfb_tables.proofs.ChainLemmas.{chain_of, chain-turn, chain-rest, members-busy, regular-le}
+use Rattle.cfb_tables.proofs.FreeLemmas.{lists-count, count-most}
+use Rattle.cfb_tables.proofs.KeptLemmas.{kept-push}
+use Rattle.cfb_tables.proofs.AttachLemmas.{wiped-freed}
+
+-- ---- room in the list of free numbers
+
+-- there is a number in use, so not all are free
+pub fewer-free : (t : TableState) (free : List ℕ) (x : ℕ) → IsKept t free → value t.fat x ≢ free_sector → length free < length t.fat
+fewer-free t free x k busy =
+    let below = value-below t.fat x busy in
+    let next = set t.fat x free_sector in
+    let count = lists-count (free ++ x ∷ []) next (kept-push t free x below busy k).listed in
+    let most = count-most next in
+    let len = length-append free (x ∷ []) in
+    let same = length-set t.fat x free_sector in
+    omega (arith, count, most, len, same)
+
+-- ---- what is left of a chain
+
+end_chain : (table : List ℕ) → IsChain table end_of_chain []
+end_chain table = chain_of table end_of_chain [] refl
+
+ending_other : (last : ℕ) → last ≢ end_of_chain → ending last ≡ last ∷ []
+ending_other last ne = ap (λ (b : Bool). if b then [] else last ∷ []) (ne_eqb last end_of_chain ne)
+
+last_split : (xs : List ℕ) → 0 < length xs → xs ≡ take (length xs - 1) xs ++ last_of xs ∷ []
+last_split xs some =
+    let n : length xs ≡ length xs - 1 + 1 = omega (arith, some) in
+    sym (take_all (length xs) xs (omega arith)) ∙ ap (λ (k : ℕ). take k xs) n ∙ take_more xs (length xs - 1) end_of_chain (omega (arith, some))
+
+last_pushed : (front : List ℕ) (y : ℕ) → last_of (front ++ y ∷ []) ≡ y
+last_pushed front y =
+    let len : length (front ++ y ∷ []) ≡ length front + 1 = length-append front (y ∷ []) in
+    get_or_push front y end_of_chain (length (front ++ y ∷ []) - 1) (omega (arith, len))
+
+pub freed-by-list : (table list : List ℕ) (s : ℕ) → IsChain table s list → IsFreed list table (wiped table list)
+freed-by-list table list s c = wiped-freed list table (λ i m. (members-busy table s list c i m).1)
+
+freed_shortens : (list old new : List ℕ) → IsFreed list old new → IsShortened [] list old new
+freed_shortens list old new f = record { same_length = f.same_length; ended = λ i m. absurd (Contains-nil i m); free = f.free; only = f.only }
+
+pub shortened-to-none : (list old new : List ℕ) (left : ℕ) → left ≡ 0 → IsFreed list old new → IsShortened (take left list) (drop left list) old new
+shortened-to-none list old new left none f = subst (λ k. IsShortened (take k list) (drop k list) old new) (sym none) (freed_shortens list old new f)
+
+-- what a slice from there on lists
+pub rest-is : (list : List ℕ) (left : ℕ) → take (length list - left) (drop left list) ≡ drop left list
+rest-is list left = let len = length-drop left list in take_all (length list - left) (drop left list) (omega (arith, len))
+
+-- the member that becomes the last one, with those before it and behind it
+module _ (list : List ℕ) (left : ℕ) (some : 0 < left) (fewer : left ≤ length list) where
+  abbrev last : ℕ
+  last = slice_index list (left - 1)
+
+  left_is : take left list ≡ take (left - 1) list ++ last ∷ []
+  left_is = let n : left ≡ left - 1 + 1 = omega (arith, some) in ap (λ (k : ℕ). take k list) n ∙ take_more list (left - 1) 0 (omega (arith, some, fewer))
+
+  whole_is : list ≡ take (left - 1) list ++ last ∷ drop left list
+  whole_is =
+      sym (take-append-drop left list) ∙ ap (λ (z : List ℕ). z ++ drop left list) left_is ∙ append_assoc (take (left - 1) list) (last ∷ []) (drop left list)
+
+  module _ (table : List ℕ) (s : ℕ) (c : IsChain table s list) where
+    goes_on : IsChain table s (take (left - 1) list ++ last ∷ drop left list)
+    goes_on = subst (IsChain table s) whole_is c
+
+    pub behind-is : IsChain table (value table last) (drop left list)
+    behind-is = chain-rest table s (take (left - 1) list) last (drop left list) goes_on
+
+    pub last-there : (value table last ≢ free_sector) × (last < length table) × (last ≤ max_regular_sector)
+    last-there =
+        let m = members-busy table s (take (left - 1) list ++ last ∷ drop left list) goes_on last
+        (Contains-append_right (take (left - 1) list) (last ∷ drop left list) last (Contains-here last (drop left list))) in
+        (m.0, m.1, regular-le last m.2)
+
+    ending_is : ending (last_of (take left list)) ≡ last ∷ []
+    ending_is =
+        let low = last-there.2 in
+        ap ending (ap last_of left_is ∙ last_pushed (take (left - 1) list) last) ∙ ending_other last (λ is. omega (arith, low, is))
+
+    pub shortened-behind : (new : List ℕ) → IsCut last (drop left list) table new → IsShortened (take left list) (drop left list) table new
+    shortened-behind new cut = record {
+      same_length = cut.same_length;
+      ended = λ i m. ap (value new) (sym (Contains-one last i (subst (λ (z : List ℕ). Contains z i) ending_is m))) ∙ cut.ended;
+      free = cut.free;
+      only = λ i out. cut.only i (λ m. out (subst (λ (z : List ℕ). Contains (z ++ drop left list) i) (sym ending_is) m));
+    }
+
+pub shortened-is-chain : ShortenedIsChain
+shortened-is-chain old new [] gone c cut = end_chain new
+shortened-is-chain old new (x ∷ list) gone c cut =
+    let xs = x ∷ list in
+    let last = last_of xs in
+    let head = take (length xs - 1) xs in
+    let is : xs ≡ head ++ last ∷ [] = last_split xs (omega arith) in
+    let c' : IsChain old x (head ++ last ∷ gone) = subst (IsChain old x) (ap (λ (z : List ℕ). z ++ gone) is ∙ append_assoc head (last ∷ []) gone) c in
+    let low = regular-le last (members-busy old x (head ++ last ∷ gone) c' last (Contains-append_right head (last ∷ gone) last (Contains-here last gone))).2 in
+    let one : ending last ≡ last ∷ [] = ending_other last (λ e. omega (arith, low, e)) in
+    let ended : value new last ≡ end_of_chain = cut.ended last (subst (λ (e : List ℕ). Contains e last) (sym one) (Contains-here last [])) in
+    let stays : (i : ℕ) → Contains head i → value new i ≡ value old i =
+    λ i m. cut.only i (λ t. distinct-apart head (last ∷ gone) c'.distinct i m (subst (λ (e : List ℕ). Contains (e ++ gone) i) one t)) in
+    let below : last < length new = value-below new last (λ e. omega (arith, e, ended)) in
+    let tail : IsChain new (value new last) [] = subst (λ k. IsChain new k []) (sym ended) (end_chain new) in
+    subst (IsChain new x) (sym is) (chain-turn old new x head last gone [] stays below c' tail)
