@@ -7,6 +7,7 @@ pub mod Ordered
 pub mod TreeMap
 pub mod Balance
 pub mod Along
+pub mod FullChains
 pub mod HeaderFacts
 pub mod CreatedFacts
 pub mod CreatedFacts4

@@ -8,8 +8,9 @@ use Rattle.cfb_format.specs.Bytes.{sector_len, words_per_sector, entries_per_sec
 use Rattle.cfb_format.specs.Header.{header_difat_len}
 use Rattle.cfb_format.specs.Reading.{Reading, HasReading}
 use Rattle.cfb_format.specs.Names.{Cases}
-use Rattle.cfb_format.specs.Content.{mini_sector_len, mini_stream_cutoff}
-use Rattle.cfb_format.specs.Soundness.{mini_stream_sectors}
+use Rattle.cfb_format.specs.Siblings.{entry_at}
+use Rattle.cfb_format.specs.Content.{mini_sector_len, mini_stream_cutoff, is_large}
+use Rattle.cfb_format.specs.Soundness.{mini_stream_sectors, sectors_of, mini_sectors_of}
 use Rattle.cfb_format.specs.Tree.{Objects, nothing, storage, stream, Tree}
 
 -- how many of this size hold n
@@ -59,20 +60,28 @@ sectors_for version len = if nat_le mini_stream_cutoff len then rounded_up len (
 abbrev pub mini_sectors_for : ℕ → ℕ
 mini_sectors_for len = if nat_le mini_stream_cutoff len then 0 else rounded_up len mini_sector_len
 
--- the entries of the MiniFAT once the mini sectors of a stream have grown to this number
-abbrev pub minifat_len_for : Reading → ℕ → ℕ → ℕ
-minifat_len_for r old new = length r.minifat + ((new - old) - free_count r.minifat)
+-- how many sectors the stream of this entry has: those of its chain, which may be longer than its length needs; a short stream has none
+abbrev pub sectors_in_chain : Reading → ℕ → ℕ
+sectors_in_chain r i = if is_large (entry_at r.entries i) then length (sectors_of r i) else 0
 
--- how many sectors a change of length takes: the stream's own, the MiniFAT's and the mini stream's
+-- and how many mini sectors
+abbrev pub mini_sectors_in_chain : Reading → ℕ → ℕ
+mini_sectors_in_chain r i = if is_large (entry_at r.entries i) then 0 else length (mini_sectors_of r i)
+
+-- the entries of the MiniFAT once the stream has mini sectors for this length
+abbrev pub minifat_len_for : Reading → ℕ → ℕ → ℕ
+minifat_len_for r i len = length r.minifat + ((mini_sectors_for len - mini_sectors_in_chain r i) - free_count r.minifat)
+
+-- how many sectors the stream takes for this length: its own, the MiniFAT's and the mini stream's
 abbrev pub wanted_for : Reading → ℕ → ℕ → ℕ
-wanted_for r old new =
-    (sectors_for r.header.version new - sectors_for r.header.version old)
-    + (rounded_up (minifat_len_for r (mini_sectors_for old) (mini_sectors_for new)) (words_per_sector r.header.version) - length r.minifat_sectors)
-    + (rounded_up (minifat_len_for r (mini_sectors_for old) (mini_sectors_for new) * mini_sector_len) (sector_len r.header.version) - length (mini_stream_sectors r))
+wanted_for r i len =
+    (sectors_for r.header.version len - sectors_in_chain r i)
+    + (rounded_up (minifat_len_for r i len) (words_per_sector r.header.version) - length r.minifat_sectors)
+    + (rounded_up (minifat_len_for r i len * mini_sector_len) (sector_len r.header.version) - length (mini_stream_sectors r))
 
 -- how many sectors it gives back first: those of a stream that becomes a mini one
-abbrev pub given_back_for : Version → ℕ → ℕ → ℕ
-given_back_for version old new = if nat_lt new mini_stream_cutoff then sectors_for version old else 0
+abbrev pub given_back_for : Reading → ℕ → ℕ → ℕ
+given_back_for r i len = if nat_lt len mini_stream_cutoff then sectors_in_chain r i else 0
 
 -- no sector can be taken
 abbrev pub IsFullOfSectors : ℕ → Reading → Type 0
@@ -86,9 +95,9 @@ IsFullOfMiniSectors r = (free_count r.minifat ≡ 0) × (max_mini_sectors r.head
 abbrev pub IsFullOfEntries : Reading → Type 0
 IsFullOfEntries r = (count_by (λ e. is_unallocated e.obj_type) r.entries ≡ 0) × (max_entries < length r.entries + entries_per_sector r.header.version)
 
--- a change of a stream's length needs more sectors than there are numbers for
+-- this length of the stream of that entry needs more sectors than there are numbers for
 abbrev pub IsTooLong : ℕ → Reading → ℕ → ℕ → Type 0
-IsTooLong limit r old new = ¬ (CanTake limit r (given_back_for r.header.version old new) (wanted_for r old new))
+IsTooLong limit r i len = ¬ (CanTake limit r (given_back_for r i len) (wanted_for r i len))
 
 -- nothing more can be taken
 abbrev pub IsFull : ℕ → Reading → Type 0

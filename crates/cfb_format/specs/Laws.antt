@@ -1,25 +1,25 @@
 -- What the definitions promise about each other.
-use Rattle.std.specs.Prelude.{ℕ, ◌≡◌, ◌↔◌, List, Some, length, take, IsTrue, ◌≤◌, ◌*◌, ◌^◌, ◌+◌, None, if◌then◌else◌, true}
+use Rattle.std.specs.Prelude.{ℕ, ◌≡◌, ◌↔◌, List, Some, length, take, IsTrue, ◌<◌, ◌≤◌, ◌*◌, ◌^◌, ◌+◌, None, if◌then◌else◌, true}
 use Rattle.std.specs.List.{list_all}
 use Rattle.std.specs.Cmp.{IsTotalOrder}
 use Rattle.std.specs.declared.cmp.Ordering.TheVariants.{Equal}
 use Rattle.cfb_format.specs.declared.version.Version.{Version}
 use Rattle.cfb_format.specs.declared.validate.Validation.{Validation}
-use Rattle.cfb_format.specs.Bytes.{sector_len}
+use Rattle.cfb_format.specs.Bytes.{sector_len, sector_count, words_per_sector}
 use Rattle.cfb_format.specs.Names.{Cases, name_key, name_cmp}
 use Rattle.cfb_format.specs.Header.{HeaderFits, IsValidHeader, IsHeader, AcceptsHeader, header_bytes}
 use Rattle.cfb_format.specs.declared.header.Header.{Header}
 use Rattle.cfb_format.specs.Path.{names_of_path, path_of_names, is_plain_name}
 use Rattle.cfb_format.specs.Chain.{IsChain, chain_from}
 use Rattle.cfb_format.specs.DirectoryEntry.{Entry, EntryFits, IsValidEntry, IsEntry, AcceptsEntry, entry_bytes}
-use Rattle.cfb_format.specs.Siblings.{Below, Balanced, HangsAt, SiblingTree, depth, in_order}
+use Rattle.cfb_format.specs.Siblings.{Below, Balanced, HangsAt, SiblingTree, depth, in_order, entry_at}
 use Rattle.cfb_format.specs.Fat.{IsDifat, IsFat}
 use Rattle.cfb_format.specs.Reading.{Reading, Reads, Outline, IsDirectory, IsOutline, IsMinifat, IsStrictFile}
 use Rattle.cfb_format.specs.Meaning.{Means}
-use Rattle.cfb_format.specs.Soundness.{IsSoundFile, IsOwnedFile}
-use Rattle.cfb_format.specs.Full.{HasExactTablesFile}
+use Rattle.cfb_format.specs.Soundness.{IsSoundFile, IsOwnedFile, mini_stream_sectors}
+use Rattle.cfb_format.specs.Full.{HasExactTablesFile, wanted_for, IsTooLong}
 use Rattle.cfb_format.specs.Tree.{Tree, Objects, Object, IsOrdered, object_named, is_same_name, put_before, put_in_order, without}
-use Rattle.cfb_format.specs.Content.{readable, is_large, bytes_along}
+use Rattle.cfb_format.specs.Content.{readable, is_large, bytes_along, mini_sector_len, mini_stream_cutoff}
 use Rattle.cfb_format.specs.Created.{created_bytes, created_header, empty_tree}
 
 -- bytes have at most one reading
@@ -147,3 +147,25 @@ AtMostOneEntry = (version : Version) (slot : List ℕ) (d e : Entry) → IsEntry
 -- the path of names says these names, where each of them is a name that a path can lead to
 abbrev pub NamesOfTheirPath : Type 0
 NamesOfTheirPath = (names : List (List ℕ)) → list_all is_plain_name names ≡ true → names_of_path (path_of_names names) ≡ Some names
+
+-- no sector is wanted for this length, and so it is not too long, whatever the limit, where the FAT's sectors cover the file
+abbrev pub WantsNone : List ℕ → Reading → ℕ → ℕ → Type 0
+WantsNone bytes r i len = (wanted_for r i len ≡ 0)
+    × (sector_count r.header.version bytes ≤ length r.fat_sectors * words_per_sector r.header.version → (limit : ℕ) → IsTooLong limit r i len → ⊥)
+
+-- The mini stream has room for each entry of the MiniFAT, as in every sound file
+abbrev pub HasMiniRoom : Reading → Type 0
+HasMiniRoom r = length r.minifat * mini_sector_len ≤ length (mini_stream_sectors r) * sector_len r.header.version
+
+-- A stream of 4096 bytes or more wants no sector for a length of at least 4096 that its chain has room for. So one of 5000 bytes in a chain of
+-- 12 sectors of 512 may get 6144 bytes where no sector is free and the limit is reached
+abbrev pub LongChainsWantNone : Type 0
+LongChainsWantNone = (cases : Cases) (bytes : List ℕ) (r : Reading) (i len : ℕ) (list : List ℕ) → Reads cases bytes r → HasMiniRoom r
+    → mini_stream_cutoff ≤ (entry_at r.entries i).stream_len → IsChain r.fat (entry_at r.entries i).start_sector list
+    → mini_stream_cutoff ≤ len → len ≤ length list * sector_len r.header.version → WantsNone bytes r i len
+
+-- nor does a shorter stream for a length below 4096 that its mini sectors have room for: none for itself, the MiniFAT or the mini stream
+abbrev pub LongMiniChainsWantNone : Type 0
+LongMiniChainsWantNone = (cases : Cases) (bytes : List ℕ) (r : Reading) (i len : ℕ) (list : List ℕ) → Reads cases bytes r → HasMiniRoom r
+    → 0 < (entry_at r.entries i).stream_len → (entry_at r.entries i).stream_len < mini_stream_cutoff → IsChain r.minifat (entry_at r.entries i).start_sector list
+    → len < mini_stream_cutoff → len ≤ length list * mini_sector_len → WantsNone bytes r i len

@@ -1,6 +1,6 @@
 //! What the definitions of the format promise about each other. None of these functions does
 //! anything: each has a law as its contract.
-ghost use Rattle.cfb_format.specs.Laws.{AtMostOneReading, AtMostOneTree, ChainIsWalked, OneListBelow, NamesAreOrdered, EqualByKey, CreatedMeansRoot, CreatedIsStrict, CreatedIsSound, CreatedIsOwned, CreatedHasExactTables, MeantTreesAreOrdered, BalancedIsLow, LargeStreamsLieAlongChains, PutIsFound, RemovedIsGone, HeaderIsReadBack, HeaderIsAtTheStart, AtMostOneHeader, AtMostOneDifat, AtMostOneFat, AtMostOneDirectory, AtMostOneOutline, AtMostOneMinifat, CreatedIsThreeSectors, CreatedHeaderIsAccepted};
+ghost use Rattle.cfb_format.specs.Laws.{AtMostOneReading, AtMostOneTree, ChainIsWalked, OneListBelow, NamesAreOrdered, EqualByKey, CreatedMeansRoot, CreatedIsStrict, CreatedIsSound, CreatedIsOwned, CreatedHasExactTables, MeantTreesAreOrdered, BalancedIsLow, LargeStreamsLieAlongChains, PutIsFound, RemovedIsGone, HeaderIsReadBack, HeaderIsAtTheStart, AtMostOneHeader, AtMostOneDifat, AtMostOneFat, AtMostOneDirectory, AtMostOneOutline, AtMostOneMinifat, CreatedIsThreeSectors, CreatedHeaderIsAccepted, LongChainsWantNone, LongMiniChainsWantNone};
 
 /// Bytes have at most one reading, and mean at most one tree.
 pub fn bytes_mean_at_most_one_tree()
@@ -53,6 +53,12 @@ pub fn storages_are_maps()
 /// A large stream is read along its chain.
 pub fn large_streams_lie_along_chains()
     ensures { LargeStreamsLieAlongChains }
+{}
+
+/// Whether a length needs more sectors goes by the chain that a stream has, not by its length.
+pub fn fullness_goes_by_chains()
+    ensures sectors { LongChainsWantNone }
+    ensures mini_sectors { LongMiniChainsWantNone }
 {}
 
 /// A balanced sibling tree is low.
