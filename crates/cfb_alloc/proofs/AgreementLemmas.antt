@@ -10,7 +10,7 @@ use Rattle.std.proofs.lemmas.Grind.{same_number_lists}
 use Rattle.cfb_format.specs.declared.version.Version.{Version}
 use Rattle.cfb_format.specs.Bytes.{sector_len, sector_count, words_per_sector, is_regular, end_of_chain, fat_sector, difat_sector, free_sector, invalid_sector}
 use Rattle.cfb_format.specs.Chain.{value}
-use Rattle.cfb_format.specs.Fat.{fat_of, fat_value, raw_fat, fat_words, fat_padding, is_among, is_fat_padding, within_file, IsFat, HasDistinctPointers}
+use Rattle.cfb_format.specs.Fat.{fat_of, fat_value, raw_fat, fat_words, fat_padding, is_among, is_fat_padding, ended_past_file, IsFat, HasDistinctPointers}
 use Rattle.cfb_sectors.specs.Words.{with_word}
 use Rattle.cfb_alloc.specs.Agreement.{word_home, word_of, AgreesBut, Agrees, HasSectors, KeepsSectors}
 use Rattle.cfb_tables.specs.Changes.{PointsWithin}
@@ -20,7 +20,7 @@ use Rattle.cfb_alloc.proofs.TableWords.{raw_fat-at, fat_words-at, length-fat_wor
 
 -- ---- what agrees is what is read
 
-pub within-stays : (n w : ℕ) → (IsTrue (is_regular w) → w < n) → within_file n w ≡ w
+pub within-stays : (n w : ℕ) → (IsTrue (is_regular w) → w < n) → ended_past_file n w ≡ w
 within-stays n w h = go (is_regular w) refl
   where
     go : (b : Bool) → is_regular w ≡ b → (if b && nat_le n w then end_of_chain else w) ≡ w
@@ -39,14 +39,14 @@ agreeing_read version bytes list own table a =
     ∙ go i below inside (is_among list i) refl (is_among own i) refl)
   where
     go : (i : ℕ) → i < sector_count version bytes → i < length table → (b : Bool) → is_among list i ≡ b → (c : Bool) → is_among own i ≡ c
-        → (if b then fat_sector else (if c then difat_sector else within_file (sector_count version bytes) (slice_index_or (raw_fat version bytes list) i free_sector))) ≡ slice_index table i
+        → (if b then fat_sector else (if c then difat_sector else ended_past_file (sector_count version bytes) (slice_index_or (raw_fat version bytes list) i free_sector))) ≡ slice_index table i
     go i below inside true e c f = sym (a.fat_marks i (among-Contains list i e)).1
     go i below inside false e true f = sym (a.difat_marks i (among-Contains own i f) (among-not list i e))
     go i below inside false e false f =
         let covered : i < length list * words_per_sector version = let c = a.covers in omega (arith, inside, c) in
         let same : slice_index_or (raw_fat version bytes list) i free_sector ≡ slice_index table i =
         raw_fat-at version bytes list i below covered ∙ a.words i inside (among-not list i e) (among-not own i f) (not_in_nil i) in
-        ap (within_file (sector_count version bytes)) same
+        ap (ended_past_file (sector_count version bytes)) same
         ∙ within-stays (sector_count version bytes) (slice_index table i) (λ r. let w = a.within i inside r in let c = a.count in omega (arith, w, c))
 
 pub every : (p : ℕ → Bool) (xs : List ℕ) → ((i : ℕ) → i < length xs → p (slice_index xs i) ≡ true) → list_all p xs ≡ true

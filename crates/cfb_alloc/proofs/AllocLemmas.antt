@@ -9,10 +9,10 @@ use Rattle.cfb_format.specs.Bytes.{end_of_chain, free_sector}
 use Rattle.cfb_format.specs.Chain.{value, IsChain}
 use Rattle.cfb_format.specs.declared.validate.Validation.{Validation}
 use Rattle.cfb_alloc.specs.Alloc.{AllocatorState, HoldsTables, HoldsBut, IsPlaced, OthersStay, ChangesSectors, IsOtherHeaderByte}
-use Rattle.cfb_tables.specs.Changes.{Apart}
+use Rattle.cfb_tables.specs.Changes.{AreDisjoint}
 use Rattle.cfb_tables.specs.Clean.{IsClean}
 use Rattle.cfb_alloc.specs.Difat.{difat_places}
-use Rattle.cfb_tables.specs.Refused.{Refused, ChangeRefused, NextRefused}
+use Rattle.cfb_tables.specs.Refused.{TableRefused, ChangeRefused, NextRefused}
 use Rattle.cfb_alloc.specs.Broken.{BreaksOff}
 use Rattle.cfb_sectors.specs.Sectors.{SectorFile, SectorStays, IsMediumError}
 use Rattle.cfb_tables.specs.Tables.{TableState, HasTaken, TakesFor, AreSizes, sizes_of, ending}
@@ -21,7 +21,7 @@ use Rattle.cfb_alloc.proofs.GrowthLemmas.{fats_apart_more}
 use Rattle.cfb_tables.proofs.Members.{value-below}
 use Rattle.cfb_sectors.proofs.SectorLemmas.{SectorStays_refl}
 
-pub refused_changed : (invalid memory full medium : Type 0) (e : Error) → Refused ⊥ memory full e → ChangeRefused invalid memory full medium e
+pub refused_changed : (invalid memory full medium : Type 0) (e : Error) → TableRefused ⊥ memory full e → ChangeRefused invalid memory full medium e
 refused_changed invalid memory full medium Memory r = r
 refused_changed invalid memory full medium Full r = r
 refused_changed invalid memory full medium (InvalidData d) r = absurd r
@@ -183,9 +183,9 @@ module _ {a : AllocatorState} {s0 : SectorFile} {t0 t : TableState} {touched mor
   held_counted validation h s1 count reserved =
       held_reserved validation [] s0 s1 t0 (reserved ∙ ap (λ n. record s0 { num_sectors = n }) (sym (ap (λ (f : SectorFile). f.num_sectors) reserved))) (held_before validation h)
 
-  pub fats_apart_shown : (validation : Validation) → HoldsTables validation a → Apart t.fat_sectors shown
+  pub fats_apart_shown : (validation : Validation) → HoldsTables validation a → AreDisjoint t.fat_sectors shown
   fats_apart_shown validation h =
-      subst (λ (xs : List ℕ). Apart t.fat_sectors xs) (sym same) (fats_apart_more validation t0 t touched more taken s0 (held_before validation h))
+      subst (λ (xs : List ℕ). AreDisjoint t.fat_sectors xs) (sym same) (fats_apart_more validation t0 t touched more taken s0 (held_before validation h))
 
   pub clean_taken : (validation : Validation) → HoldsTables validation a → (start : ℕ) → IsChain t.fat start (touched ++ more) → length touched ≤ 1 → IsClean t.fat
   clean_taken validation h start chain few =

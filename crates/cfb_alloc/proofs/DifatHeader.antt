@@ -12,7 +12,7 @@ use Rattle.std.proofs.lemmas.List.Sums.{position_or_len_is, fails_before_first}
 use Rattle.cfb_format.specs.declared.header.Header.{Header}
 use Rattle.cfb_format.specs.declared.version.Version.{Version}
 use Rattle.cfb_format.specs.declared.validate.Validation.TheVariants.{Permissive}
-use Rattle.cfb_format.specs.Bytes.{u16_at, u32_at, words, sector_len, sector_start, sector_words, is_regular, free_sector}
+use Rattle.cfb_format.specs.Bytes.{unit_at, word_at, words, sector_len, sector_start, sector_words, is_regular, free_sector}
 use Rattle.cfb_format.specs.Header.{IsHeader, dir_sectors_of, first_difat_of, header_difat_len, padded_difat, stored_difat}
 use Rattle.cfb_format.proofs.ByteLemmas.{written_below}
 use Rattle.cfb_format.proofs.HeaderDifat.{word-there}
@@ -30,7 +30,7 @@ use Rattle.cfb_sectors.proofs.WordLemmas.{word_with_word_apart, length-with_word
 pub record Within (from to : ℕ) (a b : List ℕ) : Type 0 where
   pub longer : length a ≤ length b
   pub below : (i : ℕ) → i < from → slice_index b i ≡ slice_index a i
-  pub word : (p : ℕ) → (from < p + 4 → to ≤ p) → u32_at b p ≡ u32_at a p
+  pub word : (p : ℕ) → (from < p + 4 → to ≤ p) → word_at b p ≡ word_at a p
 
 pub within_word : (at to : ℕ) (b : List ℕ) (w : ℕ) → at + 4 ≤ to → Within at to b (with_word b at w)
 unfolding with_word
@@ -58,7 +58,7 @@ within_words {from} {to} {a} {b} v i change apart =
 pub record SameFields (a b : List ℕ) : Type 0 where
   pub longer : length a ≤ length b
   pub start : (i : ℕ) → i < 40 → slice_index b i ≡ slice_index a i
-  pub field : (p : ℕ) → (p ≡ 40) ⊎ ((48 ≤ p) × (p ≤ 64)) → u32_at b p ≡ u32_at a p
+  pub field : (p : ℕ) → (p ≡ 40) ⊎ ((48 ≤ p) × (p ≤ 64)) → word_at b p ≡ word_at a p
 
 pub count_changed : {a b : List ℕ} → Within 44 48 a b → SameFields a b
 count_changed change = record {
@@ -93,8 +93,8 @@ then_changed first second = record {
 abbrev pub with_lists : Header → ℕ → ℕ → ℕ → List ℕ → Header
 with_lists h fats first difats entries = record h { num_fat_sectors = fats; first_difat_sector = first; num_difat_sectors = difats; initial_difat_entries = entries }
 
-units_stay : (a b : List ℕ) (at : ℕ) → at + 2 ≤ 40 → SameFields a b → u16_at b at ≡ u16_at a at
-unfolding u16_at
+units_stay : (a b : List ℕ) (at : ℕ) → at + 2 ≤ 40 → SameFields a b → unit_at b at ≡ unit_at a at
+unfolding unit_at
 units_stay a b at low same =
     u16-same (drop at b) (drop at a) (λ i small. get_or-drop at b i 0 ∙ same.start (at + i) (omega (arith, low, small)) ∙ sym (get_or-drop at a i 0))
 
@@ -107,7 +107,7 @@ same_start n a b there longer each =
     (λ i low. let small : i < n = omega (arith, low, lb) in get_or-take n b i 0 small ∙ each i small ∙ sym (get_or-take n a i 0 small))
 
 pub header_on : (a b : List ℕ) (h : Header) (fats first difats : ℕ) (entries : List ℕ) → IsHeader a h → 512 ≤ length a → SameFields a b
-    → fats ≡ u32_at b 44 → first ≡ first_difat_of (u32_at b 68) → difats ≡ u32_at b 72
+    → fats ≡ word_at b 44 → first ≡ first_difat_of (word_at b 68) → difats ≡ word_at b 72
     → entries ≡ padded_difat (stored_difat b) → list_all is_regular (stored_difat b) ≡ true → IsHeader b (with_lists h fats first difats entries)
 header_on a b h fats first difats entries is long same fats_is first_is difats_is entries_is regular = record {
   fixed = record {
@@ -142,7 +142,7 @@ header_stays a b h long stays is =
 abbrev entries_of : List ℕ → List ℕ
 entries_of bytes = words header_difat_len (drop 76 bytes)
 
-entry_there : (bytes : List ℕ) (j : ℕ) → j < header_difat_len → slice_index (entries_of bytes) j ≡ u32_at bytes (header_place j)
+entry_there : (bytes : List ℕ) (j : ℕ) → j < header_difat_len → slice_index (entries_of bytes) j ≡ word_at bytes (header_place j)
 entry_there bytes j low = word-there bytes j low
 
 entries_length : (bytes : List ℕ) → length (entries_of bytes) ≡ header_difat_len
@@ -155,7 +155,7 @@ stored_short bytes =
     omega (arith, short, all)
 
 -- they stay where their words do
-pub stored_same : (a b : List ℕ) → ((j : ℕ) → j < header_difat_len → u32_at b (header_place j) ≡ u32_at a (header_place j)) → stored_difat b ≡ stored_difat a
+pub stored_same : (a b : List ℕ) → ((j : ℕ) → j < header_difat_len → word_at b (header_place j) ≡ word_at a (header_place j)) → stored_difat b ≡ stored_difat a
 stored_same a b each =
     let same : entries_of b ≡ entries_of a = same_number_lists (entries_of b) (entries_of a) (entries_length b ∙ sym (entries_length a))
     (λ j low. let small : j < header_difat_len = omega (arith, low, entries_length b) in entry_there b j small ∙ each j small ∙ sym (entry_there a j small)) in
@@ -163,8 +163,8 @@ stored_same a b each =
 
 -- one more is stored
 pub stored_more : (a b : List ℕ) (k sector : ℕ) → length (stored_difat a) ≡ k → k < header_difat_len → sector ≢ free_sector
-    → ((j : ℕ) → j < k → u32_at b (header_place j) ≡ u32_at a (header_place j))
-    → u32_at b (header_place k) ≡ sector → (k + 1 < header_difat_len → u32_at b (header_place (k + 1)) ≡ free_sector)
+    → ((j : ℕ) → j < k → word_at b (header_place j) ≡ word_at a (header_place j))
+    → word_at b (header_place k) ≡ sector → (k + 1 < header_difat_len → word_at b (header_place (k + 1)) ≡ free_sector)
     → stored_difat b ≡ stored_difat a ++ sector ∷ []
 stored_more a b k sector len room regular before here after =
     let n = position_or_len is_free (entries_of a) in

@@ -12,7 +12,7 @@ use Rattle.cfb_format.specs.declared.version.Version.TheVariants.{V3, V4}
 use Rattle.cfb_format.specs.declared.validate.Validation.{Validation}
 use Rattle.cfb_format.specs.declared.validate.Validation.TheVariants.{Permissive, Strict}
 use Rattle.cfb_format.specs.declared.header.Header.{Header}
-use Rattle.cfb_format.specs.Bytes.{u32_at, sector_len, sector_start, sector_words, words_per_sector, is_whole_sector, is_regular, is_regular_or_free, max_regular_sector, free_sector}
+use Rattle.cfb_format.specs.Bytes.{word_at, sector_len, sector_start, sector_words, words_per_sector, is_whole_sector, is_regular, is_regular_or_free, max_regular_sector, free_sector}
 use Rattle.cfb_format.specs.Header.{IsHeader, IfStrict, first_difat_of, header_difat_len, padded_difat, stored_difat}
 use Rattle.cfb_format.specs.Fat.{IsDifat, IsStrictDifat, difat_entries, next_difat, without_end, without_padding}
 use Rattle.cfb_format.proofs.Words.{sector_words-length, whole-end}
@@ -163,7 +163,7 @@ in_header validation a list own sector h is d s long low regular whole =
     let three : Within 44 48 b2 b = within_word 44 48 b2 (k + 1) (omega arith) in
     let same : SameFields a b = then_changed (then_changed (later_changed (omega arith) one) (later_changed (omega arith) two)) (count_changed three) in
     let longer = same.longer in
-    let far : (p : ℕ) → 48 ≤ p → p + 4 ≤ header_place k → u32_at b p ≡ u32_at a p = λ p early before.
+    let far : (p : ℕ) → 48 ≤ p → p + 4 ≤ header_place k → word_at b p ≡ word_at a p = λ p early before.
     three.word p (λ _. early) ∙ two.word p (λ x. absurd (omega (arith, x, before))) ∙ one.word p (λ x. absurd (omega (arith, x, before))) in
     let words : (i : ℕ) → sector_words v b i ≡ sector_words v a i = λ i.
     let past = past_header v i in
@@ -180,7 +180,7 @@ in_header validation a list own sector h is d s long low regular whole =
     (λ j less. far (header_place j) (omega arith) (omega (arith, less)))
     (three.word (header_place k) (λ _. omega arith) ∙ word_with_word b1 (header_place k) sector (omega (arith, regular)))
     (λ less. three.word (header_place (k + 1)) (λ _. omega arith) ∙ two.word (header_place (k + 1)) (λ _. omega arith)
-    ∙ ap (λ c. u32_at (if c then with_word a (header_place (k + 1)) free_sector else a) (header_place (k + 1))) (lt-ltb (k + 1) header_difat_len less)
+    ∙ ap (λ c. word_at (if c then with_word a (header_place (k + 1)) free_sector else a) (header_place (k + 1))) (lt-ltb (k + 1) header_difat_len less)
     ∙ word_with_word a (header_place (k + 1)) free_sector (lit< tt)) in
     let grown : set first k sector ≡ padded_difat (stored_difat b) =
     ap (λ (xs : List ℕ). set xs k sector) is.difat ∙ ap (λ n. set (padded_difat (stored_difat a)) n sector) (sym all_stored)
@@ -259,7 +259,7 @@ in_sector validation a list own sector h is d s long full places small regular w
     let two : Within 44 48 b1 b = within_word 44 48 b1 (k + 1) (omega arith) in
     let same : SameFields a b = then_changed (later_changed (omega (arith, deep)) one) (count_changed two) in
     let longer = same.longer in
-    let far : (p : ℕ) → 48 ≤ p → p + 4 ≤ 512 → u32_at b p ≡ u32_at a p = λ p early before.
+    let far : (p : ℕ) → 48 ≤ p → p + 4 ≤ 512 → word_at b p ≡ word_at a p = λ p early before.
     two.word p (λ _. early) ∙ one.word p (λ y. absurd (omega (arith, y, before, deep))) in
     let uncounted : (i : ℕ) → sector_words v b i ≡ sector_words v b1 i = λ i. within_words v i two (λ _. omega (arith, past_header v i)) in
     let others : (i : ℕ) → i ≢ x → sector_words v b i ≡ sector_words v a i = λ i ne.

@@ -11,7 +11,7 @@ use Rattle.cfb_format.specs.declared.version.Version.{Version}
 use Rattle.cfb_format.specs.declared.version.Version.TheVariants.{V3, V4}
 use Rattle.cfb_format.specs.declared.validate.Validation.{Validation}
 use Rattle.cfb_format.specs.declared.header.Header.{Header}
-use Rattle.cfb_format.specs.Bytes.{u32_at, sector_start, sector_words, words_per_sector, is_whole_sector, is_regular, is_regular_or_free, max_regular_sector, end_of_chain, free_sector}
+use Rattle.cfb_format.specs.Bytes.{word_at, sector_start, sector_words, words_per_sector, is_whole_sector, is_regular, is_regular_or_free, max_regular_sector, end_of_chain, free_sector}
 use Rattle.cfb_format.specs.Header.{IsHeader, IfStrict, first_difat_of, header_difat_len, padded_difat, stored_difat}
 use Rattle.cfb_format.specs.Fat.{IsDifat, IsStrictDifat, FollowsDifat, difat_entries, next_difat, ends_difat, without_end}
 use Rattle.cfb_format.proofs.Words.{sector_words-length}
@@ -67,11 +67,11 @@ module _ (v : Version) (b : List ℕ) (sector : ℕ) (words : sector_words v b s
 
 record Links (v : Version) (a b own : List ℕ) (sector : ℕ) : Type 0 where
   same : SameFields a b
-  fats : u32_at b 44 ≡ u32_at a 44
-  difats : u32_at b 72 ≡ length own + 1
+  fats : word_at b 44 ≡ word_at a 44
+  difats : word_at b 72 ≡ length own + 1
   stored : stored_difat b ≡ stored_difat a
   entries : (i : ℕ) → difat_entries v b i ≡ difat_entries v a i
-  walk : FollowsDifat v b (first_difat_of (u32_at b 68)) (own ++ sector ∷ [])
+  walk : FollowsDifat v b (first_difat_of (word_at b 68)) (own ++ sector ∷ [])
   ended : list_all (λ i. not (next_difat v a i == free_sector)) own ≡ true → list_all (λ i. not (next_difat v b i == free_sector)) (own ++ sector ∷ []) ≡ true
 
 number_first : (sector : ℕ) → sector ≤ max_regular_sector → first_difat_of sector ≡ sector
@@ -88,7 +88,7 @@ first_links v a sector regular whole empty =
     let same : SameFields a b = then_changed (later_changed (omega arith) one) (later_changed (omega arith) two) in
     let words : (i : ℕ) → sector_words v b i ≡ sector_words v a i = λ i.
     within_words v i two (λ _. omega (arith, past_header v i)) ∙ within_words v i one (λ _. omega (arith, past_header v i)) in
-    let named : first_difat_of (u32_at b 68) ≡ sector =
+    let named : first_difat_of (word_at b 68) ≡ sector =
     ap first_difat_of (two.word 68 (λ y. absurd (omega (arith, y))) ∙ word_with_word a 68 sector (omega (arith, regular))) ∙ number_first sector regular in
     let empty' = words sector ∙ empty in
     record {
@@ -102,7 +102,7 @@ first_links v a sector regular whole empty =
     }
 
 -- the last of the others names it
-more_links : (v : Version) (a : List ℕ) (z : ℕ) (zs : List ℕ) (sector s : ℕ) → s ≡ first_difat_of (u32_at a 68) → FollowsDifat v a s (z ∷ zs) → IsDistinct nat_eq (z ∷ zs)
+more_links : (v : Version) (a : List ℕ) (z : ℕ) (zs : List ℕ) (sector s : ℕ) → s ≡ first_difat_of (word_at a 68) → FollowsDifat v a s (z ∷ zs) → IsDistinct nat_eq (z ∷ zs)
     → length (z ∷ zs) < max_regular_sector → (Contains (z ∷ zs) sector → ⊥)
     → sector ≤ max_regular_sector → is_whole_sector v a sector ≡ true → sector_words v a sector ≡ fresh_words v
     → Links v a (with_word (with_word a (sector_start v (slice_index (z ∷ zs) (length zs)) + 4 * (words_per_sector v - 1)) sector) 72 (length (z ∷ zs) + 1)) (z ∷ zs) sector
@@ -118,7 +118,7 @@ more_links v a z zs sector s named walk once few fresh regular whole empty =
     let one : Within at (at + 4) a b1 = within_word at (at + 4) a sector (omega arith) in
     let two : Within 72 76 b1 b = within_word 72 76 b1 (length own + 1) (omega arith) in
     let same : SameFields a b = then_changed (later_changed (omega (arith, deep)) one) (later_changed (omega arith) two) in
-    let far : (p : ℕ) → p + 4 ≤ 512 → u32_at b1 p ≡ u32_at a p = λ p before. one.word p (λ y. absurd (omega (arith, y, before, deep))) in
+    let far : (p : ℕ) → p + 4 ≤ 512 → word_at b1 p ≡ word_at a p = λ p before. one.word p (λ y. absurd (omega (arith, y, before, deep))) in
     let uncounted : (i : ℕ) → sector_words v b i ≡ sector_words v b1 i = λ i. within_words v i two (λ _. omega (arith, past_header v i)) in
     let others : (i : ℕ) → i ≢ x → sector_words v b i ≡ sector_words v a i = λ i ne. uncounted i ∙ within_words v i one (other_apart v i x e ne inside) in
     let here : sector_words v b x ≡ set (sector_words v a x) e sector = uncounted x ∙ words_set v x a e sector inside (omega (arith, regular)) in
@@ -136,7 +136,7 @@ more_links v a z zs sector s named walk once few fresh regular whole empty =
     let walked : FollowsDifat v b s (own ++ sector ∷ []) =
     follows_more v a b same.longer s z zs sector (λ i m. same_numbers v a b i (entries i)) next last
     (lone_walk v b sector empty' regular (whole_on v a b sector same.longer whole)) walk in
-    let first_same : u32_at b 68 ≡ u32_at a 68 = two.word 68 (λ y. absurd (omega (arith, y))) ∙ far 68 (omega arith) in
+    let first_same : word_at b 68 ≡ word_at a 68 = two.word 68 (λ y. absurd (omega (arith, y))) ∙ far 68 (omega arith) in
     record {
       same = same;
       fats = two.word 44 (λ y. absurd (omega (arith, y))) ∙ far 44 (omega arith);
@@ -183,10 +183,10 @@ relinked validation a b list own sector h is d s long full fresh empty l =
     ∙ sym (append_assoc first listed rest) in
     let len_all = flat_len (difat_entries v a) (difat_entries v b) e (some_places v) (length-entries v a) own in
     let filled : length (first ++ listed) ≤ length list = omega (arith, length-append first listed, initial_length a h is, len_all, full) in
-    let h' = with_lists h h.num_fat_sectors (first_difat_of (u32_at b 68)) (length own + 1) first in
+    let h' = with_lists h h.num_fat_sectors (first_difat_of (word_at b 68)) (length own + 1) first in
     record {
       header = h';
-      is_header = header_on a b h h.num_fat_sectors (first_difat_of (u32_at b 68)) (length own + 1) first is long l.same
+      is_header = header_on a b h h.num_fat_sectors (first_difat_of (word_at b 68)) (length own + 1) first is long l.same
           (is.num_fat_sectors ∙ sym l.fats) refl (sym l.difats) (is.difat ∙ ap padded_difat (sym l.stored)) (ap (list_all is_regular) l.stored ∙ is.difat_entries);
       same_version = refl;
       difat = record {
@@ -212,7 +212,7 @@ link_at v z zs =
     ap (λ c. if c then sector_start v (slice_index (z ∷ zs) (length (z ∷ zs) - 1)) + 4 * (words_per_sector v - 1) else 68) (lt-ltb 0 (length (z ∷ zs)) (omega arith))
     ∙ ap (λ n. sector_start v (slice_index (z ∷ zs) n) + 4 * (words_per_sector v - 1)) (let o : length (z ∷ zs) - 1 ≡ length zs = omega arith in o)
 
-links : (v : Version) (a own : List ℕ) (sector s : ℕ) → s ≡ first_difat_of (u32_at a 68) → FollowsDifat v a s own → IsDistinct nat_eq own
+links : (v : Version) (a own : List ℕ) (sector s : ℕ) → s ≡ first_difat_of (word_at a 68) → FollowsDifat v a s own → IsDistinct nat_eq own
     → length own < max_regular_sector → (Contains own sector → ⊥)
     → sector ≤ max_regular_sector → is_whole_sector v a sector ≡ true → sector_words v a sector ≡ fresh_words v
     → Links v a (linked v a own sector) own sector

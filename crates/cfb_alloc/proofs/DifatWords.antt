@@ -8,7 +8,7 @@ use Rattle.std.proofs.lemmas.List.{length-replicate, length-set, get_or-set_same
 use Rattle.std.proofs.lemmas.Nat.{from_le_bytes-to_le_bytes_4}
 use Rattle.cfb_format.specs.declared.version.Version.{Version}
 use Rattle.cfb_format.specs.declared.version.Version.TheVariants.{V3, V4}
-use Rattle.cfb_format.specs.Bytes.{u32_at, words, word_bytes, sector_len, sector_start, sector_words, words_per_sector, end_of_chain, free_sector}
+use Rattle.cfb_format.specs.Bytes.{word_at, words, word_bytes, sector_len, sector_start, sector_words, words_per_sector, end_of_chain, free_sector}
 use Rattle.cfb_format.specs.Medium.{written}
 use Rattle.cfb_format.proofs.ByteLemmas.{written_at}
 use Rattle.cfb_format.proofs.HeaderStart.{words-same}
@@ -68,7 +68,7 @@ fresh_difat_words version bytes i =
 
 module _ (v : Version) (i : ℕ) (a b : List ℕ) where
   -- a sector's words, one by one
-  pub same_sector_words : ((j : ℕ) → j < words_per_sector v → u32_at b (sector_start v i + 4 * j) ≡ u32_at a (sector_start v i + 4 * j)) → sector_words v b i ≡ sector_words v a i
+  pub same_sector_words : ((j : ℕ) → j < words_per_sector v → word_at b (sector_start v i + 4 * j) ≡ word_at a (sector_start v i + 4 * j)) → sector_words v b i ≡ sector_words v a i
   same_sector_words each =
       same_number_lists _ _ (sector_words-length v b i ∙ sym (sector_words-length v a i))
       (λ j low.

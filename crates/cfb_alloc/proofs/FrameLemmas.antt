@@ -4,7 +4,7 @@ use Rattle.std.specs.Prelude.{Contains}
 use Rattle.cfb_format.specs.declared.version.Version.{Version}
 use Rattle.cfb_format.specs.declared.version.Version.TheVariants.{V3, V4}
 use Rattle.cfb_format.specs.Bytes.{sector_len, sector_start}
-use Rattle.cfb_format.specs.Medium.{ChangesOnly}
+use Rattle.cfb_format.specs.Medium.{ChangesOnlyBytes}
 use Rattle.cfb_alloc.specs.Alloc.{ChangesSectors, IsOtherHeaderByte, IsTablesWord}
 use Rattle.cfb_alloc.proofs.Listed.{not_in_nil}
 use Rattle.cfb_sectors.proofs.SectorLemmas.{SectorStays_refl, SectorStays_trans, other_sector, after_header}
@@ -37,7 +37,7 @@ before_sector V4 sector offset at i there (inl low) = omega (arith, there, low)
 before_sector V4 sector offset at i there (inr (inl mid)) = omega (arith, there, mid.1)
 before_sector V4 sector offset at i there (inr (inr high)) = omega (arith, there, high.1)
 
-pub changes_in_sector : (v : Version) (sector offset n at : ℕ) (a b : List ℕ) → at ≡ sector_start v sector + offset → offset + n ≤ sector_len v → ChangesOnly at n a b
+pub changes_in_sector : (v : Version) (sector offset n at : ℕ) (a b : List ℕ) → at ≡ sector_start v sector + offset → offset + n ≤ sector_len v → ChangesOnlyBytes at n a b
     → ChangesSectors (sector ∷ []) v a b
 changes_in_sector v sector offset n at a b there fits change = record {
   no_shorter = change.no_shorter;
@@ -46,7 +46,7 @@ changes_in_sector v sector offset n at a b there fits change = record {
 }
 
 -- a byte apart from a stretch
-beside : (at n i : ℕ) (a b : List ℕ) → ChangesOnly at n a b → i < length a → (i < at) ⊎ (at + n ≤ i) → slice_index b i ≡ slice_index a i
+beside : (at n i : ℕ) (a b : List ℕ) → ChangesOnlyBytes at n a b → i < length a → (i < at) ⊎ (at + n ≤ i) → slice_index b i ≡ slice_index a i
 beside at n i a b change lt (inl low) = change.below i lt low
 beside at n i a b change lt (inr high) = change.above i lt high
 
@@ -62,7 +62,7 @@ pub word_inside : (at : ℕ) → IsTablesWord at → at + 4 ≤ 512
 word_inside at (inl is) = omega (arith, is)
 word_inside at (inr w) = w.1
 
-pub changes_in_header : (v : Version) (at : ℕ) (a b : List ℕ) → IsTablesWord at → ChangesOnly at 4 a b → ChangesSectors [] v a b
+pub changes_in_header : (v : Version) (at : ℕ) (a b : List ℕ) → IsTablesWord at → ChangesOnlyBytes at 4 a b → ChangesSectors [] v a b
 changes_in_header v at a b word change = record {
   no_shorter = change.no_shorter;
   sectors = λ i out. after_header v i at 4 a b change (word_inside at word);

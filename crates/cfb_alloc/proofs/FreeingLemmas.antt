@@ -12,9 +12,9 @@ use Rattle.cfb_format.specs.Bytes.{end_of_chain, max_regular_sector, fat_sector,
 use Rattle.cfb_format.specs.Chain.{value, IsChain}
 use Rattle.cfb_alloc.specs.Agreement.{IsStrictBut}
 use Rattle.cfb_alloc.specs.Alloc.{AllocatorState, HoldsBut, IsPlaced, ChangesSectors}
-use Rattle.cfb_tables.specs.Changes.{ChangesOnly, IsFreed, IsCut, IsNextOf, NoChain}
+use Rattle.cfb_tables.specs.Changes.{ChangesOnlyValues, IsFreed, IsCut, IsNextOf, NoChain}
 use Rattle.cfb_tables.specs.Clean.{IsClean}
-use Rattle.cfb_tables.specs.Refused.{Refused, ChangeRefused}
+use Rattle.cfb_tables.specs.Refused.{TableRefused, ChangeRefused}
 use Rattle.cfb_alloc.specs.Broken.{BreaksOff}
 use Rattle.cfb_sectors.specs.Sectors.{SectorFile, IsMediumError}
 use Rattle.cfb_tables.specs.Tables.{TableState}
@@ -42,7 +42,7 @@ no_next-no_chain table i none list c =
 
 -- ---- refusals
 
-pub invalid_changed : (why invalid memory full medium : Type 0) (e : Error) → (why → invalid) → Refused why ⊥ ⊥ e → ChangeRefused invalid memory full medium e
+pub invalid_changed : (why invalid memory full medium : Type 0) (e : Error) → (why → invalid) → TableRefused why ⊥ ⊥ e → ChangeRefused invalid memory full medium e
 invalid_changed why invalid memory full medium (InvalidData d) f r = f r
 invalid_changed why invalid memory full medium Memory f r = absurd r
 invalid_changed why invalid memory full medium Full f r = absurd r
@@ -101,7 +101,7 @@ module _ (t0 t : TableState) (rest : t ≡ record t0 { fat = t.fat }) where
       (subst (λ (v : Version). ChangesSectors t.fat_sectors v s0.bytes bytes) p.same_version change))
 
   -- only members of chains changed
-  module _ (touched : List ℕ) (same : length t.fat ≡ length t0.fat) (only : ChangesOnly touched t0.fat t.fat)
+  module _ (touched : List ℕ) (same : length t.fat ≡ length t0.fat) (only : ChangesOnlyValues touched t0.fat t.fat)
       (members : (i : ℕ) → Contains touched i → (value t0.fat i ≤ max_regular_sector) ⊎ (value t0.fat i ≡ end_of_chain)) where
     stays : (i w : ℕ) → value t0.fat i ≡ w → max_regular_sector < w → w < end_of_chain → value t.fat i ≡ w
     stays i w was high low = only i (λ m. elim (members i m) [ inl le ↦ omega (arith, le, was, high) | inr e ↦ omega (arith, e, was, low) ]) ∙ was

@@ -15,7 +15,7 @@ use Rattle.cfb_alloc.specs.Agreement.{AgreesBut, IsStrictBut, HasSectors, KeepsS
 use Rattle.cfb_tables.specs.Changes.{PointsWithin}
 use Rattle.cfb_alloc.specs.Alloc.{HoldsBut, IsMeasured, IsFilled, ChangesSectors}
 use Rattle.std.proofs.Math.Seq.{drop-append_seam}
-use Rattle.cfb_tables.specs.Changes.{Apart}
+use Rattle.cfb_tables.specs.Changes.{AreDisjoint}
 use Rattle.cfb_tables.specs.Clean.{IsClean}
 use Rattle.cfb_tables.proofs.CleanLemmas.{clean-within}
 use Rattle.cfb_alloc.specs.Difat.{ListsTables}
@@ -218,7 +218,7 @@ module _ (t0 t : TableState) (touched more : List ℕ) (taken : HasTaken t0 t to
     grown_difats_once = subst (IsDistinct nat_eq) (sym taken.difat_sectors)
         (joined_distinct t0.difat_sectors taken.difats h.listed.difat.distinct taken.difats_once (λ i m n. let l = difat_low i m in let p = (new_difat i n).0 in omega (arith, l, p)))
 
-    pub grown_apart : Apart t.fat_sectors t.difat_sectors
+    pub grown_apart : AreDisjoint t.fat_sectors t.difat_sectors
     grown_apart i m n = elim (Contains-append_cases t0.fat_sectors taken.fats i (subst (λ (xs : List ℕ). Contains xs i) taken.fat_sectors m)) [
       | inl x ↦ elim (Contains-append_cases t0.difat_sectors taken.difats i (subst (λ (xs : List ℕ). Contains xs i) taken.difat_sectors n)) [
         | inl y ↦ h.apart i x y
@@ -334,12 +334,12 @@ module _ (validation : Validation) (t0 t : TableState) (touched more : List ℕ)
     | inr r ↦ taken.difat_marks i r
   ]
 
-  pub fats_apart_more : Apart t.fat_sectors more
+  pub fats_apart_more : AreDisjoint t.fat_sectors more
   fats_apart_more i m n =
       let mark = fat_marked i m in
       elim (taken.busy i (Contains-append_right touched more i n)) [ inl le ↦ omega (arith, le, mark) | inr is ↦ omega (arith, is, mark) ]
 
-  pub difats_apart_more : Apart t.difat_sectors more
+  pub difats_apart_more : AreDisjoint t.difat_sectors more
   difats_apart_more i m n =
       let mark = difat_marked i m in
       elim (taken.busy i (Contains-append_right touched more i n)) [ inl le ↦ omega (arith, le, mark) | inr is ↦ omega (arith, is, mark) ]

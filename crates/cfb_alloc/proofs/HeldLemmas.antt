@@ -9,7 +9,7 @@ use Rattle.cfb_format.specs.declared.version.Version.{Version}
 use Rattle.cfb_format.specs.declared.version.Version.TheVariants.{V3, V4}
 use Rattle.cfb_format.specs.declared.validate.Validation.{Validation}
 use Rattle.cfb_format.specs.Bytes.{words, sector_words, free_sector, end_of_chain, sector_len, sector_start, is_whole_sector, words_per_sector, word_bytes, unit_bytes}
-use Rattle.cfb_format.specs.Medium.{part, written, ChangesOnly}
+use Rattle.cfb_format.specs.Medium.{part, written, ChangesOnlyBytes}
 use Rattle.cfb_format.proofs.ByteLemmas.{part_written, length-written, length-part, part_at}
 use Rattle.cfb_format.proofs.Words.{whole-end}
 use Rattle.cfb_sectors.specs.declared.sector.SectorInit.{SectorInit}
@@ -177,7 +177,7 @@ module _ (validation : Validation) (late : List ℕ) (old new : SectorFile) (t :
   abbrev home_of : ℕ
   home_of = slice_index t.fat_sectors (x / words_per_sector v)
 
-  pub held_word : ListingStays → new.bytes ≡ with_word old.bytes home (slice_index t.fat x) → new.len ≡ max old.len (home + 4) → ChangesOnly home 4 old.bytes new.bytes
+  pub held_word : ListingStays → new.bytes ≡ with_word old.bytes home (slice_index t.fat x) → new.len ≡ max old.len (home + 4) → ChangesOnlyBytes home 4 old.bytes new.bytes
       → x < length t.fat → slice_index t.fat x < 2 ^ 32 → 512 ≤ length old.bytes → HoldsBut validation (x ∷ late) old t → HoldsBut validation late new t
   held_word stays is len change lt fits long h =
       let whole = listed_whole validation v old.bytes t.fat_sectors t.difat_sectors h.listed in

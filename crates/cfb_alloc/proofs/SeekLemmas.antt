@@ -6,7 +6,7 @@ use Rattle.cfb_format.specs.declared.validate.Validation.{Validation}
 use Rattle.cfb_format.specs.declared.version.Version.{Version}
 use Rattle.cfb_format.specs.declared.version.Version.TheVariants.{V3, V4}
 use Rattle.cfb_format.specs.Bytes.{sector_len, sector_start, sector_count, words_per_sector}
-use Rattle.cfb_format.specs.Medium.{written, ChangesOnly}
+use Rattle.cfb_format.specs.Medium.{written, ChangesOnlyBytes}
 use Rattle.cfb_format.proofs.ByteLemmas.{length-written, ChangesOnly-written}
 use Rattle.cfb_alloc.specs.Agreement.{HasSectors, KeepsSectors, IsStrictBut, word_of}
 use Rattle.cfb_alloc.specs.Alloc.{AllocatorState, HoldsBut, HoldsTables, IsPlaced}
@@ -84,8 +84,8 @@ module _ (validation : Validation) (late : List ℕ) (old new : SectorFile) (t :
       let count : n ≡ sector_count v old.bytes = h.agrees.count in
       let long : 512 ≤ length old.bytes = some_bytes v n (length old.bytes) sector count low in
       let all : length new.bytes ≡ max (length old.bytes) (at + length from) = ap (λ (xs : List ℕ). length xs) is ∙ length-written old.bytes at from in
-      let change : ChangesOnly at (length from) old.bytes new.bytes =
-      subst (λ (b : List ℕ). ChangesOnly at (length from) old.bytes b) (sym is) (ChangesOnly-written old.bytes at from) in
+      let change : ChangesOnlyBytes at (length from) old.bytes new.bytes =
+      subst (λ (b : List ℕ). ChangesOnlyBytes at (length from) old.bytes b) (sym is) (ChangesOnly-written old.bytes at from) in
       let there : at ≡ sector_start v sector + (at - sector_start v sector) = let l = lies.0 in omega (arith, l) in
       let short : at - sector_start v sector + length from ≤ sector_len v = let l = lies.0 in let u = lies.1 in omega (arith, l, u) in
       let past = sector_past_header v sector in

@@ -13,7 +13,7 @@ use Rattle.cfb_format.specs.declared.version.Version.TheVariants.{V3, V4}
 use Rattle.cfb_format.specs.Bytes.{sector_count, is_whole_sector, is_regular, words_per_sector, free_sector, fat_sector, difat_sector, invalid_sector}
 use Rattle.cfb_format.specs.Chain.{value, Follows, chain_from}
 use Rattle.cfb_format.specs.Content.{sector_chain}
-use Rattle.cfb_format.specs.Fat.{fat_of, fat_value, raw_fat, fat_words, fat_padding, is_among, is_fat_padding, within_file, FollowsDifat, next_difat, IsStrictDifat, IsStrictFat}
+use Rattle.cfb_format.specs.Fat.{fat_of, fat_value, raw_fat, fat_words, fat_padding, is_among, is_fat_padding, ended_past_file, FollowsDifat, next_difat, IsStrictDifat, IsStrictFat}
 use Rattle.cfb_format.specs.Header.{IfStrict}
 use Rattle.cfb_format.specs.Names.{Cases}
 use Rattle.cfb_format.specs.Reading.{Reading, Reads, root_entry}
@@ -22,7 +22,7 @@ use Rattle.cfb_format.specs.Soundness.{IsSound, used_sectors, sectors_of, mini_s
 use Rattle.cfb_format.proofs.Chains.{chain_from-IsChain}
 use Rattle.cfb_alloc.specs.Agreement.{word_of, Agrees, IsStrictBut}
 use Rattle.cfb_alloc.specs.Alloc.{AllocatorState, HoldsTables}
-use Rattle.cfb_tables.specs.Changes.{Apart}
+use Rattle.cfb_tables.specs.Changes.{AreDisjoint}
 use Rattle.cfb_tables.specs.Clean.{IsClean}
 use Rattle.cfb_alloc.specs.Difat.{ListsTables}
 use Rattle.cfb_alloc.specs.Held.{SoundTablesAreHeld, StrictTablesAreHeld, HeldTablesAreStrict}
@@ -84,16 +84,16 @@ module _ (v : Version) (bytes list own fat : List ℕ) (is : fat ≡ fat_of v by
 
   fat-listed : (i : ℕ) → i < sector_count v bytes → Contains list i → slice_index fat i ≡ fat_sector
   fat-listed i lt m = fat-at i lt ∙ ap (λ b. if b then fat_sector
-      else (if is_among own i then difat_sector else within_file (sector_count v bytes) (slice_index_or (raw_fat v bytes list) i free_sector))) (Contains-among list i m)
+      else (if is_among own i then difat_sector else ended_past_file (sector_count v bytes) (slice_index_or (raw_fat v bytes list) i free_sector))) (Contains-among list i m)
 
   difat-listed : (i : ℕ) → i < sector_count v bytes → (Contains list i → ⊥) → Contains own i → slice_index fat i ≡ difat_sector
   difat-listed i lt out m = fat-at i lt ∙ (λ j. if not-among list i out j then fat_sector
-      else (if Contains-among own i m j then difat_sector else within_file (sector_count v bytes) (slice_index_or (raw_fat v bytes list) i free_sector)))
+      else (if Contains-among own i m j then difat_sector else ended_past_file (sector_count v bytes) (slice_index_or (raw_fat v bytes list) i free_sector)))
 
   fat-unlisted : (i : ℕ) → i < sector_count v bytes → (Contains list i → ⊥) → (Contains own i → ⊥)
-      → slice_index fat i ≡ within_file (sector_count v bytes) (slice_index_or (raw_fat v bytes list) i free_sector)
+      → slice_index fat i ≡ ended_past_file (sector_count v bytes) (slice_index_or (raw_fat v bytes list) i free_sector)
   fat-unlisted i lt out out' = fat-at i lt ∙ (λ j. if not-among list i out j then fat_sector
-      else (if not-among own i out' j then difat_sector else within_file (sector_count v bytes) (slice_index_or (raw_fat v bytes list) i free_sector)))
+      else (if not-among own i out' j then difat_sector else ended_past_file (sector_count v bytes) (slice_index_or (raw_fat v bytes list) i free_sector)))
 
 -- ---- pointers of used sectors
 
@@ -140,7 +140,7 @@ module _ (cases : Cases) (bytes : List ℕ) (r : Reading) (reads : Reads cases b
       (distinct-left (r.fat_sectors ++ r.difat_sectors ++ r.directory ++ r.minifat_sectors) (mini_stream_sectors r)
       (distinct-left (r.fat_sectors ++ r.difat_sectors ++ r.directory ++ r.minifat_sectors ++ mini_stream_sectors r) (flat_map (sectors_of r) (large_streams r)) sound.sectors)))
 
-  tables-apart : Apart r.fat_sectors r.difat_sectors
+  tables-apart : AreDisjoint r.fat_sectors r.difat_sectors
   tables-apart = distinct-apart r.fat_sectors r.difat_sectors tables-distinct
 
   used-names_busy : (i : ℕ) → Contains (used_sectors r) i → NamesBusy r.fat i
@@ -243,7 +243,7 @@ held validation cases bytes r a reads sound strict strict_fat eb el ev ef es eo 
     strict = move (λ v b l o f. IfStrict validation (IsStrictBut [] v b l f))
         (if_strict validation (IsStrictFat r.header.version bytes r.fat_sectors r.difat_sectors) (IsStrictBut [] r.header.version bytes r.fat_sectors r.fat)
         (strict_from r.header.version bytes r.fat_sectors r.difat_sectors r.fat (sound-agrees cases bytes r reads sound)) strict_fat);
-    apart = move (λ v b l o f. Apart l o) (tables-apart cases bytes r reads sound);
+    apart = move (λ v b l o f. AreDisjoint l o) (tables-apart cases bytes r reads sound);
   };
   clean = move (λ v b l o f. IsClean f) (sound-clean cases bytes r reads sound);
 }

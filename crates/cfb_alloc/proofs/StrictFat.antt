@@ -9,7 +9,7 @@ use Rattle.cfb_format.specs.declared.version.Version.{Version}
 use Rattle.cfb_format.specs.Bytes.{sector_count, words_per_sector, points_below, is_regular, free_sector, fat_sector, difat_sector}
 use Rattle.cfb_format.specs.Fat.{raw_fat, fat_words, fat_padding, IsStrictFat}
 use Rattle.cfb_alloc.specs.Agreement.{word_of, Agrees, IsStrictBut}
-use Rattle.cfb_tables.specs.Changes.{Apart}
+use Rattle.cfb_tables.specs.Changes.{AreDisjoint}
 use Rattle.cfb_alloc.proofs.AgreementLemmas.{every}
 use Rattle.cfb_alloc.proofs.HeldLemmas.{every_member}
 use Rattle.cfb_alloc.proofs.Listed.{not_in_nil}
@@ -44,7 +44,7 @@ module _ (version : Version) (bytes list own table : List ℕ) (a : Agrees versi
       raw_fat-at version bytes list i below covered
 
   -- words that say what strict opening wants are a FAT that it takes
-  pub strict_is : Apart list own → IsStrictBut [] version bytes list table → IsStrictFat version bytes list own
+  pub strict_is : AreDisjoint list own → IsStrictBut [] version bytes list table → IsStrictFat version bytes list own
   strict_is apart s = record {
     padding = every (λ word. word == free_sector) (fat_padding version bytes list) (λ i lt.
         let p = padding_at version bytes list i lt in

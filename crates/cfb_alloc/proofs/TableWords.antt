@@ -9,7 +9,7 @@ use Rattle.std.proofs.lemmas.List.{get_or-append_right, get_or_append_left}
 use Rattle.std.proofs.lemmas.List.Elements.{Contains-get_or}
 use Rattle.cfb_format.specs.declared.version.Version.{Version}
 use Rattle.cfb_format.specs.declared.version.Version.TheVariants.{V3, V4}
-use Rattle.cfb_format.specs.Bytes.{u32_at, sector_words, sector_len, sector_start, sector_count, words_per_sector, free_sector}
+use Rattle.cfb_format.specs.Bytes.{word_at, sector_words, sector_len, sector_start, sector_count, words_per_sector, free_sector}
 use Rattle.cfb_format.specs.Fat.{raw_fat, fat_words}
 use Rattle.cfb_alloc.specs.Agreement.{word_home, word_of, HasSectors, KeepsSectors}
 use Rattle.cfb_sectors.specs.Words.{with_word}
@@ -53,7 +53,7 @@ length-fat_words v bytes list = flat-length (sector_words v bytes) (words_per_se
 
 pub fat_words-at : (v : Version) (bytes list : List ℕ) (x d : ℕ) → x < length list * words_per_sector v
     → slice_index_or (fat_words v bytes list) x d ≡ word_of v bytes list x
-unfolding u32_at
+unfolding word_at
 fat_words-at v bytes list x d lt =
     flat-at (sector_words v bytes) (words_per_sector v) (some_words v) (λ i. words-length (words_per_sector v) (drop (sector_start v i) bytes)) list x d lt
     ∙ words-at (words_per_sector v) (drop (sector_start v (slice_index list (x / words_per_sector v))) bytes) (x % words_per_sector v) d (mod-lt x (some_words v))
@@ -125,6 +125,6 @@ kept_word v bytes bytes' list more x whole keeps lt =
     let home : word_home v (list ++ more) x ≡ word_home v list x =
     ap (λ s. sector_start v s + 4 * (x % words_per_sector v)) (get_or_append_left list more 0 (x / words_per_sector v) q) in
     let mine : Contains list (slice_index list (x / words_per_sector v)) = Contains-get_or list (x / words_per_sector v) 0 q in
-    ap (u32_at bytes') home
+    ap (word_at bytes') home
     ∙ word_in_sector v (slice_index list (x / words_per_sector v)) (4 * (x % words_per_sector v)) bytes bytes' (keeps (slice_index list (x / words_per_sector v)) mine)
     (home_fits v x) (home_inside v bytes list x whole lt)

@@ -2,7 +2,7 @@
 use Rattle.std.specs.Prelude.{ℕ, ◌+◌, ◌*◌, ◌/◌, ◌%◌, ◌^◌, ◌≡◌, ◌<◌, ◌≤◌, List, [], ◌∷◌, ◌++◌, true, not, ◌==◌, length, nat_eq, slice_index, slice_index_or, Contains, IsTrue}
 use Rattle.std.specs.List.{IsDistinct, list_all}
 use Rattle.cfb_format.specs.declared.version.Version.{Version}
-use Rattle.cfb_format.specs.Bytes.{u32_at, sector_len, sector_start, sector_count, words_per_sector, invalid_sector, fat_sector, difat_sector, free_sector}
+use Rattle.cfb_format.specs.Bytes.{word_at, sector_len, sector_start, sector_count, words_per_sector, invalid_sector, fat_sector, difat_sector, free_sector}
 use Rattle.cfb_format.specs.Chain.{value}
 use Rattle.cfb_format.specs.Fat.{fat_of, raw_fat, is_fat_padding, IsFat, HasDistinctPointers}
 use Rattle.cfb_tables.specs.Changes.{PointsWithin}
@@ -14,7 +14,7 @@ abbrev pub word_home : Version → List ℕ → ℕ → ℕ
 word_home version list i = sector_start version (slice_index list (i / words_per_sector version)) + 4 * (i % words_per_sector version)
 
 abbrev pub word_of : Version → List ℕ → List ℕ → ℕ → ℕ
-word_of version bytes list i = u32_at bytes (word_home version list i)
+word_of version bytes list i = word_at bytes (word_home version list i)
 
 -- the FAT sectors `list` hold this table, but perhaps not the words of the late numbers
 pub record AgreesBut (late : List ℕ) (version : Version) (bytes list own table : List ℕ) : Type 0 where

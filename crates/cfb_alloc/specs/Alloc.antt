@@ -7,7 +7,7 @@ use Rattle.cfb_format.specs.Chain.{value}
 use Rattle.cfb_format.specs.Header.{IfStrict}
 use Rattle.cfb_sectors.specs.declared.sector.SectorInit.{SectorInit}
 use Rattle.cfb_alloc.specs.Agreement.{AgreesBut, IsStrictBut}
-use Rattle.cfb_tables.specs.Changes.{Apart}
+use Rattle.cfb_tables.specs.Changes.{AreDisjoint}
 use Rattle.cfb_tables.specs.Clean.{IsClean}
 use Rattle.cfb_alloc.specs.Difat.{ListsTables}
 use Rattle.cfb_sectors.specs.Sectors.{SectorFile, SectorStays, init_bytes}
@@ -44,7 +44,7 @@ pub record HoldsBut (validation : Validation) (late : List ℕ) (file : SectorFi
   pub listed : ListsTables validation t.version file.bytes t.fat_sectors t.difat_sectors
   pub agrees : AgreesBut late t.version file.bytes t.fat_sectors t.difat_sectors t.fat
   pub strict : IfStrict validation (IsStrictBut late t.version file.bytes t.fat_sectors t.fat)
-  pub apart : Apart t.fat_sectors t.difat_sectors
+  pub apart : AreDisjoint t.fat_sectors t.difat_sectors
 
 -- they are those that the bytes hold, and no number is named twice
 pub record HoldsTables (validation : Validation) (a : AllocatorState) : Type 0 where

@@ -28,8 +28,8 @@ module _ {F A : Type 0} {g : medium.Ghosts F} where
   offset_of s = s.offset
 
   -- where its next byte lies in the file, and how many it has from there on
-  abbrev pub position_of : AllocatedSector F A g → ℕ
-  position_of s = s.start + s.offset
+  abbrev pub place_of : AllocatedSector F A g → ℕ
+  place_of s = s.start + s.offset
 
   abbrev pub room_of : AllocatedSector F A g → ℕ
   room_of s = s.len - s.offset

@@ -1,18 +1,18 @@
 //! The allocator of sectors: chains are begun, extended, cut and freed (MS-CFB 2.3 and 2.5).
 ghost use Rattle.std.specs.Prelude.{◌≡◌, ◌≢◌, ℕ, List, [], ◌∷◌, max, min, length, true, false, IsTrue, IfOk, IfErr, OnOk, take, drop, ◌++◌, ◌⊎◌, ◌+◌, ◌-◌, ◌<◌, ◌≤◌, Contains, IsErrAnd, MatchResult, vec_len};
 ghost use Rattle.cfb_format.specs.declared.validate.Validation.{Validation};
-ghost use Rattle.cfb_format.specs.Bytes.{sector_len as sector_len_of, max_regular_sector, end_of_chain};
+ghost use Rattle.cfb_format.specs.Bytes.{sector_len, max_regular_sector, end_of_chain};
 ghost use Rattle.cfb_format.specs.Chain.{IsChain, value};
 ghost use Rattle.cfb_format.specs.Refused.{CountsFailure, IsInvalidData};
 ghost use Rattle.cfb_alloc.specs.Alloc.{AreListed, ChangesSectors, HoldsTables, IsPlaced, IsUsable, IsFilled, OthersStay};
 ghost use Rattle.cfb_tables.specs.ReadFat.{AcceptsFat, AcceptsNoFat};
 ghost use Rattle.cfb_tables.specs.Changes.{IsNextOf, NoChain};
-ghost use Rattle.cfb_tables.specs.Refused.{Refused, NextRefused, NoLast, WalkRefused, ChangeRefused};
+ghost use Rattle.cfb_tables.specs.Refused.{TableRefused, NextRefused, NoLast, WalkRefused, ChangeRefused};
 ghost use Rattle.cfb_alloc.specs.Broken.{BreaksOff};
-ghost use Rattle.cfb_tables.specs.Tables.{HasTaken, TakesFor, Extended, ExtendsFrom, FreesChain, CutsChain, AreSizes, IsTooFew, ending, start_of, sizes_of, tables_of};
+ghost use Rattle.cfb_tables.specs.Tables.{HasTaken, TakesFor, Extended, ExtendsFrom, FreesChain, CutsChain, AreSizes, IsTooFew, ending, first_or_end, sizes_of, tables_of};
 ghost use Rattle.cfb_tables.specs.Clean.{IsUnnamed};
-ghost use Rattle.cfb_sectors.specs.Sectors.{IsMediumError, IsRaised, OtherSectorsStay, place, sectors_end};
-ghost use Rattle.cfb_format.specs.Medium.{ChangesOnly, part, written};
+ghost use Rattle.cfb_sectors.specs.Sectors.{IsMediumError, IsRaised, OtherSectorsStay, place_in_sector, sectors_end};
+ghost use Rattle.cfb_format.specs.Medium.{ChangesOnlyBytes, part, written};
 
 use crate::writing::{TableSizes, write_taken, write_values};
 use cfb_format::consts::{END_OF_CHAIN, NUM_DIFAT_ENTRIES_IN_HEADER};
@@ -22,7 +22,6 @@ use cfb_format::validate::Validation;
 use cfb_format::version::Version;
 use cfb_sectors::sector::{SectorInit, Sectors};
 use cfb_tables::fat::read_fat;
-use cfb_tables::lists::words_per_sector;
 use cfb_tables::tables::Tables;
 use std::alloc::{Allocator as Heap, Global};
 use std::marker::Model;
@@ -62,7 +61,7 @@ impl<F: ReadMedium, A: Heap + Clone> Allocator<F, A> {
         ensures file { IfOk result (λ a. a.file ≡ sectors) }
         ensures tables { IfOk result (λ a. a.tables ≡ tables_of sectors.version max_regular_sector a.tables.fat fat_sectors.items difat_sectors.items) }
         ensures fat { IfOk result (λ a. AcceptsFat validation sectors.num_sectors words.items fat_sectors.items difat_sectors.items a.tables.fat) }
-        ensures err { IfErr result (Refused
+        ensures err { IfErr result (TableRefused
             (AreListed sectors.version sectors.num_sectors fat_sectors.items difat_sectors.items
             → AcceptsNoFat validation sectors.num_sectors words.items fat_sectors.items difat_sectors.items)
             Unit ⊥) }
@@ -98,7 +97,7 @@ fn are_listed(version: Version, count: u32, fat_sectors: &[u32], difat_sectors: 
     if difat_sectors.len() > count as usize {
         return false;
     }
-    let entries = words_per_sector(version) - 1;
+    let entries = version.words_per_sector() - 1;
     if fat_sectors.len() > NUM_DIFAT_ENTRIES_IN_HEADER + difat_sectors.len() * entries {
         return false;
     }
@@ -138,7 +137,7 @@ impl<F: ReadMedium, A: Heap> Allocator<F, A> {
 
     /// The length of a sector, in bytes.
     pub fn sector_len(&self) -> usize
-        ensures { result ≡ sector_len_of self.now.tables.version }
+        ensures { result ≡ sector_len self.now.tables.version }
     {
         self.tables.version().sector_len()
     }
@@ -352,7 +351,7 @@ impl<F: Medium, A: Heap + Clone> Allocator<F, A> {
         init: SectorInit,
     ) -> Result<Vec<u32, A>, Error>
         ensures taken { IfOk result (λ list. HasTaken self.old.tables self.new.tables (ending last) list.items) }
-        ensures chain { IfOk result (λ list. IsChain self.new.tables.fat (start_of (ending last ++ list.items)) (ending last ++ list.items)) }
+        ensures chain { IfOk result (λ list. IsChain self.new.tables.fat (first_or_end (ending last ++ list.items)) (ending last ++ list.items)) }
         ensures count { IfOk result (λ list. vec_len list ≡ count) }
         ensures none { count ≡ 0 → self.new ≡ self.old }
         ensures filled { IsTrue F.tells → (validation : Validation) → HoldsTables validation self.old
@@ -421,7 +420,7 @@ impl<F: Medium, A: Heap + Clone> Allocator<F, A> {
     #[tactic(auto, using(crate::proofs::AllocLemmas::refused_changed))]
     fn begin_chain_by(&mut self, count: usize, init: SectorInit) -> Result<Vec<u32, A>, Error>
         ensures taken { IfOk result (λ list. HasTaken self.old.tables self.new.tables [] list.items) }
-        ensures chain { IfOk result (λ list. IsChain self.new.tables.fat (start_of list.items) list.items) }
+        ensures chain { IfOk result (λ list. IsChain self.new.tables.fat (first_or_end list.items) list.items) }
         ensures count { IfOk result (λ list. vec_len list ≡ count) }
         ensures none { count ≡ 0 → self.new ≡ self.old }
         ensures filled { IsTrue F.tells → (validation : Validation) → HoldsTables validation self.old
@@ -500,14 +499,14 @@ impl<F: ReadMedium, A: Heap> Allocator<F, A> {
         offset: usize,
         into: &mut [u8],
     ) -> Result<usize, Error>
-        requires { offset ≤ sector_len_of self.old.tables.version }
+        requires { offset ≤ sector_len self.old.tables.version }
         ensures tables { self.new.tables ≡ self.old.tables }
         ensures kept { self.new.file ≡ record self.old.file { bytes = self.new.file.bytes; failures = self.new.file.failures } }
-        ensures count { IfOk result (λ n. n ≡ min (length into.old) (self.old.file.len - place self.old.file sector offset)) }
-        ensures ok { IsTrue F.tells → IfOk result (λ n. take n into.new ≡ part self.old.file.bytes (place self.old.file sector offset) n) }
+        ensures count { IfOk result (λ n. n ≡ min (length into.old) (self.old.file.len - place_in_sector self.old.file sector offset)) }
+        ensures ok { IsTrue F.tells → IfOk result (λ n. take n into.new ≡ part self.old.file.bytes (place_in_sector self.old.file sector offset) n) }
         ensures rest { IfOk result (λ n. drop n into.new ≡ drop n into.old) }
-        ensures past { sectors_end self.old.file < place self.old.file sector offset + length into.old → IsErrAnd result IsInvalidData × (self.new ≡ self.old) }
-        ensures inside { place self.old.file sector offset + length into.old ≤ sectors_end self.old.file → IfErr result IsMediumError }
+        ensures past { sectors_end self.old.file < place_in_sector self.old.file sector offset + length into.old → IsErrAnd result IsInvalidData × (self.new ≡ self.old) }
+        ensures inside { place_in_sector self.old.file sector offset + length into.old ≤ sectors_end self.old.file → IfErr result IsMediumError }
         ensures same { IsTrue F.tells → OnOk result (self.new ≡ self.old) }
         ensures bytes { IsTrue F.tells → self.new.file.bytes ≡ self.old.file.bytes }
         ensures counts { IsTrue F.tells → CountsFailure F.read_faults result self.old.file.failures self.new.file.failures }
@@ -521,12 +520,12 @@ impl<F: Medium, A: Heap> Allocator<F, A> {
     /// fill the gap. `InvalidData` exactly where the sectors have no room for all of it, and `Medium` where the medium fails: then no
     /// byte has changed but where `from` was to go, and past the old end.
     pub fn write_contiguous(&mut self, sector: u32, offset: usize, from: &[u8]) -> Result<(), Error>
-        requires within { offset ≤ sector_len_of self.old.tables.version }
+        requires within { offset ≤ sector_len self.old.tables.version }
         requires some { 0 < length from.now }
         ensures tables { self.new.tables ≡ self.old.tables }
         ensures ok { IsTrue F.tells → OnOk result (self.new.file ≡ record self.old.file {
-          bytes = written self.old.file.bytes (place self.old.file sector offset) from.now;
-          len = max self.old.file.len (place self.old.file sector offset + length from.now);
+          bytes = written self.old.file.bytes (place_in_sector self.old.file sector offset) from.now;
+          len = max self.old.file.len (place_in_sector self.old.file sector offset + length from.now);
           begun = true;
         }) }
         ensures kept { self.new.file ≡ record self.old.file {
@@ -536,12 +535,12 @@ impl<F: Medium, A: Heap> Allocator<F, A> {
           begun = self.new.file.begun;
         } }
         ensures len { MatchResult result
-            (λ _. self.new.file.len ≡ max self.old.file.len (place self.old.file sector offset + length from.now))
+            (λ _. self.new.file.len ≡ max self.old.file.len (place_in_sector self.old.file sector offset + length from.now))
             (λ _. self.new.file.len ≡ self.old.file.len) }
-        ensures past { sectors_end self.old.file < place self.old.file sector offset + length from.now → IsErrAnd result IsInvalidData × (self.new ≡ self.old) }
-        ensures inside { place self.old.file sector offset + length from.now ≤ sectors_end self.old.file → IfErr result IsMediumError × (self.new.file.begun ≡ true) }
-        ensures others { IsTrue F.tells → ChangesOnly (place self.old.file sector offset) (length from.now) self.old.file.bytes self.new.file.bytes }
-        ensures sectors { IsTrue F.tells → OtherSectorsStay self.old.file.version (place self.old.file sector offset) (length from.now) self.old.file.bytes self.new.file.bytes }
+        ensures past { sectors_end self.old.file < place_in_sector self.old.file sector offset + length from.now → IsErrAnd result IsInvalidData × (self.new ≡ self.old) }
+        ensures inside { place_in_sector self.old.file sector offset + length from.now ≤ sectors_end self.old.file → IfErr result IsMediumError × (self.new.file.begun ≡ true) }
+        ensures others { IsTrue F.tells → ChangesOnlyBytes (place_in_sector self.old.file sector offset) (length from.now) self.old.file.bytes self.new.file.bytes }
+        ensures sectors { IsTrue F.tells → OtherSectorsStay self.old.file.version (place_in_sector self.old.file sector offset) (length from.now) self.old.file.bytes self.new.file.bytes }
         ensures counts { IsTrue F.tells → CountsFailure F.write_faults result self.old.file.failures self.new.file.failures }
     {
         self.sectors.write_contiguous(sector, offset, from)
@@ -592,7 +591,7 @@ impl<F: Medium, A: Heap> Allocator<F, A> {
         ensures len { MatchResult result
             (λ _. self.new.file.len ≡ max self.old.file.len (at + length from.now))
             (λ e. IsMediumError e × (self.new.file.len ≡ self.old.file.len)) }
-        ensures others { IsTrue F.tells → ChangesOnly at (length from.now) self.old.file.bytes self.new.file.bytes }
+        ensures others { IsTrue F.tells → ChangesOnlyBytes at (length from.now) self.old.file.bytes self.new.file.bytes }
         ensures counts { IsTrue F.tells → CountsFailure F.write_faults result self.old.file.failures self.new.file.failures }
     {
         self.sectors.write_at(at, from)

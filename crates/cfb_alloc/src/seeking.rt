@@ -1,8 +1,8 @@
 //! Stretches of a file that are lent with its allocator: the header, a sector or a part of one (MS-CFB 2.1 and 2.2).
 ghost use Rattle.std.specs.Prelude.{◌≡◌, ℕ, ◌+◌, ◌-◌, ◌*◌, ◌^◌, ◌<◌, ◌≤◌, max, min, length, true, take, drop, IsTrue, IfOk, IfErr, OnOk, MatchResult, Ok};
 ghost use Rattle.cfb_format.specs.declared.validate.Validation.{Validation};
-ghost use Rattle.cfb_format.specs.Bytes.{sector_len as sector_len_of, sector_start};
-ghost use Rattle.cfb_format.specs.Medium.{ChangesOnly, part, written};
+ghost use Rattle.cfb_format.specs.Bytes.{sector_len, sector_start};
+ghost use Rattle.cfb_format.specs.Medium.{ChangesOnlyBytes, part, written};
 ghost use Rattle.cfb_format.specs.Refused.{CountsFailure, IsInvalidData};
 ghost use Rattle.cfb_alloc.specs.Alloc.{HoldsTables};
 ghost use Rattle.cfb_alloc.specs.InSector.{LiesIn, IsNoTableSector};
@@ -53,7 +53,7 @@ impl<F: ReadMedium, A: Heap> Allocator<F, A> {
         ensures same_allocator { IfOk result (λ s. (allocator_of s).ghost_name ≡ self.entry.ghost_name) }
         ensures allocator { IfOk result (λ s. (allocator_of s).now ≡ self.old) }
         ensures there { IfOk result (λ s. (start_of s ≡ sector_start self.old.tables.version sector)
-            × (len_of s ≡ sector_len_of self.old.tables.version) × (offset_of s ≡ 0)) }
+            × (len_of s ≡ sector_len self.old.tables.version) × (offset_of s ≡ 0)) }
         ensures lies { IfOk result (λ s. LiesIn self.old.tables.version sector (start_of s) (len_of s)) }
         ensures known { IfOk result (λ s. sector < length self.old.tables.fat) }
         ensures past { IfErr result (λ e. IsInvalidData e × (length self.old.tables.fat ≤ sector)) }
@@ -67,12 +67,12 @@ impl<F: ReadMedium, A: Heap> Allocator<F, A> {
         sector: u32,
         offset: usize,
     ) -> Result<AllocatedSector<'_, F, A>, Error>
-        requires { offset ≤ sector_len_of self.old.tables.version }
+        requires { offset ≤ sector_len self.old.tables.version }
         ensures* refused { sem 𝓛 (lender_rests F.row A.row F.ReadMedium A.Allocator self.entry result) }
         ensures same_allocator { IfOk result (λ s. (allocator_of s).ghost_name ≡ self.entry.ghost_name) }
         ensures allocator { IfOk result (λ s. (allocator_of s).now ≡ self.old) }
         ensures there { IfOk result (λ s. (start_of s ≡ sector_start self.old.tables.version sector)
-            × (len_of s ≡ sector_len_of self.old.tables.version) × (offset_of s ≡ offset)) }
+            × (len_of s ≡ sector_len self.old.tables.version) × (offset_of s ≡ offset)) }
         ensures lies { IfOk result (λ s. LiesIn self.old.tables.version sector (start_of s) (len_of s)) }
         ensures known { IfOk result (λ s. sector < length self.old.tables.fat) }
         ensures past { IfErr result (λ e. IsInvalidData e × (length self.old.tables.fat ≤ sector)) }
@@ -96,7 +96,7 @@ impl<F: ReadMedium, A: Heap> Allocator<F, A> {
         len: usize,
         offset: usize,
     ) -> Result<AllocatedSector<'_, F, A>, Error>
-        requires piece { index * len + len ≤ sector_len_of self.old.tables.version }
+        requires piece { index * len + len ≤ sector_len self.old.tables.version }
         requires within { offset ≤ len }
         ensures* refused { sem 𝓛 (lender_rests F.row A.row F.ReadMedium A.Allocator self.entry result) }
         ensures same_allocator { IfOk result (λ s. (allocator_of s).ghost_name ≡ self.entry.ghost_name) }
@@ -122,8 +122,8 @@ impl<F: ReadMedium, A: Heap> Allocator<F, A> {
     /// Where a sector begins in the file. `InvalidData` exactly where it is none of the file.
     fn sector_place(&self, sector: u32) -> Result<u64, Error>
         ensures ok { IfOk result (λ at. at ≡ sector_start self.now.tables.version sector) }
-        ensures inside { IfOk result (λ at. at + sector_len_of self.now.tables.version ≤ sectors_end self.now.file) }
-        ensures fits { IfOk result (λ at. at + sector_len_of self.now.tables.version < 2 ^ 46) }
+        ensures inside { IfOk result (λ at. at + sector_len self.now.tables.version ≤ sectors_end self.now.file) }
+        ensures fits { IfOk result (λ at. at + sector_len self.now.tables.version < 2 ^ 46) }
         ensures known { OnOk result (sector < length self.now.tables.fat) }
         ensures past { IfErr result (λ e. IsInvalidData e × (length self.now.tables.fat ≤ sector)) }
     {
@@ -149,7 +149,7 @@ fn unknown(sector: u32, count: usize) -> Error
 }
 
 impl<'a, F: ReadMedium, A: Heap> AllocatedSector<'a, F, A> {
-    ghost use Rattle.cfb_alloc.specs.LentSector.{allocator_of, start_of, len_of, offset_of, position_of, room_of};
+    ghost use Rattle.cfb_alloc.specs.LentSector.{allocator_of, start_of, len_of, offset_of, place_of, room_of};
 
     /// How long it is, in bytes.
     pub fn len(&self) -> usize
@@ -182,7 +182,7 @@ impl<'a, F: ReadMedium, A: Heap> AllocatedSector<'a, F, A> {
         requires inside { start + len ≤ len_of self }
         ensures same_allocator { (allocator_of result).ghost_name ≡ (allocator_of self.entry).ghost_name }
         ensures allocator { (allocator_of result).now ≡ (allocator_of self.entry).now }
-        ensures there { (start_of result ≡ start_of self.entry + start) × (len_of result ≡ len) × (position_of result ≡ position_of self.entry) }
+        ensures there { (start_of result ≡ start_of self.entry + start) × (len_of result ≡ len) × (place_of result ≡ place_of self.entry) }
     {
         let AllocatedSector {
             allocator,
@@ -208,9 +208,9 @@ impl<'a, F: ReadMedium, A: Heap> AllocatedSector<'a, F, A> {
           bytes = (allocator_of self.new).now.file.bytes;
           failures = (allocator_of self.new).now.file.failures;
         } }
-        ensures count { IfOk result (λ n. n ≡ min (min (length into.old) (room_of self.old)) ((allocator_of self.old).now.file.len - position_of self.old)) }
+        ensures count { IfOk result (λ n. n ≡ min (min (length into.old) (room_of self.old)) ((allocator_of self.old).now.file.len - place_of self.old)) }
         ensures offset { MatchResult result (λ n. offset_of self.new ≡ offset_of self.old + n) (λ _. offset_of self.new ≡ offset_of self.old) }
-        ensures ok { IsTrue F.tells → IfOk result (λ n. take n into.new ≡ part (allocator_of self.old).now.file.bytes (position_of self.old) n) }
+        ensures ok { IsTrue F.tells → IfOk result (λ n. take n into.new ≡ part (allocator_of self.old).now.file.bytes (place_of self.old) n) }
         ensures rest { IfOk result (λ n. drop n into.new ≡ drop n into.old) }
         ensures err { IfErr result IsMediumError }
         ensures same { IsTrue F.tells → OnOk result ((allocator_of self.new).now ≡ (allocator_of self.old).now) }
@@ -227,7 +227,7 @@ impl<'a, F: ReadMedium, A: Heap> AllocatedSector<'a, F, A> {
 }
 
 impl<'a, F: Medium, A: Heap> AllocatedSector<'a, F, A> {
-    ghost use Rattle.cfb_alloc.specs.LentSector.{allocator_of, version_of, start_of, len_of, offset_of, position_of, room_of};
+    ghost use Rattle.cfb_alloc.specs.LentSector.{allocator_of, version_of, start_of, len_of, offset_of, place_of, room_of};
 
     /// Writes a beginning of `from` at its place, as far as the stretch has room, goes on behind it, and answers how many bytes it is.
     /// `Medium` where the medium fails: then no byte has changed but where that beginning was to go, and past the old end.
@@ -238,8 +238,8 @@ impl<'a, F: Medium, A: Heap> AllocatedSector<'a, F, A> {
         ensures count { IfOk result (λ n. n ≡ min (length from.now) (room_of self.old)) }
         ensures offset { MatchResult result (λ n. offset_of self.new ≡ offset_of self.old + n) (λ _. offset_of self.new ≡ offset_of self.old) }
         ensures ok { IsTrue F.tells → IfOk result (λ n. 0 < n → (allocator_of self.new).now.file ≡ record (allocator_of self.old).now.file {
-          bytes = written (allocator_of self.old).now.file.bytes (position_of self.old) (take n from.now);
-          len = max (allocator_of self.old).now.file.len (position_of self.old + n);
+          bytes = written (allocator_of self.old).now.file.bytes (place_of self.old) (take n from.now);
+          len = max (allocator_of self.old).now.file.len (place_of self.old + n);
           begun = true;
         }) }
         ensures none { min (length from.now) (room_of self.old) ≡ 0 → (result ≡ Ok 0) × ((allocator_of self.new).now ≡ (allocator_of self.old).now) }
@@ -250,14 +250,14 @@ impl<'a, F: Medium, A: Heap> AllocatedSector<'a, F, A> {
           begun = true;
         } }
         ensures len { MatchResult result
-            (λ n. 0 < n → (allocator_of self.new).now.file.len ≡ max (allocator_of self.old).now.file.len (position_of self.old + n))
+            (λ n. 0 < n → (allocator_of self.new).now.file.len ≡ max (allocator_of self.old).now.file.len (place_of self.old + n))
             (λ e. IsMediumError e × ((allocator_of self.new).now.file.len ≡ (allocator_of self.old).now.file.len)) }
         ensures holds { IsTrue F.tells → (validation : Validation) → HoldsTables validation (allocator_of self.old).now → (sector : ℕ)
             → LiesIn (version_of self.old) sector (start_of self.old) (len_of self.old) → IsNoTableSector (allocator_of self.old).now.tables sector
             → OnOk result (HoldsTables validation (allocator_of self.new).now) }
-        ensures others { IsTrue F.tells → ChangesOnly (position_of self.old) (min (length from.now) (room_of self.old))
+        ensures others { IsTrue F.tells → ChangesOnlyBytes (place_of self.old) (min (length from.now) (room_of self.old))
             (allocator_of self.old).now.file.bytes (allocator_of self.new).now.file.bytes }
-        ensures sectors { IsTrue F.tells → OtherSectorsStay (version_of self.old) (position_of self.old) (min (length from.now) (room_of self.old))
+        ensures sectors { IsTrue F.tells → OtherSectorsStay (version_of self.old) (place_of self.old) (min (length from.now) (room_of self.old))
             (allocator_of self.old).now.file.bytes (allocator_of self.new).now.file.bytes }
         ensures counts { IsTrue F.tells → CountsFailure F.write_faults result (allocator_of self.old).now.file.failures (allocator_of self.new).now.file.failures }
     {

@@ -2,10 +2,10 @@
 ghost use Rattle.std.specs.Prelude.{◌≡◌, ℕ, List, [], ◌∷◌, ◌++◌, ◌+◌, ◌*◌, ◌-◌, ◌<◌, ◌≤◌, length, take, drop, true, IsTrue, Contains, OnOk, IfErr, IfOk, nat_eq, nat_lt, slice_index, max, ◌^◌, if◌then◌else◌};
 ghost use Rattle.std.specs.List.{IsDistinct};
 ghost use Rattle.cfb_format.specs.declared.validate.Validation.{Validation};
-ghost use Rattle.cfb_format.specs.Bytes.{max_regular_sector, is_whole_sector, sector_start, sector_len as sector_len_of, words_per_sector as words_of};
-ghost use Rattle.cfb_format.specs.Medium.{ChangesOnly};
+ghost use Rattle.cfb_format.specs.Bytes.{max_regular_sector, is_whole_sector, sector_start, sector_len, words_per_sector};
+ghost use Rattle.cfb_format.specs.Medium.{ChangesOnlyBytes};
 ghost use Rattle.cfb_alloc.specs.Agreement.{word_home};
-ghost use Rattle.cfb_tables.specs.Changes.{Apart};
+ghost use Rattle.cfb_tables.specs.Changes.{AreDisjoint};
 ghost use Rattle.cfb_sectors.specs.Words.{Stays, with_word};
 ghost use Rattle.cfb_format.specs.Full.{rounded_up};
 ghost use Rattle.cfb_format.specs.Header.{header_difat_len};
@@ -21,7 +21,6 @@ use cfb_format::consts::{FREE_SECTOR, NUM_DIFAT_ENTRIES_IN_HEADER};
 use cfb_format::error::Error;
 use cfb_format::medium::Medium;
 use cfb_sectors::sector::{SectorInit, Sectors};
-use cfb_tables::lists::words_per_sector;
 use cfb_tables::tables::Tables;
 use std::alloc::Allocator;
 
@@ -86,12 +85,12 @@ fn write_word_in<F: Medium>(
     value: u32,
 ) -> Result<(), Error>
     requires place { place < length list.now }
-    requires index { index < words_of sectors.old.version }
+    requires index { index < words_per_sector sectors.old.version }
     requires below { (i : ℕ) → Contains list.now i → i < sectors.old.num_sectors }
     ensures kept { sectors.new ≡ record sectors.old { len = sectors.new.len; bytes = sectors.new.bytes; failures = sectors.new.failures; begun = true } }
     ensures ok { IsTrue F.tells → OnOk result (sectors.new.bytes ≡ with_word sectors.old.bytes (sector_start sectors.old.version (slice_index list.now place) + 4 * index) value) }
     ensures len { IsTrue F.tells → OnOk result (sectors.new.len ≡ max sectors.old.len (sector_start sectors.old.version (slice_index list.now place) + 4 * index + 4)) }
-    ensures only { IsTrue F.tells → ChangesOnly (sector_start sectors.old.version (slice_index list.now place) + 4 * index) 4 sectors.old.bytes sectors.new.bytes }
+    ensures only { IsTrue F.tells → ChangesOnlyBytes (sector_start sectors.old.version (slice_index list.now place) + 4 * index) 4 sectors.old.bytes sectors.new.bytes }
     ensures measured { IsTrue F.tells → IsMeasured sectors.old → OnOk result (IsMeasured sectors.new) }
     ensures changes { IsTrue F.tells → ChangesSectors list.now sectors.old.version sectors.old.bytes sectors.new.bytes }
     ensures err { IfErr result IsMediumError }
@@ -125,20 +124,20 @@ fn write_fat_word<F: Medium>(
     number: u32,
     value: u32,
 ) -> Result<(), Error>
-    requires there { number < length fat_sectors.now * words_of sectors.old.version }
+    requires there { number < length fat_sectors.now * words_per_sector sectors.old.version }
     requires below { (i : ℕ) → Contains fat_sectors.now i → i < sectors.old.num_sectors }
     ensures kept { sectors.new ≡ record sectors.old { len = sectors.new.len; bytes = sectors.new.bytes; failures = sectors.new.failures; begun = true } }
     ensures ok { IsTrue F.tells → OnOk result (sectors.new.bytes ≡ with_word sectors.old.bytes (word_home sectors.old.version fat_sectors.now number) value) }
     ensures len { IsTrue F.tells → OnOk result (sectors.new.len ≡ max sectors.old.len (word_home sectors.old.version fat_sectors.now number + 4)) }
-    ensures only { IsTrue F.tells → ChangesOnly (word_home sectors.old.version fat_sectors.now number) 4 sectors.old.bytes sectors.new.bytes }
+    ensures only { IsTrue F.tells → ChangesOnlyBytes (word_home sectors.old.version fat_sectors.now number) 4 sectors.old.bytes sectors.new.bytes }
     ensures changes { IsTrue F.tells → ChangesSectors fat_sectors.now sectors.old.version sectors.old.bytes sectors.new.bytes }
     ensures fits { value < 2 ^ 32 }
-    ensures header { sector_len_of sectors.old.version ≤ sectors.old.len }
+    ensures header { sector_len sectors.old.version ≤ sectors.old.len }
     ensures err { IfErr result IsMediumError }
     ensures counts { IsTrue F.tells → CountsFailure F.write_faults result sectors.old.failures sectors.new.failures }
 {
     let _count = sectors.num_sectors();
-    let words = words_per_sector(sectors.version());
+    let words = sectors.version().words_per_sector();
     let number = number as usize;
     write_word_in(sectors, fat_sectors, number / words, number % words, value)
 }
@@ -242,7 +241,7 @@ fn list_in_difat_sector<F: Medium>(
     ensures err { IfErr result IsMediumError }
     ensures counts { IsTrue F.tells → CountsFailure F.write_faults result sectors.old.failures sectors.new.failures }
 {
-    let entries = words_per_sector(sectors.version()) - 1;
+    let entries = sectors.version().words_per_sector() - 1;
     let place = index - NUM_DIFAT_ENTRIES_IN_HEADER;
     write_word_in(
         sectors,
@@ -292,7 +291,7 @@ fn name_difat_sector<F: Medium>(
     if before.is_empty() {
         return write_tables_word(sectors, HEADER_FIRST_DIFAT, number);
     }
-    let last_word = words_per_sector(sectors.version()) - 1;
+    let last_word = sectors.version().words_per_sector() - 1;
     write_word_in(sectors, before, before.len() - 1, last_word, number)
 }
 
@@ -373,7 +372,7 @@ fn grow_difat<F: Medium>(
     ensures err { IfErr result (λ e. IsMediumError e × (sectors.new.begun ≡ true)) }
     ensures counts { IsTrue F.tells → CountsFailure F.write_faults result sectors.old.failures sectors.new.failures }
 {
-    let entries = words_per_sector(sectors.version()) - 1;
+    let entries = sectors.version().words_per_sector() - 1;
     if index < NUM_DIFAT_ENTRIES_IN_HEADER + listed * entries {
         return Ok(listed);
     }
@@ -402,9 +401,9 @@ fn add_fat_sector<F: Medium>(
     ensures answer { IfOk result (λ n. n ≡ (if nat_lt index (difat_places sectors.old.version listed) then listed else listed + 1)) }
     ensures listed { IsTrue F.tells → (validation : Validation)
         → ListsTables validation sectors.old.version sectors.old.bytes (take index fat_sectors.now) (take listed difat_sectors.now)
-        → IsMeasured sectors.old → IsDistinct nat_eq difat_sectors.now → Apart fat_sectors.now difat_sectors.now
+        → IsMeasured sectors.old → IsDistinct nat_eq difat_sectors.now → AreDisjoint fat_sectors.now difat_sectors.now
         → IfOk result (λ n. ListsTables validation sectors.old.version sectors.new.bytes (take (index + 1) fat_sectors.now) (take n difat_sectors.now)) }
-    ensures filled { IsTrue F.tells → Apart fat_sectors.now difat_sectors.now
+    ensures filled { IsTrue F.tells → AreDisjoint fat_sectors.now difat_sectors.now
         → OnOk result (IsFilled sectors.old.version Fat sectors.new.bytes (slice_index fat_sectors.now index)) }
     ensures measured { IsTrue F.tells → IsMeasured sectors.old → OnOk result (IsMeasured sectors.new) }
     ensures changes { IsTrue F.tells
@@ -433,15 +432,15 @@ fn write_table_sectors<F: Medium>(
     requires short { length difat_sectors.now ≤ max_regular_sector }
     requires from { fats ≤ length fat_sectors.now }
     requires places { fats ≤ difat_places sectors.old.version difats }
-    requires counted { length difat_sectors.now ≡ max difats (rounded_up (length fat_sectors.now - header_difat_len) (words_of sectors.old.version - 1)) }
+    requires counted { length difat_sectors.now ≡ max difats (rounded_up (length fat_sectors.now - header_difat_len) (words_per_sector sectors.old.version - 1)) }
     requires below { (i : ℕ) → Contains difat_sectors.now i → i < sectors.old.num_sectors }
     requires there { (i : ℕ) → Contains fat_sectors.now i → i < sectors.old.num_sectors }
     ensures kept { sectors.new ≡ record sectors.old { len = sectors.new.len; bytes = sectors.new.bytes; failures = sectors.new.failures; begun = sectors.new.begun } }
     ensures listed { IsTrue F.tells → (validation : Validation)
         → ListsTables validation sectors.old.version sectors.old.bytes (take fats fat_sectors.now) (take difats difat_sectors.now)
-        → IsMeasured sectors.old → IsDistinct nat_eq difat_sectors.now → Apart fat_sectors.now difat_sectors.now
+        → IsMeasured sectors.old → IsDistinct nat_eq difat_sectors.now → AreDisjoint fat_sectors.now difat_sectors.now
         → OnOk result (ListsTables validation sectors.old.version sectors.new.bytes fat_sectors.now difat_sectors.now) }
-    ensures filled { IsTrue F.tells → IsDistinct nat_eq fat_sectors.now → Apart fat_sectors.now difat_sectors.now
+    ensures filled { IsTrue F.tells → IsDistinct nat_eq fat_sectors.now → AreDisjoint fat_sectors.now difat_sectors.now
         → OnOk result ((k : ℕ) → fats ≤ k → k < length fat_sectors.now → IsFilled sectors.old.version Fat sectors.new.bytes (slice_index fat_sectors.now k)) }
     ensures measured { IsTrue F.tells → IsMeasured sectors.old → OnOk result (IsMeasured sectors.new) }
     ensures changes { IsTrue F.tells
@@ -470,23 +469,23 @@ fn add_sectors<F: Medium>(
     requires short { length difat_sectors.now ≤ max_regular_sector }
     requires from { before.fats ≤ length fat_sectors.now }
     requires places { before.fats ≤ difat_places sectors.old.version before.difats }
-    requires counted { length difat_sectors.now ≡ max before.difats (rounded_up (length fat_sectors.now - header_difat_len) (words_of sectors.old.version - 1)) }
+    requires counted { length difat_sectors.now ≡ max before.difats (rounded_up (length fat_sectors.now - header_difat_len) (words_per_sector sectors.old.version - 1)) }
     requires below { (i : ℕ) → Contains difat_sectors.now i → i < sectors.old.num_sectors }
     requires there { (i : ℕ) → Contains fat_sectors.now i → i < sectors.old.num_sectors }
     requires more { (i : ℕ) → Contains more.now i → i < sectors.old.num_sectors }
     ensures kept { sectors.new ≡ record sectors.old { len = sectors.new.len; bytes = sectors.new.bytes; failures = sectors.new.failures; begun = sectors.new.begun } }
     ensures listed { IsTrue F.tells → (validation : Validation)
         → ListsTables validation sectors.old.version sectors.old.bytes (take before.fats fat_sectors.now) (take before.difats difat_sectors.now)
-        → IsMeasured sectors.old → IsDistinct nat_eq difat_sectors.now → Apart fat_sectors.now difat_sectors.now → Apart difat_sectors.now more.now
+        → IsMeasured sectors.old → IsDistinct nat_eq difat_sectors.now → AreDisjoint fat_sectors.now difat_sectors.now → AreDisjoint difat_sectors.now more.now
         → OnOk result (ListsTables validation sectors.old.version sectors.new.bytes fat_sectors.now difat_sectors.now) }
-    ensures fats { IsTrue F.tells → IsDistinct nat_eq fat_sectors.now → Apart fat_sectors.now difat_sectors.now → Apart fat_sectors.now more.now
+    ensures fats { IsTrue F.tells → IsDistinct nat_eq fat_sectors.now → AreDisjoint fat_sectors.now difat_sectors.now → AreDisjoint fat_sectors.now more.now
         → OnOk result ((k : ℕ) → before.fats ≤ k → k < length fat_sectors.now → IsFilled sectors.old.version Fat sectors.new.bytes (slice_index fat_sectors.now k)) }
     ensures filled { IsTrue F.tells → OnOk result ((i : ℕ) → Contains more.now i → IsFilled sectors.old.version init sectors.new.bytes i) }
     ensures measured { IsTrue F.tells → IsMeasured sectors.old → OnOk result (IsMeasured sectors.new) }
     ensures changes { IsTrue F.tells
         → ChangesSectors (drop before.fats fat_sectors.now ++ difat_sectors.now ++ more.now) sectors.old.version sectors.old.bytes sectors.new.bytes }
     ensures end { OnOk result (sectors.new.len ≤ sectors_end sectors.new) }
-    ensures long { sector_len_of sectors.old.version ≤ sectors.old.len }
+    ensures long { sector_len sectors.old.version ≤ sectors.old.len }
     ensures raised { OnOk result (IsRaised (0 < length more.now) sectors.old sectors.new) }
     ensures err { IfErr result (λ e. IsMediumError e × (sectors.new.begun ≡ true)) }
     ensures counts { IsTrue F.tells → CountsFailure F.write_faults result sectors.old.failures sectors.new.failures }
@@ -556,14 +555,14 @@ pub fn write_taken<F: Medium, A: Allocator>(
     requires few { length tables.now.fat_sectors ≤ length tables.now.fat }
     requires from { before.fats ≤ length tables.now.fat_sectors }
     requires places { before.fats ≤ difat_places tables.now.version before.difats }
-    requires counted { length tables.now.difat_sectors ≡ max before.difats (rounded_up (length tables.now.fat_sectors - header_difat_len) (words_of tables.now.version - 1)) }
+    requires counted { length tables.now.difat_sectors ≡ max before.difats (rounded_up (length tables.now.fat_sectors - header_difat_len) (words_per_sector tables.now.version - 1)) }
     requires touched { (i : ℕ) → Contains touched.now i → i < length tables.now.fat }
     requires more { (i : ℕ) → Contains more.now i → i < length tables.now.fat }
     ensures kept { sectors.new ≡ record sectors.old { len = sectors.new.len; bytes = sectors.new.bytes; failures = sectors.new.failures; begun = sectors.new.begun } }
     ensures holds { IsTrue F.tells → (validation : Validation) (old : TableState) → HasTaken old tables.now touched.now more.now → IsClean tables.now.fat
         → before.fats ≡ length old.fat_sectors → before.difats ≡ length old.difat_sectors → HoldsBut validation [] sectors.old old
         → OnOk result (HoldsBut validation [] sectors.new tables.now) }
-    ensures filled { IsTrue F.tells → Apart tables.now.fat_sectors more.now
+    ensures filled { IsTrue F.tells → AreDisjoint tables.now.fat_sectors more.now
         → OnOk result ((i : ℕ) → Contains more.now i → IsFilled tables.now.version init sectors.new.bytes i) }
     ensures changes { IsTrue F.tells
         → ChangesSectors (tables.now.fat_sectors ++ tables.now.difat_sectors ++ more.now) tables.now.version sectors.old.bytes sectors.new.bytes }

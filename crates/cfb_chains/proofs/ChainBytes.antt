@@ -9,7 +9,7 @@ use Rattle.cfb_format.specs.declared.version.Version.TheVariants.{V3, V4}
 use Rattle.cfb_format.specs.Bytes.{byte_at, sector_len, sector_start}
 use Rattle.cfb_format.specs.Content.{in_file, place_in_chain, placed_from}
 use Rattle.cfb_format.specs.Medium.{part}
-use Rattle.cfb_sectors.specs.Sectors.{SectorFile, place, sectors_end}
+use Rattle.cfb_sectors.specs.Sectors.{SectorFile, place_in_sector, sectors_end}
 
 -- ---- places within a sector
 
@@ -102,7 +102,7 @@ start_past : (v : Version) (m sector offset n : ℕ) → 0 < n → m ≤ sector 
 start_past V3 m sector offset n some past = omega arith
 start_past V4 m sector offset n some past = omega arith
 
-pub past_place : (f : SectorFile) (m sector offset n : ℕ) → f.num_sectors ≡ m → 0 < n → m ≤ sector → sectors_end f < place f sector offset + n
+pub past_place : (f : SectorFile) (m sector offset n : ℕ) → f.num_sectors ≡ m → 0 < n → m ≤ sector → sectors_end f < place_in_sector f sector offset + n
 past_place f m sector offset n count some past = start_past f.version f.num_sectors sector offset n some (omega (arith, count))
 
 start_inside : (v : Version) (m sector offset n : ℕ) → offset + n ≤ sector_len v → sector < m → sector_start v sector + offset + n ≤ sector_start v m
@@ -110,6 +110,6 @@ start_inside V3 m sector offset n short below = omega arith
 start_inside V4 m sector offset n short below = omega arith
 
 pub inside_place : (f : SectorFile) (v : Version) (m sector offset n : ℕ) → f.version ≡ v → f.num_sectors ≡ m → offset + n ≤ sector_len v → sector < m
-    → place f sector offset + n ≤ sectors_end f
+    → place_in_sector f sector offset + n ≤ sectors_end f
 inside_place f v m sector offset n same count short below =
     start_inside f.version f.num_sectors sector offset n (subst (λ w. offset + n ≤ sector_len w) (sym same) short) (omega (arith, count))

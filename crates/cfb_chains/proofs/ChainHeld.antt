@@ -7,7 +7,7 @@ use Rattle.cfb_format.specs.declared.version.Version.{Version}
 use Rattle.cfb_format.specs.declared.version.Version.TheVariants.{V3, V4}
 use Rattle.cfb_format.specs.Bytes.{sector_len, sector_start, sector_count, fat_sector, difat_sector, max_regular_sector, end_of_chain}
 use Rattle.cfb_format.specs.Chain.{value, chain_from}
-use Rattle.cfb_format.specs.Medium.{ChangesOnly, written}
+use Rattle.cfb_format.specs.Medium.{ChangesOnlyBytes, written}
 use Rattle.cfb_format.proofs.ByteLemmas.{length-written, written_below, written_above}
 use Rattle.cfb_alloc.specs.Agreement.{IsStrictBut}
 use Rattle.cfb_alloc.specs.Alloc.{AllocatorState, HoldsTables, ChangesSectors}
@@ -59,7 +59,7 @@ module _ (validation : Validation) (a : AllocatorState) (s i o : ℕ) (ids from 
   header : sector_len v ≤ length bytes
   header = let lt = below in let is = counted in header_there v bytes i (omega (arith, lt, is))
 
-  change : ChangesOnly at (length from) bytes after
+  change : ChangesOnlyBytes at (length from) bytes after
   change = record {
     no_shorter = let l = length-written bytes at from in omega (arith, l);
     below = λ j within low. written_below bytes at from j low;

@@ -10,10 +10,10 @@ use Rattle.cfb_format.specs.Bytes.{end_of_chain, max_regular_sector}
 use Rattle.cfb_format.specs.Chain.{value, IsChain, chain_from}
 use Rattle.cfb_format.proofs.Unique.{IsChain-unique}
 use Rattle.cfb_alloc.specs.Alloc.{AllocatorState}
-use Rattle.cfb_chains.specs.ChainLists.{Leaves, Shortens, gained, last_of}
+use Rattle.cfb_chains.specs.ChainLists.{StaysOrBecomes, Shortens, gained, last_or_end}
 use Rattle.cfb_tables.specs.Changes.{NoChain, IsFreed}
 use Rattle.cfb_alloc.specs.Broken.{BreaksOff}
-use Rattle.cfb_tables.specs.Tables.{TableState, HasTaken, FreesChain, CutsChain, ending, start_of as first_of}
+use Rattle.cfb_tables.specs.Tables.{TableState, HasTaken, FreesChain, CutsChain, ending, first_or_end}
 use Rattle.cfb_alloc.proofs.AllocLemmas.{ending_other}
 use Rattle.cfb_alloc.proofs.Answering.{on_ok, all_ok}
 use Rattle.cfb_tables.proofs.AttachLemmas.{extended, last-known}
@@ -41,12 +41,12 @@ breaks_map made made' old new f Unsupported b = b
 
 -- ---- where a list ends
 
-last_split : (xs : List ℕ) → 0 < length xs → xs ≡ take (length xs - 1) xs ++ last_of xs ∷ []
+last_split : (xs : List ℕ) → 0 < length xs → xs ≡ take (length xs - 1) xs ++ last_or_end xs ∷ []
 last_split xs some =
     let n : length xs ≡ length xs - 1 + 1 = omega arith in
     sym (take_all (length xs) xs (omega arith)) ∙ ap (λ (k : ℕ). take k xs) n ∙ take_more xs (length xs - 1) end_of_chain (omega arith)
 
-last_pushed : (front : List ℕ) (y : ℕ) → last_of (front ++ y ∷ []) ≡ y
+last_pushed : (front : List ℕ) (y : ℕ) → last_or_end (front ++ y ∷ []) ≡ y
 last_pushed front y =
     let len : length (front ++ y ∷ []) ≡ length front + 1 = length-append front (y ∷ []) in
     get_or_push front y end_of_chain (length (front ++ y ∷ []) - 1) (omega (arith, len))
@@ -59,46 +59,46 @@ module _ (table : List ℕ) (s x : ℕ) (list : List ℕ) (c : IsChain table s (
   abbrev front : List ℕ
   front = take (length (x ∷ list) - 1) (x ∷ list)
 
-  last_there : x ∷ list ≡ front ++ last_of (x ∷ list) ∷ []
+  last_there : x ∷ list ≡ front ++ last_or_end (x ∷ list) ∷ []
   last_there = last_split (x ∷ list) (omega arith)
 
-  last_is : (value table (last_of (x ∷ list)) ≡ end_of_chain) × (last_of (x ∷ list) ≤ max_regular_sector)
-  last_is = last-known table s front (last_of (x ∷ list)) (subst (IsChain table s) last_there c)
+  last_is : (value table (last_or_end (x ∷ list)) ≡ end_of_chain) × (last_or_end (x ∷ list) ≤ max_regular_sector)
+  last_is = last-known table s front (last_or_end (x ∷ list)) (subst (IsChain table s) last_there c)
 
-  last_alone : ending (last_of (x ∷ list)) ≡ last_of (x ∷ list) ∷ []
-  last_alone = ending_other (last_of (x ∷ list)) (λ e. let le = last_is.1 in omega (arith, le, e))
+  last_alone : ending (last_or_end (x ∷ list)) ≡ last_or_end (x ∷ list) ∷ []
+  last_alone = ending_other (last_or_end (x ∷ list)) (λ e. let le = last_is.1 in omega (arith, le, e))
 
-ends : (table : List ℕ) (s : ℕ) (ids : List ℕ) → IsChain table s ids → (last_of ids ≢ end_of_chain) → value table (last_of ids) ≡ end_of_chain
+ends : (table : List ℕ) (s : ℕ) (ids : List ℕ) → IsChain table s ids → (last_or_end ids ≢ end_of_chain) → value table (last_or_end ids) ≡ end_of_chain
 ends table s [] c other = absurd (other refl)
 ends table s (x ∷ list) c other = (last_is table s x list c).0
 
-pub last_ends : (table : List ℕ) (s last : ℕ) (ids : List ℕ) → chain_from table s ≡ Some ids → last ≡ last_of ids
+pub last_ends : (table : List ℕ) (s last : ℕ) (ids : List ℕ) → chain_from table s ≡ Some ids → last ≡ last_or_end ids
     → (last ≢ end_of_chain) × (value table last ≢ end_of_chain) → ⊥
 last_ends table s last ids e is (other, goes) =
     goes (ap (value table) is ∙ ends table s ids (found_chain table s ids e) (λ same. other (is ∙ same)))
 
 -- ---- growth
 
-grown_chain : (t t' : TableState) (s : ℕ) (ids more : List ℕ) → IsChain t.fat s ids → HasTaken t t' (ending (last_of ids)) more
-    → IsChain t'.fat (first_of (ending (last_of ids) ++ more)) (ending (last_of ids) ++ more) → IsChain t'.fat (first_of (ids ++ more)) (ids ++ more)
+grown_chain : (t t' : TableState) (s : ℕ) (ids more : List ℕ) → IsChain t.fat s ids → HasTaken t t' (ending (last_or_end ids)) more
+    → IsChain t'.fat (first_or_end (ending (last_or_end ids) ++ more)) (ending (last_or_end ids) ++ more) → IsChain t'.fat (first_or_end (ids ++ more)) (ids ++ more)
 grown_chain t t' s [] more c taken chain = chain
 grown_chain t t' s (x ∷ list) more c taken chain =
-    let last = last_of (x ∷ list) in
+    let last = last_or_end (x ∷ list) in
     let one = last_alone t.fat s x list c in
-    let goes : IsChain t'.fat last (last ∷ more) = subst (λ (e : List ℕ). IsChain t'.fat (first_of (e ++ more)) (e ++ more)) one chain in
+    let goes : IsChain t'.fat last (last ∷ more) = subst (λ (e : List ℕ). IsChain t'.fat (first_or_end (e ++ more)) (e ++ more)) one chain in
     let took : HasTaken t t' (last ∷ []) more = subst (λ (e : List ℕ). HasTaken t t' e more) one taken in
     let ext = extended t t' s (front t.fat s x list c) last more (subst (IsChain t.fat s) (last_there t.fat s x list c) c) took goes in
     let was : x ∷ list ≡ ext.front ++ ext.last ∷ [] = IsChain-unique t.fat s (x ∷ list) (ext.front ++ ext.last ∷ []) c ext.was in
     let whole : ext.front ++ ext.last ∷ more ≡ x ∷ (list ++ more) = sym (append_assoc ext.front (ext.last ∷ []) more) ∙ ap (λ (z : List ℕ). z ++ more) (sym was) in
     subst (λ k. IsChain t'.fat k (x ∷ (list ++ more))) c.follows.0 (subst (IsChain t'.fat s) whole ext.chain)
 
-pub grown_found : (t t' : TableState) (s s' last : ℕ) (ids ids' more : List ℕ) → chain_from t.fat s ≡ Some ids → last ≡ last_of ids
-    → HasTaken t t' (ending last) more → IsChain t'.fat (first_of (ending last ++ more)) (ending last ++ more)
-    → ids' ≡ ids ++ more → s' ≡ first_of ids' → chain_from t'.fat s' ≡ Some ids'
+pub grown_found : (t t' : TableState) (s s' last : ℕ) (ids ids' more : List ℕ) → chain_from t.fat s ≡ Some ids → last ≡ last_or_end ids
+    → HasTaken t t' (ending last) more → IsChain t'.fat (first_or_end (ending last ++ more)) (ending last ++ more)
+    → ids' ≡ ids ++ more → s' ≡ first_or_end ids' → chain_from t'.fat s' ≡ Some ids'
 grown_found t t' s s' last ids ids' more e is taken chain listed first =
     let c = grown_chain t t' s ids more (found_chain t.fat s ids e) (subst (λ k. HasTaken t t' (ending k) more) is taken)
-    (subst (λ k. IsChain t'.fat (first_of (ending k ++ more)) (ending k ++ more)) is chain) in
-    chain_found t'.fat s' ids' (subst (λ k. IsChain t'.fat k ids') (sym first) (subst (λ (z : List ℕ). IsChain t'.fat (first_of z) z) (sym listed) c))
+    (subst (λ k. IsChain t'.fat (first_or_end (ending k ++ more)) (ending k ++ more)) is chain) in
+    chain_found t'.fat s' ids' (subst (λ k. IsChain t'.fat k ids') (sym first) (subst (λ (z : List ℕ). IsChain t'.fat (first_or_end z) z) (sym listed) c))
 
 pub gained_is : (ids ids' more : List ℕ) → ids' ≡ ids ++ more → gained ids ids' ≡ more
 gained_is ids ids' more e = drop-appended ids ids' more e
@@ -106,7 +106,7 @@ gained_is ids ids' more e = drop-appended ids ids' more e
 -- ---- a change that broke off
 
 pub left_found : (made : TableState → TableState → Type 0) (old new : AllocatorState) (s s' : ℕ) (ids ids' : List ℕ) (e : Error) → chain_from old.tables.fat s ≡ Some ids
-    → BreaksOff made old new e → Leaves [] ids ids' e → Leaves end_of_chain s s' e → chain_from new.tables.fat s' ≡ Some ids'
+    → BreaksOff made old new e → StaysOrBecomes [] ids ids' e → StaysOrBecomes end_of_chain s s' e → chain_from new.tables.fat s' ≡ Some ids'
 left_found made old new s s' ids ids' (Medium f) was b list start =
     ap (chain_from new.tables.fat) start ∙ chain_found new.tables.fat end_of_chain [] (end_chain new.tables.fat) ∙ ap (λ (z : List ℕ). Some z) (sym list)
 left_found made old new s s' ids ids' (InvalidData d) was b list start = (λ j. chain_from (b j).tables.fat (start j)) ∙ was ∙ ap (λ (z : List ℕ). Some z) (sym list)
@@ -121,11 +121,11 @@ left_found made old new s s' ids ids' Unsupported was b list start = (λ j. chai
 
 -- ---- cuts
 
-cut_chain : (old new : TableState) (s : ℕ) (left gone : List ℕ) → IsChain old.fat s (left ++ gone) → Shortens left gone old new → IsChain new.fat (first_of left) left
+cut_chain : (old new : TableState) (s : ℕ) (left gone : List ℕ) → IsChain old.fat s (left ++ gone) → Shortens left gone old new → IsChain new.fat (first_or_end left) left
 cut_chain old new s [] gone c cut = end_chain new.fat
 cut_chain old new s (x ∷ list) gone c cut =
     let xs = x ∷ list in
-    let last = last_of xs in
+    let last = last_or_end xs in
     let head = take (length xs - 1) xs in
     let is : xs ≡ head ++ last ∷ [] = last_split xs (omega arith) in
     let c' : IsChain old.fat s (head ++ last ∷ gone) = subst (IsChain old.fat s) (ap (λ (z : List ℕ). z ++ gone) is ∙ append_assoc head (last ∷ []) gone) c in
@@ -140,11 +140,11 @@ cut_chain old new s (x ∷ list) gone c cut =
     subst (λ k. IsChain new.fat k xs) c.follows.0 (subst (IsChain new.fat s) (sym is) turned)
 
 pub cut_found : (old new : TableState) (s s' count : ℕ) (ids ids' : List ℕ) → chain_from old.fat s ≡ Some ids → Shortens (take count ids) (drop count ids) old new
-    → ids' ≡ take count ids → s' ≡ first_of ids' → chain_from new.fat s' ≡ Some ids'
+    → ids' ≡ take count ids → s' ≡ first_or_end ids' → chain_from new.fat s' ≡ Some ids'
 cut_found old new s s' count ids ids' e cut listed first =
     let whole : IsChain old.fat s (take count ids ++ drop count ids) = subst (IsChain old.fat s) (sym (take-append-drop count ids)) (found_chain old.fat s ids e) in
     let c = cut_chain old new s (take count ids) (drop count ids) whole cut in
-    chain_found new.fat s' ids' (subst (λ k. IsChain new.fat k ids') (sym first) (subst (λ (z : List ℕ). IsChain new.fat (first_of z) z) (sym listed) c))
+    chain_found new.fat s' ids' (subst (λ k. IsChain new.fat k ids') (sym first) (subst (λ (z : List ℕ). IsChain new.fat (first_or_end z) z) (sym listed) c))
 
 freed_all : (old new : TableState) (s : ℕ) (ids : List ℕ) → chain_from old.fat s ≡ Some ids → FreesChain s old new → Shortens [] ids old new
 freed_all old new s ids e f =
@@ -190,11 +190,11 @@ module _ (ids : List ℕ) (count sector : ℕ) (some : count ≡ 0 → ⊥) (few
     pub behind_is : IsChain table (value table sector) (drop count ids)
     behind_is = chain-rest table s (take (count - 1) ids) sector (drop count ids) goes_on
 
-    ending_is : ending (last_of (take count ids)) ≡ sector ∷ []
+    ending_is : ending (last_or_end (take count ids)) ≡ sector ∷ []
     ending_is =
         let low = regular-le sector (members-busy table s (take (count - 1) ids ++ sector ∷ drop count ids) goes_on sector
         (Contains-append_right (take (count - 1) ids) (sector ∷ drop count ids) sector (Contains-here sector (drop count ids)))).2 in
-        ap ending (ap last_of left_is ∙ last_pushed (take (count - 1) ids) sector) ∙ ending_other sector (λ is. omega (arith, low, is))
+        ap ending (ap last_or_end left_is ∙ last_pushed (take (count - 1) ids) sector) ∙ ending_other sector (λ is. omega (arith, low, is))
 
 pub cut_shortens : (old new : TableState) (s count sector : ℕ) (ids : List ℕ) → (count ≡ 0 → ⊥) → count < length ids → sector ≡ slice_index ids (count - 1)
     → chain_from old.fat s ≡ Some ids → CutsChain sector old new → Shortens (take count ids) (drop count ids) old new

@@ -9,7 +9,7 @@ use Rattle.cfb_format.specs.declared.version.Version.TheVariants.{V3, V4}
 use Rattle.cfb_format.specs.Bytes.{sector_len, sector_start, free_sector}
 use Rattle.cfb_format.specs.Chain.{value}
 use Rattle.cfb_format.specs.Full.{rounded_up}
-use Rattle.cfb_format.specs.Medium.{ChangesOnly}
+use Rattle.cfb_format.specs.Medium.{ChangesOnlyBytes}
 use Rattle.cfb_alloc.specs.Alloc.{AllocatorState, ChangesSectors, OthersStay, OthersStayBut}
 use Rattle.cfb_tables.specs.Tables.{HasTaken}
 use Rattle.cfb_alloc.proofs.ChainView.{sector_member}
@@ -65,7 +65,7 @@ module _ (own : List ℕ) (old mid new : AllocatorState) (first : OthersStayBut 
   -- a write at a place of the chain, as far as its sector goes
   pub own_written : (ids : List ℕ) (p count : ℕ) → ((i : ℕ) → Contains ids i → IsOwn own old i)
       → (min count (if nat_lt p (length ids * sector_len mid.tables.version) then sector_len mid.tables.version - p % sector_len mid.tables.version else 0) ≡ 0 → new ≡ mid)
-      → ChangesOnly (sector_start mid.tables.version (slice_index ids (p / sector_len mid.tables.version)) + p % sector_len mid.tables.version)
+      → ChangesOnlyBytes (sector_start mid.tables.version (slice_index ids (p / sector_len mid.tables.version)) + p % sector_len mid.tables.version)
       (min count (if nat_lt p (length ids * sector_len mid.tables.version) then sector_len mid.tables.version - p % sector_len mid.tables.version else 0))
       mid.file.bytes new.file.bytes
       → OthersStayBut own old new
@@ -87,8 +87,8 @@ module _ (own : List ℕ) (old mid new : AllocatorState) (first : OthersStayBut 
       inside lt =
           let s = slice_index ids (p / l) in
           let short = rest_short mid.tables.version p in
-          let there : ChangesOnly (sector_start mid.tables.version s + p % l) (min count (l - p % l)) mid.file.bytes new.file.bytes
-          = subst (λ (b : Bool). ChangesOnly (sector_start mid.tables.version s + p % l) (room b) mid.file.bytes new.file.bytes) (lt-ltb p (length ids * l) lt) change in
+          let there : ChangesOnlyBytes (sector_start mid.tables.version s + p % l) (min count (l - p % l)) mid.file.bytes new.file.bytes
+          = subst (λ (b : Bool). ChangesOnlyBytes (sector_start mid.tables.version s + p % l) (room b) mid.file.bytes new.file.bytes) (lt-ltb p (length ids * l) lt) change in
           own_next s (owns s (sector_member mid.tables.version ids p lt))
           (changes_in_sector mid.tables.version s (p % l) (min count (l - p % l)) (sector_start mid.tables.version s + p % l) mid.file.bytes new.file.bytes refl
           (fits count (p % l) l short) there)
@@ -99,7 +99,7 @@ module _ (own : List ℕ) (old mid new : AllocatorState) (first : OthersStayBut 
   -- zeros behind a place of the chain, as far as its sector goes
   pub own_zeroed : (ids : List ℕ) (len : ℕ) → ((i : ℕ) → Contains ids i → IsOwn own old i) → len ≤ length ids * sector_len mid.tables.version
       → (len % sector_len mid.tables.version ≡ 0 → new ≡ mid)
-      → ChangesOnly (sector_start mid.tables.version (slice_index ids (len / sector_len mid.tables.version)) + len % sector_len mid.tables.version)
+      → ChangesOnlyBytes (sector_start mid.tables.version (slice_index ids (len / sector_len mid.tables.version)) + len % sector_len mid.tables.version)
       (sector_len mid.tables.version - len % sector_len mid.tables.version) mid.file.bytes new.file.bytes
       → OthersStayBut own old new
   own_zeroed ids len owns within none change = elim (zero_or_more (len % l)) [ inl is ↦ own_same (none is) | inr some ↦ inside (not_end mid.tables.version len (length ids) within some) ]

@@ -22,8 +22,8 @@ module _ {F A : Type 0} {g : medium.Ghosts F} {n : numbers.Ghosts (Vec ℕ A)} w
   allocator_of c = c.allocator
 
   -- the number that it starts with, its sectors in order, and what a sector that it gains holds
-  abbrev pub start_of : Chain F A (Vec ℕ A) g n → ℕ
-  start_of c = c.start
+  abbrev pub start_sector_of : Chain F A (Vec ℕ A) g n → ℕ
+  start_sector_of c = c.start
 
   abbrev pub ids_of : Chain F A (Vec ℕ A) g n → List ℕ
   ids_of c = c.ids.items

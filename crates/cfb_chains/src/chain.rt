@@ -1,18 +1,18 @@
 //! A chain of sectors as one list of bytes with a position (MS-CFB 2.3).
 ghost use Rattle.std.specs.Prelude.{◌≡◌, ◌≢◌, ℕ, List, [], ◌++◌, ◌+◌, ◌-◌, ◌*◌, ◌/◌, ◌%◌, ◌<◌, ◌≤◌, max, min, length, replicate, true, take, drop, slice_index, ◌⊎◌, Contains, Some, IsTrue, IfOk, IfErr, IsErrAnd, OnOk, OnErr, MatchResult, vec_len, vec_capacity};
 ghost use Rattle.cfb_format.specs.declared.validate.Validation.{Validation};
-ghost use Rattle.cfb_format.specs.Bytes.{sector_len as sector_len_of, sector_start, max_regular_sector, end_of_chain, free_sector};
+ghost use Rattle.cfb_format.specs.Bytes.{sector_len, sector_start, max_regular_sector, end_of_chain, free_sector};
 ghost use Rattle.cfb_format.specs.Chain.{IsChain, chain_from, value};
 ghost use Rattle.cfb_format.specs.Content.{place_in_chain, placed_from};
-ghost use Rattle.cfb_format.specs.Medium.{ChangesOnly, part, written};
-ghost use Rattle.cfb_format.specs.Refused.{AfterMedium, CountsFailure, IsInvalidData};
+ghost use Rattle.cfb_format.specs.Medium.{ChangesOnlyBytes, part, written};
+ghost use Rattle.cfb_format.specs.Refused.{AfterMedium, CountsFailure, IsInvalidData, IsInvalidInput};
 ghost use Rattle.cfb_alloc.specs.Alloc.{ChangesSectors, HoldsTables, IsFilled, IsUsable, OthersStay, OthersStayBut};
 ghost use Rattle.cfb_tables.specs.Clean.{IsUnnamed};
 ghost use Rattle.cfb_sectors.specs.Sectors.{copies, init_bytes, IsMediumError, IsRaised, SectorStays};
-ghost use Rattle.cfb_tables.specs.Refused.{WalkRefused, ChangeRefused, IsInvalidInput};
+ghost use Rattle.cfb_tables.specs.Refused.{WalkRefused, ChangeRefused};
 ghost use Rattle.cfb_alloc.specs.Broken.{BreaksOff};
-ghost use Rattle.cfb_tables.specs.Tables.{FreesChain, HasTaken, TakesFor, IsTooFew, ending, start_of as first_of};
-ghost use Rattle.cfb_chains.specs.ChainLists.{Leaves, Shortens, gained, last_of};
+ghost use Rattle.cfb_tables.specs.Tables.{FreesChain, HasTaken, TakesFor, IsTooFew, ending, first_or_end};
+ghost use Rattle.cfb_chains.specs.ChainLists.{StaysOrBecomes, Shortens, gained, last_or_end};
 
 use cfb_alloc::alloc::Allocator;
 use cfb_format::consts::END_OF_CHAIN;
@@ -50,13 +50,13 @@ pub struct Chain<'a, F: ReadMedium, A: Heap = Global, L: Numbers = Vec<u32, A>> 
     init: SectorInit,
     position: u64,
     ghost few: { length (L.list ids) ≤ max_regular_sector + 1 },
-    ghost within: { position ≤ length (L.list ids) * sector_len_of allocator.now.tables.version },
+    ghost within: { position ≤ length (L.list ids) * sector_len allocator.now.tables.version },
     ghost chained: { chain_from allocator.now.tables.fat start ≡ Some (L.list ids) },
 }
 
 impl<'a, F: ReadMedium, A: Heap + Clone> Chain<'a, F, A> {
     ghost use Rattle.std.specs.Borrow.{sem};
-    ghost use Rattle.cfb_chains.specs.LentChain.{allocator_of, start_of, ids_of, init_of, position_of, allocator_rests};
+    ghost use Rattle.cfb_chains.specs.LentChain.{allocator_of, start_sector_of, ids_of, init_of, position_of, allocator_rests};
 
     /// Lends the chain from `start`, at its first byte. A sector that it gains holds what `init` says. `InvalidData` where there is no
     /// such chain, and `Memory`.
@@ -69,7 +69,7 @@ impl<'a, F: ReadMedium, A: Heap + Clone> Chain<'a, F, A> {
         ensures same_allocator { IfOk result (λ c. (allocator_of c).ghost_name ≡ allocator.entry.ghost_name) }
         ensures allocator { IfOk result (λ c. (allocator_of c).now ≡ allocator.old) }
         ensures chain { IfOk result (λ c. IsChain allocator.old.tables.fat start (ids_of c)) }
-        ensures there { IfOk result (λ c. (start_of c ≡ start) × (init_of c ≡ init) × (position_of c ≡ 0)) }
+        ensures there { IfOk result (λ c. (start_sector_of c ≡ start) × (init_of c ≡ init) × (position_of c ≡ 0)) }
         ensures err { IfErr result (WalkRefused allocator.old.tables.fat start) }
     {
         let ids = allocator.chain(start)?;
@@ -84,11 +84,11 @@ impl<'a, F: ReadMedium, A: Heap + Clone> Chain<'a, F, A> {
 }
 
 impl<'a, F: ReadMedium, A: Heap> Chain<'a, F, A> {
-    ghost use Rattle.cfb_chains.specs.LentChain.{allocator_of, start_of, ids_of, init_of, version_of, len_of, position_of, room_of, place_of, IsWholeChain, content_of};
+    ghost use Rattle.cfb_chains.specs.LentChain.{allocator_of, start_sector_of, ids_of, init_of, version_of, len_of, position_of, room_of, place_of, IsWholeChain, content_of};
 
     /// The number of its first sector, or END where it has none.
     pub fn start_sector_id(&self) -> u32
-        ensures { result ≡ start_of self.now }
+        ensures { result ≡ start_sector_of self.now }
     {
         self.start
     }
@@ -96,7 +96,7 @@ impl<'a, F: ReadMedium, A: Heap> Chain<'a, F, A> {
     /// The numbers of its sectors, in order.
     pub fn sector_ids(&self) -> &[u32]
         ensures ids { result.now ≡ ids_of self.now }
-        ensures chained { IsChain (allocator_of self.now).now.tables.fat (start_of self.now) (ids_of self.now) }
+        ensures chained { IsChain (allocator_of self.now).now.tables.fat (start_sector_of self.now) (ids_of self.now) }
     {
         self.ids.numbers()
     }
@@ -126,7 +126,7 @@ impl<'a, F: ReadMedium, A: Heap> Chain<'a, F, A> {
     pub fn seek(&mut self, position: u64) -> Result<(), Error>
         ensures same_allocator { (allocator_of self.new).ghost_name ≡ (allocator_of self.old).ghost_name }
         ensures allocator { (allocator_of self.new).now ≡ (allocator_of self.old).now }
-        ensures chain { (ids_of self.new ≡ ids_of self.old) × (start_of self.new ≡ start_of self.old) × (init_of self.new ≡ init_of self.old) }
+        ensures chain { (ids_of self.new ≡ ids_of self.old) × (start_sector_of self.new ≡ start_sector_of self.old) × (init_of self.new ≡ init_of self.old) }
         ensures inside { position ≤ len_of self.old → OnOk result (position_of self.new ≡ position) × OnErr result ⊥ }
         ensures past { len_of self.old < position → IsErrAnd result IsInvalidInput × (position_of self.new ≡ position_of self.old) }
     {
@@ -139,7 +139,7 @@ impl<'a, F: ReadMedium, A: Heap> Chain<'a, F, A> {
 
     /// The sector where a byte lies, and 0 past the end.
     fn sector_at(&self, position: u64) -> u32
-        ensures sector { result ≡ slice_index (ids_of self.now) (position / sector_len_of (version_of self.now)) }
+        ensures sector { result ≡ slice_index (ids_of self.now) (position / sector_len (version_of self.now)) }
         ensures member { position < len_of self.now → Contains (ids_of self.now) result }
         ensures inside { position < len_of self.now → result < length (allocator_of self.now).now.tables.fat }
     {
@@ -149,8 +149,8 @@ impl<'a, F: ReadMedium, A: Heap> Chain<'a, F, A> {
 
     /// How far into its sector the next byte lies.
     fn offset_here(&self) -> usize
-        ensures offset { result ≡ position_of self.now % sector_len_of (version_of self.now) }
-        ensures short { result < sector_len_of (version_of self.now) }
+        ensures offset { result ≡ position_of self.now % sector_len (version_of self.now) }
+        ensures short { result < sector_len (version_of self.now) }
     {
         (self.position % self.allocator.sector_len() as u64) as usize
     }
@@ -159,7 +159,7 @@ impl<'a, F: ReadMedium, A: Heap> Chain<'a, F, A> {
     fn room_here(&self) -> usize
         ensures room { result ≡ room_of self.now }
         ensures inside { 0 < result → position_of self.now < len_of self.now }
-        ensures within { 0 < result → position_of self.now % sector_len_of (version_of self.now) + result ≤ sector_len_of (version_of self.now) }
+        ensures within { 0 < result → position_of self.now % sector_len (version_of self.now) + result ≤ sector_len (version_of self.now) }
     {
         if self.position >= self.len() {
             return 0;
@@ -177,7 +177,7 @@ impl<'a, F: ReadMedium, A: Heap> Chain<'a, F, A> {
           bytes = (allocator_of self.new).now.file.bytes;
           failures = (allocator_of self.new).now.file.failures;
         } }
-        ensures chain { (ids_of self.new ≡ ids_of self.old) × (start_of self.new ≡ start_of self.old) × (init_of self.new ≡ init_of self.old) }
+        ensures chain { (ids_of self.new ≡ ids_of self.old) × (start_sector_of self.new ≡ start_sector_of self.old) × (init_of self.new ≡ init_of self.old) }
         ensures count { IfOk result (λ n. n ≡ min (min (length into.old) (room_of self.old)) ((allocator_of self.old).now.file.len - place_of self.old)) }
         ensures some { IfOk result (λ n. 0 < min (length into.old) (room_of self.old) → 0 < n) }
         ensures position { MatchResult result (λ n. position_of self.new ≡ position_of self.old + n) (λ _. position_of self.new ≡ position_of self.old) }
@@ -204,14 +204,14 @@ impl<'a, F: ReadMedium, A: Heap> Chain<'a, F, A> {
     fn read_here(&mut self, into: &mut [u8]) -> Result<usize, Error>
         requires some { 0 < length into.old }
         requires inside { position_of self.old < len_of self.old }
-        requires within { position_of self.old % sector_len_of (version_of self.old) + length into.old ≤ sector_len_of (version_of self.old) }
+        requires within { position_of self.old % sector_len (version_of self.old) + length into.old ≤ sector_len (version_of self.old) }
         ensures same_allocator { (allocator_of self.new).ghost_name ≡ (allocator_of self.old).ghost_name }
         ensures tables { (allocator_of self.new).now.tables ≡ (allocator_of self.old).now.tables }
         ensures kept { (allocator_of self.new).now.file ≡ record (allocator_of self.old).now.file {
           bytes = (allocator_of self.new).now.file.bytes;
           failures = (allocator_of self.new).now.file.failures;
         } }
-        ensures chain { (ids_of self.new ≡ ids_of self.old) × (start_of self.new ≡ start_of self.old) × (init_of self.new ≡ init_of self.old) }
+        ensures chain { (ids_of self.new ≡ ids_of self.old) × (start_sector_of self.new ≡ start_sector_of self.old) × (init_of self.new ≡ init_of self.old) }
         ensures count { IfOk result (λ n. n ≡ min (length into.old) ((allocator_of self.old).now.file.len - place_of self.old)) }
         ensures some { IfOk result (λ n. 0 < n) }
         ensures position { MatchResult result (λ n. position_of self.new ≡ position_of self.old + n) (λ _. position_of self.new ≡ position_of self.old) }
@@ -247,7 +247,7 @@ impl<'a, F: ReadMedium, A: Heap> Chain<'a, F, A> {
 }
 
 impl<'a, F: Medium, A: Heap> Chain<'a, F, A> {
-    ghost use Rattle.cfb_chains.specs.LentChain.{allocator_of, start_of, ids_of, init_of, version_of, len_of, position_of, room_of, sector_of, place_of, tail_of, tail_place, IsWholeChain, content_of, HasBytes};
+    ghost use Rattle.cfb_chains.specs.LentChain.{allocator_of, start_sector_of, ids_of, init_of, version_of, len_of, position_of, room_of, sector_of, place_of, tail_of, tail_place, IsWholeChain, content_of, HasBytes};
 
     /// Writes a beginning of `from` over what the sector at the position has from there on, goes on behind it, and answers how many
     /// bytes that is: none exactly where `from` is empty or the end is reached. `Medium` where the medium fails: the position then
@@ -261,7 +261,7 @@ impl<'a, F: Medium, A: Heap> Chain<'a, F, A> {
           failures = (allocator_of self.new).now.file.failures;
           begun = (allocator_of self.new).now.file.begun;
         } }
-        ensures chain { (ids_of self.new ≡ ids_of self.old) × (start_of self.new ≡ start_of self.old) × (init_of self.new ≡ init_of self.old) }
+        ensures chain { (ids_of self.new ≡ ids_of self.old) × (start_sector_of self.new ≡ start_sector_of self.old) × (init_of self.new ≡ init_of self.old) }
         ensures count { IfOk result (λ n. n ≡ min (length from.now) (room_of self.old)) }
         ensures none { min (length from.now) (room_of self.old) ≡ 0 → OnErr result ⊥ × ((allocator_of self.new).now ≡ (allocator_of self.old).now) }
         ensures position { MatchResult result (λ n. position_of self.new ≡ position_of self.old + n) (λ _. position_of self.new ≡ position_of self.old) }
@@ -277,7 +277,7 @@ impl<'a, F: Medium, A: Heap> Chain<'a, F, A> {
         ensures begun { 0 < min (length from.now) (room_of self.old) → (allocator_of self.new).now.file.begun ≡ true }
         ensures sectors { IsTrue F.tells → (i : ℕ) → i ≢ sector_of self.old
             → SectorStays (version_of self.old) i (allocator_of self.old).now.file.bytes (allocator_of self.new).now.file.bytes }
-        ensures others { IsTrue F.tells → ChangesOnly (place_of self.old) (min (length from.now) (room_of self.old))
+        ensures others { IsTrue F.tells → ChangesOnlyBytes (place_of self.old) (min (length from.now) (room_of self.old))
             (allocator_of self.old).now.file.bytes (allocator_of self.new).now.file.bytes }
         ensures counts { IsTrue F.tells → CountsFailure F.write_faults result (allocator_of self.old).now.file.failures (allocator_of self.new).now.file.failures }
     {
@@ -293,7 +293,7 @@ impl<'a, F: Medium, A: Heap> Chain<'a, F, A> {
     fn write_here(&mut self, from: &[u8]) -> Result<(), Error>
         requires some { 0 < length from.now }
         requires inside { position_of self.old < len_of self.old }
-        requires within { position_of self.old % sector_len_of (version_of self.old) + length from.now ≤ sector_len_of (version_of self.old) }
+        requires within { position_of self.old % sector_len (version_of self.old) + length from.now ≤ sector_len (version_of self.old) }
         ensures same_allocator { (allocator_of self.new).ghost_name ≡ (allocator_of self.old).ghost_name }
         ensures tables { (allocator_of self.new).now.tables ≡ (allocator_of self.old).now.tables }
         ensures kept { (allocator_of self.new).now.file ≡ record (allocator_of self.old).now.file {
@@ -302,7 +302,7 @@ impl<'a, F: Medium, A: Heap> Chain<'a, F, A> {
           failures = (allocator_of self.new).now.file.failures;
           begun = (allocator_of self.new).now.file.begun;
         } }
-        ensures chain { (ids_of self.new ≡ ids_of self.old) × (start_of self.new ≡ start_of self.old) × (init_of self.new ≡ init_of self.old) }
+        ensures chain { (ids_of self.new ≡ ids_of self.old) × (start_sector_of self.new ≡ start_sector_of self.old) × (init_of self.new ≡ init_of self.old) }
         ensures position { MatchResult result (λ _. position_of self.new ≡ position_of self.old + length from.now) (λ _. position_of self.new ≡ position_of self.old) }
         ensures ok { IsTrue F.tells → OnOk result ((allocator_of self.new).now.file ≡ record (allocator_of self.old).now.file {
           bytes = written (allocator_of self.old).now.file.bytes (place_of self.old) from.now;
@@ -315,7 +315,7 @@ impl<'a, F: Medium, A: Heap> Chain<'a, F, A> {
         ensures begun { (allocator_of self.new).now.file.begun ≡ true }
         ensures sectors { IsTrue F.tells → (i : ℕ) → i ≢ sector_of self.old
             → SectorStays (version_of self.old) i (allocator_of self.old).now.file.bytes (allocator_of self.new).now.file.bytes }
-        ensures others { IsTrue F.tells → ChangesOnly (place_of self.old) (length from.now)
+        ensures others { IsTrue F.tells → ChangesOnlyBytes (place_of self.old) (length from.now)
             (allocator_of self.old).now.file.bytes (allocator_of self.new).now.file.bytes }
         ensures counts { IsTrue F.tells → CountsFailure F.write_faults result (allocator_of self.old).now.file.failures (allocator_of self.new).now.file.failures }
     {
@@ -338,24 +338,24 @@ impl<'a, F: Medium, A: Heap> Chain<'a, F, A> {
           failures = (allocator_of self.new).now.file.failures;
           begun = (allocator_of self.new).now.file.begun;
         } }
-        ensures chain { (ids_of self.new ≡ ids_of self.old) × (start_of self.new ≡ start_of self.old) × (init_of self.new ≡ init_of self.old) }
+        ensures chain { (ids_of self.new ≡ ids_of self.old) × (start_sector_of self.new ≡ start_sector_of self.old) × (init_of self.new ≡ init_of self.old) }
         ensures position { position_of self.new ≡ position_of self.old }
-        ensures none { offset % sector_len_of (version_of self.old) ≡ 0 → OnErr result ⊥ × ((allocator_of self.new).now ≡ (allocator_of self.old).now) }
-        ensures ok { IsTrue F.tells → 0 < offset % sector_len_of (version_of self.old) → OnOk result ((allocator_of self.new).now.file ≡ record (allocator_of self.old).now.file {
+        ensures none { offset % sector_len (version_of self.old) ≡ 0 → OnErr result ⊥ × ((allocator_of self.new).now ≡ (allocator_of self.old).now) }
+        ensures ok { IsTrue F.tells → 0 < offset % sector_len (version_of self.old) → OnOk result ((allocator_of self.new).now.file ≡ record (allocator_of self.old).now.file {
           bytes = written (allocator_of self.old).now.file.bytes (tail_place self.old offset) (replicate (tail_of self.old offset) 0);
           len = max (allocator_of self.old).now.file.len (tail_place self.old offset + tail_of self.old offset);
           begun = true;
         }) }
         ensures holds { IsTrue F.tells → (validation : Validation) → HoldsTables validation (allocator_of self.old).now → OnOk result (HoldsTables validation (allocator_of self.new).now) }
         ensures whole { IsTrue F.tells → IsWholeChain self.old → OnOk result (IsWholeChain self.new) }
-        ensures same { IsTrue F.tells → IsWholeChain self.old → offset % sector_len_of (version_of self.old) ≡ 0 → OnOk result (content_of self.new ≡ content_of self.old) }
-        ensures content { IsTrue F.tells → IsWholeChain self.old → 0 < offset % sector_len_of (version_of self.old)
+        ensures same { IsTrue F.tells → IsWholeChain self.old → offset % sector_len (version_of self.old) ≡ 0 → OnOk result (content_of self.new ≡ content_of self.old) }
+        ensures content { IsTrue F.tells → IsWholeChain self.old → 0 < offset % sector_len (version_of self.old)
             → OnOk result (content_of self.new ≡ written (content_of self.old) offset (replicate (tail_of self.old offset) 0)) }
         ensures err { IfErr result IsMediumError }
-        ensures begun { 0 < offset % sector_len_of (version_of self.old) → (allocator_of self.new).now.file.begun ≡ true }
-        ensures sectors { IsTrue F.tells → (i : ℕ) → i ≢ slice_index (ids_of self.old) (offset / sector_len_of (version_of self.old))
+        ensures begun { 0 < offset % sector_len (version_of self.old) → (allocator_of self.new).now.file.begun ≡ true }
+        ensures sectors { IsTrue F.tells → (i : ℕ) → i ≢ slice_index (ids_of self.old) (offset / sector_len (version_of self.old))
             → SectorStays (version_of self.old) i (allocator_of self.old).now.file.bytes (allocator_of self.new).now.file.bytes }
-        ensures others { IsTrue F.tells → ChangesOnly (tail_place self.old offset) (tail_of self.old offset)
+        ensures others { IsTrue F.tells → ChangesOnlyBytes (tail_place self.old offset) (tail_of self.old offset)
             (allocator_of self.old).now.file.bytes (allocator_of self.new).now.file.bytes }
         ensures counts { IsTrue F.tells → CountsFailure F.write_faults result (allocator_of self.old).now.file.failures (allocator_of self.new).now.file.failures }
     {
@@ -369,7 +369,7 @@ impl<'a, F: Medium, A: Heap> Chain<'a, F, A> {
 }
 
 impl<'a, F: Medium, A: Heap + Clone> Chain<'a, F, A> {
-    ghost use Rattle.cfb_chains.specs.LentChain.{allocator_of, start_of, ids_of, init_of, version_of, len_of, position_of, missing_of, wanted_of, HasNoSectors, HasGained, HasKept, IsAsBefore, IsWholeChain, content_of, HasBytes};
+    ghost use Rattle.cfb_chains.specs.LentChain.{allocator_of, start_sector_of, ids_of, init_of, version_of, len_of, position_of, missing_of, wanted_of, HasNoSectors, HasGained, HasKept, IsAsBefore, IsWholeChain, content_of, HasBytes};
 
     /// Frees its sectors: then it has none. Where it had none nothing changes.
     ///
@@ -381,14 +381,14 @@ impl<'a, F: Medium, A: Heap + Clone> Chain<'a, F, A> {
         ensures init { init_of self.new ≡ init_of self.old }
         ensures ids { OnOk result (ids_of self.new ≡ []) }
         ensures none { ids_of self.old ≡ [] → OnErr result ⊥ × IsAsBefore self.old self.new }
-        ensures freed { OnOk result (FreesChain (start_of self.old) (allocator_of self.old).now.tables (allocator_of self.new).now.tables) }
+        ensures freed { OnOk result (FreesChain (start_sector_of self.old) (allocator_of self.old).now.tables (allocator_of self.new).now.tables) }
         ensures holds { IsTrue F.tells → (validation : Validation) → HoldsTables validation (allocator_of self.old).now
-            → IsUnnamed (allocator_of self.old).now.tables.fat (start_of self.old) → OnOk result (HoldsTables validation (allocator_of self.new).now) }
+            → IsUnnamed (allocator_of self.old).now.tables.fat (start_sector_of self.old) → OnOk result (HoldsTables validation (allocator_of self.new).now) }
         ensures changes { IsTrue F.tells → ChangesSectors (allocator_of self.old).now.tables.fat_sectors (allocator_of self.old).now.tables.version
             (allocator_of self.old).now.file.bytes (allocator_of self.new).now.file.bytes }
-        ensures refused { IfErr result (BreaksOff (FreesChain (start_of self.old)) (allocator_of self.old).now (allocator_of self.new).now) }
-        ensures view { IfErr result (Leaves [] (ids_of self.old) (ids_of self.new)) }
-        ensures place { IfErr result (Leaves 0 (position_of self.old) (position_of self.new)) }
+        ensures refused { IfErr result (BreaksOff (FreesChain (start_sector_of self.old)) (allocator_of self.old).now (allocator_of self.new).now) }
+        ensures view { IfErr result (StaysOrBecomes [] (ids_of self.old) (ids_of self.new)) }
+        ensures place { IfErr result (StaysOrBecomes 0 (position_of self.old) (position_of self.new)) }
         ensures err { IfErr result (ChangeRefused (IsUsable (allocator_of self.old).now.tables → ⊥) Unit ⊥ Unit) }
         ensures begun { 0 < length (ids_of self.old) → OnOk result ((allocator_of self.new).now.file.begun ≡ true) }
         ensures counts { IsTrue F.tells → CountsFailure F.write_faults result (allocator_of self.old).now.file.failures (allocator_of self.new).now.file.failures }
@@ -408,14 +408,14 @@ impl<'a, F: Medium, A: Heap + Clone> Chain<'a, F, A> {
         ensures same_allocator { (allocator_of self.new).ghost_name ≡ (allocator_of self.old).ghost_name }
         ensures init { init_of self.new ≡ init_of self.old }
         ensures version { version_of self.new ≡ version_of self.old }
-        ensures count { IfOk result (λ n. n ≡ min (length from.now) (sector_len_of (version_of self.old) - position_of self.old % sector_len_of (version_of self.old))) }
+        ensures count { IfOk result (λ n. n ≡ min (length from.now) (sector_len (version_of self.old) - position_of self.old % sector_len (version_of self.old))) }
         ensures position { IfOk result (λ n. position_of self.new ≡ position_of self.old + n) }
         ensures none { length from.now ≡ 0 → OnErr result ⊥ × IsAsBefore self.old self.new }
         ensures ids { OnOk result (ids_of self.new ≡ ids_of self.old ++ gained (ids_of self.old) (ids_of self.new)) }
         ensures gained { OnOk result (length (gained (ids_of self.old) (ids_of self.new)) ≡ missing_of self.old (length from.now)) }
         ensures tables { missing_of self.old (length from.now) ≡ 0 → (allocator_of self.new).now.tables ≡ (allocator_of self.old).now.tables }
         ensures taken { 0 < missing_of self.old (length from.now) → OnOk result (HasTaken (allocator_of self.old).now.tables (allocator_of self.new).now.tables
-            (ending (last_of (ids_of self.old))) (gained (ids_of self.old) (ids_of self.new))) }
+            (ending (last_or_end (ids_of self.old))) (gained (ids_of self.old) (ids_of self.new))) }
         ensures enough { 0 < missing_of self.old (length from.now) → OnOk result (IsTooFew (allocator_of self.old).now.tables (missing_of self.old (length from.now)) → ⊥) }
         ensures holds { IsTrue F.tells → (validation : Validation) → HoldsTables validation (allocator_of self.old).now → OnOk result (HoldsTables validation (allocator_of self.new).now) }
         ensures content { IsTrue F.tells → (validation : Validation) → HoldsTables validation (allocator_of self.old).now → IsWholeChain self.old
@@ -423,12 +423,12 @@ impl<'a, F: Medium, A: Heap + Clone> Chain<'a, F, A> {
             (written (content_of self.old ++ copies (missing_of self.old (length from.now)) (init_bytes (version_of self.old) (init_of self.old))) (position_of self.old) (take n from.now))) }
         ensures others { IsTrue F.tells → (i : ℕ) → (value (allocator_of self.old).now.tables.fat i ≡ free_sector → ⊥)
             → (Contains ((allocator_of self.old).now.tables.fat_sectors ++ (allocator_of self.old).now.tables.difat_sectors) i → ⊥)
-            → i ≢ slice_index (ids_of self.new) (position_of self.old / sector_len_of (version_of self.old))
+            → i ≢ slice_index (ids_of self.new) (position_of self.old / sector_len (version_of self.old))
             → SectorStays (version_of self.old) i (allocator_of self.old).now.file.bytes (allocator_of self.new).now.file.bytes }
         ensures foreign { IsTrue F.tells → OthersStayBut (ids_of self.old) (allocator_of self.old).now (allocator_of self.new).now }
         ensures there { IsTrue F.tells → IfOk result (λ n. 0 < n → part (allocator_of self.new).now.file.bytes
-            (sector_start (version_of self.old) (slice_index (ids_of self.new) (position_of self.old / sector_len_of (version_of self.old)))
-            + position_of self.old % sector_len_of (version_of self.old)) n ≡ take n from.now) }
+            (sector_start (version_of self.old) (slice_index (ids_of self.new) (position_of self.old / sector_len (version_of self.old)))
+            + position_of self.old % sector_len (version_of self.old)) n ≡ take n from.now) }
         ensures begun { 0 < length from.now → OnOk result ((allocator_of self.new).now.file.begun ≡ true) }
         ensures broken { IfErr result (AfterMedium
             (((allocator_of self.new).now.file.begun ≡ true) × (HasNoSectors self.new ⊎ HasGained (missing_of self.old (length from.now)) self.old self.new))
@@ -461,7 +461,7 @@ impl<'a, F: Medium, A: Heap + Clone> Chain<'a, F, A> {
         ensures position { OnOk result (position_of self.new ≡ min (position_of self.old) (len_of self.new)) }
         ensures grown { length (ids_of self.old) < wanted_of self.old len → OnOk result (ids_of self.new ≡ ids_of self.old ++ gained (ids_of self.old) (ids_of self.new)) }
         ensures taken { length (ids_of self.old) < wanted_of self.old len → OnOk result (HasTaken (allocator_of self.old).now.tables (allocator_of self.new).now.tables
-            (ending (last_of (ids_of self.old))) (gained (ids_of self.old) (ids_of self.new))) }
+            (ending (last_or_end (ids_of self.old))) (gained (ids_of self.old) (ids_of self.new))) }
         ensures enough { length (ids_of self.old) < wanted_of self.old len
             → OnOk result (IsTooFew (allocator_of self.old).now.tables (wanted_of self.old len - length (ids_of self.old)) → ⊥) }
         ensures filled { IsTrue F.tells → (validation : Validation) → HoldsTables validation (allocator_of self.old).now → length (ids_of self.old) < wanted_of self.old len
@@ -470,23 +470,23 @@ impl<'a, F: Medium, A: Heap + Clone> Chain<'a, F, A> {
         ensures cut { wanted_of self.old len ≤ length (ids_of self.old) → OnOk result (ids_of self.new ≡ take (wanted_of self.old len) (ids_of self.old)) }
         ensures freed { wanted_of self.old len < length (ids_of self.old) → OnOk result (Shortens (take (wanted_of self.old len) (ids_of self.old))
             (drop (wanted_of self.old len) (ids_of self.old)) (allocator_of self.old).now.tables (allocator_of self.new).now.tables) }
-        ensures zeroed { IsTrue F.tells → wanted_of self.old len ≤ length (ids_of self.old) → 0 < len % sector_len_of (version_of self.old)
+        ensures zeroed { IsTrue F.tells → wanted_of self.old len ≤ length (ids_of self.old) → 0 < len % sector_len (version_of self.old)
             → OnOk result (part (allocator_of self.new).now.file.bytes
-            (sector_start (version_of self.old) (slice_index (ids_of self.new) (len / sector_len_of (version_of self.old))) + len % sector_len_of (version_of self.old))
-            (sector_len_of (version_of self.old) - len % sector_len_of (version_of self.old))
-            ≡ replicate (sector_len_of (version_of self.old) - len % sector_len_of (version_of self.old)) 0) }
+            (sector_start (version_of self.old) (slice_index (ids_of self.new) (len / sector_len (version_of self.old))) + len % sector_len (version_of self.old))
+            (sector_len (version_of self.old) - len % sector_len (version_of self.old))
+            ≡ replicate (sector_len (version_of self.old) - len % sector_len (version_of self.old)) 0) }
         ensures tables { wanted_of self.old len ≡ length (ids_of self.old) → (allocator_of self.new).now.tables ≡ (allocator_of self.old).now.tables }
         ensures holds { IsTrue F.tells → (validation : Validation) → HoldsTables validation (allocator_of self.old).now
-            → (len ≡ 0 → IsUnnamed (allocator_of self.old).now.tables.fat (start_of self.old)) → OnOk result (HoldsTables validation (allocator_of self.new).now) }
+            → (len ≡ 0 → IsUnnamed (allocator_of self.old).now.tables.fat (start_sector_of self.old)) → OnOk result (HoldsTables validation (allocator_of self.new).now) }
         ensures longer { IsTrue F.tells → (validation : Validation) → HoldsTables validation (allocator_of self.old).now → IsWholeChain self.old
             → length (ids_of self.old) < wanted_of self.old len → OnOk result (HasBytes self.new
             (content_of self.old ++ copies (wanted_of self.old len - length (ids_of self.old)) (init_bytes (version_of self.old) (init_of self.old)))) }
         ensures shorter { IsTrue F.tells → (validation : Validation) → HoldsTables validation (allocator_of self.old).now → IsWholeChain self.old
             → wanted_of self.old len ≤ length (ids_of self.old) → OnOk result (HasBytes self.new
-            (take len (content_of self.old) ++ replicate (wanted_of self.old len * sector_len_of (version_of self.old) - len) 0)) }
+            (take len (content_of self.old) ++ replicate (wanted_of self.old len * sector_len (version_of self.old) - len) 0)) }
         ensures others { IsTrue F.tells → (i : ℕ) → (value (allocator_of self.old).now.tables.fat i ≡ free_sector → ⊥)
             → (Contains ((allocator_of self.old).now.tables.fat_sectors ++ (allocator_of self.old).now.tables.difat_sectors) i → ⊥)
-            → i ≢ slice_index (ids_of self.new) (len / sector_len_of (version_of self.old))
+            → i ≢ slice_index (ids_of self.new) (len / sector_len (version_of self.old))
             → SectorStays (version_of self.old) i (allocator_of self.old).now.file.bytes (allocator_of self.new).now.file.bytes }
         ensures foreign { IsTrue F.tells → OthersStayBut (ids_of self.old) (allocator_of self.old).now (allocator_of self.new).now }
         ensures broken { IfErr result (AfterMedium
@@ -516,7 +516,7 @@ impl<'a, F: Medium, A: Heap + Clone> Chain<'a, F, A> {
         ensures ids { OnOk result (ids_of self.new ≡ ids_of self.old ++ gained (ids_of self.old) (ids_of self.new)) }
         ensures count { OnOk result (length (gained (ids_of self.old) (ids_of self.new)) ≡ count) }
         ensures position { OnOk result (position_of self.new ≡ position_of self.old) }
-        ensures taken { OnOk result (HasTaken (allocator_of self.old).now.tables (allocator_of self.new).now.tables (ending (last_of (ids_of self.old)))
+        ensures taken { OnOk result (HasTaken (allocator_of self.old).now.tables (allocator_of self.new).now.tables (ending (last_or_end (ids_of self.old)))
             (gained (ids_of self.old) (ids_of self.new))) }
         ensures filled { IsTrue F.tells → (validation : Validation) → HoldsTables validation (allocator_of self.old).now
             → OnOk result ((i : ℕ) → Contains (gained (ids_of self.old) (ids_of self.new)) i
@@ -526,9 +526,9 @@ impl<'a, F: Medium, A: Heap + Clone> Chain<'a, F, A> {
             → OnOk result (HasBytes self.new (content_of self.old ++ copies count (init_bytes (version_of self.old) (init_of self.old)))) }
         ensures others { IsTrue F.tells → OthersStay (allocator_of self.old).now (allocator_of self.new).now }
         ensures enough { OnOk result (IsTooFew (allocator_of self.old).now.tables count → ⊥) }
-        ensures refused { IfErr result (BreaksOff (TakesFor (ending (last_of (ids_of self.old)))) (allocator_of self.old).now (allocator_of self.new).now) }
-        ensures view { IfErr result (Leaves [] (ids_of self.old) (ids_of self.new)) }
-        ensures place { IfErr result (Leaves 0 (position_of self.old) (position_of self.new)) }
+        ensures refused { IfErr result (BreaksOff (TakesFor (ending (last_or_end (ids_of self.old)))) (allocator_of self.old).now (allocator_of self.new).now) }
+        ensures view { IfErr result (StaysOrBecomes [] (ids_of self.old) (ids_of self.new)) }
+        ensures place { IfErr result (StaysOrBecomes 0 (position_of self.old) (position_of self.new)) }
         ensures err { IfErr result (ChangeRefused (IsUsable (allocator_of self.old).now.tables → ⊥) Unit (IsTooFew (allocator_of self.old).now.tables count) Unit) }
         ensures begun { OnOk result (IsRaised (0 < count) (allocator_of self.old).now.file (allocator_of self.new).now.file) }
         ensures counts { IsTrue F.tells → CountsFailure F.write_faults result (allocator_of self.old).now.file.failures (allocator_of self.new).now.file.failures }
@@ -557,15 +557,15 @@ impl<'a, F: Medium, A: Heap + Clone> Chain<'a, F, A> {
         ensures cut { count < length (ids_of self.old) → OnOk result (Shortens (take count (ids_of self.old)) (drop count (ids_of self.old))
             (allocator_of self.old).now.tables (allocator_of self.new).now.tables) }
         ensures holds { IsTrue F.tells → (validation : Validation) → HoldsTables validation (allocator_of self.old).now
-            → (count ≡ 0 → IsUnnamed (allocator_of self.old).now.tables.fat (start_of self.old)) → OnOk result (HoldsTables validation (allocator_of self.new).now) }
+            → (count ≡ 0 → IsUnnamed (allocator_of self.old).now.tables.fat (start_sector_of self.old)) → OnOk result (HoldsTables validation (allocator_of self.new).now) }
         ensures content { IsTrue F.tells → (validation : Validation) → HoldsTables validation (allocator_of self.old).now → IsWholeChain self.old
-            → OnOk result (HasBytes self.new (take (count * sector_len_of (version_of self.old)) (content_of self.old))) }
+            → OnOk result (HasBytes self.new (take (count * sector_len (version_of self.old)) (content_of self.old))) }
         ensures changes { IsTrue F.tells → ChangesSectors (allocator_of self.old).now.tables.fat_sectors (allocator_of self.old).now.tables.version
             (allocator_of self.old).now.file.bytes (allocator_of self.new).now.file.bytes }
         ensures refused { IfErr result (BreaksOff (Shortens (take count (ids_of self.old)) (drop count (ids_of self.old)))
             (allocator_of self.old).now (allocator_of self.new).now) }
-        ensures view { IfErr result (Leaves [] (ids_of self.old) (ids_of self.new)) }
-        ensures place { IfErr result (Leaves 0 (position_of self.old) (position_of self.new)) }
+        ensures view { IfErr result (StaysOrBecomes [] (ids_of self.old) (ids_of self.new)) }
+        ensures place { IfErr result (StaysOrBecomes 0 (position_of self.old) (position_of self.new)) }
         ensures err { IfErr result (ChangeRefused (IsUsable (allocator_of self.old).now.tables → ⊥) Unit ⊥ Unit) }
         ensures begun { OnOk result (IsRaised (count < length (ids_of self.old)) (allocator_of self.old).now.file (allocator_of self.new).now.file) }
         ensures counts { IsTrue F.tells → CountsFailure F.write_faults result (allocator_of self.old).now.file.failures (allocator_of self.new).now.file.failures }
@@ -590,14 +590,14 @@ impl<'a, F: Medium, A: Heap + Clone> Chain<'a, F, A> {
 
 /// The last number of a list, or END.
 fn last_number(numbers: &[u32]) -> u32
-    ensures { result ≡ last_of numbers.now }
+    ensures { result ≡ last_or_end numbers.now }
 {
     numbers.last().copied().unwrap_or(END_OF_CHAIN)
 }
 
 /// The first number of a list, or END.
 fn first_number(numbers: &[u32]) -> u32
-    ensures { result ≡ first_of numbers.now }
+    ensures { result ≡ first_or_end numbers.now }
 {
     numbers.first().copied().unwrap_or(END_OF_CHAIN)
 }
@@ -614,8 +614,8 @@ fn append_reserved<A: Heap>(list: &mut Vec<u32, A>, more: &[u32])
 
 /// Forgets the sectors of a chain where the medium failed.
 fn forget<A: Heap>(ids: &mut Vec<u32, A>, start: &mut u32, error: &Error)
-    ensures ids { Leaves [] ids.old.items ids.new.items error.now }
-    ensures start { Leaves end_of_chain start.old start.new error.now }
+    ensures ids { StaysOrBecomes [] ids.old.items ids.new.items error.now }
+    ensures start { StaysOrBecomes end_of_chain start.old start.new error.now }
 {
     if let Error::Medium(_) = error {
         ids.clear();
@@ -637,14 +637,14 @@ fn extend_list<F: Medium, A: Heap + Clone>(
     ensures version { allocator.new.tables.version ≡ allocator.old.tables.version }
     ensures ids { OnOk result (ids.new.items ≡ ids.old.items ++ gained ids.old.items ids.new.items) }
     ensures count { OnOk result (length (gained ids.old.items ids.new.items) ≡ count) }
-    ensures taken { OnOk result (HasTaken allocator.old.tables allocator.new.tables (ending (last_of ids.old.items)) (gained ids.old.items ids.new.items)) }
+    ensures taken { OnOk result (HasTaken allocator.old.tables allocator.new.tables (ending (last_or_end ids.old.items)) (gained ids.old.items ids.new.items)) }
     ensures filled { IsTrue F.tells → (validation : Validation) → HoldsTables validation allocator.old
         → OnOk result ((i : ℕ) → Contains (gained ids.old.items ids.new.items) i → IsFilled allocator.new.tables.version init allocator.new.file.bytes i) }
     ensures holds { IsTrue F.tells → (validation : Validation) → HoldsTables validation allocator.old → OnOk result (HoldsTables validation allocator.new) }
     ensures others { IsTrue F.tells → OthersStay allocator.old allocator.new }
     ensures enough { OnOk result (IsTooFew allocator.old.tables count → ⊥) }
-    ensures refused { IfErr result (BreaksOff (TakesFor (ending (last_of ids.old.items))) allocator.old allocator.new) }
-    ensures view { IfErr result (Leaves [] ids.old.items ids.new.items) }
+    ensures refused { IfErr result (BreaksOff (TakesFor (ending (last_or_end ids.old.items))) allocator.old allocator.new) }
+    ensures view { IfErr result (StaysOrBecomes [] ids.old.items ids.new.items) }
     ensures err { IfErr result (ChangeRefused (IsUsable allocator.old.tables → ⊥) Unit (IsTooFew allocator.old.tables count) Unit) }
     ensures begun { OnOk result (IsRaised (0 < count) allocator.old.file allocator.new.file) }
     ensures counts { IsTrue F.tells → CountsFailure F.write_faults result allocator.old.file.failures allocator.new.file.failures }
@@ -682,7 +682,7 @@ fn shorten_list<F: Medium, A: Heap + Clone>(
         → (count ≡ 0 → IsUnnamed allocator.old.tables.fat start.old) → OnOk result (HoldsTables validation allocator.new) }
     ensures changes { IsTrue F.tells → ChangesSectors allocator.old.tables.fat_sectors allocator.old.tables.version allocator.old.file.bytes allocator.new.file.bytes }
     ensures refused { IfErr result (BreaksOff (Shortens (take count ids.old.items) (drop count ids.old.items)) allocator.old allocator.new) }
-    ensures view { IfErr result (Leaves [] ids.old.items ids.new.items) }
+    ensures view { IfErr result (StaysOrBecomes [] ids.old.items ids.new.items) }
     ensures err { IfErr result (ChangeRefused (IsUsable allocator.old.tables → ⊥) Unit ⊥ Unit) }
     ensures begun { OnOk result (allocator.new.file.begun ≡ true) }
     ensures counts { IsTrue F.tells → CountsFailure F.write_faults result allocator.old.file.failures allocator.new.file.failures }
@@ -733,7 +733,7 @@ fn read_sector<F: ReadMedium, A: Heap>(
     into: &mut [u8],
 ) -> Result<usize, Error>
     requires some { 0 < length into.old }
-    requires within { offset + length into.old ≤ sector_len_of allocator.old.tables.version }
+    requires within { offset + length into.old ≤ sector_len allocator.old.tables.version }
     ensures tables { allocator.new.tables ≡ allocator.old.tables }
     ensures kept { allocator.new.file ≡ record allocator.old.file { bytes = allocator.new.file.bytes; failures = allocator.new.file.failures } }
     ensures count { IfOk result (λ n. n ≡ min (length into.old) (allocator.old.file.len - (sector_start allocator.old.tables.version sector + offset))) }
@@ -762,7 +762,7 @@ fn write_sector<F: Medium, A: Heap>(
     from: &[u8],
 ) -> Result<(), Error>
     requires some { 0 < length from.now }
-    requires within { offset + length from.now ≤ sector_len_of allocator.old.tables.version }
+    requires within { offset + length from.now ≤ sector_len allocator.old.tables.version }
     requires there { sector < length allocator.old.tables.fat }
     ensures tables { allocator.new.tables ≡ allocator.old.tables }
     ensures kept { allocator.new.file ≡ record allocator.old.file {
@@ -779,7 +779,7 @@ fn write_sector<F: Medium, A: Heap>(
     ensures err { IfErr result IsMediumError }
     ensures begun { allocator.new.file.begun ≡ true }
     ensures sectors { IsTrue F.tells → (i : ℕ) → i ≢ sector → SectorStays allocator.old.tables.version i allocator.old.file.bytes allocator.new.file.bytes }
-    ensures others { IsTrue F.tells → ChangesOnly (sector_start allocator.old.tables.version sector + offset) (length from.now) allocator.old.file.bytes allocator.new.file.bytes }
+    ensures others { IsTrue F.tells → ChangesOnlyBytes (sector_start allocator.old.tables.version sector + offset) (length from.now) allocator.old.file.bytes allocator.new.file.bytes }
     ensures counts { IsTrue F.tells → CountsFailure F.write_faults result allocator.old.file.failures allocator.new.file.failures }
 {
     let len = allocator.file_len();
@@ -793,7 +793,7 @@ fn zero_behind<F: Medium, A: Heap>(
     sector: u32,
     offset: usize,
 ) -> Result<(), Error>
-    requires within { offset < sector_len_of allocator.old.tables.version }
+    requires within { offset < sector_len allocator.old.tables.version }
     requires there { sector < length allocator.old.tables.fat }
     ensures tables { allocator.new.tables ≡ allocator.old.tables }
     ensures kept { allocator.new.file ≡ record allocator.old.file {
@@ -803,14 +803,14 @@ fn zero_behind<F: Medium, A: Heap>(
       begun = allocator.new.file.begun;
     } }
     ensures ok { IsTrue F.tells → OnOk result (allocator.new.file ≡ record allocator.old.file {
-      bytes = written allocator.old.file.bytes (sector_start allocator.old.tables.version sector + offset) (replicate (sector_len_of allocator.old.tables.version - offset) 0);
-      len = max allocator.old.file.len (sector_start allocator.old.tables.version sector + offset + (sector_len_of allocator.old.tables.version - offset));
+      bytes = written allocator.old.file.bytes (sector_start allocator.old.tables.version sector + offset) (replicate (sector_len allocator.old.tables.version - offset) 0);
+      len = max allocator.old.file.len (sector_start allocator.old.tables.version sector + offset + (sector_len allocator.old.tables.version - offset));
       begun = true;
     }) }
     ensures err { IfErr result IsMediumError }
     ensures begun { allocator.new.file.begun ≡ true }
     ensures sectors { IsTrue F.tells → (i : ℕ) → i ≢ sector → SectorStays allocator.old.tables.version i allocator.old.file.bytes allocator.new.file.bytes }
-    ensures others { IsTrue F.tells → ChangesOnly (sector_start allocator.old.tables.version sector + offset) (sector_len_of allocator.old.tables.version - offset)
+    ensures others { IsTrue F.tells → ChangesOnlyBytes (sector_start allocator.old.tables.version sector + offset) (sector_len allocator.old.tables.version - offset)
         allocator.old.file.bytes allocator.new.file.bytes }
     ensures counts { IsTrue F.tells → CountsFailure F.write_faults result allocator.old.file.failures allocator.new.file.failures }
 {

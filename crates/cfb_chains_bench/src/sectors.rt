@@ -1,6 +1,6 @@
 //! Sectors over a file whose last one is cut, and what fresh ones hold.
 ghost use Rattle.std.specs.Prelude.{◌≡◌, ◌≤◌, IfOk};
-ghost use Rattle.cfb_format.specs.Bytes.{sector_len as sector_len_of};
+ghost use Rattle.cfb_format.specs.Bytes.{sector_len};
 
 use cfb_format::error::Error;
 use cfb_format::memory::MemoryMedium;
@@ -15,7 +15,7 @@ fn filled(
     len: usize,
     byte: u8,
 ) -> Result<Sectors<MemoryMedium>, Fail>
-    requires header { sector_len_of version ≤ len }
+    requires header { sector_len version ≤ len }
     requires small { len ≤ 65536 }
     ensures version { IfOk result (λ s. s.version ≡ version) }
 {

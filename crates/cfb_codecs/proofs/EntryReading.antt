@@ -12,9 +12,9 @@ use Rattle.cfb_format.specs.declared.validate.Validation.{Validation}
 use Rattle.cfb_format.specs.declared.validate.Validation.TheVariants.{Permissive, Strict}
 use Rattle.cfb_format.specs.declared.objtype.ObjType.{ObjType}
 use Rattle.cfb_format.specs.declared.error.Error.{Error}
-use Rattle.cfb_format.specs.Bytes.{byte_at, u16_at, stream_len_modulus, max_stream_len}
+use Rattle.cfb_format.specs.Bytes.{byte_at, unit_at, stream_len_modulus, max_stream_len}
 use Rattle.cfb_format.specs.Header.{IfStrict}
-use Rattle.cfb_format.specs.DirectoryEntry.{Entry, AcceptsEntry, IsStrictEntry, obj_type_of, root_name, stored_units, stored_name}
+use Rattle.cfb_format.specs.DirectoryEntry.{Entry, AcceptsEntry, IsStrictEntry, obj_type_of, root_entry_name, stored_units, stored_name}
 use Rattle.cfb_codecs.specs.EntryParts.{AcceptsName, IsText}
 use Rattle.cfb_format.specs.Refused.{IsInvalidOrMemory}
 use Rattle.cfb_codecs.proofs.Refusals.{err_follows}
@@ -48,11 +48,11 @@ masked_len V3 n = and_mask n 32
 masked_len V4 n = and_mask n 64
 
 -- the bytes of a text that spells the root's name
-pub root_bytes : (bs : List ℕ) → IsUtf8 bs → chars bs ≡ root_name → bs ≡ root_name
+pub root_bytes : (bs : List ℕ) → IsUtf8 bs → chars bs ≡ root_entry_name → bs ≡ root_entry_name
 unfolding lib.Utf8.encode
 root_bytes bs utf8 is = sym (encodes-chars bs utf8) ∙ ap encode_utf8_all is
 
-pub root_chars : (bs : List ℕ) → bs ≡ root_name → chars bs ≡ root_name
+pub root_chars : (bs : List ℕ) → bs ≡ root_entry_name → chars bs ≡ root_entry_name
 unfolding chars
 root_chars bs is = ap chars is
 
@@ -73,7 +73,7 @@ name_accepted v version slot e kind is accepts =
     }
 
 -- the text that the stored units spell
-pub text_found : {A : Type 0} (slot us : List ℕ) (r : Result (String A) Error) → u16_at slot 64 ≤ 64 → u16_at slot 64 % 2 ≡ 0 → us ≡ stored_units slot
+pub text_found : {A : Type 0} (slot us : List ℕ) (r : Result (String A) Error) → unit_at slot 64 ≤ 64 → unit_at slot 64 % 2 ≡ 0 → us ≡ stored_units slot
     → IfOk r (λ text. (has_unpaired_surrogate us ≡ false) × (chars (string_bytes text) ≡ utf16_lossy_chars us))
     → IfOk r (λ name. IsText slot × (chars (string_bytes name) ≡ stored_name slot))
 text_found slot us (Ok text) short even is found =

@@ -3,11 +3,11 @@ ghost use Rattle.std.specs.Prelude.{◌≡◌, ◌↔◌, ◌≤◌, ◌*◌, �
 ghost use Rattle.std.specs.Int.{to_le_bytes, w64};
 ghost use Rattle.std.specs.Char.Utf16.{has_unpaired_surrogate, utf16_lossy_chars};
 ghost use Rattle.cfb_format.specs.declared.error.Error.TheVariants.{Memory};
-ghost use Rattle.cfb_format.specs.Bytes.{u16_at as unit_of, u64_at as long_of, unit_bytes};
+ghost use Rattle.cfb_format.specs.Bytes.{unit_at, long_at, unit_bytes};
 ghost use Rattle.cfb_format.specs.Names.{utf16_units, max_name_len};
-ghost use Rattle.cfb_format.specs.DirectoryEntry.{Entry, AcceptsEntry, IsAllowedChild, unallocated_entry, empty_root_entry, entry_bytes, clsid_bytes as clsid_bytes_of, is_entry_number as is_entry_number_of, name_unit_count, root_name as root_name_of, units, stored_name, stored_clsid, written_name_len};
+ghost use Rattle.cfb_format.specs.DirectoryEntry.{Entry, AcceptsEntry, IsAllowedChild, unallocated_entry, empty_root_entry, entry_bytes, written_clsid, is_entry_link, name_unit_count, root_entry_name, units, stored_name, stored_clsid, written_name_len};
 ghost use Rattle.cfb_codecs.specs.EntryModel.{entry_of, new_entry};
-ghost use Rattle.cfb_codecs.specs.EntryParts.{AcceptsName, HasLinks, IsText, ReadsName, details_for as read_details, stored_details as details_of};
+ghost use Rattle.cfb_codecs.specs.EntryParts.{AcceptsName, HasLinks, IsText, ReadsName, details_of_kind, details_in_slot};
 ghost use Rattle.cfb_format.specs.Refused.{IsInvalidOrMemory};
 
 use crate::path;
@@ -190,7 +190,7 @@ fn malformed(text: &'static str) -> Error
 }
 
 fn is_entry_number(word: u32) -> bool
-    ensures { result ≡ is_entry_number_of word }
+    ensures { result ≡ is_entry_link word }
 {
     word <= consts::MAX_REGULAR_STREAM_ID || word == consts::NO_STREAM
 }
@@ -212,10 +212,10 @@ fn has_links(kind: ObjType, left: u32, right: u32, child: u32) -> bool
 }
 
 /// The number of the 8 bytes at `at`.
-#[tactic(auto, unfolding(cfb_format::specs::Bytes::u64_at))]
+#[tactic(auto, unfolding(cfb_format::specs::Bytes::long_at))]
 fn u64_at(slot: &[u8; consts::DIR_ENTRY_LEN], at: usize) -> u64
     requires { at + 8 ≤ 128 }
-    ensures { result ≡ long_of slot.now at }
+    ensures { result ≡ long_at slot.now at }
 {
     u64::from_le_bytes(bytes_at(slot, at))
 }
@@ -232,7 +232,7 @@ fn bytes_at<const N: usize>(slot: &[u8; consts::DIR_ENTRY_LEN], at: usize) -> [u
 
 /// The bytes of a class id, as a slot holds them.
 fn clsid_bytes(id: Uuid) -> [u8; 16]
-    ensures { result ≡ clsid_bytes_of id }
+    ensures { result ≡ written_clsid id }
 {
     id.to_bytes_le()
 }
@@ -243,10 +243,10 @@ fn clsid_at_80(slot: &[u8; consts::DIR_ENTRY_LEN]) -> Uuid
     Uuid::from_bytes_le(bytes_at(slot, 80))
 }
 
-#[tactic(auto, unfolding(cfb_format::specs::Bytes::u64_at))]
+#[tactic(auto, unfolding(cfb_format::specs::Bytes::long_at))]
 fn moment_at(slot: &[u8; consts::DIR_ENTRY_LEN], at: usize) -> Timestamp
     requires { at + 8 ≤ 128 }
-    ensures { result ≡ long_of slot.now at }
+    ensures { result ≡ long_at slot.now at }
 {
     Timestamp::read_from(&bytes_at(slot, at))
 }
@@ -254,7 +254,7 @@ fn moment_at(slot: &[u8; consts::DIR_ENTRY_LEN], at: usize) -> Timestamp
 /// What stands in a slot.
 #[tactic(auto, using(crate::proofs::EntryReading::masked_len))]
 fn stored_details(slot: &[u8; consts::DIR_ENTRY_LEN], version: Version) -> Details
-    ensures { result ≡ details_of version slot.now }
+    ensures { result ≡ details_in_slot version slot.now }
 {
     Details {
         clsid: clsid_at_80(slot),
@@ -267,7 +267,7 @@ fn stored_details(slot: &[u8; consts::DIR_ENTRY_LEN], version: Version) -> Detai
 
 /// What of it an object of that kind may have.
 fn details_for(kind: ObjType, stored: Details) -> Details
-    ensures { result ≡ read_details kind stored }
+    ensures { result ≡ details_of_kind kind stored }
 {
     match kind {
         ObjType::Stream => Details {
@@ -358,8 +358,8 @@ fn all_units(slot: &[u8; consts::DIR_ENTRY_LEN]) -> [u16; 32]
 
 /// Whether a 0 stands behind the name.
 fn has_terminator(slot: &[u8; consts::DIR_ENTRY_LEN]) -> bool
-    requires { unit_of slot.now 64 ≤ 64 }
-    ensures { IsTrue result ↔ (unit_of slot.now (2 * name_unit_count slot.now) ≡ 0) }
+    requires { unit_at slot.now 64 ≤ 64 }
+    ensures { IsTrue result ↔ (unit_at slot.now (2 * name_unit_count slot.now) ≡ 0) }
 {
     u16_at(slot, 2 * unit_count(slot)) == 0
 }
@@ -399,7 +399,7 @@ fn root_name<A: Allocator>(stored: String<A>, validation: Validation) -> Result<
 }
 
 fn is_root_name(name: &str) -> bool
-    ensures { IsTrue result ↔ (chars name.now ≡ root_name_of) }
+    ensures { IsTrue result ↔ (chars name.now ≡ root_entry_name) }
 {
     name == consts::ROOT_DIR_NAME
 }

@@ -4,8 +4,8 @@ ghost use Rattle.std.specs.Cmp.Lexicographic.{slice_cmp};
 ghost use Rattle.std.specs.Ordering.{nat_cmp};
 ghost use Rattle.std.specs.Str.{chars};
 ghost use Rattle.std.specs.List.{list_any};
-ghost use Rattle.cfb_format.specs.Names.{Cases, default_cases, paired, upper_case as upper_of, has_ascii_letter, utf16_units, name_key as key_of, name_cmp, is_forbidden as forbidden, is_valid_name};
-ghost use Rattle.cfb_format.specs.Path.{says_nothing as nothing, says_parent as parent, names_with, names_of_path, names_along, names_left, path_of_names, Leaves, Gives};
+ghost use Rattle.cfb_format.specs.Names.{Cases, default_cases, paired, upper_case, has_ascii_letter, utf16_units, key_of_name, name_cmp, is_forbidden_character, is_valid_name};
+ghost use Rattle.cfb_format.specs.Path.{part_says_nothing, part_says_parent, names_with, names_of_path, names_along, names_left, path_of_names, Leaves, Gives};
 ghost use Rattle.cfb_format.specs.Refused.{IsMemory, RefusesInput};
 
 use cfb_format::error::{Detail, Error};
@@ -127,7 +127,7 @@ impl<A: Allocator> CaseMapper<A> {
 
     /// The upper case of a character.
     fn upper_case(&self, letter: char) -> char
-        ensures { result ≡ upper_of self.now letter }
+        ensures { result ≡ upper_case self.now letter }
     {
         if letter.is_ascii() {
             letter.to_ascii_uppercase()
@@ -154,8 +154,8 @@ pub fn name_key<A: Allocator>(
     cases: &CaseMapper<A>,
     name: &str,
 ) -> Result<NameKey<A>, Error>
-    ensures units { IfOk result (λ key. key.units ≡ (key_of cases.now (chars name.now)).0) }
-    ensures letters { IfOk result (λ key. key.letters.items ≡ (key_of cases.now (chars name.now)).1) }
+    ensures units { IfOk result (λ key. key.units ≡ (key_of_name cases.now (chars name.now)).0) }
+    ensures letters { IfOk result (λ key. key.letters.items ≡ (key_of_name cases.now (chars name.now)).1) }
     ensures refused { IfErr result IsMemory }
 {
     let units = unit_count(name);
@@ -177,7 +177,7 @@ pub fn compare_names<A: Allocator>(cases: &CaseMapper<A>, a: &str, b: &str) -> O
 
 /// The order of the characters in upper case.
 fn compare_letters<A: Allocator>(cases: &CaseMapper<A>, a: &str, b: &str) -> Ordering
-    ensures { result ≡ slice_cmp nat_cmp (map (upper_of cases.now) (chars a.now)) (map (upper_of cases.now) (chars b.now)) }
+    ensures { result ≡ slice_cmp nat_cmp (map (upper_case cases.now) (chars a.now)) (map (upper_case cases.now) (chars b.now)) }
 {
     let others = b.chars().map(|letter| cases.upper_case(letter));
     a.chars().map(|letter| cases.upper_case(letter)).cmp(others)
@@ -215,13 +215,13 @@ pub fn validate_name<A: Allocator>(alloc: A, name: &str) -> Result<Vec<u16, A>, 
 
 /// Whether `/`, `\`, `:` or `!` stands in the name.
 pub(crate) fn has_forbidden(name: &str) -> bool
-    ensures { result ≡ list_any forbidden (chars name.now) }
+    ensures { result ≡ list_any is_forbidden_character (chars name.now) }
 {
     name.chars().any(is_forbidden)
 }
 
 fn is_forbidden(letter: char) -> bool
-    ensures { result ≡ forbidden letter }
+    ensures { result ≡ is_forbidden_character letter }
 {
     matches!(letter, '/' | '\\' | ':' | '!')
 }
@@ -337,13 +337,13 @@ fn first_part(path: &str) -> (&str, &str)
 }
 
 fn says_nothing(part: &str) -> bool
-    ensures { result ≡ nothing (chars part.now) }
+    ensures { result ≡ part_says_nothing (chars part.now) }
 {
     part.is_empty() || part == "."
 }
 
 fn says_parent(part: &str) -> bool
-    ensures { result ≡ parent (chars part.now) }
+    ensures { result ≡ part_says_parent (chars part.now) }
 {
     part == ".."
 }

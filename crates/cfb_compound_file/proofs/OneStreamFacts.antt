@@ -11,7 +11,7 @@ use Rattle.cfb_format.specs.declared.version.Version.TheVariants.{V3, V4}
 use Rattle.cfb_format.specs.declared.validate.Validation.TheVariants.{Strict}
 use Rattle.cfb_format.specs.Bytes.{word_bytes, unit_bytes, sector_len, words_per_sector, entries_per_sector, stream_len_modulus, end_of_chain, free_sector, no_stream}
 use Rattle.cfb_format.specs.Header.{header_bytes}
-use Rattle.cfb_format.specs.Names.{utf16_units, is_forbidden, is_valid_name}
+use Rattle.cfb_format.specs.Names.{utf16_units, is_forbidden_character, is_valid_name}
 use Rattle.cfb_format.specs.DirectoryEntry.{Entry, EntryFits, IsValidEntry, IsEntry, IsStrictEntry, AcceptsEntry, entry_bytes, slot_at, unallocated_entry}
 use Rattle.cfb_format.specs.Reading.{Reading, Outline, no_more, stream_at}
 use Rattle.cfb_format.specs.Created.{created_header}
@@ -93,7 +93,7 @@ unfolding IsBlock entry_bytes unit_bytes
 block-free = refl
 
 name-short : (name : List ℕ) → IsTrue (is_valid_name name) → length (utf16_units name) ≤ 31
-name-short name valid = go (nat_le (length (utf16_units name)) 31) (not (list_any is_forbidden name)) refl valid
+name-short name valid = go (nat_le (length (utf16_units name)) 31) (not (list_any is_forbidden_character name)) refl valid
   where
     go : (a b : Bool) → nat_le (length (utf16_units name)) 31 ≡ a → a && b ≡ true → length (utf16_units name) ≤ 31
     go true b e t = leb-true _ _ e

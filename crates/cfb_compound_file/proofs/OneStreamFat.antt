@@ -7,7 +7,7 @@ use Rattle.std.proofs.lemmas.Bool.{ne_eqb, eqb-false, eq-eqb, eqb-true, le-leb, 
 use Rattle.std.proofs.lemmas.List.FromFn.{get_or-map-range_with_len, length-map-range_with_len}
 use Rattle.cfb_format.specs.Bytes.{words, word_bytes, is_regular, points_below, end_of_chain, free_sector, fat_sector, invalid_sector}
 use Rattle.cfb_format.specs.Chain.{Follows, IsChain}
-use Rattle.cfb_format.specs.Fat.{fat_value, within_file, HasDistinctPointers}
+use Rattle.cfb_format.specs.Fat.{fat_value, ended_past_file, HasDistinctPointers}
 use Rattle.cfb_format.proofs.Chains.{Follows-distinct}
 use Rattle.cfb_compound_file.specs.OneStream.{fat_word, used_fat}
 
@@ -100,13 +100,13 @@ module _ (m : ℕ) (few : m ≤ 1022) where
       same true = refl
       same false = refl
 
-      inside : fat_word m i ≡ fat_word m i → within_file (m + 2) (fat_word m i) ≡ fat_word m i
-      inside _ = word-is (λ w. within_file (m + 2) w ≡ w) m i (λ _. refl) (λ _. refl)
+      inside : fat_word m i ≡ fat_word m i → ended_past_file (m + 2) (fat_word m i) ≡ fat_word m i
+      inside _ = word-is (λ w. ended_past_file (m + 2) w ≡ w) m i (λ _. refl) (λ _. refl)
           (λ low other. ap (λ b. if is_regular (i + 1) && b then end_of_chain else i + 1) (lt-leb (m + 2) (i + 1) (omega (arith, other))) ∙ same (is_regular (i + 1)))
 
-      go : (b : Bool) → (0 == i) ≡ b → (if b || false then fat_sector else within_file (m + 2) (get_or (used_fat m) i free_sector)) ≡ fat_word m i
+      go : (b : Bool) → (0 == i) ≡ b → (if b || false then fat_sector else ended_past_file (m + 2) (get_or (used_fat m) i free_sector)) ≡ fat_word m i
       go true e = ap (fat_word m) (eqb-true 0 i e)
-      go false e = ap (within_file (m + 2)) (used-at i free_sector h) ∙ inside refl
+      go false e = ap (ended_past_file (m + 2)) (used-at i free_sector h) ∙ inside refl
 
   pub values-are : map (fat_value (m + 2) (0 ∷ []) [] (used_fat m)) (range_with_len 0 (m + 2)) ≡ used_fat m
   unfolding used_fat

@@ -6,7 +6,7 @@ use Rattle.std.specs.Prelude.{Option, slice_index}
 use Rattle.std.proofs.lemmas.List.{get_or_append_left, append-nil}
 use Rattle.cfb_format.specs.declared.version.Version.{Version}
 use Rattle.cfb_format.specs.declared.version.Version.TheVariants.{V3, V4}
-use Rattle.cfb_format.specs.Bytes.{u32_at, sector_len, sector_start, sector_words, words_per_sector, free_sector}
+use Rattle.cfb_format.specs.Bytes.{word_at, sector_len, sector_start, sector_words, words_per_sector, free_sector}
 use Rattle.cfb_format.proofs.Words.{sector_words-at}
 use Rattle.cfb_compound_file.specs.OneStream.{OneStream, content_sectors, used_fat, HoldsOne, IsLinked}
 use Rattle.cfb_compound_file.proofs.OneStreamFat.{used-length, used-at, word-next}
@@ -22,7 +22,7 @@ linked v held bytes holds = record {
   links = λ i low high.
       let few = few-content v held bytes holds in
       let inside : i < words_per_sector v = (let all = few-sectors v held holds.served in omega (arith, all, high)) in
-      ap (λ n. u32_at bytes (n + 4 * i)) (sym (first-start v))
+      ap (λ n. word_at bytes (n + 4 * i)) (sym (first-start v))
       ∙ sym (sector_words-at v bytes 0 i inside)
       ∙ ap (λ (xs : List ℕ). get_or xs i 0) (sym (append-nil (sector_words v bytes 0)) ∙ words-are v held bytes holds)
       ∙ get_or_append_left (used_fat (content_sectors v held)) (replicate (words_per_sector v - (content_sectors v held + 2)) free_sector) 0 i
@@ -55,6 +55,6 @@ unfolding four
 same-four xs ys h = λ j. four (h 0 (omega arith) j) (h 1 (omega arith) j) (h 2 (omega arith) j) (h 3 (omega arith) j)
 
 -- a word is that of its four bytes
-pub word-of-part : (b : List ℕ) (p : ℕ) → from_le_bytes w32 (part b p 4) ≡ u32_at b p
-unfolding u32_at
+pub word-of-part : (b : List ℕ) (p : ℕ) → from_le_bytes w32 (part b p 4) ≡ word_at b p
+unfolding word_at
 word-of-part b p = same-four (part b p 4) (drop p b) (λ k low. get_or-take 4 (drop p b) k 0 low)

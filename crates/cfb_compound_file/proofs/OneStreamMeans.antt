@@ -13,7 +13,7 @@ use Rattle.cfb_format.specs.Names.{Cases}
 use Rattle.cfb_format.specs.Fat.{raw_fat}
 use Rattle.cfb_format.specs.Chain.{IsChain, value}
 use Rattle.cfb_format.specs.Siblings.{entry_at}
-use Rattle.cfb_format.specs.Content.{readable, placed_from, place, is_large, bytes_along, sector_chain, mini_chain, content_chain, mini_stream_chain}
+use Rattle.cfb_format.specs.Content.{readable, placed_from, place_in_stream, is_large, bytes_along, sector_chain, mini_chain, content_chain, mini_stream_chain}
 use Rattle.cfb_format.specs.Meaning.{Means, objects_from}
 use Rattle.cfb_format.specs.Soundness.{IsSound, used_sectors, used_mini_sectors, sectors_of, mini_sectors_of, streams}
 use Rattle.cfb_format.specs.Tree.{nothing, stream}
@@ -84,7 +84,7 @@ module _ (v : Version) (s : OneStream) (bytes : List ℕ) (holds : HoldsOne v (S
 empty-readable : (v : Version) (s : OneStream) (bytes : List ℕ) → s.len ≡ 0 → readable bytes (reading_with v (Some s)) (held_entry s) ≡ stream_content v bytes s
 unfolding placed_from
 empty-readable v s bytes none =
-    ap (placed_from bytes (place bytes (reading_with v (Some s)) (held_entry s)) 0) none ∙ sym (ap (part bytes (3 * sector_len v)) none)
+    ap (placed_from bytes (place_in_stream bytes (reading_with v (Some s)) (held_entry s)) 0) none ∙ sym (ap (part bytes (3 * sector_len v)) none)
 
 pub readable-is : (v : Version) (s : OneStream) (bytes : List ℕ) → HoldsOne v (Some s) bytes → readable bytes (reading_with v (Some s)) (held_entry s) ≡ stream_content v bytes s
 readable-is v s bytes holds = elim holds.served.1 [

@@ -9,7 +9,7 @@ use Rattle.std.proofs.lemmas.List.FromFn.{get_or-map-range_with_len, length-map-
 use Rattle.cfb_format.specs.declared.version.Version.{Version}
 use Rattle.cfb_format.specs.declared.version.Version.TheVariants.{V3, V4}
 use Rattle.cfb_format.specs.declared.validate.Validation.TheVariants.{Strict}
-use Rattle.cfb_format.specs.Bytes.{u32_at, words, word_bytes, unit_bytes, sector_len, sector_start, sector_bytes, sector_words, sector_count, words_per_sector, entries_per_sector, is_whole_sector, points_below, end_of_chain, free_sector, fat_sector}
+use Rattle.cfb_format.specs.Bytes.{word_at, words, word_bytes, unit_bytes, sector_len, sector_start, sector_bytes, sector_words, sector_count, words_per_sector, entries_per_sector, is_whole_sector, points_below, end_of_chain, free_sector, fat_sector}
 use Rattle.cfb_format.specs.Header.{AcceptsHeader, header_bytes}
 use Rattle.cfb_format.specs.Medium.{part}
 use Rattle.cfb_format.specs.Names.{Cases}
@@ -65,7 +65,7 @@ words-all v m h =
 -- ---- the header
 
 header-of : (v : Version) → AcceptsHeader Strict (created_bytes v) (created_header v)
-unfolding created_bytes header_bytes word_bytes unit_bytes entry_bytes u32_at
+unfolding created_bytes header_bytes word_bytes unit_bytes entry_bytes word_at
 header-of V3 = record { header = header3; strict = refl }
 header-of V4 = record { header = header4; strict = tt }
 

@@ -4,7 +4,7 @@ use Rattle.std.specs.List.{list_all, range_with_len}
 use Rattle.cfb_format.specs.declared.version.Version.{Version}
 use Rattle.cfb_format.specs.declared.objtype.ObjType.TheVariants.{Stream}
 use Rattle.cfb_format.specs.declared.color.Color.TheVariants.{Black}
-use Rattle.cfb_format.specs.Bytes.{word_bytes, u32_at, sector_len, words_per_sector, entries_per_sector, end_of_chain, free_sector, fat_sector, no_stream}
+use Rattle.cfb_format.specs.Bytes.{word_bytes, word_at, sector_len, words_per_sector, entries_per_sector, end_of_chain, free_sector, fat_sector, no_stream}
 use Rattle.cfb_format.specs.Header.{header_bytes}
 use Rattle.cfb_format.specs.Names.{is_valid_name}
 use Rattle.cfb_format.specs.DirectoryEntry.{Entry, entry_bytes, empty_root_entry, unallocated_entry, nil_clsid}
@@ -137,6 +137,6 @@ tree_with version bytes (Some s) = record {
 
 -- each of the m sectors behind the directory's names the next one, but the last
 pub record IsLinked (version : Version) (bytes : List ℕ) (m : ℕ) : Type 0 where
-  pub links : (i : ℕ) → 2 ≤ i → i ≤ m → u32_at bytes (sector_len version + 4 * i) ≡ i + 1
+  pub links : (i : ℕ) → 2 ≤ i → i ≤ m → word_at bytes (sector_len version + 4 * i) ≡ i + 1
   pub long : length bytes ≡ 3 * sector_len version + m * sector_len version
   pub few : m + 2 ≤ words_per_sector version

@@ -4,7 +4,7 @@ use Rattle.std.proofs.lemmas.List.{take-replicate, take_rest, get_or_append_left
 use Rattle.std.proofs.Math.Seq.{take-add, take-append-add}
 use borrow.Rule.Slice.PartMut.{put_mid}
 use Rattle.std.proofs.lemmas.Bool.{cases_lt}
-use Rattle.cfb_format.specs.Medium.{part, written, ChangesOnly}
+use Rattle.cfb_format.specs.Medium.{part, written, ChangesOnlyBytes}
 
 -- the bytes before the write, with the gap
 unfoldable front : List ℕ → ℕ → List ℕ
@@ -58,7 +58,7 @@ module _ (b : List ℕ) (at : ℕ) (f : List ℕ) where
       let back : end + (i - end) ≡ i = omega arith in
       get_or-append_right (front b at ++ f) _ end i 0 head_length high ∙ get_or-drop end b (i - end) 0 ∙ ap (slice_index b) back
 
-  pub ChangesOnly-written : ChangesOnly at (length f) b (written b at f)
+  pub ChangesOnly-written : ChangesOnlyBytes at (length f) b (written b at f)
   ChangesOnly-written =
       record {
         no_shorter = omega (arith, length-written);
@@ -170,11 +170,11 @@ written_step b b' from at d n within none some =
     ap (λ (xs : List ℕ). written b' (at + d) (take n xs)) (take_rest from d) ∙ written_next b b' from at d n within none some
 
 -- nothing changed
-pub ChangesOnly_refl : (at n : ℕ) (a : List ℕ) → ChangesOnly at n a a
+pub ChangesOnly_refl : (at n : ℕ) (a : List ℕ) → ChangesOnlyBytes at n a a
 ChangesOnly_refl at n a = record { no_shorter = omega arith; below = λ i _ _. refl; above = λ i _ _. refl }
 
 -- one change after another
-pub ChangesOnly_trans : (at n : ℕ) (a b c : List ℕ) → ChangesOnly at n a b → ChangesOnly at n b c → ChangesOnly at n a c
+pub ChangesOnly_trans : (at n : ℕ) (a b c : List ℕ) → ChangesOnlyBytes at n a b → ChangesOnlyBytes at n b c → ChangesOnlyBytes at n a c
 ChangesOnly_trans at n a b c first second =
     let longer = first.no_shorter in
     record {
@@ -184,7 +184,7 @@ ChangesOnly_trans at n a b c first second =
     }
 
 -- a change in a smaller range
-pub ChangesOnly_wider : (at n at' n' : ℕ) (a b : List ℕ) → at ≤ at' → at' + n' ≤ at + n → ChangesOnly at' n' a b → ChangesOnly at n a b
+pub ChangesOnly_wider : (at n at' n' : ℕ) (a b : List ℕ) → at ≤ at' → at' + n' ≤ at + n → ChangesOnlyBytes at' n' a b → ChangesOnlyBytes at n a b
 ChangesOnly_wider at n at' n' a b from to change =
     record {
       no_shorter = change.no_shorter;
@@ -193,11 +193,11 @@ ChangesOnly_wider at n at' n' a b from to change =
     }
 
 -- a whole write that took a beginning changes only the range asked for
-pub ChangesOnly_begun : (at n : ℕ) (b f : List ℕ) → length f ≤ n → ChangesOnly at n b (written b at f)
+pub ChangesOnly_begun : (at n : ℕ) (b f : List ℕ) → length f ≤ n → ChangesOnlyBytes at n b (written b at f)
 ChangesOnly_begun at n b f fits = ChangesOnly_wider at n at (length f) b _ (omega arith) (omega arith) (ChangesOnly-written b at f)
 
 -- the same, of a list that is known to be what a write left
-pub ChangesOnly_after : (at n : ℕ) (b f new : List ℕ) → new ≡ written b at f → length f ≤ n → ChangesOnly at n b new
+pub ChangesOnly_after : (at n : ℕ) (b f new : List ℕ) → new ≡ written b at f → length f ≤ n → ChangesOnlyBytes at n b new
 ChangesOnly_after at n b f new is fits = rw is (ChangesOnly_begun at n b f fits)
 
 pub ruleset write_steps = (written_step, ChangesOnly_refl, ChangesOnly_trans, ChangesOnly_wider, ChangesOnly_begun)
@@ -220,7 +220,7 @@ part_written b at n f same =
     ext_get_or 0 _ f (omega arith) (λ i within. part_at (written b at f) at n i (omega arith) ∙ written_at b at f i (omega arith))
 
 -- a part that the change leaves alone
-pub part_apart : (at n p m : ℕ) (a b : List ℕ) → ChangesOnly at n a b → p + m ≤ length a → (at < p + m → at + n ≤ p) → part b p m ≡ part a p m
+pub part_apart : (at n p m : ℕ) (a b : List ℕ) → ChangesOnlyBytes at n a b → p + m ≤ length a → (at < p + m → at + n ≤ p) → part b p m ≡ part a p m
 part_apart at n p m a b change within apart =
     let longer = change.no_shorter in
     let old = length-part a p m in

@@ -4,7 +4,7 @@ use Rattle.std.specs.Prelude.{slice_index, IsTrue, Contains, ◌≢◌}
 use Rattle.std.specs.List.{IsDistinct}
 use Rattle.std.specs.Char.Utf16.{utf16_chars}
 use Rattle.cfb_format.specs.declared.version.Version.TheVariants.{V3}
-use Rattle.cfb_format.specs.Bytes.{u16_at, u32_at, u64_at, words, word_bytes, unit_bytes, sector_bytes, is_regular}
+use Rattle.cfb_format.specs.Bytes.{unit_at, word_at, long_at, words, word_bytes, unit_bytes, sector_bytes, is_regular}
 use Rattle.cfb_format.specs.Header.{IsHeader, header_bytes}
 use Rattle.cfb_format.specs.Fat.{IsDifat, IsFat, IsStrictDifat, IsStrictFat, fat_of}
 use Rattle.cfb_format.specs.Chain.{chain_within}
@@ -23,7 +23,7 @@ unfolding created_bytes header_bytes word_bytes entry_bytes unit_bytes
 len3 = refl
 
 pub header3 : IsHeader (created_bytes V3) (created_header V3)
-unfolding created_bytes header_bytes word_bytes entry_bytes unit_bytes u16_at u32_at words
+unfolding created_bytes header_bytes word_bytes entry_bytes unit_bytes unit_at word_at words
 header3 = record {
   fixed = record { magic = refl; major_version = refl; byte_order = refl; shift = refl; mini_shift = refl; mini_stream_cutoff = refl };
   num_dir_sectors = refl;
@@ -58,7 +58,7 @@ abbrev slot3 : ℕ → List ℕ
 slot3 k = slot_at (sector_bytes V3 (created_bytes V3) 1) k
 
 root_slot : IsEntry V3 (slot3 0) empty_root_entry
-unfolding created_bytes header_bytes word_bytes entry_bytes unit_bytes words units u16_at u32_at u64_at utf16_chars
+unfolding created_bytes header_bytes word_bytes entry_bytes unit_bytes words units unit_at word_at long_at utf16_chars
 root_slot = record {
   name_len = lit≤ tt;
   name_len_even = refl;
@@ -82,7 +82,7 @@ root_slot = record {
 }
 
 free_slot1 : IsEntry V3 (slot3 1) unallocated_entry
-unfolding created_bytes header_bytes word_bytes entry_bytes unit_bytes words units u16_at u32_at u64_at utf16_chars
+unfolding created_bytes header_bytes word_bytes entry_bytes unit_bytes words units unit_at word_at long_at utf16_chars
 free_slot1 = record {
   name_len = lit≤ tt;
   name_len_even = refl;
@@ -106,7 +106,7 @@ free_slot1 = record {
 }
 
 free_slot2 : IsEntry V3 (slot3 2) unallocated_entry
-unfolding created_bytes header_bytes word_bytes entry_bytes unit_bytes words units u16_at u32_at u64_at utf16_chars
+unfolding created_bytes header_bytes word_bytes entry_bytes unit_bytes words units unit_at word_at long_at utf16_chars
 free_slot2 = record {
   name_len = lit≤ tt;
   name_len_even = refl;
@@ -130,7 +130,7 @@ free_slot2 = record {
 }
 
 free_slot3 : IsEntry V3 (slot3 3) unallocated_entry
-unfolding created_bytes header_bytes word_bytes entry_bytes unit_bytes words units u16_at u32_at u64_at utf16_chars
+unfolding created_bytes header_bytes word_bytes entry_bytes unit_bytes words units unit_at word_at long_at utf16_chars
 free_slot3 = record {
   name_len = lit≤ tt;
   name_len_even = refl;
@@ -154,19 +154,19 @@ free_slot3 = record {
 }
 
 strict_slot0 : IsStrictEntry V3 (slot3 0) empty_root_entry
-unfolding created_bytes header_bytes word_bytes entry_bytes unit_bytes words units u16_at u32_at u64_at utf16_chars
+unfolding created_bytes header_bytes word_bytes entry_bytes unit_bytes words units unit_at word_at long_at utf16_chars
 strict_slot0 = record { terminator = refl; name = refl; clsid = refl; creation_time = refl; modified_time = refl; start_sector = refl; stream_len = refl }
 
 strict_slot1 : IsStrictEntry V3 (slot3 1) unallocated_entry
-unfolding created_bytes header_bytes word_bytes entry_bytes unit_bytes words units u16_at u32_at u64_at utf16_chars
+unfolding created_bytes header_bytes word_bytes entry_bytes unit_bytes words units unit_at word_at long_at utf16_chars
 strict_slot1 = record { terminator = refl; name = refl; clsid = refl; creation_time = refl; modified_time = refl; start_sector = refl; stream_len = refl }
 
 strict_slot2 : IsStrictEntry V3 (slot3 2) unallocated_entry
-unfolding created_bytes header_bytes word_bytes entry_bytes unit_bytes words units u16_at u32_at u64_at utf16_chars
+unfolding created_bytes header_bytes word_bytes entry_bytes unit_bytes words units unit_at word_at long_at utf16_chars
 strict_slot2 = record { terminator = refl; name = refl; clsid = refl; creation_time = refl; modified_time = refl; start_sector = refl; stream_len = refl }
 
 strict_slot3 : IsStrictEntry V3 (slot3 3) unallocated_entry
-unfolding created_bytes header_bytes word_bytes entry_bytes unit_bytes words units u16_at u32_at u64_at utf16_chars
+unfolding created_bytes header_bytes word_bytes entry_bytes unit_bytes words units unit_at word_at long_at utf16_chars
 strict_slot3 = record { terminator = refl; name = refl; clsid = refl; creation_time = refl; modified_time = refl; start_sector = refl; stream_len = refl }
 
 directory3 : IsDirectory V3 (created_bytes V3) (0xFFFF_FFFD ∷ 0xFFFF_FFFE ∷ []) 1 (1 ∷ []) (created_reading V3).entries
@@ -202,7 +202,7 @@ pub reads3 : (cases : Cases) → Reads cases (created_bytes V3) (created_reading
 reads3 cases = record { header = header3; len = length3; difat = difat3; fat = fat3; directory = directory3; outline = outline3 cases; minifat = minifat3 }
 
 pub strict3 : IsStrict (created_bytes V3) (created_reading V3)
-unfolding created_bytes header_bytes word_bytes entry_bytes unit_bytes slots u32_at
+unfolding created_bytes header_bytes word_bytes entry_bytes unit_bytes slots word_at
 strict3 = record {
   header = refl;
   difat = strict_difat3;

@@ -4,7 +4,7 @@ use Rattle.std.specs.Prelude.{slice_index, IsTrue, Contains, ◌≢◌}
 use Rattle.std.specs.List.{IsDistinct, AllZip}
 use Rattle.std.specs.Char.Utf16.{utf16_chars}
 use Rattle.cfb_format.specs.declared.version.Version.TheVariants.{V4}
-use Rattle.cfb_format.specs.Bytes.{u16_at, u32_at, u64_at, words, word_bytes, unit_bytes, is_regular}
+use Rattle.cfb_format.specs.Bytes.{unit_at, word_at, long_at, words, word_bytes, unit_bytes, is_regular}
 use Rattle.cfb_format.specs.Header.{IsHeader, header_bytes}
 use Rattle.cfb_format.specs.Fat.{IsDifat, IsFat, IsStrictDifat, IsStrictFat, fat_of}
 use Rattle.cfb_format.specs.Chain.{chain_within}
@@ -23,7 +23,7 @@ unfolding created_bytes header_bytes word_bytes entry_bytes unit_bytes
 len4 = refl
 
 pub header4 : IsHeader (created_bytes V4) (created_header V4)
-unfolding created_bytes header_bytes word_bytes entry_bytes unit_bytes u16_at u32_at words
+unfolding created_bytes header_bytes word_bytes entry_bytes unit_bytes unit_at word_at words
 header4 = record {
   fixed = record { magic = refl; major_version = refl; byte_order = refl; shift = refl; mini_shift = refl; mini_stream_cutoff = refl };
   num_dir_sectors = refl;
@@ -63,7 +63,7 @@ all_same R x y h zero = tt
 all_same R x y h (suc n) = (h, all_same R x y h n)
 
 root_entry4 : IsEntry V4 (entry_bytes empty_root_entry) empty_root_entry
-unfolding entry_bytes word_bytes unit_bytes words units u16_at u32_at u64_at utf16_chars
+unfolding entry_bytes word_bytes unit_bytes words units unit_at word_at long_at utf16_chars
 root_entry4 = record {
   name_len = lit≤ tt;
   name_len_even = refl;
@@ -87,7 +87,7 @@ root_entry4 = record {
 }
 
 free_entry4 : IsEntry V4 (entry_bytes unallocated_entry) unallocated_entry
-unfolding entry_bytes word_bytes unit_bytes words units u16_at u32_at u64_at utf16_chars
+unfolding entry_bytes word_bytes unit_bytes words units unit_at word_at long_at utf16_chars
 free_entry4 = record {
   name_len = lit≤ tt;
   name_len_even = refl;
@@ -111,11 +111,11 @@ free_entry4 = record {
 }
 
 strict_root4 : IsStrictEntry V4 (entry_bytes empty_root_entry) empty_root_entry
-unfolding entry_bytes word_bytes unit_bytes words units u16_at u32_at u64_at utf16_chars
+unfolding entry_bytes word_bytes unit_bytes words units unit_at word_at long_at utf16_chars
 strict_root4 = record { terminator = refl; name = refl; clsid = refl; creation_time = refl; modified_time = refl; start_sector = refl; stream_len = refl }
 
 strict_free4 : IsStrictEntry V4 (entry_bytes unallocated_entry) unallocated_entry
-unfolding entry_bytes word_bytes unit_bytes words units u16_at u32_at u64_at utf16_chars
+unfolding entry_bytes word_bytes unit_bytes words units unit_at word_at long_at utf16_chars
 strict_free4 = record { terminator = refl; name = refl; clsid = refl; creation_time = refl; modified_time = refl; start_sector = refl; stream_len = refl }
 
 entries4 : AllZip (IsEntry V4) (slots V4 (created_bytes V4) (1 ∷ [])) (created_reading V4).entries
@@ -159,7 +159,7 @@ pub reads4 : (cases : Cases) → Reads cases (created_bytes V4) (created_reading
 reads4 cases = record { header = header4; len = length4; difat = difat4; fat = fat4; directory = directory4; outline = outline4 cases; minifat = minifat4 }
 
 pub strict4 : IsStrict (created_bytes V4) (created_reading V4)
-unfolding created_bytes header_bytes word_bytes entry_bytes unit_bytes u32_at
+unfolding created_bytes header_bytes word_bytes entry_bytes unit_bytes word_at
 strict4 = record {
   header = tt;
   difat = strict_difat4;

@@ -5,7 +5,7 @@ use Rattle.std.specs.List.{list_all, position_or_len}
 use Rattle.std.specs.Int.{from_le_bytes, w32}
 use Rattle.std.proofs.lemmas.List.{drop_more, drop_all, take_more, drop-drop, set-append_right}
 use Rattle.std.proofs.lemmas.List.Folds.{list_all-append, list_all_more}
-use Rattle.cfb_format.specs.Bytes.{words, u32_at, is_regular, free_sector}
+use Rattle.cfb_format.specs.Bytes.{words, word_at, is_regular, free_sector}
 use Rattle.cfb_format.specs.Header.{entries_before_free, padded_difat}
 use Rattle.cfb_format.proofs.Words.{words-at}
 
@@ -60,8 +60,8 @@ passed-bad ws j p l nf r all =
     (ap (λ b. list_all is_regular (take j ws) && (b && list_all is_regular (entries_before_free (drop (j + 1) ws)))) (sym r)
     ∙ sym (list_all-append is_regular (take j ws) (get_or ws j 0 ∷ entries_before_free (drop (j + 1) ws))) ∙ ap (list_all is_regular) (sym whole) ∙ all)
 
-pub word-there : (bytes : List ℕ) (j : ℕ) → j < 109 → get_or (words 109 (drop 76 bytes)) j 0 ≡ u32_at bytes (76 + 4 * j)
-unfolding u32_at
+pub word-there : (bytes : List ℕ) (j : ℕ) → j < 109 → get_or (words 109 (drop 76 bytes)) j 0 ≡ word_at bytes (76 + 4 * j)
+unfolding word_at
 word-there bytes j l = words-at 109 (drop 76 bytes) j l ∙ ap (from_le_bytes w32) (drop-drop (4 * j) 76 bytes)
 
 -- the first j entries and FREE behind them

@@ -9,7 +9,7 @@ use Rattle.cfb_format.specs.declared.version.Version.TheVariants.{V3, V4}
 use Rattle.cfb_format.specs.declared.validate.Validation.{Validation}
 use Rattle.cfb_format.specs.declared.validate.Validation.TheVariants.{Permissive, Strict}
 use Rattle.cfb_format.specs.declared.header.Header.{Header}
-use Rattle.cfb_format.specs.Bytes.{u16_at, u32_at, words, word_bytes, unit_bytes, version_number, sector_shift, end_of_chain, free_sector, is_regular}
+use Rattle.cfb_format.specs.Bytes.{unit_at, word_at, words, word_bytes, unit_bytes, version_number, sector_shift, end_of_chain, free_sector, is_regular}
 use Rattle.cfb_format.specs.Header.{IsHeader, AcceptsHeader, IfStrict, IsStrictHeader, IsStrictDirCount, IsValidHeader, HeaderFits, header_bytes, dir_sectors_of, stored_difat, padded_difat, entries_before_free}
 
 small_version : (v : Version) → version_number v < 2 ^ 16
@@ -31,7 +31,7 @@ stored_back h fits valid =
     ap entries_before_free (subst (λ n. words n (word_bytes h.initial_difat_entries) ≡ h.initial_difat_entries) valid.len (words-word_bytes h.initial_difat_entries fits.initial_difat_entries))
 
 header_back : (h : Header) → HeaderFits h → IsValidHeader h → IsHeader (header_bytes h) h
-unfolding u16_at u32_at header_bytes word_bytes unit_bytes
+unfolding unit_at word_at header_bytes word_bytes unit_bytes
 header_back h fits valid = record {
   fixed = record {
     magic = refl;
@@ -54,8 +54,8 @@ header_back h fits valid = record {
 }
 
 -- version 3 counts no directory sectors
-counted_back : (h : Header) → HeaderFits h → IsValidHeader h → u32_at (header_bytes h) 40 ≡ dir_sectors_of h.version h.num_dir_sectors
-unfolding u32_at header_bytes word_bytes unit_bytes
+counted_back : (h : Header) → HeaderFits h → IsValidHeader h → word_at (header_bytes h) 40 ≡ dir_sectors_of h.version h.num_dir_sectors
+unfolding word_at header_bytes word_bytes unit_bytes
 counted_back h fits valid = from_le_bytes-to_le_bytes_4 h.num_dir_sectors fits.num_dir_sectors ∙ valid.num_dir_sectors
 
 strict_count : (version : Version) (word kept : ℕ) → word ≡ dir_sectors_of version kept → IsStrictDirCount version word
@@ -64,7 +64,7 @@ strict_count V4 word kept e = tt
 
 strict_back : (validation : Validation) (h : Header) → HeaderFits h → IsValidHeader h → IfStrict validation (IsStrictHeader h.version (header_bytes h))
 strict_back Permissive h fits valid = tt
-strict_back Strict h fits valid = strict_count h.version (u32_at (header_bytes h) 40) h.num_dir_sectors (counted_back h fits valid)
+strict_back Strict h fits valid = strict_count h.version (word_at (header_bytes h) 40) h.num_dir_sectors (counted_back h fits valid)
 
 pub header_read_back : (validation : Validation) (h : Header) → HeaderFits h → IsValidHeader h → AcceptsHeader validation (header_bytes h) h
 header_read_back validation h fits valid = record { header = header_back h fits valid; strict = strict_back validation h fits valid }

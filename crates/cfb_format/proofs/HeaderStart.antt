@@ -9,7 +9,7 @@ use Rattle.cfb_format.specs.declared.version.Version.{Version}
 use Rattle.cfb_format.specs.declared.version.Version.TheVariants.{V3, V4}
 use Rattle.cfb_format.specs.declared.validate.Validation.{Validation}
 use Rattle.cfb_format.specs.declared.validate.Validation.TheVariants.{Permissive, Strict}
-use Rattle.cfb_format.specs.Bytes.{u16_at, u32_at, words, is_regular}
+use Rattle.cfb_format.specs.Bytes.{unit_at, word_at, words, is_regular}
 use Rattle.cfb_format.specs.Header.{AcceptsHeader, IsStrictHeader, IfStrict, dir_sectors_of, first_difat_of, padded_difat, entries_before_free, stored_difat}
 
 -- ---- numbers whose bytes are the same
@@ -47,11 +47,11 @@ start n at k bytes fits i l =
 -- what a header is read off is the same in both
 record Alike (a b : List ℕ) : Type 0 where
   magic : take 8 a ≡ take 8 b
-  units : (at : ℕ) → at + 2 ≤ 512 → u16_at a at ≡ u16_at b at
-  numbers : (at : ℕ) → at + 4 ≤ 512 → u32_at a at ≡ u32_at b at
+  units : (at : ℕ) → at + 2 ≤ 512 → unit_at a at ≡ unit_at b at
+  numbers : (at : ℕ) → at + 4 ≤ 512 → word_at a at ≡ word_at b at
   difat : words 109 (drop 76 a) ≡ words 109 (drop 76 b)
 
-strict_there : (validation : Validation) (version : Version) (a b : List ℕ) → u32_at a 40 ≡ u32_at b 40
+strict_there : (validation : Validation) (version : Version) (a b : List ℕ) → word_at a 40 ≡ word_at b 40
     → IfStrict validation (IsStrictHeader version a) → IfStrict validation (IsStrictHeader version b)
 strict_there Permissive version a b e h = tt
 strict_there Strict V3 a b e h = sym e ∙ h
@@ -85,7 +85,7 @@ accepts_there validation a b h same accepts =
     }
 
 alike_start : (bytes : List ℕ) → Alike (take 512 bytes) bytes
-unfolding u16_at u32_at
+unfolding unit_at word_at
 alike_start bytes = record {
   magic = take-take 8 512 bytes (lit≤ tt);
   units = λ at fits. u16-same (drop at (take 512 bytes)) (drop at bytes) (start 512 at 2 bytes fits);

@@ -7,7 +7,7 @@ use Rattle.std.specs.FinMap.{slice_cmp-IsAntisymmetric, nat_cmp-IsAntisymmetric}
 use Rattle.std.specs.Ordering.{nat_cmp}
 use Rattle.std.specs.declared.cmp.Ordering.TheVariants.{Equal}
 use Rattle.std.proofs.lemmas.Map.Lookups.{exact_pairs, exact_unsigned, CmpEqualImpliesEq}
-use Rattle.cfb_format.specs.Names.{Cases, name_key, key_cmp, name_cmp}
+use Rattle.cfb_format.specs.Names.{Cases, key_of_name, key_cmp, name_cmp}
 
 key_total : IsTotalOrder key_cmp
 key_total = then_total (on_total (λ k. k.0) nat_cmp_total) (on_total (λ k. k.1) nat_list_cmp_total)
@@ -16,10 +16,10 @@ key_exact : CmpEqualImpliesEq key_cmp
 key_exact = exact_pairs nat_cmp (slice_cmp nat_cmp) exact_unsigned (slice_cmp-IsAntisymmetric nat_cmp-IsAntisymmetric)
 
 pub name_cmp-total : (cases : Cases) → IsTotalOrder (name_cmp cases)
-name_cmp-total cases = on_total (name_key cases) key_total
+name_cmp-total cases = on_total (key_of_name cases) key_total
 
-pub name_cmp-equal : (cases : Cases) (a b : List ℕ) → (name_cmp cases a b ≡ Equal) ↔ (name_key cases a ≡ name_key cases b)
+pub name_cmp-equal : (cases : Cases) (a b : List ℕ) → (name_cmp cases a b ≡ Equal) ↔ (key_of_name cases a ≡ key_of_name cases b)
 name_cmp-equal cases a b = (
-  λ e. key_exact (name_key cases a) (name_key cases b) e,
-  λ e. subst (λ k. key_cmp (name_key cases a) k ≡ Equal) e (tied_itself key_total (name_key cases a)),
+  λ e. key_exact (key_of_name cases a) (key_of_name cases b) e,
+  λ e. subst (λ k. key_cmp (key_of_name cases a) k ≡ Equal) e (tied_itself key_total (key_of_name cases a)),
 )

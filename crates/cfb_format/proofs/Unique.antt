@@ -6,7 +6,7 @@ use Rattle.cfb_format.specs.declared.version.Version.{Version}
 use Rattle.cfb_format.specs.declared.version.Version.TheVariants.{V3, V4}
 use Rattle.cfb_format.specs.declared.objtype.ObjType.{ObjType}
 use Rattle.cfb_format.specs.declared.objtype.ObjType.TheVariants.{Storage, Stream}
-use Rattle.cfb_format.specs.Bytes.{u32_at, u64_at, version_number, free_sector}
+use Rattle.cfb_format.specs.Bytes.{word_at, long_at, version_number, free_sector}
 use Rattle.cfb_format.specs.declared.header.Header.{Header}
 use Rattle.cfb_format.specs.Header.{IsHeader, dir_sectors_of}
 use Rattle.cfb_format.specs.Fat.{FollowsDifat, IsDifat, IsFat, next_difat, without_end, without_padding, all_difat_entries}
@@ -74,7 +74,7 @@ IsHeader-unique bytes h k a b =
     let v : h.version ≡ k.version = version_unique h.version k.version (sym a.fixed.major_version ∙ b.fixed.major_version) in
     λ i. record {
       version = v i;
-      num_dir_sectors = (a.num_dir_sectors ∙ ap (λ w. dir_sectors_of w (u32_at bytes 40)) v ∙ sym b.num_dir_sectors) i;
+      num_dir_sectors = (a.num_dir_sectors ∙ ap (λ w. dir_sectors_of w (word_at bytes 40)) v ∙ sym b.num_dir_sectors) i;
       num_fat_sectors = (a.num_fat_sectors ∙ sym b.num_fat_sectors) i;
       first_dir_sector = (a.first_dir_sector ∙ sym b.first_dir_sector) i;
       first_minifat_sector = (a.first_minifat_sector ∙ sym b.first_minifat_sector) i;
@@ -112,9 +112,9 @@ IsEntry-unique v slot d e a b =
       child = (a.child ∙ sym b.child) i;
       clsid = (a.clsid ∙ ap (λ k. unless_stream k nil_clsid (stored_clsid slot)) t ∙ sym b.clsid) i;
       state_bits = (a.state_bits ∙ sym b.state_bits) i;
-      creation_time = (a.creation_time ∙ ap (λ k. unless_stream k 0 (u64_at slot 100)) t ∙ sym b.creation_time) i;
-      modified_time = (a.modified_time ∙ ap (λ k. unless_stream k 0 (u64_at slot 108)) t ∙ sym b.modified_time) i;
-      start_sector = (a.start_sector ∙ ap (λ k. unless_storage k (u32_at slot 116)) t ∙ sym b.start_sector) i;
+      creation_time = (a.creation_time ∙ ap (λ k. unless_stream k 0 (long_at slot 100)) t ∙ sym b.creation_time) i;
+      modified_time = (a.modified_time ∙ ap (λ k. unless_stream k 0 (long_at slot 108)) t ∙ sym b.modified_time) i;
+      start_sector = (a.start_sector ∙ ap (λ k. unless_storage k (word_at slot 116)) t ∙ sym b.start_sector) i;
       stream_len = (a.stream_len ∙ ap (λ k. unless_storage k (stored_len v slot)) t ∙ sym b.stream_len) i;
     }
 

@@ -5,7 +5,7 @@ use Rattle.std.proofs.lemmas.List.{drop-drop}
 use Rattle.std.proofs.lemmas.Bool.{leb-true}
 use Rattle.cfb_format.specs.declared.version.Version.{Version}
 use Rattle.cfb_format.specs.declared.version.Version.TheVariants.{V3, V4}
-use Rattle.cfb_format.specs.Bytes.{u32_at, words, sector_len, words_per_sector, sector_start, sector_words, sector_count, is_whole_sector}
+use Rattle.cfb_format.specs.Bytes.{word_at, words, sector_len, words_per_sector, sector_start, sector_words, sector_count, is_whole_sector}
 
 pub words-length : (k : ℕ) (bytes : List ℕ) → length (words k bytes) ≡ k
 unfolding words
@@ -23,8 +23,8 @@ words-at (suc k) bytes (suc j) l =
 pub sector_words-length : (v : Version) (bytes : List ℕ) (i : ℕ) → length (sector_words v bytes i) ≡ words_per_sector v
 sector_words-length v bytes i = words-length (words_per_sector v) (drop (sector_start v i) bytes)
 
-pub sector_words-at : (v : Version) (bytes : List ℕ) (i j : ℕ) → j < words_per_sector v → get_or (sector_words v bytes i) j 0 ≡ u32_at bytes (sector_start v i + 4 * j)
-unfolding u32_at
+pub sector_words-at : (v : Version) (bytes : List ℕ) (i j : ℕ) → j < words_per_sector v → get_or (sector_words v bytes i) j 0 ≡ word_at bytes (sector_start v i + 4 * j)
+unfolding word_at
 sector_words-at v bytes i j l =
     words-at (words_per_sector v) (drop (sector_start v i) bytes) j l ∙ ap (from_le_bytes w32) (drop-drop (4 * j) (sector_start v i) bytes)
 

@@ -10,16 +10,16 @@ abbrev pub byte_at : List ℕ → ℕ → ℕ
 byte_at bytes at = slice_index bytes at
 
 -- the little-endian number of the 2 bytes at a place (MS-CFB 2.1)
-unfoldable pub u16_at : List ℕ → ℕ → ℕ
-u16_at bytes at = from_le_bytes w16 (drop at bytes)
+unfoldable pub unit_at : List ℕ → ℕ → ℕ
+unit_at bytes at = from_le_bytes w16 (drop at bytes)
 
 -- the same of 4 bytes
-unfoldable pub u32_at : List ℕ → ℕ → ℕ
-u32_at bytes at = from_le_bytes w32 (drop at bytes)
+unfoldable pub word_at : List ℕ → ℕ → ℕ
+word_at bytes at = from_le_bytes w32 (drop at bytes)
 
 -- the same of 8 bytes
-unfoldable pub u64_at : List ℕ → ℕ → ℕ
-u64_at bytes at = from_le_bytes w64 (drop at bytes)
+unfoldable pub long_at : List ℕ → ℕ → ℕ
+long_at bytes at = from_le_bytes w64 (drop at bytes)
 
 -- the first k words of 4 bytes
 unfoldable pub words : ℕ → List ℕ → List ℕ

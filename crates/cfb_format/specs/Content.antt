@@ -56,8 +56,8 @@ place_in_mini_chain bytes r list k =
     option_and_then (λ m. place_in_mini_stream bytes r (mini_sector_len * m + k % mini_sector_len)) (slice_get list (k / mini_sector_len))
 
 -- where byte k of a stream stands in the file, if anywhere
-abbrev pub place : List ℕ → Reading → Entry → ℕ → Option ℕ
-place bytes r e k =
+abbrev pub place_in_stream : List ℕ → Reading → Entry → ℕ → Option ℕ
+place_in_stream bytes r e k =
     if is_large e then option_and_then (λ list. place_in_chain r.header.version bytes list k) (sector_chain r e)
     else option_and_then (λ list. place_in_mini_chain bytes r list k) (mini_chain r e)
 
@@ -69,7 +69,7 @@ placed_from bytes place_of k (suc more) =
 
 -- the longest beginning of a stream, up to its length, whose bytes all have a place
 abbrev pub readable : List ℕ → Reading → Entry → List ℕ
-readable bytes r e = placed_from bytes (place bytes r e) 0 e.stream_len
+readable bytes r e = placed_from bytes (place_in_stream bytes r e) 0 e.stream_len
 
 -- the bytes of these sectors one after the other, up to one that the file doesn't have whole
 abbrev pub bytes_along : Version → List ℕ → List ℕ → List ℕ

@@ -9,9 +9,9 @@ use Rattle.cfb_format.specs.declared.objtype.ObjType.{ObjType}
 use Rattle.cfb_format.specs.declared.objtype.ObjType.TheVariants.{Unallocated, Storage, Stream, Root}
 use Rattle.cfb_format.specs.declared.color.Color.{Color}
 use Rattle.cfb_format.specs.declared.color.Color.TheVariants.{Red, Black}
-use Rattle.cfb_format.specs.Bytes.{byte_at, unit_bytes, u16_at, u32_at, u64_at, stream_len_modulus, sector_bytes, entries_per_sector, is_regular, no_stream, end_of_chain}
+use Rattle.cfb_format.specs.Bytes.{byte_at, unit_bytes, unit_at, word_at, long_at, stream_len_modulus, sector_bytes, entries_per_sector, is_regular, no_stream, end_of_chain}
 use Rattle.std.specs.Str.{all_scalars}
-use Rattle.cfb_format.specs.Names.{utf16_units, is_forbidden, is_valid_name}
+use Rattle.cfb_format.specs.Names.{utf16_units, is_forbidden_character, is_valid_name}
 use Rattle.cfb_format.specs.Header.{IfStrict}
 
 pub record Entry : Type 0 where
@@ -53,7 +53,7 @@ units (suc k) bytes = from_le_bytes w16 bytes ∷ units k (drop 2 bytes)
 
 -- how many units the name has: the stored length counts bytes, the terminator's with them, and 0 is the empty name too
 abbrev pub name_unit_count : List ℕ → ℕ
-name_unit_count slot = u16_at slot 64 / 2 - 1
+name_unit_count slot = unit_at slot 64 / 2 - 1
 
 abbrev pub stored_units : List ℕ → List ℕ
 stored_units slot = units (name_unit_count slot) slot
@@ -62,20 +62,20 @@ stored_units slot = units (name_unit_count slot) slot
 abbrev pub stored_name : List ℕ → List ℕ
 stored_name slot = utf16_lossy_chars (stored_units slot)
 
-abbrev pub root_name : List ℕ
-root_name = codes "Root Entry"
+abbrev pub root_entry_name : List ℕ
+root_entry_name = codes "Root Entry"
 
 -- a u32, two u16, all of them little-endian, and 8 bytes
 abbrev pub stored_clsid : List ℕ → List ℕ
 stored_clsid slot = reverse (take 4 (drop 80 slot)) ++ reverse (take 2 (drop 84 slot)) ++ reverse (take 2 (drop 86 slot)) ++ take 8 (drop 88 slot)
 
 abbrev pub stored_len : Version → List ℕ → ℕ
-stored_len version slot = u64_at slot 120 % stream_len_modulus version
+stored_len version slot = long_at slot 120 % stream_len_modulus version
 
 -- ---- the fields, as they are read: what an object of that type can't have counts as not there
 
 abbrev pub name_for : ObjType → List ℕ → List ℕ
-name_for Root name = root_name
+name_for Root name = root_entry_name
 name_for Unallocated name = name
 name_for Storage name = name
 name_for Stream name = name
@@ -97,50 +97,50 @@ unless_storage Root n = n
 -- every name but the root's has none of the forbidden characters
 abbrev pub IsAllowedName : ObjType → List ℕ → Type 0
 IsAllowedName Root name = ⊤
-IsAllowedName Unallocated name = list_any is_forbidden name ≡ false
-IsAllowedName Storage name = list_any is_forbidden name ≡ false
-IsAllowedName Stream name = list_any is_forbidden name ≡ false
+IsAllowedName Unallocated name = list_any is_forbidden_character name ≡ false
+IsAllowedName Storage name = list_any is_forbidden_character name ≡ false
+IsAllowedName Stream name = list_any is_forbidden_character name ≡ false
 
-abbrev pub is_entry_number : ℕ → Bool
-is_entry_number word = is_regular word || word == no_stream
+abbrev pub is_entry_link : ℕ → Bool
+is_entry_link word = is_regular word || word == no_stream
 
 -- a stream has no child
 abbrev pub IsAllowedChild : ObjType → ℕ → Type 0
 IsAllowedChild Stream child = child ≡ no_stream
-IsAllowedChild Unallocated child = IsTrue (is_entry_number child)
-IsAllowedChild Storage child = IsTrue (is_entry_number child)
-IsAllowedChild Root child = IsTrue (is_entry_number child)
+IsAllowedChild Unallocated child = IsTrue (is_entry_link child)
+IsAllowedChild Storage child = IsTrue (is_entry_link child)
+IsAllowedChild Root child = IsTrue (is_entry_link child)
 
 -- e is what the 128 bytes of a slot hold
 pub record IsEntry (version : Version) (slot : List ℕ) (e : Entry) : Type 0 where
-  pub name_len : u16_at slot 64 ≤ 64
-  pub name_len_even : u16_at slot 64 % 2 ≡ 0
+  pub name_len : unit_at slot 64 ≤ 64
+  pub name_len_even : unit_at slot 64 % 2 ≡ 0
   pub name_is_text : has_unpaired_surrogate (stored_units slot) ≡ false
   pub obj_type : obj_type_of (byte_at slot 66) ≡ Some e.obj_type
   pub color : color_of (byte_at slot 67) ≡ Some e.color
   pub name : e.name ≡ name_for e.obj_type (stored_name slot)
   pub name_allowed : IsAllowedName e.obj_type (stored_name slot)
-  pub left_sibling : e.left_sibling ≡ u32_at slot 68
-  pub left_allowed : IsTrue (is_entry_number (u32_at slot 68))
-  pub right_sibling : e.right_sibling ≡ u32_at slot 72
-  pub right_allowed : IsTrue (is_entry_number (u32_at slot 72))
-  pub child : e.child ≡ u32_at slot 76
-  pub child_allowed : IsAllowedChild e.obj_type (u32_at slot 76)
+  pub left_sibling : e.left_sibling ≡ word_at slot 68
+  pub left_allowed : IsTrue (is_entry_link (word_at slot 68))
+  pub right_sibling : e.right_sibling ≡ word_at slot 72
+  pub right_allowed : IsTrue (is_entry_link (word_at slot 72))
+  pub child : e.child ≡ word_at slot 76
+  pub child_allowed : IsAllowedChild e.obj_type (word_at slot 76)
   pub clsid : e.clsid ≡ unless_stream e.obj_type nil_clsid (stored_clsid slot)
-  pub state_bits : e.state_bits ≡ u32_at slot 96
-  pub creation_time : e.creation_time ≡ unless_stream e.obj_type 0 (u64_at slot 100)
-  pub modified_time : e.modified_time ≡ unless_stream e.obj_type 0 (u64_at slot 108)
-  pub start_sector : e.start_sector ≡ unless_storage e.obj_type (u32_at slot 116)
+  pub state_bits : e.state_bits ≡ word_at slot 96
+  pub creation_time : e.creation_time ≡ unless_stream e.obj_type 0 (long_at slot 100)
+  pub modified_time : e.modified_time ≡ unless_stream e.obj_type 0 (long_at slot 108)
+  pub start_sector : e.start_sector ≡ unless_storage e.obj_type (word_at slot 116)
   pub stream_len : e.stream_len ≡ unless_storage e.obj_type (stored_len version slot)
 
 -- strict opening also wants the name's terminator, and each field that was read otherwise to stand as it is read
 pub record IsStrictEntry (version : Version) (slot : List ℕ) (e : Entry) : Type 0 where
-  pub terminator : u16_at slot (2 * name_unit_count slot) ≡ 0
+  pub terminator : unit_at slot (2 * name_unit_count slot) ≡ 0
   pub name : e.name ≡ stored_name slot
   pub clsid : e.clsid ≡ stored_clsid slot
-  pub creation_time : e.creation_time ≡ u64_at slot 100
-  pub modified_time : e.modified_time ≡ u64_at slot 108
-  pub start_sector : e.start_sector ≡ u32_at slot 116
+  pub creation_time : e.creation_time ≡ long_at slot 100
+  pub modified_time : e.modified_time ≡ long_at slot 108
+  pub start_sector : e.start_sector ≡ word_at slot 116
   pub stream_len : e.stream_len ≡ stored_len version slot
 
 -- opening in this mode takes the slot for this entry
@@ -180,8 +180,8 @@ written_name_len Storage name = 2 * (length (utf16_units name) + 1)
 written_name_len Stream name = 2 * (length (utf16_units name) + 1)
 written_name_len Root name = 2 * (length (utf16_units name) + 1)
 
-abbrev pub clsid_bytes : List ℕ → List ℕ
-clsid_bytes clsid = reverse (take 4 clsid) ++ reverse (take 2 (drop 4 clsid)) ++ reverse (take 2 (drop 6 clsid)) ++ drop 8 clsid
+abbrev pub written_clsid : List ℕ → List ℕ
+written_clsid clsid = reverse (take 4 clsid) ++ reverse (take 2 (drop 4 clsid)) ++ reverse (take 2 (drop 6 clsid)) ++ drop 8 clsid
 
 -- the 128 bytes of an entry
 unfoldable pub entry_bytes : Entry → List ℕ
@@ -189,7 +189,7 @@ entry_bytes e = unit_bytes (utf16_units e.name) ++ replicate (64 - 2 * length (u
     ++ to_le_bytes w16 (written_name_len e.obj_type e.name)
     ++ obj_type_byte e.obj_type ∷ color_byte e.color ∷ []
     ++ to_le_bytes w32 e.left_sibling ++ to_le_bytes w32 e.right_sibling ++ to_le_bytes w32 e.child
-    ++ clsid_bytes e.clsid ++ to_le_bytes w32 e.state_bits
+    ++ written_clsid e.clsid ++ to_le_bytes w32 e.state_bits
     ++ to_le_bytes w64 e.creation_time ++ to_le_bytes w64 e.modified_time
     ++ to_le_bytes w32 e.start_sector ++ to_le_bytes w64 e.stream_len
 
@@ -198,13 +198,13 @@ abbrev pub IsNameFor : ObjType → List ℕ → Type 0
 IsNameFor Unallocated name = name ≡ []
 IsNameFor Storage name = IsTrue (is_valid_name name)
 IsNameFor Stream name = IsTrue (is_valid_name name)
-IsNameFor Root name = name ≡ root_name
+IsNameFor Root name = name ≡ root_entry_name
 
 -- an entry that is read back as it was written: its fields are those that its kind may have in that version
 pub record IsValidEntry (version : Version) (e : Entry) : Type 0 where
   pub name : IsNameFor e.obj_type e.name
-  pub left_sibling : IsTrue (is_entry_number e.left_sibling)
-  pub right_sibling : IsTrue (is_entry_number e.right_sibling)
+  pub left_sibling : IsTrue (is_entry_link e.left_sibling)
+  pub right_sibling : IsTrue (is_entry_link e.right_sibling)
   pub child : IsAllowedChild e.obj_type e.child
   pub clsid : e.clsid ≡ unless_stream e.obj_type nil_clsid e.clsid
   pub creation_time : e.creation_time ≡ unless_stream e.obj_type 0 e.creation_time
@@ -245,7 +245,7 @@ unallocated_entry = record {
 
 abbrev pub empty_root_entry : Entry
 empty_root_entry = record {
-  name = root_name;
+  name = root_entry_name;
   obj_type = Root;
   color = Black;
   left_sibling = no_stream;

@@ -73,15 +73,15 @@ abbrev pub fat_padding : Version → List ℕ → List ℕ → List ℕ
 fat_padding version bytes list = drop (sector_count version bytes) (fat_words version bytes list)
 
 -- a pointer past the last of n sectors ends the chain there
-abbrev pub within_file : ℕ → ℕ → ℕ
-within_file n word = if is_regular word && nat_le n word then end_of_chain else word
+abbrev pub ended_past_file : ℕ → ℕ → ℕ
+ended_past_file n word = if is_regular word && nat_le n word then end_of_chain else word
 
 -- the value of sector i: listed FAT and DIFAT sectors count as such, and a sector that the FAT doesn't cover is free
 abbrev pub fat_value : ℕ → List ℕ → List ℕ → List ℕ → ℕ → ℕ
 fat_value n list own raw i =
     if is_among list i then fat_sector
     else if is_among own i then difat_sector
-    else within_file n (slice_index_or raw i free_sector)
+    else ended_past_file n (slice_index_or raw i free_sector)
 
 -- the FAT as it is read, a value for each sector of the file
 unfoldable pub fat_of : Version → List ℕ → List ℕ → List ℕ → List ℕ

@@ -6,7 +6,7 @@ use Rattle.cfb_format.specs.declared.version.Version.{Version}
 use Rattle.cfb_format.specs.declared.version.Version.TheVariants.{V3, V4}
 use Rattle.cfb_format.specs.declared.validate.Validation.{Validation}
 use Rattle.cfb_format.specs.declared.validate.Validation.TheVariants.{Permissive, Strict}
-use Rattle.cfb_format.specs.Bytes.{u16_at, u32_at, words, word_bytes, unit_bytes, version_number, sector_shift, end_of_chain, free_sector, is_regular}
+use Rattle.cfb_format.specs.Bytes.{unit_at, word_at, words, word_bytes, unit_bytes, version_number, sector_shift, end_of_chain, free_sector, is_regular}
 
 -- the header signature (MS-CFB 2.2)
 abbrev pub magic_number : List ℕ
@@ -40,22 +40,22 @@ stored_difat bytes = entries_before_free (words header_difat_len (drop 76 bytes)
 -- the fields whose value a version fixes are as it wants them; reserved bytes, minor version and signature are not looked at
 pub record HasFixedFields (bytes : List ℕ) (version : Version) : Type 0 where
   pub magic : take 8 bytes ≡ magic_number
-  pub major_version : u16_at bytes 26 ≡ version_number version
-  pub byte_order : u16_at bytes 28 ≡ 0xFFFE
-  pub shift : u16_at bytes 30 ≡ sector_shift version
-  pub mini_shift : u16_at bytes 32 ≡ 6
-  pub mini_stream_cutoff : u32_at bytes 56 ≡ 4096
+  pub major_version : unit_at bytes 26 ≡ version_number version
+  pub byte_order : unit_at bytes 28 ≡ 0xFFFE
+  pub shift : unit_at bytes 30 ≡ sector_shift version
+  pub mini_shift : unit_at bytes 32 ≡ 6
+  pub mini_stream_cutoff : word_at bytes 56 ≡ 4096
 
 -- h is the header that the first 512 bytes hold
 pub record IsHeader (bytes : List ℕ) (h : Header) : Type 0 where
   pub fixed : HasFixedFields bytes h.version
-  pub num_dir_sectors : h.num_dir_sectors ≡ dir_sectors_of h.version (u32_at bytes 40)
-  pub num_fat_sectors : h.num_fat_sectors ≡ u32_at bytes 44
-  pub first_dir_sector : h.first_dir_sector ≡ u32_at bytes 48
-  pub first_minifat_sector : h.first_minifat_sector ≡ u32_at bytes 60
-  pub num_minifat_sectors : h.num_minifat_sectors ≡ u32_at bytes 64
-  pub first_difat_sector : h.first_difat_sector ≡ first_difat_of (u32_at bytes 68)
-  pub num_difat_sectors : h.num_difat_sectors ≡ u32_at bytes 72
+  pub num_dir_sectors : h.num_dir_sectors ≡ dir_sectors_of h.version (word_at bytes 40)
+  pub num_fat_sectors : h.num_fat_sectors ≡ word_at bytes 44
+  pub first_dir_sector : h.first_dir_sector ≡ word_at bytes 48
+  pub first_minifat_sector : h.first_minifat_sector ≡ word_at bytes 60
+  pub num_minifat_sectors : h.num_minifat_sectors ≡ word_at bytes 64
+  pub first_difat_sector : h.first_difat_sector ≡ first_difat_of (word_at bytes 68)
+  pub num_difat_sectors : h.num_difat_sectors ≡ word_at bytes 72
   pub difat : h.initial_difat_entries ≡ padded_difat (stored_difat bytes)
   pub difat_entries : list_all is_regular (stored_difat bytes) ≡ true
 
@@ -66,7 +66,7 @@ IsStrictDirCount V4 word = ⊤
 
 -- the same of the bytes of a header
 abbrev pub IsStrictHeader : Version → List ℕ → Type 0
-IsStrictHeader version bytes = IsStrictDirCount version (u32_at bytes 40)
+IsStrictHeader version bytes = IsStrictDirCount version (word_at bytes 40)
 
 -- a demand that only strict opening makes
 abbrev pub IfStrict : Validation → Type 0 → Type 0
@@ -100,8 +100,8 @@ pub record HeaderFits (h : Header) : Type 0 where
   pub initial_difat_entries : AllByRecursion (λ word. word < 2 ^ 32) h.initial_difat_entries
 
 -- minor version, version, byte order and the two shifts
-abbrev pub version_units : Version → List ℕ
-version_units version = 0x3E ∷ version_number version ∷ 0xFFFE ∷ sector_shift version ∷ 6 ∷ []
+abbrev pub header_units : Version → List ℕ
+header_units version = 0x3E ∷ version_number version ∷ 0xFFFE ∷ sector_shift version ∷ 6 ∷ []
 
 -- the words from byte 40 up to the DIFAT: no transaction has signed it
 abbrev pub header_words : Header → List ℕ
@@ -110,5 +110,5 @@ header_words h = h.num_dir_sectors ∷ h.num_fat_sectors ∷ h.first_dir_sector 
 
 -- the 512 bytes of a header
 unfoldable pub header_bytes : Header → List ℕ
-header_bytes h = magic_number ++ replicate 16 0 ++ unit_bytes (version_units h.version) ++ replicate 6 0
+header_bytes h = magic_number ++ replicate 16 0 ++ unit_bytes (header_units h.version) ++ replicate 6 0
     ++ word_bytes (header_words h) ++ word_bytes h.initial_difat_entries

@@ -6,7 +6,7 @@ use Rattle.std.specs.declared.cmp.Ordering.TheVariants.{Equal}
 use Rattle.cfb_format.specs.declared.version.Version.{Version}
 use Rattle.cfb_format.specs.declared.validate.Validation.{Validation}
 use Rattle.cfb_format.specs.Bytes.{sector_len, sector_count, words_per_sector}
-use Rattle.cfb_format.specs.Names.{Cases, name_key, name_cmp}
+use Rattle.cfb_format.specs.Names.{Cases, key_of_name, name_cmp}
 use Rattle.cfb_format.specs.Header.{HeaderFits, IsValidHeader, IsHeader, AcceptsHeader, header_bytes}
 use Rattle.cfb_format.specs.declared.header.Header.{Header}
 use Rattle.cfb_format.specs.Path.{names_of_path, path_of_names, is_plain_name}
@@ -73,7 +73,7 @@ NamesAreOrdered = (cases : Cases) → IsTotalOrder (name_cmp cases)
 
 -- the names of one key are equal, and no others
 abbrev pub EqualByKey : Type 0
-EqualByKey = (cases : Cases) (a b : List ℕ) → (name_cmp cases a b ≡ Equal) ↔ (name_key cases a ≡ name_key cases b)
+EqualByKey = (cases : Cases) (a b : List ℕ) → (name_cmp cases a b ≡ Equal) ↔ (key_of_name cases a ≡ key_of_name cases b)
 
 -- the file that is made for a version means the root alone, is strict and sound, whatever the letters
 abbrev pub CreatedMeansRoot : Type 0

@@ -14,7 +14,7 @@ unfoldable pub written : List ℕ → ℕ → List ℕ → List ℕ
 written bytes at from = take at (bytes ++ replicate (at - length bytes) 0) ++ from ++ drop (at + length from) bytes
 
 -- all bytes but n from a place on are as before, and none is lost; what lies past the old end is open
-pub record ChangesOnly (at n : ℕ) (old new : List ℕ) : Type 0 where
+pub record ChangesOnlyBytes (at n : ℕ) (old new : List ℕ) : Type 0 where
   pub no_shorter : length old ≤ length new
   pub below : (i : ℕ) → i < length old → i < at → slice_index new i ≡ slice_index old i
   pub above : (i : ℕ) → i < length old → at + n ≤ i → slice_index new i ≡ slice_index old i
@@ -46,7 +46,7 @@ pub record ReadsAt (can_give : MediumFault → Bool) (bytes : List ℕ) (old new
 -- a write failed, and may have left any bytes in the range asked for and past the old end
 pub record FailsToWriteAt (can_give : MediumFault → Bool) (bytes bytes' : List ℕ) (old new at : ℕ) (from : List ℕ) (fault : MediumFault) : Type 0 where
   pub fails : FailsBy can_give old new fault
-  pub others : ChangesOnly at (length from) bytes bytes'
+  pub others : ChangesOnlyBytes at (length from) bytes bytes'
 
 -- a write answered n: it put a beginning of what was given, and failed only if it took nothing of something
 pub record WritesAt (can_give : MediumFault → Bool) (bytes bytes' : List ℕ) (old new at : ℕ) (from : List ℕ) (n : ℕ) : Type 0 where

@@ -77,6 +77,10 @@ AfterMedium broken kept = HasReason (record (at_every_error kept) { medium = λ 
 abbrev pub IsInvalidData : Error → Type 0
 IsInvalidData e = number_of e ≡ 4
 
+-- the input is wrong
+abbrev pub IsInvalidInput : Error → Type 0
+IsInvalidInput e = number_of e ≡ 3
+
 -- the bytes are not acceptable, and then P holds; or memory was refused
 abbrev pub IsInvalidOrMemory : Type 0 → Error → Type 0
 IsInvalidOrMemory P = HasReason (record no_error { invalid_data = P; memory = ⊤ })

@@ -1,21 +1,21 @@
 //! Little-endian numbers in bytes.
 ghost use Rattle.std.specs.Prelude.{◌≡◌, ◌+◌, ◌*◌, ◌≤◌, ◌++◌, length, take, drop, replicate};
-ghost use Rattle.cfb_format.specs.Bytes.{u16_at as unit_of, u32_at as word_of, word_bytes, unit_bytes};
+ghost use Rattle.cfb_format.specs.Bytes.{unit_at, word_at, word_bytes, unit_bytes};
 
 /// The number of the 2 bytes at `at`.
-#[tactic(auto, unfolding(crate::specs::Bytes::u16_at))]
+#[tactic(auto, unfolding(crate::specs::Bytes::unit_at))]
 pub fn u16_at(bytes: &[u8], at: usize) -> u16
     requires { at + 2 ≤ length bytes.now }
-    ensures { result ≡ unit_of bytes.now at }
+    ensures { result ≡ unit_at bytes.now at }
 {
     u16::from_le_bytes([bytes[at], bytes[at + 1]])
 }
 
 /// The number of the 4 bytes at `at`.
-#[tactic(auto, unfolding(crate::specs::Bytes::u32_at))]
+#[tactic(auto, unfolding(crate::specs::Bytes::word_at))]
 pub fn u32_at(bytes: &[u8], at: usize) -> u32
     requires { at + 4 ≤ length bytes.now }
-    ensures { result ≡ word_of bytes.now at }
+    ensures { result ≡ word_at bytes.now at }
 {
     u32::from_le_bytes([bytes[at], bytes[at + 1], bytes[at + 2], bytes[at + 3]])
 }

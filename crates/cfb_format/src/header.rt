@@ -2,8 +2,8 @@
 ghost use Rattle.std.specs.Prelude.{◌≡◌, ◌↔◌, ◌-◌, ◌++◌, ℕ, true, length, take, replicate, IsTrue, IfOk, IfErr, IfSome, IfNone};
 ghost use Rattle.std.specs.List.{list_all};
 ghost use Rattle.cfb_format.specs.declared.version.Version.{Version as VersionOf};
-ghost use Rattle.cfb_format.specs.Bytes.{is_regular as is_regular_of};
-ghost use Rattle.cfb_format.specs.Header.{magic_number, version_units as units_of, HasFixedFields, IfStrict, IsStrictDirCount, dir_sectors_of, first_difat_of, padded_difat, stored_difat};
+ghost use Rattle.cfb_format.specs.Bytes.{is_regular};
+ghost use Rattle.cfb_format.specs.Header.{magic_number, header_units, HasFixedFields, IfStrict, IsStrictDirCount, dir_sectors_of, first_difat_of, padded_difat, stored_difat};
 ghost use Rattle.cfb_format.specs.Refused.{IsInvalidData};
 
 use crate::bytes::{put, put_units, put_words, u16_at, u32_at};
@@ -134,7 +134,7 @@ fn invalid(text: &'static str) -> Error
 
 /// Minor version, version, byte order and the two shifts.
 fn version_units(version: Version) -> [u16; 5]
-    ensures { result ≡ units_of version }
+    ensures { result ≡ header_units version }
 {
     [
         consts::MINOR_VERSION,
@@ -206,8 +206,8 @@ fn first_difat(word: u32) -> u32
     }
 }
 
-fn is_regular(word: u32) -> bool
-    ensures { result ≡ is_regular_of word }
+fn is_regular_word(word: u32) -> bool
+    ensures { result ≡ is_regular word }
 {
     word <= consts::MAX_REGULAR_SECTOR
 }
@@ -218,8 +218,8 @@ fn difat_entries(
     bytes: &[u8; consts::HEADER_LEN],
 ) -> Option<[u32; consts::NUM_DIFAT_ENTRIES_IN_HEADER]>
     ensures some { IfSome result (λ entries. (entries ≡ padded_difat (stored_difat bytes.now))
-        × (list_all is_regular_of (stored_difat bytes.now) ≡ true)) }
-    ensures none { IfNone result (list_all is_regular_of (stored_difat bytes.now) ≡ true → ⊥) }
+        × (list_all is_regular (stored_difat bytes.now) ≡ true)) }
+    ensures none { IfNone result (list_all is_regular (stored_difat bytes.now) ≡ true → ⊥) }
 {
     let mut entries = [consts::FREE_SECTOR; consts::NUM_DIFAT_ENTRIES_IN_HEADER];
     for i in 0..consts::NUM_DIFAT_ENTRIES_IN_HEADER {
@@ -227,7 +227,7 @@ fn difat_entries(
         if word == consts::FREE_SECTOR {
             return Some(entries);
         }
-        if !is_regular(word) {
+        if !is_regular_word(word) {
             return None;
         }
         entries[i] = word;

@@ -15,9 +15,9 @@ pub struct MemoryMedium<A: Allocator = Global> {
 }
 
 impl<A: Allocator> Model for MemoryMedium<A> {
-    ghost use Rattle.cfb_format.specs.Memory.{Held};
+    ghost use Rattle.cfb_format.specs.Memory.{MemoryState};
 
-    ghost Value = { Held };
+    ghost Value = { MemoryState };
 
     ghost view = { λ m. record { bytes = m.bytes.items; failures = m.failures } };
 }

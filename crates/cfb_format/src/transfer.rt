@@ -1,6 +1,6 @@
 //! Whole reads and writes, out of beginnings.
 ghost use Rattle.std.specs.Prelude.{◌≡◌, ◌+◌, ◌^◌, ◌<◌, ◌≤◌, length, replicate, IsTrue, OnOk, IfErr};
-ghost use Rattle.cfb_format.specs.Medium.{part, written, ChangesOnly, FailsBy};
+ghost use Rattle.cfb_format.specs.Medium.{part, written, ChangesOnlyBytes, FailsBy};
 
 use crate::medium::{Medium, MediumFault, ReadMedium};
 
@@ -35,7 +35,7 @@ pub fn write_all_at<F: Medium>(medium: &mut F, at: u64, from: &[u8]) -> Result<(
     requires fits { at + length from.now < 2 ^ 64 }
     requires some { 0 < length from.now }
     ensures ok { IsTrue F.tells → OnOk result (F.bytes medium.new ≡ written (F.bytes medium.old) at from.now) }
-    ensures others { IsTrue F.tells → ChangesOnly at (length from.now) (F.bytes medium.old) (F.bytes medium.new) }
+    ensures others { IsTrue F.tells → ChangesOnlyBytes at (length from.now) (F.bytes medium.old) (F.bytes medium.new) }
     ensures calm { IsTrue F.tells → OnOk result (F.failures medium.new ≡ F.failures medium.old) }
     ensures err { IsTrue F.tells → IfErr result (FailsBy F.write_faults (F.failures medium.old) (F.failures medium.new)) }
 {
@@ -57,7 +57,7 @@ pub fn write_zeros_at<F: Medium>(medium: &mut F, at: u64, len: usize) -> Result<
     requires block { len ≤ 4096 }
     requires fits { at + len < 2 ^ 64 }
     ensures ok { IsTrue F.tells → OnOk result (F.bytes medium.new ≡ written (F.bytes medium.old) at (replicate len 0)) }
-    ensures others { IsTrue F.tells → ChangesOnly at len (F.bytes medium.old) (F.bytes medium.new) }
+    ensures others { IsTrue F.tells → ChangesOnlyBytes at len (F.bytes medium.old) (F.bytes medium.new) }
     ensures calm { IsTrue F.tells → OnOk result (F.failures medium.new ≡ F.failures medium.old) }
     ensures err { IsTrue F.tells → IfErr result (FailsBy F.write_faults (F.failures medium.old) (F.failures medium.new)) }
 {

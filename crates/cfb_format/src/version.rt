@@ -1,7 +1,7 @@
 //! The two versions of the format (MS-CFB 2.2).
 ghost use Rattle.std.specs.Prelude.{◌≡◌, ◌-◌, IfSome, IfNone, Some};
 ghost use Rattle.cfb_format.specs.declared.version.Version.{Version as VersionOf};
-ghost use Rattle.cfb_format.specs.Bytes.{version_number, sector_shift as shift_of, sector_len as sector_len_of, entries_per_sector, max_stream_len};
+ghost use Rattle.cfb_format.specs.Bytes.{version_number, sector_shift, sector_len, words_per_sector, entries_per_sector, max_stream_len};
 
 /// A version of the format, which fixes the length of its sectors.
 #[derive(Clone, Copy, Debug, PartialEq, Eq, PartialOrd, Ord, Hash)]
@@ -37,7 +37,7 @@ impl Version {
 
     /// The power of 2 that the length of a sector is.
     pub fn sector_shift(self) -> u16
-        ensures { result ≡ shift_of self }
+        ensures { result ≡ sector_shift self }
     {
         match self {
             Version::V3 => 9,
@@ -47,7 +47,7 @@ impl Version {
 
     /// The length of a sector, in bytes.
     pub fn sector_len(self) -> usize
-        ensures { result ≡ sector_len_of self }
+        ensures { result ≡ sector_len self }
     {
         match self {
             Version::V3 => 512,
@@ -74,5 +74,12 @@ impl Version {
             Version::V3 => 4,
             Version::V4 => 32,
         }
+    }
+
+    /// How many words of 4 bytes a sector holds, and so how many values a FAT sector.
+    pub fn words_per_sector(self) -> usize
+        ensures { result ≡ words_per_sector self }
+    {
+        self.sector_len() / 4
     }
 }

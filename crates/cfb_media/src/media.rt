@@ -2,7 +2,7 @@
 //! and one that counts its calls. Each is honest where the medium under it is.
 ghost use Rattle.std.specs.Prelude.{◌≡◌, ◌≢◌, ◌+◌, ◌-◌, ◌≤◌, ◌<◌, ◌^◌, ◌||◌, ◌↔◌, min, max, true, false, length, IsTrue};
 ghost use Rattle.std.specs.Bool.{OnFalse, OnTrue};
-ghost use Rattle.cfb_format.specs.Medium.{ChangesOnly, Rises};
+ghost use Rattle.cfb_format.specs.Medium.{ChangesOnlyBytes, Rises};
 ghost use Rattle.cfb_media.specs.Faults.{is_reading, is_writing, is_sticking};
 
 use cfb_format::medium::{Medium, MediumFault, ReadMedium};
@@ -235,7 +235,7 @@ impl<F: Medium> Medium for Failing<F> {
 /// Writes the byte 0xee over a range, as far as it goes.
 #[tactic(auto, using(cfb_format::proofs::ByteLemmas::changes))]
 fn spoil<F: Medium>(medium: &mut F, at: u64, len: usize)
-    ensures others { IsTrue F.tells → ChangesOnly at len (F.bytes medium.old) (F.bytes medium.new) }
+    ensures others { IsTrue F.tells → ChangesOnlyBytes at len (F.bytes medium.old) (F.bytes medium.new) }
     ensures failures { IsTrue F.tells → F.failures medium.old ≤ F.failures medium.new }
 {
     for i in 0..len {
@@ -248,7 +248,7 @@ fn spoil<F: Medium>(medium: &mut F, at: u64, len: usize)
 
 #[tactic(auto, using(cfb_format::proofs::ByteLemmas::changes))]
 fn spoil_byte<F: Medium>(medium: &mut F, at: u64)
-    ensures others { IsTrue F.tells → ChangesOnly at 1 (F.bytes medium.old) (F.bytes medium.new) }
+    ensures others { IsTrue F.tells → ChangesOnlyBytes at 1 (F.bytes medium.old) (F.bytes medium.new) }
     ensures failures { IsTrue F.tells → F.failures medium.old ≤ F.failures medium.new }
 {
     // Where the medium takes nothing, nothing is spoiled.

@@ -5,7 +5,7 @@ use Rattle.cfb_format.specs.declared.objtype.ObjType.{ObjType}
 use Rattle.cfb_format.specs.declared.objtype.ObjType.TheVariants.{Storage, Stream, Root}
 use Rattle.cfb_format.specs.Names.{Cases}
 use Rattle.cfb_format.specs.Path.{names_of_path, path_of_names, child_path}
-use Rattle.cfb_format.specs.DirectoryEntry.{nil_clsid, root_name}
+use Rattle.cfb_format.specs.DirectoryEntry.{nil_clsid, root_entry_name}
 use Rattle.cfb_rules.specs.Refusal.{not_found, invalid_input}
 use Rattle.cfb_format.specs.Tree.{StorageInfo, StreamInfo, Objects, nothing, storage, stream, Tree, Object, a_storage, a_stream}
 use Rattle.cfb_rules.specs.Calls.{Call, EntryInfo, Reply, create_storage, create_storage_all, create_stream, create_new_stream, open_stream, open_read_stream, remove_storage, remove_storage_all, remove_stream, set_storage_clsid, set_state_bits, set_created_time, set_modified_time, touch, flush, exists, is_stream, is_storage, root_entry, read_root_storage, walk, entry, read_storage, walk_storage, done, flag, one_entry, entries, refused}
@@ -40,7 +40,7 @@ stream_entry path name info = record {
 
 -- the root's length is that of the mini stream, which is no part of the tree
 abbrev pub root_info : ℕ → Tree → EntryInfo
-root_info mini_stream_len tree = storage_entry Root mini_stream_len (path_of_names []) root_name tree.root
+root_info mini_stream_len tree = storage_entry Root mini_stream_len (path_of_names []) root_entry_name tree.root
 
 -- what is told of an object
 abbrev pub object_entry : List ℕ → List ℕ → Object → EntryInfo

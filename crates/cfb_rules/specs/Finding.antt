@@ -1,7 +1,7 @@
 -- Finding an object by its names.
 use Rattle.std.specs.Prelude.{ℕ, ◌≡◌, ◌⊎◌, List, [], ◌∷◌, true, false, Option, Some, None, option_and_then, option_map}
 use Rattle.cfb_format.specs.Names.{Cases}
-use Rattle.cfb_format.specs.DirectoryEntry.{root_name}
+use Rattle.cfb_format.specs.DirectoryEntry.{root_entry_name}
 use Rattle.cfb_format.specs.Tree.{Tree, Object, a_storage, a_stream, Found, is_same_name, object_named}
 
 -- the object of that name in another object; there is nothing in a stream
@@ -16,7 +16,7 @@ found_from cases start (name ∷ names) = option_and_then (λ found. found_from 
 
 -- the root under the name that its entry has
 abbrev pub root_of : Tree → Found
-root_of tree = record { name = root_name; object = a_storage tree.root tree.objects }
+root_of tree = record { name = root_entry_name; object = a_storage tree.root tree.objects }
 
 -- what stands at these names, if anything
 abbrev pub found_at : Cases → Tree → List (List ℕ) → Option Found

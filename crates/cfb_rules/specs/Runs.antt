@@ -237,13 +237,13 @@ abbrev pub stream_fields : Object → StreamInfo
 stream_fields (a_stream info) = info
 stream_fields (a_storage info inside) = new_stream
 
-abbrev pub stream_at : Cases → Tree → List ℕ → StreamInfo
-stream_at cases tree path = stream_fields (unwrap_or (option_and_then (object_at cases tree) (names_of_path path)) (a_stream new_stream))
+abbrev pub stream_info_at : Cases → Tree → List ℕ → StreamInfo
+stream_info_at cases tree path = stream_fields (unwrap_or (option_and_then (object_at cases tree) (names_of_path path)) (a_stream new_stream))
 
 -- the stream as it is opened
 abbrev pub opened_at : Cases → Tree → List ℕ → StreamRun
 opened_at cases tree path = record {
-  stream = opened (stream_at cases tree path).len (stream_at cases tree path).content;
+  stream = opened (stream_info_at cases tree path).len (stream_info_at cases tree path).content;
   failed = false;
 }
 

@@ -4,7 +4,7 @@ use Rattle.std.specs.Prelude.{slice_index, slice_index_or}
 use Rattle.std.specs.Int.{from_le_bytes, w32}
 use Rattle.cfb_format.specs.declared.version.Version.{Version}
 use Rattle.cfb_format.specs.declared.version.Version.TheVariants.{V3, V4}
-use Rattle.cfb_format.specs.Bytes.{u32_at, words, sector_words, sector_len, sector_start, words_per_sector}
+use Rattle.cfb_format.specs.Bytes.{word_at, words, sector_words, sector_len, sector_start, words_per_sector}
 use Rattle.cfb_sectors.proofs.WordLemmas.{word_same}
 use Rattle.cfb_format.specs.Medium.{part}
 use Rattle.std.proofs.lemmas.Grind.{same_number_lists}
@@ -25,13 +25,13 @@ words-length zero bytes = refl
 words-length (suc k) bytes = ap suc (words-length k (drop 4 bytes))
 
 -- words, one by one
-pub words_each : (bytes ws : List ℕ) → ((k : ℕ) → k < length ws → slice_index ws k ≡ u32_at bytes (4 * k)) → ws ≡ words (length ws) bytes
-unfolding u32_at
+pub words_each : (bytes ws : List ℕ) → ((k : ℕ) → k < length ws → slice_index ws k ≡ word_at bytes (4 * k)) → ws ≡ words (length ws) bytes
+unfolding word_at
 words_each bytes ws each = same_number_lists ws _ (sym (words-length (length ws) bytes)) (λ i low. each i low ∙ sym (words-at (length ws) bytes i 0 low))
 
 -- the words of a part that was read are those that stand from there on
 pub words_of_part : (k : ℕ) (bytes : List ℕ) (at n : ℕ) → 4 * k ≤ n → words k (part bytes at n) ≡ words k (drop at bytes)
-unfolding u32_at
+unfolding word_at
 words_of_part k bytes at n fits =
     same_number_lists _ _ (words-length k (part bytes at n) ∙ sym (words-length k (drop at bytes)))
     (λ i low.

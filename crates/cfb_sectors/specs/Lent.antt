@@ -23,8 +23,8 @@ module _ {F : Type 0} {g : medium.Ghosts F} where
   offset_of s = s.offset
 
   -- where its next byte lies in the file, and how many it has from there on
-  abbrev pub position_of : Sector F g → ℕ
-  position_of s = s.start + s.offset
+  abbrev pub place_of : Sector F g → ℕ
+  place_of s = s.start + s.offset
 
   abbrev pub room_of : Sector F g → ℕ
   room_of s = s.len - s.offset

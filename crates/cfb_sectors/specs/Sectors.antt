@@ -23,12 +23,12 @@ pub record SectorFile : Type 0 where
   pub begun : Bool
 
 -- how many sectors so many bytes hold; a last one that is cut short counts
-abbrev pub sectors_in : Version → ℕ → ℕ
-sectors_in version len = (len + (sector_len version - 1)) / sector_len version - 1
+abbrev pub sectors_in_file : Version → ℕ → ℕ
+sectors_in_file version len = (len + (sector_len version - 1)) / sector_len version - 1
 
 -- the place of a sector's byte in the file
-abbrev pub place : SectorFile → ℕ → ℕ → ℕ
-place f sector offset = sector_start f.version sector + offset
+abbrev pub place_in_sector : SectorFile → ℕ → ℕ → ℕ
+place_in_sector f sector offset = sector_start f.version sector + offset
 
 -- where the last sector ends, or would, were it whole
 abbrev pub sectors_end : SectorFile → ℕ

@@ -1,11 +1,11 @@
 //! A medium as sectors (MS-CFB 2.1).
 ghost use Rattle.std.specs.Prelude.{◌≡◌, ◌≢◌, ◌+◌, ◌^◌, ◌*◌, ◌<◌, ◌≤◌, ◌-◌, ℕ, Bool, true, false, min, max, length, take, drop, replicate, IsTrue, OnOk, OnErr, IfOk, IfErr, IsErrAnd, MatchResult, Ok};
-ghost use Rattle.cfb_format.specs.Bytes.{sector_len as sector_len_of, words_per_sector, sector_words, words, u32_at as word_at};
-ghost use Rattle.cfb_format.specs.Medium.{part, written, ChangesOnly};
+ghost use Rattle.cfb_format.specs.Bytes.{sector_len, words_per_sector, sector_words, words, word_at};
+ghost use Rattle.cfb_format.specs.Medium.{part, written, ChangesOnlyBytes};
 ghost use Rattle.cfb_format.specs.DirectoryEntry.{entry_bytes, unallocated_entry};
 ghost use Rattle.cfb_format.specs.Refused.{IsInvalidData, CountsFailure};
 ghost use Rattle.cfb_sectors.specs.Words.{Apart, with_word, OtherWordsStay};
-ghost use Rattle.cfb_sectors.specs.Sectors.{sectors_in, place, sectors_end, init_bytes, copies, IsMediumError, OtherSectorsStay, SectorStays};
+ghost use Rattle.cfb_sectors.specs.Sectors.{sectors_in_file, place_in_sector, sectors_end, init_bytes, copies, IsMediumError, OtherSectorsStay, SectorStays};
 
 use cfb_format::bytes::{put, u32_at};
 use cfb_format::consts;
@@ -28,7 +28,7 @@ pub struct Sectors<F: ReadMedium> {
 
 impl<F: ReadMedium> Model for Sectors<F> {
     ghost use Rattle.std.specs.Prelude.{◌≡◌, ◌*◌, ◌+◌, ◌≤◌, IsTrue, length};
-    ghost use Rattle.cfb_format.specs.Bytes.{sector_len as sector_len_of, sector_start};
+    ghost use Rattle.cfb_format.specs.Bytes.{sector_len, sector_start};
     ghost use Rattle.cfb_sectors.specs.Sectors.{SectorFile};
 
     ghost Value = { SectorFile };
@@ -42,20 +42,20 @@ impl<F: ReadMedium> Model for Sectors<F> {
       begun = s.begun;
     } };
 
-    ghost invariant = { λ s. (sector_len_of s.version ≤ s.len) × (s.len ≤ sector_start s.version s.num_sectors)
+    ghost invariant = { λ s. (sector_len s.version ≤ s.len) × (s.len ≤ sector_start s.version s.num_sectors)
         × (s.num_sectors ≤ 0xFFFFFFFA) × (IsTrue F.tells → s.len ≤ length (F.bytes s.medium)) };
 }
 
 impl<F: ReadMedium> Sectors<F> {
     /// The sectors of a medium of this length.
     pub fn new(version: Version, len: u64, medium: F) -> Sectors<F>
-        requires header { sector_len_of version ≤ len }
-        requires fits { len ≤ 0xFFFFFFFB * sector_len_of version }
+        requires header { sector_len version ≤ len }
+        requires fits { len ≤ 0xFFFFFFFB * sector_len version }
         requires there { IsTrue F.tells → len ≤ length (F.bytes medium) }
         ensures { result ≡ record {
           version = version;
           len = len;
-          num_sectors = sectors_in version len;
+          num_sectors = sectors_in_file version len;
           bytes = F.bytes medium;
           failures = F.failures medium;
           begun = false;
@@ -80,7 +80,7 @@ impl<F: ReadMedium> Sectors<F> {
 
     /// The length of a sector, in bytes.
     pub fn sector_len(&self) -> usize
-        ensures { result ≡ sector_len_of self.now.version }
+        ensures { result ≡ sector_len self.now.version }
     {
         self.version.sector_len()
     }
@@ -88,7 +88,7 @@ impl<F: ReadMedium> Sectors<F> {
     /// How many sectors there are, a cut last one and those reserved among them.
     pub fn num_sectors(&self) -> u32
         ensures count { result ≡ self.now.num_sectors }
-        ensures header { sector_len_of self.now.version ≤ self.now.len }
+        ensures header { sector_len self.now.version ≤ self.now.len }
         ensures len { self.now.len ≤ sectors_end self.now }
         ensures most { self.now.num_sectors ≤ 0xFFFFFFFA }
     {
@@ -167,8 +167,8 @@ impl<F: ReadMedium> Sectors<F> {
 
     /// The place of a sector's byte in the file.
     fn place(&self, sector: u32, offset: usize) -> u64
-        requires { offset ≤ sector_len_of self.now.version }
-        ensures place { result ≡ place self.now sector offset }
+        requires { offset ≤ sector_len self.now.version }
+        ensures place { result ≡ place_in_sector self.now sector offset }
         ensures fits { result < 2 ^ 45 }
     {
         (sector as u64 + 1) * self.version.sector_len() as u64 + offset as u64
@@ -183,9 +183,9 @@ impl<F: ReadMedium> Sectors<F> {
 
     /// The place of a sector's byte in the file, if it and `len` bytes more lie in sectors.
     fn place_of(&self, sector: u32, offset: usize, len: usize) -> Result<u64, Error>
-        requires { offset ≤ sector_len_of self.now.version }
-        ensures ok { IfOk result (λ at. (at ≡ place self.now sector offset) × (at + len ≤ sectors_end self.now)) }
-        ensures past { IfErr result (λ e. IsInvalidData e × (sectors_end self.now < place self.now sector offset + len)) }
+        requires { offset ≤ sector_len self.now.version }
+        ensures ok { IfOk result (λ at. (at ≡ place_in_sector self.now sector offset) × (at + len ≤ sectors_end self.now)) }
+        ensures past { IfErr result (λ e. IsInvalidData e × (sectors_end self.now < place_in_sector self.now sector offset + len)) }
     {
         let at = self.place(sector, offset);
         let end = self.end();
@@ -226,13 +226,13 @@ impl<F: ReadMedium> Sectors<F> {
         offset: usize,
         into: &mut [u8],
     ) -> Result<usize, Error>
-        requires { offset ≤ sector_len_of self.old.version }
+        requires { offset ≤ sector_len self.old.version }
         ensures kept { self.new ≡ record self.old { bytes = self.new.bytes; failures = self.new.failures } }
-        ensures count { IfOk result (λ n. n ≡ min (length into.old) (self.old.len - place self.old sector offset)) }
-        ensures ok { IsTrue F.tells → IfOk result (λ n. take n into.new ≡ part self.old.bytes (place self.old sector offset) n) }
+        ensures count { IfOk result (λ n. n ≡ min (length into.old) (self.old.len - place_in_sector self.old sector offset)) }
+        ensures ok { IsTrue F.tells → IfOk result (λ n. take n into.new ≡ part self.old.bytes (place_in_sector self.old sector offset) n) }
         ensures rest { IfOk result (λ n. drop n into.new ≡ drop n into.old) }
-        ensures past { sectors_end self.old < place self.old sector offset + length into.old → IsErrAnd result IsInvalidData × (self.new ≡ self.old) }
-        ensures inside { place self.old sector offset + length into.old ≤ sectors_end self.old → IfErr result IsMediumError }
+        ensures past { sectors_end self.old < place_in_sector self.old sector offset + length into.old → IsErrAnd result IsInvalidData × (self.new ≡ self.old) }
+        ensures inside { place_in_sector self.old sector offset + length into.old ≤ sectors_end self.old → IfErr result IsMediumError }
         ensures same { IsTrue F.tells → OnOk result (self.new ≡ self.old) }
         ensures bytes { IsTrue F.tells → self.new.bytes ≡ self.old.bytes }
         ensures counts { IsTrue F.tells → CountsFailure F.read_faults result self.old.failures self.new.failures }
@@ -244,11 +244,11 @@ impl<F: ReadMedium> Sectors<F> {
     /// Fills `into` from a sector on and through those that follow it in the file. `InvalidData`
     /// exactly where the file ends before that, and `Medium` where the medium fails.
     pub fn read_exact(&mut self, sector: u32, offset: usize, into: &mut [u8]) -> Result<(), Error>
-        requires { offset ≤ sector_len_of self.old.version }
+        requires { offset ≤ sector_len self.old.version }
         ensures kept { self.new ≡ record self.old { bytes = self.new.bytes; failures = self.new.failures } }
-        ensures ok { IsTrue F.tells → OnOk result (into.new ≡ part self.old.bytes (place self.old sector offset) (length into.old)) }
-        ensures past { self.old.len < place self.old sector offset + length into.old → IsErrAnd result IsInvalidData × (self.new ≡ self.old) }
-        ensures inside { place self.old sector offset + length into.old ≤ self.old.len → IfErr result IsMediumError }
+        ensures ok { IsTrue F.tells → OnOk result (into.new ≡ part self.old.bytes (place_in_sector self.old sector offset) (length into.old)) }
+        ensures past { self.old.len < place_in_sector self.old sector offset + length into.old → IsErrAnd result IsInvalidData × (self.new ≡ self.old) }
+        ensures inside { place_in_sector self.old sector offset + length into.old ≤ self.old.len → IfErr result IsMediumError }
         ensures same { IsTrue F.tells → OnOk result (self.new ≡ self.old) }
         ensures bytes { IsTrue F.tells → self.new.bytes ≡ self.old.bytes }
         ensures counts { IsTrue F.tells → CountsFailure F.read_faults result self.old.failures self.new.failures }
@@ -266,9 +266,9 @@ impl<F: ReadMedium> Sectors<F> {
     pub fn read_word(&mut self, sector: u32, index: usize) -> Result<u32, Error>
         requires { index < words_per_sector self.old.version }
         ensures kept { self.new ≡ record self.old { bytes = self.new.bytes; failures = self.new.failures } }
-        ensures ok { IsTrue F.tells → IfOk result (λ word. word ≡ word_at self.old.bytes (place self.old sector (4 * index))) }
-        ensures past { self.old.len < place self.old sector (4 * index) + 4 → IsErrAnd result IsInvalidData × (self.new ≡ self.old) }
-        ensures inside { place self.old sector (4 * index) + 4 ≤ self.old.len → IfErr result IsMediumError }
+        ensures ok { IsTrue F.tells → IfOk result (λ word. word ≡ word_at self.old.bytes (place_in_sector self.old sector (4 * index))) }
+        ensures past { self.old.len < place_in_sector self.old sector (4 * index) + 4 → IsErrAnd result IsInvalidData × (self.new ≡ self.old) }
+        ensures inside { place_in_sector self.old sector (4 * index) + 4 ≤ self.old.len → IfErr result IsMediumError }
         ensures same { IsTrue F.tells → OnOk result (self.new ≡ self.old) }
         ensures bytes { IsTrue F.tells → self.new.bytes ≡ self.old.bytes }
         ensures counts { IsTrue F.tells → CountsFailure F.read_faults result self.old.failures self.new.failures }
@@ -284,8 +284,8 @@ impl<F: ReadMedium> Sectors<F> {
         requires { length into.old ≡ words_per_sector self.old.version }
         ensures kept { self.new ≡ record self.old { bytes = self.new.bytes; failures = self.new.failures } }
         ensures ok { IsTrue F.tells → OnOk result (into.new ≡ sector_words self.old.version self.old.bytes sector) }
-        ensures past { self.old.len < place self.old sector (sector_len_of self.old.version) → IsErrAnd result IsInvalidData × (self.new ≡ self.old) }
-        ensures inside { place self.old sector (sector_len_of self.old.version) ≤ self.old.len → IfErr result IsMediumError }
+        ensures past { self.old.len < place_in_sector self.old sector (sector_len self.old.version) → IsErrAnd result IsInvalidData × (self.new ≡ self.old) }
+        ensures inside { place_in_sector self.old sector (sector_len self.old.version) ≤ self.old.len → IfErr result IsMediumError }
         ensures same { IsTrue F.tells → OnOk result (self.new ≡ self.old) }
         ensures bytes { IsTrue F.tells → self.new.bytes ≡ self.old.bytes }
         ensures counts { IsTrue F.tells → CountsFailure F.read_faults result self.old.failures self.new.failures }
@@ -312,7 +312,7 @@ impl<F: Medium> Sectors<F> {
         }) }
         ensures kept { self.new ≡ record self.old { len = self.new.len; bytes = self.new.bytes; failures = self.new.failures; begun = true } }
         ensures len { MatchResult result (λ _. self.new.len ≡ max self.old.len (at + length from.now)) (λ e. IsMediumError e × (self.new.len ≡ self.old.len)) }
-        ensures others { IsTrue F.tells → ChangesOnly at (length from.now) self.old.bytes self.new.bytes }
+        ensures others { IsTrue F.tells → ChangesOnlyBytes at (length from.now) self.old.bytes self.new.bytes }
         ensures counts { IsTrue F.tells → CountsFailure F.write_faults result self.old.failures self.new.failures }
     {
         self.begun = true;
@@ -326,20 +326,20 @@ impl<F: Medium> Sectors<F> {
     /// have no room for all of it, and `Medium` where the medium fails: then no byte has changed
     /// but where `from` was to go, and past the old end.
     pub fn write_contiguous(&mut self, sector: u32, offset: usize, from: &[u8]) -> Result<(), Error>
-        requires within { offset ≤ sector_len_of self.old.version }
+        requires within { offset ≤ sector_len self.old.version }
         requires some { 0 < length from.now }
         ensures ok { IsTrue F.tells → OnOk result (self.new ≡ record self.old {
-          bytes = written self.old.bytes (place self.old sector offset) from.now;
-          len = max self.old.len (place self.old sector offset + length from.now);
+          bytes = written self.old.bytes (place_in_sector self.old sector offset) from.now;
+          len = max self.old.len (place_in_sector self.old sector offset + length from.now);
           begun = true;
         }) }
         ensures kept { self.new ≡ record self.old { len = self.new.len; bytes = self.new.bytes; failures = self.new.failures; begun = self.new.begun } }
-        ensures len { MatchResult result (λ _. self.new.len ≡ max self.old.len (place self.old sector offset + length from.now)) (λ _. self.new.len ≡ self.old.len) }
-        ensures past { sectors_end self.old < place self.old sector offset + length from.now → IsErrAnd result IsInvalidData × (self.new ≡ self.old) }
-        ensures inside { place self.old sector offset + length from.now ≤ sectors_end self.old → IfErr result IsMediumError × (self.new.begun ≡ true) }
-        ensures others { IsTrue F.tells → ChangesOnly (place self.old sector offset) (length from.now) self.old.bytes self.new.bytes }
-        ensures sectors { IsTrue F.tells → OtherSectorsStay self.old.version (place self.old sector offset) (length from.now) self.old.bytes self.new.bytes }
-        ensures words { IsTrue F.tells → OtherWordsStay (place self.old sector offset) (length from.now) self.old.bytes self.new.bytes }
+        ensures len { MatchResult result (λ _. self.new.len ≡ max self.old.len (place_in_sector self.old sector offset + length from.now)) (λ _. self.new.len ≡ self.old.len) }
+        ensures past { sectors_end self.old < place_in_sector self.old sector offset + length from.now → IsErrAnd result IsInvalidData × (self.new ≡ self.old) }
+        ensures inside { place_in_sector self.old sector offset + length from.now ≤ sectors_end self.old → IfErr result IsMediumError × (self.new.begun ≡ true) }
+        ensures others { IsTrue F.tells → ChangesOnlyBytes (place_in_sector self.old sector offset) (length from.now) self.old.bytes self.new.bytes }
+        ensures sectors { IsTrue F.tells → OtherSectorsStay self.old.version (place_in_sector self.old sector offset) (length from.now) self.old.bytes self.new.bytes }
+        ensures words { IsTrue F.tells → OtherWordsStay (place_in_sector self.old sector offset) (length from.now) self.old.bytes self.new.bytes }
         ensures counts { IsTrue F.tells → CountsFailure F.write_faults result self.old.failures self.new.failures }
     {
         let at = self.place_of(sector, offset, from.len())?;
@@ -353,17 +353,17 @@ impl<F: Medium> Sectors<F> {
     pub fn write_word(&mut self, sector: u32, index: usize, value: u32) -> Result<(), Error>
         requires { index < words_per_sector self.old.version }
         ensures ok { IsTrue F.tells → OnOk result (self.new ≡ record self.old {
-          bytes = with_word self.old.bytes (place self.old sector (4 * index)) value;
-          len = max self.old.len (place self.old sector (4 * index) + 4);
+          bytes = with_word self.old.bytes (place_in_sector self.old sector (4 * index)) value;
+          len = max self.old.len (place_in_sector self.old sector (4 * index) + 4);
           begun = true;
         }) }
         ensures kept { self.new ≡ record self.old { len = self.new.len; bytes = self.new.bytes; failures = self.new.failures; begun = self.new.begun } }
-        ensures len { MatchResult result (λ _. self.new.len ≡ max self.old.len (place self.old sector (4 * index) + 4)) (λ _. self.new.len ≡ self.old.len) }
+        ensures len { MatchResult result (λ _. self.new.len ≡ max self.old.len (place_in_sector self.old sector (4 * index) + 4)) (λ _. self.new.len ≡ self.old.len) }
         ensures past { self.old.num_sectors ≤ sector → IsErrAnd result IsInvalidData × (self.new ≡ self.old) }
         ensures inside { sector < self.old.num_sectors → IfErr result IsMediumError × (self.new.begun ≡ true) }
-        ensures others { IsTrue F.tells → ChangesOnly (place self.old sector (4 * index)) 4 self.old.bytes self.new.bytes }
+        ensures others { IsTrue F.tells → ChangesOnlyBytes (place_in_sector self.old sector (4 * index)) 4 self.old.bytes self.new.bytes }
         ensures sectors { IsTrue F.tells → (i : ℕ) → i ≢ sector → SectorStays self.old.version i self.old.bytes self.new.bytes }
-        ensures words { IsTrue F.tells → OtherWordsStay (place self.old sector (4 * index)) 4 self.old.bytes self.new.bytes }
+        ensures words { IsTrue F.tells → OtherWordsStay (place_in_sector self.old sector (4 * index)) 4 self.old.bytes self.new.bytes }
         ensures counts { IsTrue F.tells → CountsFailure F.write_faults result self.old.failures self.new.failures }
     {
         self.write_contiguous(sector, 4 * index, &value.to_le_bytes())
@@ -377,7 +377,7 @@ impl<F: Medium> Sectors<F> {
         ensures ok { IsTrue F.tells → OnOk result (self.new ≡ record self.old { bytes = with_word self.old.bytes offset value; begun = true }) }
         ensures kept { self.new ≡ record self.old { bytes = self.new.bytes; failures = self.new.failures; begun = true } }
         ensures err { IfErr result IsMediumError }
-        ensures others { IsTrue F.tells → ChangesOnly offset 4 self.old.bytes self.new.bytes }
+        ensures others { IsTrue F.tells → ChangesOnlyBytes offset 4 self.old.bytes self.new.bytes }
         ensures sectors { IsTrue F.tells → (i : ℕ) → SectorStays self.old.version i self.old.bytes self.new.bytes }
         ensures words { IsTrue F.tells → OtherWordsStay offset 4 self.old.bytes self.new.bytes }
         ensures counts { IsTrue F.tells → CountsFailure F.write_faults result self.old.failures self.new.failures }
@@ -392,8 +392,8 @@ impl<F: Medium> Sectors<F> {
     pub fn init_sector(&mut self, sector: u32, init: SectorInit) -> Result<(), Error>
         requires room { sector < 0xFFFFFFFA }
         ensures ok { IsTrue F.tells → OnOk result (self.new ≡ record self.old {
-          bytes = written self.old.bytes (place self.old sector 0) (init_bytes self.old.version init);
-          len = max self.old.len (place self.old sector (sector_len_of self.old.version));
+          bytes = written self.old.bytes (place_in_sector self.old sector 0) (init_bytes self.old.version init);
+          len = max self.old.len (place_in_sector self.old sector (sector_len self.old.version));
           num_sectors = max self.old.num_sectors (sector + 1);
           begun = true;
         }) }
@@ -405,10 +405,10 @@ impl<F: Medium> Sectors<F> {
           failures = self.new.failures;
           begun = true;
         }) }
-        ensures len { MatchResult result (λ _. self.new.len ≡ max self.old.len (place self.old sector (sector_len_of self.old.version))) (λ _. self.new.len ≡ self.old.len) }
-        ensures others { IsTrue F.tells → ChangesOnly (place self.old sector 0) (sector_len_of self.old.version) self.old.bytes self.new.bytes }
+        ensures len { MatchResult result (λ _. self.new.len ≡ max self.old.len (place_in_sector self.old sector (sector_len self.old.version))) (λ _. self.new.len ≡ self.old.len) }
+        ensures others { IsTrue F.tells → ChangesOnlyBytes (place_in_sector self.old sector 0) (sector_len self.old.version) self.old.bytes self.new.bytes }
         ensures sectors { IsTrue F.tells → (i : ℕ) → i ≢ sector → SectorStays self.old.version i self.old.bytes self.new.bytes }
-        ensures words { IsTrue F.tells → OtherWordsStay (place self.old sector 0) (sector_len_of self.old.version) self.old.bytes self.new.bytes }
+        ensures words { IsTrue F.tells → OtherWordsStay (place_in_sector self.old sector 0) (sector_len self.old.version) self.old.bytes self.new.bytes }
         ensures counts { IsTrue F.tells → CountsFailure F.write_faults result self.old.failures self.new.failures }
     {
         let num_sectors = self.num_sectors();
@@ -460,7 +460,7 @@ pub enum SectorInit {
 
 /// The bytes of a fresh sector, and what is left over.
 fn fresh_sector(version: Version, init: SectorInit) -> [u8; 4096]
-    ensures { take (sector_len_of version) result ≡ init_bytes version init }
+    ensures { take (sector_len version) result ≡ init_bytes version init }
 {
     let mut bytes = [0; 4096];
     fill(&mut bytes[..version.sector_len()], version, init);
@@ -486,7 +486,7 @@ fn get_words(bytes: &[u8], into: &mut [u32])
 
 /// Fills a sector.
 fn fill(into: &mut [u8], version: Version, init: SectorInit)
-    requires { length into.old ≡ sector_len_of version }
+    requires { length into.old ≡ sector_len version }
     ensures { into.new ≡ init_bytes version init }
 {
     let words = version.sector_len() / 4;
@@ -567,7 +567,7 @@ impl<F: ReadMedium> Sectors<F> {
         ensures* refused { sem 𝓛 (sectors_rest F.row F.ReadMedium self.entry result) }
         ensures same_file { IfOk result (λ s. (file_of s).ghost_name ≡ self.entry.ghost_name) }
         ensures file { IfOk result (λ s. (file_of s).now ≡ self.old) }
-        ensures there { IfOk result (λ s. (start_of s ≡ place self.old sector 0) × (len_of s ≡ sector_len_of self.old.version) × (offset_of s ≡ 0)) }
+        ensures there { IfOk result (λ s. (start_of s ≡ place_in_sector self.old sector 0) × (len_of s ≡ sector_len self.old.version) × (offset_of s ≡ 0)) }
         ensures known { IfOk result (λ s. sector < self.old.num_sectors) }
         ensures past { IfErr result (λ e. IsInvalidData e × (self.old.num_sectors ≤ sector)) }
     {
@@ -576,11 +576,11 @@ impl<F: ReadMedium> Sectors<F> {
 
     /// Lends a sector, from this byte on. `InvalidData` exactly where it is past the file.
     pub fn seek_within_sector(&mut self, sector: u32, offset: usize) -> Result<Sector<'_, F>, Error>
-        requires { offset ≤ sector_len_of self.old.version }
+        requires { offset ≤ sector_len self.old.version }
         ensures* refused { sem 𝓛 (sectors_rest F.row F.ReadMedium self.entry result) }
         ensures same_file { IfOk result (λ s. (file_of s).ghost_name ≡ self.entry.ghost_name) }
         ensures file { IfOk result (λ s. (file_of s).now ≡ self.old) }
-        ensures there { IfOk result (λ s. (start_of s ≡ place self.old sector 0) × (len_of s ≡ sector_len_of self.old.version) × (offset_of s ≡ offset)) }
+        ensures there { IfOk result (λ s. (start_of s ≡ place_in_sector self.old sector 0) × (len_of s ≡ sector_len self.old.version) × (offset_of s ≡ offset)) }
         ensures known { IfOk result (λ s. sector < self.old.num_sectors) }
         ensures past { IfErr result (λ e. IsInvalidData e × (self.old.num_sectors ≤ sector)) }
     {
@@ -599,7 +599,7 @@ impl<F: ReadMedium> Sectors<F> {
 }
 
 impl<'a, F: ReadMedium> Sector<'a, F> {
-    ghost use Rattle.cfb_sectors.specs.Lent.{file_of, start_of, len_of, offset_of, position_of, room_of};
+    ghost use Rattle.cfb_sectors.specs.Lent.{file_of, start_of, len_of, offset_of, place_of, room_of};
 
     /// How long it is, in bytes.
     pub fn len(&self) -> usize
@@ -632,7 +632,7 @@ impl<'a, F: ReadMedium> Sector<'a, F> {
         requires inside { start + len ≤ len_of self }
         ensures same_file { (file_of result).ghost_name ≡ (file_of self.entry).ghost_name }
         ensures file { (file_of result).now ≡ (file_of self.entry).now }
-        ensures there { (start_of result ≡ start_of self.entry + start) × (len_of result ≡ len) × (position_of result ≡ position_of self.entry) }
+        ensures there { (start_of result ≡ start_of self.entry + start) × (len_of result ≡ len) × (place_of result ≡ place_of self.entry) }
     {
         let Sector {
             file,
@@ -655,9 +655,9 @@ impl<'a, F: ReadMedium> Sector<'a, F> {
         ensures same_file { (file_of self.new).ghost_name ≡ (file_of self.old).ghost_name }
         ensures place { (start_of self.new ≡ start_of self.old) × (len_of self.new ≡ len_of self.old) }
         ensures kept { (file_of self.new).now ≡ record (file_of self.old).now { bytes = (file_of self.new).now.bytes; failures = (file_of self.new).now.failures } }
-        ensures count { IfOk result (λ n. n ≡ min (min (length into.old) (room_of self.old)) ((file_of self.old).now.len - position_of self.old)) }
+        ensures count { IfOk result (λ n. n ≡ min (min (length into.old) (room_of self.old)) ((file_of self.old).now.len - place_of self.old)) }
         ensures offset { MatchResult result (λ n. offset_of self.new ≡ offset_of self.old + n) (λ _. offset_of self.new ≡ offset_of self.old) }
-        ensures ok { IsTrue F.tells → IfOk result (λ n. take n into.new ≡ part (file_of self.old).now.bytes (position_of self.old) n) }
+        ensures ok { IsTrue F.tells → IfOk result (λ n. take n into.new ≡ part (file_of self.old).now.bytes (place_of self.old) n) }
         ensures rest { IfOk result (λ n. drop n into.new ≡ drop n into.old) }
         ensures err { IfErr result IsMediumError }
         ensures same { IsTrue F.tells → OnOk result ((file_of self.new).now ≡ (file_of self.old).now) }
@@ -674,7 +674,7 @@ impl<'a, F: ReadMedium> Sector<'a, F> {
 }
 
 impl<'a, F: Medium> Sector<'a, F> {
-    ghost use Rattle.cfb_sectors.specs.Lent.{file_of, start_of, len_of, offset_of, position_of, room_of};
+    ghost use Rattle.cfb_sectors.specs.Lent.{file_of, start_of, len_of, offset_of, place_of, room_of};
 
     /// Writes a beginning of `from` at its place, as far as the sector has room, goes on behind it,
     /// and answers how many bytes it is. `Medium` where the medium fails: then no byte has changed
@@ -685,8 +685,8 @@ impl<'a, F: Medium> Sector<'a, F> {
         ensures count { IfOk result (λ n. n ≡ min (length from.now) (room_of self.old)) }
         ensures offset { MatchResult result (λ n. offset_of self.new ≡ offset_of self.old + n) (λ _. offset_of self.new ≡ offset_of self.old) }
         ensures ok { IsTrue F.tells → IfOk result (λ n. 0 < n → (file_of self.new).now ≡ record (file_of self.old).now {
-          bytes = written (file_of self.old).now.bytes (position_of self.old) (take n from.now);
-          len = max (file_of self.old).now.len (position_of self.old + n);
+          bytes = written (file_of self.old).now.bytes (place_of self.old) (take n from.now);
+          len = max (file_of self.old).now.len (place_of self.old + n);
           begun = true;
         }) }
         ensures none { min (length from.now) (room_of self.old) ≡ 0 → (result ≡ Ok 0) × ((file_of self.new).now ≡ (file_of self.old).now) }
@@ -697,11 +697,11 @@ impl<'a, F: Medium> Sector<'a, F> {
           begun = true;
         } }
         ensures len { MatchResult result
-            (λ n. 0 < n → (file_of self.new).now.len ≡ max (file_of self.old).now.len (position_of self.old + n))
+            (λ n. 0 < n → (file_of self.new).now.len ≡ max (file_of self.old).now.len (place_of self.old + n))
             (λ e. IsMediumError e × ((file_of self.new).now.len ≡ (file_of self.old).now.len)) }
-        ensures others { IsTrue F.tells → ChangesOnly (position_of self.old) (min (length from.now) (room_of self.old)) (file_of self.old).now.bytes (file_of self.new).now.bytes }
-        ensures sectors { IsTrue F.tells → OtherSectorsStay (file_of self.old).now.version (position_of self.old) (min (length from.now) (room_of self.old)) (file_of self.old).now.bytes (file_of self.new).now.bytes }
-        ensures words { IsTrue F.tells → OtherWordsStay (position_of self.old) (min (length from.now) (room_of self.old)) (file_of self.old).now.bytes (file_of self.new).now.bytes }
+        ensures others { IsTrue F.tells → ChangesOnlyBytes (place_of self.old) (min (length from.now) (room_of self.old)) (file_of self.old).now.bytes (file_of self.new).now.bytes }
+        ensures sectors { IsTrue F.tells → OtherSectorsStay (file_of self.old).now.version (place_of self.old) (min (length from.now) (room_of self.old)) (file_of self.old).now.bytes (file_of self.new).now.bytes }
+        ensures words { IsTrue F.tells → OtherWordsStay (place_of self.old) (min (length from.now) (room_of self.old)) (file_of self.old).now.bytes (file_of self.new).now.bytes }
         ensures counts { IsTrue F.tells → CountsFailure F.write_faults result (file_of self.old).now.failures (file_of self.new).now.failures }
     {
         let count = from.len().min(self.remaining());

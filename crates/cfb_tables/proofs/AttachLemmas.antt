@@ -7,7 +7,7 @@ use Rattle.std.proofs.lemmas.List.Elements.{Contains-append_left, Contains-push}
 use Rattle.cfb_format.specs.Bytes.{free_sector, end_of_chain, max_regular_sector}
 use Rattle.cfb_format.specs.Chain.{value, IsChain}
 use Rattle.cfb_tables.specs.Changes.{IsFreed, IsCut}
-use Rattle.cfb_tables.specs.Tables.{TableState, Kept, HasTaken, Added, Extended, sizes_of, start_of, wiped}
+use Rattle.cfb_tables.specs.Tables.{TableState, Kept, HasTaken, Added, Extended, sizes_of, first_or_end, wiped}
 use Rattle.cfb_tables.proofs.Members.{Contains-nil, Contains-here, Contains-there, Contains-cases, Contains-one, Contains-or, in_three, first_of_three, second_of_three, third_of_three, value-below, value-set, value-set_other, distinct-apart, distinct-left}
 use Rattle.cfb_tables.proofs.ChainLemmas.{chain-stays, chain-turn, chain-rest, chain-apart, members-busy, regular-le, le-regular}
 use Rattle.cfb_tables.proofs.TableCounts.{HasPlaces, taken-places}
@@ -228,5 +228,5 @@ module _ (old mid new : TableState) (first : ℕ) (before after : List ℕ) (one
   pub begun-taken : HasTaken old new [] after
   begun-taken = subst (HasTaken old new []) whole_list (taken-then old mid new [] (first ∷ []) (first ∷ []) added.more taken added.taken (λ i m. m))
 
-  pub begun-chain : IsChain new.fat (start_of after) after
-  begun-chain = subst (λ (z : List ℕ). IsChain new.fat (start_of z) z) whole_list added.chain
+  pub begun-chain : IsChain new.fat (first_or_end after) after
+  begun-chain = subst (λ (z : List ℕ). IsChain new.fat (first_or_end z) z) whole_list added.chain

@@ -6,7 +6,7 @@ use Rattle.std.proofs.lemmas.Bool.{leb-true, le-leb}
 use Rattle.cfb_format.specs.Bytes.{end_of_chain, free_sector, is_regular, max_regular_sector}
 use Rattle.cfb_format.specs.Chain.{value, Follows, IsChain}
 use Rattle.cfb_format.proofs.Chains.{Follows-distinct}
-use Rattle.cfb_tables.specs.Changes.{Apart, ChangesOnly}
+use Rattle.cfb_tables.specs.Changes.{AreDisjoint, ChangesOnlyValues}
 use Rattle.cfb_tables.proofs.Members.{Contains-here, Contains-there, Contains-nil, Contains-cases, value-at, value-below, distinct-apart}
 
 pub regular-le : (i : ℕ) → IsTrue (is_regular i) → i ≤ max_regular_sector
@@ -71,7 +71,7 @@ chain-stays old new s list same c = record {
   distinct = c.distinct;
 }
 
-pub other-chains-stay : (touched old new : List ℕ) (s : ℕ) (list : List ℕ) → ChangesOnly touched old new → Apart list touched
+pub other-chains-stay : (touched old new : List ℕ) (s : ℕ) (list : List ℕ) → ChangesOnlyValues touched old new → AreDisjoint list touched
     → IsChain old s list → IsChain new s list
 other-chains-stay touched old new s list only apart c = chain-stays old new s list (λ i m. only i (apart i m)) c
 

@@ -8,7 +8,7 @@ use Rattle.std.proofs.lemmas.List.{get_or_past, get_or-set_same, get_or-set_othe
 use Rattle.std.proofs.lemmas.List.Elements.{Contains-append_left, Contains-append_right, Contains-append_cases, filter_more, filter-append}
 use Rattle.std.proofs.lemmas.List.FromFn.{fill_by_all, length-map-range_with_len, get_or-map-range_with_len}
 use Rattle.cfb_format.specs.Bytes.{is_regular, max_regular_sector, free_sector, end_of_chain, fat_sector, difat_sector}
-use Rattle.cfb_format.specs.Fat.{fat_value, is_among, within_file, HasDistinctPointers}
+use Rattle.cfb_format.specs.Fat.{fat_value, is_among, ended_past_file, HasDistinctPointers}
 use Rattle.cfb_tables.specs.Changes.{PointsWithin}
 use Rattle.cfb_tables.specs.ReadFat.{fat_of_words}
 use Rattle.cfb_tables.proofs.ChainLemmas.{regular-le}
@@ -100,15 +100,15 @@ Marked old now listed m = (i : ℕ) → i < length old → get_or now i 0 ≡ co
 
 module _ (n : ℕ) (list own : List ℕ) where
   -- the pointers end at the file's end, then the marks are set
-  pub values-set : (old within owned all : List ℕ) → length old ≡ n → within ≡ map (within_file n) old → length all ≡ n
+  pub values-set : (old within owned all : List ℕ) → length old ≡ n → within ≡ map (ended_past_file n) old → length all ≡ n
       → Marked within owned own difat_sector → Marked owned all list fat_sector → length owned ≡ n → all ≡ map (fat_value n list own old) (range_with_len 0 n)
   values-set old within owned all len is all_len own_marks marks owned_len =
-      let w_len : length within ≡ n = ap length is ∙ length-map old (within_file n) ∙ len in
+      let w_len : length within ≡ n = ap length is ∙ length-map old (ended_past_file n) ∙ len in
       fill_by_all (fat_value n list own old) all n 0 all_len (λ k lt.
       marks k (omega (arith, lt, owned_len))
       ∙ ap (λ z. cond (is_among list k) fat_sector z) (own_marks k (omega (arith, lt, w_len))
       ∙ ap (λ z. cond (is_among own k) difat_sector z)
-      (ap (λ (z : List ℕ). get_or z k 0) is ∙ get_or-map (within_file n) old k free_sector 0 (omega (arith, lt, len)))))
+      (ap (λ (z : List ℕ). get_or z k 0) is ∙ get_or-map (ended_past_file n) old k free_sector 0 (omega (arith, lt, len)))))
 
   mark-is-none : (w mark : ℕ) → max_regular_sector < mark → w ≡ mark → IsTrue (is_regular w) → ⊥
   mark-is-none w mark above e r = let le = regular-le w r in omega (arith, le, above, e)
@@ -122,8 +122,8 @@ module _ (n : ℕ) (list own : List ℕ) where
       word w true false e f r = let lt = leb-false n w f in omega (arith, lt)
       word w false c e f r = let g : true ≡ false = sym r ∙ e in cc
 
-      go : (b c : Bool) → IsTrue (is_regular (if b then fat_sector else if c then difat_sector else within_file n (slice_index_or raw i free_sector)))
-          → (if b then fat_sector else if c then difat_sector else within_file n (slice_index_or raw i free_sector)) < n
+      go : (b c : Bool) → IsTrue (is_regular (if b then fat_sector else if c then difat_sector else ended_past_file n (slice_index_or raw i free_sector)))
+          → (if b then fat_sector else if c then difat_sector else ended_past_file n (slice_index_or raw i free_sector)) < n
       go true c r = absurd (mark-is-none fat_sector fat_sector (omega arith) refl r)
       go false true r = absurd (mark-is-none difat_sector difat_sector (omega arith) refl r)
       go false false r = let w = slice_index_or raw i free_sector in word w (is_regular w) (nat_le n w) refl refl r
@@ -146,7 +146,7 @@ values-made n k m list own words was items all is filled len count values =
     let rest : drop (length all) items ≡ [] = drop_all (length all) items (omega (arith, all_len, same, len)) in
     ap (λ (z : List ℕ). take k (all ++ z)) rest ∙ ap (take k) (append-nil all) ∙ take_all k all (omega (arith, all_len, count)) ∙ values
     ∙ (λ j. map (fat_value (len j) list own ((is ∙ filled) j)) (range_with_len 0 (len j)))
-    ∙ (λ j. map (λ i. if is_among list i then fat_sector else if is_among own i then difat_sector else within_file n (filled-same n m words i j)) (range_with_len 0 n))
+    ∙ (λ j. map (λ i. if is_among list i then fat_sector else if is_among own i then difat_sector else ended_past_file n (filled-same n m words i j)) (range_with_len 0 n))
 
 pub values-within : (n : ℕ) (words list own fat : List ℕ) → fat ≡ fat_of_words n words list own → PointsWithin fat
 values-within n words list own fat is i lt r =

@@ -3,7 +3,7 @@ use Rattle.std.proofs.Common.{◌≡◌, ℕ, ◌+◌, ◌-◌, ◌≤◌, refl,
 use Rattle.cfb_format.specs.Bytes.{max_regular_sector}
 use Rattle.cfb_format.specs.Full.{free_count}
 use Rattle.cfb_tables.specs.declared.lists.Sizes.{Sizes}
-use Rattle.cfb_tables.specs.Tables.{TableState, IsFull, IsTooFew, CanTakeSectors, IsCovered, AreSizes, sizes_of, sizes_after, grown_sizes, numbers_needed}
+use Rattle.cfb_tables.specs.Tables.{TableState, AreFullTables, IsTooFew, CanTakeSectors, IsCovered, AreSizes, sizes_of, sizes_after, grown_sizes, numbers_needed}
 use Rattle.cfb_tables.proofs.SizeLemmas.{needed-some, after-one, after-none, no-room, room}
 use Rattle.cfb_tables.proofs.FreeLemmas.{count-none, count-zero}
 
@@ -14,7 +14,7 @@ after_first t zero =
     (after-one t.version (1 - free_count t.fat) 0 (sizes_of t) (omega (arith, zero))
     ∙ after-none t.version 0 (grown_sizes (sizes_of t) (numbers_needed t.version (sizes_of t))) refl)
 
-pub full-is-too-few : (t : TableState) → (IsFull t → IsTooFew t 1) × (IsTooFew t 1 → IsFull t)
+pub full-is-too-few : (t : TableState) → (AreFullTables t → IsTooFew t 1) × (IsTooFew t 1 → AreFullTables t)
 full-is-too-few t = (
   (λ f.
       let zero = count-none t.fat f.none in

@@ -7,7 +7,7 @@ use Rattle.std.proofs.lemmas.List.Elements.{Contains-append_left, Contains-appen
 use Rattle.std.proofs.lemmas.Bool.{cases_eq, cases_lt, eqb-false}
 use Rattle.cfb_format.specs.Bytes.{free_sector}
 use Rattle.cfb_format.specs.Chain.{value}
-use Rattle.cfb_tables.specs.Changes.{Apart}
+use Rattle.cfb_tables.specs.Changes.{AreDisjoint}
 
 -- ---- membership
 
@@ -91,7 +91,7 @@ unfolding IsDistinct
 distinct-right [] ys d = d
 distinct-right (x ∷ xs) ys d = distinct-right xs ys d.1
 
-pub distinct-apart : (xs ys : List ℕ) → IsDistinct nat_eq (xs ++ ys) → Apart xs ys
+pub distinct-apart : (xs ys : List ℕ) → IsDistinct nat_eq (xs ++ ys) → AreDisjoint xs ys
 unfolding IsDistinct
 distinct-apart [] ys d x m n = Contains-nil x m
 distinct-apart (y ∷ xs) ys d x m n = elim (Contains-cases y xs x m) [
@@ -99,7 +99,7 @@ distinct-apart (y ∷ xs) ys d x m n = elim (Contains-cases y xs x m) [
   | inr r ↦ distinct-apart xs ys d.1 x r n
 ]
 
-pub distinct-join : (xs ys : List ℕ) → IsDistinct nat_eq xs → IsDistinct nat_eq ys → Apart xs ys → IsDistinct nat_eq (xs ++ ys)
+pub distinct-join : (xs ys : List ℕ) → IsDistinct nat_eq xs → IsDistinct nat_eq ys → AreDisjoint xs ys → IsDistinct nat_eq (xs ++ ys)
 unfolding IsDistinct
 distinct-join [] ys d e a = e
 distinct-join (x ∷ xs) ys d e a = (

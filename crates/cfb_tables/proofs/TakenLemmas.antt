@@ -11,7 +11,7 @@ use Rattle.cfb_format.specs.Chain.{value}
 use Rattle.cfb_format.specs.Full.{free_count, rounded_up}
 use Rattle.cfb_format.specs.Header.{header_difat_len}
 use Rattle.cfb_tables.specs.Changes.{NoneFree}
-use Rattle.cfb_tables.specs.Tables.{TableState, HasTaken, HasExactTables, IsKept, sizes_of, sizes_after, numbers_needed, grown_sizes, grown_state}
+use Rattle.cfb_tables.specs.Tables.{TableState, HasTaken, AreExactTables, IsKept, sizes_of, sizes_after, numbers_needed, grown_sizes, grown_state}
 use Rattle.cfb_tables.proofs.Members.{Contains-nil, Contains-cases, Contains-one, Contains-or, in_three, first_of_three, second_of_three, third_of_three, none_distinct, one_distinct, distinct-join, value-below, value-past, value-set, value-set_other, value-left, value-right}
 use Rattle.cfb_tables.proofs.FreeLemmas.{none-free, count-set, count-busy, count-none}
 use Rattle.cfb_tables.proofs.SizeLemmas.{needed-cases, after-none, after-one, after-more}
@@ -131,7 +131,7 @@ module _ (t : TableState) (x : ℕ) (words fats difats : List ℕ) where
       → ((i : ℕ) → Contains fats i → value (t.fat ++ words) i ≡ fat_sector)
       → ((i : ℕ) → Contains difats i → value (t.fat ++ words) i ≡ difat_sector)
       → IsDistinct nat_eq fats → IsDistinct nat_eq difats → value (t.fat ++ words) x ≡ end_of_chain
-      → length t.fat + length words ≤ t.max_sectors → (HasExactTables t → HasExactTables after)
+      → length t.fat + length words ≤ t.max_sectors → (AreExactTables t → AreExactTables after)
       → Counts t.version t.version (sizes_of t) (sizes_of after) → sizes_of after ≡ grown_sizes (sizes_of t) (numbers_needed t.version (sizes_of t))
       → HasTaken t after [] (x ∷ [])
   taken-words none busy new all marks difat_marks fats_once difats_once ended limit exact counts sized =

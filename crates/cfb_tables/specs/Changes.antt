@@ -5,12 +5,12 @@ use Rattle.cfb_format.specs.Bytes.{end_of_chain, free_sector, max_regular_sector
 use Rattle.cfb_format.specs.Chain.{value, IsChain}
 
 -- no number stands in both lists
-abbrev pub Apart : List ℕ → List ℕ → Type 0
-Apart xs ys = (i : ℕ) → Contains xs i → Contains ys i → ⊥
+abbrev pub AreDisjoint : List ℕ → List ℕ → Type 0
+AreDisjoint xs ys = (i : ℕ) → Contains xs i → Contains ys i → ⊥
 
 -- the table changes at these numbers alone
-abbrev pub ChangesOnly : List ℕ → List ℕ → List ℕ → Type 0
-ChangesOnly touched old new = (i : ℕ) → (Contains touched i → ⊥) → value new i ≡ value old i
+abbrev pub ChangesOnlyValues : List ℕ → List ℕ → List ℕ → Type 0
+ChangesOnlyValues touched old new = (i : ℕ) → (Contains touched i → ⊥) → value new i ≡ value old i
 
 -- no number of the table is free
 abbrev pub NoneFree : List ℕ → Type 0
@@ -34,14 +34,14 @@ pub record ListsFree (below : ℕ) (free table : List ℕ) : Type 0 where
 pub record IsFreed (list old new : List ℕ) : Type 0 where
   pub same_length : length new ≡ length old
   pub free : (i : ℕ) → Contains list i → value new i ≡ free_sector
-  pub only : ChangesOnly list old new
+  pub only : ChangesOnlyValues list old new
 
 -- a chain ends at this member now, these numbers behind it are free, and nothing else changed
 pub record IsCut (member : ℕ) (list old new : List ℕ) : Type 0 where
   pub same_length : length new ≡ length old
   pub ended : value new member ≡ end_of_chain
   pub free : (i : ℕ) → Contains list i → value new i ≡ free_sector
-  pub only : ChangesOnly (member ∷ list) old new
+  pub only : ChangesOnlyValues (member ∷ list) old new
 
 -- each pointer of the table is a number of it
 abbrev pub PointsWithin : List ℕ → Type 0
@@ -56,7 +56,7 @@ ChainsStay = (old new : List ℕ) (start : ℕ) (list : List ℕ) → ((i : ℕ)
 
 -- and so where the table changes elsewhere alone
 abbrev pub OtherChainsStay : Type 0
-OtherChainsStay = (touched old new : List ℕ) (start : ℕ) (list : List ℕ) → ChangesOnly touched old new → Apart list touched
+OtherChainsStay = (touched old new : List ℕ) (start : ℕ) (list : List ℕ) → ChangesOnlyValues touched old new → AreDisjoint list touched
     → IsChain old start list → IsChain new start list
 
 -- a chain goes another way from the member x on: it grows, or is cut where zs is empty

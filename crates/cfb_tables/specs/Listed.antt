@@ -2,8 +2,8 @@
 use Rattle.std.specs.Prelude.{ℕ, ◌≡◌, ◌-◌, List, ◌++◌, length, slice_index_or, Contains}
 use Rattle.cfb_format.specs.Bytes.{end_of_chain, free_sector}
 use Rattle.cfb_format.specs.Chain.{value, IsChain}
-use Rattle.cfb_tables.specs.Changes.{ChangesOnly}
-use Rattle.cfb_tables.specs.Tables.{ending, start_of}
+use Rattle.cfb_tables.specs.Changes.{ChangesOnlyValues}
+use Rattle.cfb_tables.specs.Tables.{ending, first_or_end}
 
 -- the last one of a list, or END where it is empty
 abbrev pub last_of : List ℕ → ℕ
@@ -14,11 +14,11 @@ pub record IsShortened (left gone old new : List ℕ) : Type 0 where
   pub same_length : length new ≡ length old
   pub ended : (i : ℕ) → Contains (ending (last_of left)) i → value new i ≡ end_of_chain
   pub free : (i : ℕ) → Contains gone i → value new i ≡ free_sector
-  pub only : ChangesOnly (ending (last_of left) ++ gone) old new
+  pub only : ChangesOnlyValues (ending (last_of left) ++ gone) old new
 
 -- ---- laws
 
 -- what is left is a chain
 abbrev pub ShortenedIsChain : Type 0
-ShortenedIsChain = (old new left gone : List ℕ) → IsChain old (start_of (left ++ gone)) (left ++ gone) → IsShortened left gone old new
-    → IsChain new (start_of left) left
+ShortenedIsChain = (old new left gone : List ℕ) → IsChain old (first_or_end (left ++ gone)) (left ++ gone) → IsShortened left gone old new
+    → IsChain new (first_or_end left) left

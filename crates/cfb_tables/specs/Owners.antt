@@ -4,7 +4,7 @@ use Rattle.std.specs.List.{IsDistinct}
 use Rattle.cfb_format.specs.Bytes.{free_sector}
 use Rattle.cfb_format.specs.Chain.{value}
 use Rattle.cfb_format.specs.Soundness.{KeepsLoose}
-use Rattle.cfb_tables.specs.Changes.{ChangesOnly, IsFreed, IsCut}
+use Rattle.cfb_tables.specs.Changes.{ChangesOnlyValues, IsFreed, IsCut}
 use Rattle.cfb_tables.specs.Tables.{TableState, HasTaken}
 
 -- nothing is used twice, what is used isn't free, and what is loose points to loose numbers alone
@@ -27,14 +27,14 @@ pub record UseChanges (old used new used' : List ℕ) : Type 0 where
 
 -- numbers are taken for the owner of xs: a chain is begun (xs empty) or grown, or a table sector is added
 pub record Takes (old new xs more : List ℕ) : Type 0 where
-  pub only : ChangesOnly (xs ++ more) old new
+  pub only : ChangesOnlyValues (xs ++ more) old new
   pub once : IsDistinct nat_eq more
   pub fresh : (i : ℕ) → Contains more i → value old i ≡ free_sector
   pub busy : (i : ℕ) → Contains (xs ++ more) i → value new i ≢ free_sector
 
 -- the owner of xs keeps these and gives the others back: a chain is cut, or freed (xs empty)
 pub record Frees (old new xs gone : List ℕ) : Type 0 where
-  pub only : ChangesOnly (xs ++ gone) old new
+  pub only : ChangesOnlyValues (xs ++ gone) old new
   pub free : (i : ℕ) → Contains gone i → value new i ≡ free_sector
   pub busy : (i : ℕ) → Contains xs i → value new i ≢ free_sector
 

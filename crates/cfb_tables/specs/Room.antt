@@ -3,7 +3,7 @@ use Rattle.std.specs.Prelude.{ℕ, ◌+◌, ◌-◌, ◌≤◌, List, length}
 use Rattle.cfb_format.specs.Bytes.{max_regular_sector}
 use Rattle.cfb_format.specs.Full.{CanTake, free_count}
 use Rattle.cfb_format.specs.Reading.{Reading}
-use Rattle.cfb_tables.specs.Tables.{TableState, AreSizes, IsCovered, IsFull, IsTooFew, PassesLimit, HasTaken, sizes_of, tables_of}
+use Rattle.cfb_tables.specs.Tables.{TableState, AreSizes, IsCovered, AreFullTables, IsTooFew, PassesLimit, HasTaken, sizes_of, tables_of}
 
 -- there are too few numbers for so many sectors, even once `given_back` more are free
 abbrev pub IsTooFewAfter : TableState → ℕ → ℕ → Type 0
@@ -42,4 +42,4 @@ RoomInTurn = (old new : TableState) (touched more : List ℕ) (rest : ℕ) → H
 -- when all that fits was taken, the tables are full
 abbrev pub AllTakenIsFull : Type 0
 AllTakenIsFull = (old new : TableState) (touched more : List ℕ) → HasTaken old new touched more
-    → (IsTooFew old (length more) → ⊥) → IsTooFew old (length more + 1) → IsFull new
+    → (IsTooFew old (length more) → ⊥) → IsTooFew old (length more + 1) → AreFullTables new

@@ -7,7 +7,7 @@ use Rattle.cfb_format.specs.Chain.{value, IsChain}
 use Rattle.cfb_format.specs.Full.{HasRoom, free_count, rounded_up}
 use Rattle.cfb_format.specs.Header.{header_difat_len}
 use Rattle.cfb_tables.specs.declared.lists.Sizes.{Sizes}
-use Rattle.cfb_tables.specs.Changes.{ChangesOnly, NoneFree, ListsFree, IsFreed, IsCut}
+use Rattle.cfb_tables.specs.Changes.{ChangesOnlyValues, NoneFree, ListsFree, IsFreed, IsCut}
 
 -- the FAT's values, the FAT sectors and the DIFAT sectors in order, and the number of sectors that the file may grow to
 pub record TableState : Type 0 where
@@ -60,14 +60,14 @@ abbrev pub IsCovered : TableState → Type 0
 IsCovered t = length t.fat ≤ length t.fat_sectors * words_per_sector t.version
 
 -- there are as many FAT sectors as cover the file, and as many DIFAT sectors as list those that the header doesn't
-pub record HasExactTables (t : TableState) : Type 0 where
+pub record AreExactTables (t : TableState) : Type 0 where
   pub fats : length t.fat_sectors ≡ rounded_up (length t.fat) (words_per_sector t.version)
   pub difats : length t.difat_sectors ≡ rounded_up (length t.fat_sectors - header_difat_len) (words_per_sector t.version - 1)
 
 -- ---- fullness
 
 -- no number is free, and fewer are left than one more sector takes
-pub record IsFull (t : TableState) : Type 0 where
+pub record AreFullTables (t : TableState) : Type 0 where
   pub none : NoneFree t.fat
   pub few : t.max_sectors - length t.fat < numbers_needed t.version (sizes_of t)
 
@@ -89,7 +89,7 @@ CanTakeSectors t count =
 
 -- the tables are full exactly if there are too few numbers for one sector
 abbrev pub FullIsTooFew : Type 0
-FullIsTooFew = (t : TableState) → (IsFull t → IsTooFew t 1) × (IsTooFew t 1 → IsFull t)
+FullIsTooFew = (t : TableState) → (AreFullTables t → IsTooFew t 1) × (IsTooFew t 1 → AreFullTables t)
 
 -- with too few numbers there is no room, whatever sizes the tables are given
 abbrev pub TooFewIsNoRoom : Type 0
@@ -120,7 +120,7 @@ pub record HasTaken (old new : TableState) (touched more : List ℕ) : Type 0 wh
   pub difats_once : IsDistinct nat_eq difats
   pub ends : (i : ℕ) → Contains touched i → value old.fat i ≡ end_of_chain
   pub busy : (i : ℕ) → Contains (touched ++ more) i → (value new.fat i ≤ max_regular_sector) ⊎ (value new.fat i ≡ end_of_chain)
-  pub only : ChangesOnly (touched ++ more ++ fats ++ difats) old.fat new.fat
+  pub only : ChangesOnlyValues (touched ++ more ++ fats ++ difats) old.fat new.fat
   -- the file grows only where no number is free, and never past its limit
   pub longer : length old.fat ≤ length new.fat
   pub none_free : length old.fat < length new.fat → NoneFree new.fat
@@ -128,7 +128,7 @@ pub record HasTaken (old new : TableState) (touched more : List ℕ) : Type 0 wh
   -- the free numbers are taken first, and past the end come the sectors that fullness counts, no more
   pub left : free_count new.fat ≡ free_count old.fat - length more
   pub sizes : sizes_of new ≡ sizes_after old.version (length more - free_count old.fat) (sizes_of old)
-  pub exact : HasExactTables old → HasExactTables new
+  pub exact : AreExactTables old → AreExactTables new
   -- the FAT sectors cover the file again, if they did
   pub covered : IsCovered old → IsCovered new
   -- FAT sectors are added only until they cover the file
@@ -139,9 +139,9 @@ pub record HasTaken (old new : TableState) (touched more : List ℕ) : Type 0 wh
   pub same_max : new.max_sectors ≡ old.max_sectors
 
 -- where the chain of these sectors starts
-abbrev pub start_of : List ℕ → ℕ
-start_of [] = end_of_chain
-start_of (x ∷ list) = x
+abbrev pub first_or_end : List ℕ → ℕ
+first_or_end [] = end_of_chain
+first_or_end (x ∷ list) = x
 
 -- some sectors were taken for the chain that these end, or for a new one
 abbrev pub TakesFor : List ℕ → TableState → TableState → Type 0

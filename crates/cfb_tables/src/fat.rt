@@ -3,12 +3,12 @@ ghost use Rattle.std.specs.Prelude.{◌≡◌, ℕ, List, true, not, ◌==◌, �
 ghost use Rattle.std.specs.List.{list_all, range_with_len};
 ghost use Rattle.cfb_format.specs.Bytes.{free_sector, invalid_sector, points_below};
 ghost use Rattle.cfb_format.specs.Chain.{value};
-ghost use Rattle.cfb_format.specs.Fat.{fat_value, is_among, within_file as within_file_of, HasDistinctPointers};
+ghost use Rattle.cfb_format.specs.Fat.{fat_value, is_among, ended_past_file, HasDistinctPointers};
 ghost use Rattle.cfb_format.specs.Header.{IfStrict};
 ghost use Rattle.cfb_format.specs.Refused.{IsInvalidData};
 ghost use Rattle.cfb_tables.specs.Changes.{PointsWithin};
 ghost use Rattle.cfb_tables.specs.ReadFat.{AcceptsFat, AcceptsNoFat, HasStrictWords, HasValidValues, fat_of_words, is_padding_in, ReadIsTheFilesFat, FilesFatIsRead};
-ghost use Rattle.cfb_tables.specs.Refused.{Refused};
+ghost use Rattle.cfb_tables.specs.Refused.{TableRefused};
 
 use cfb_format::consts::{
     DIFAT_SECTOR, END_OF_CHAIN, FAT_SECTOR, FREE_SECTOR, INVALID_SECTOR, MAX_REGULAR_SECTOR,
@@ -33,7 +33,7 @@ pub fn read_fat<A: Allocator>(
     validation: Validation,
 ) -> Result<Vec<u32, A>, Error>
     ensures ok { IfOk result (λ fat. AcceptsFat validation num_sectors words.items fat_sectors.now difat_sectors.now fat.items) }
-    ensures err { IfErr result (Refused (AcceptsNoFat validation num_sectors words.items fat_sectors.now difat_sectors.now) Unit ⊥) }
+    ensures err { IfErr result (TableRefused (AcceptsNoFat validation num_sectors words.items fat_sectors.now difat_sectors.now) Unit ⊥) }
 {
     let len = num_sectors as usize;
     if !are_padding(past(&words, len), validation) {
@@ -124,7 +124,7 @@ fn check_strictly(
     difat_sectors: &[u32],
 ) -> Result<(), Error>
     ensures ok { OnOk result (HasStrictWords num_sectors words.now fat_sectors.now difat_sectors.now) }
-    ensures err { IfErr result (Refused (HasStrictWords num_sectors words.now fat_sectors.now difat_sectors.now → ⊥) ⊥ ⊥) }
+    ensures err { IfErr result (TableRefused (HasStrictWords num_sectors words.now fat_sectors.now difat_sectors.now → ⊥) ⊥ ⊥) }
 {
     if !are_marked(words, fat_sectors, FAT_SECTOR) {
         return Err(invalid("FAT sector is not marked as one"));
@@ -146,7 +146,7 @@ fn check_in_mode(
     validation: Validation,
 ) -> Result<(), Error>
     ensures ok { OnOk result (IfStrict validation (HasStrictWords num_sectors words.now fat_sectors.now difat_sectors.now)) }
-    ensures err { IfErr result (Refused (IfStrict validation (HasStrictWords num_sectors words.now fat_sectors.now difat_sectors.now) → ⊥) ⊥ ⊥) }
+    ensures err { IfErr result (TableRefused (IfStrict validation (HasStrictWords num_sectors words.now fat_sectors.now difat_sectors.now) → ⊥) ⊥ ⊥) }
 {
     match validation {
         Validation::Permissive => Ok(()),
@@ -156,7 +156,7 @@ fn check_in_mode(
 
 /// A pointer past the last of so many sectors ends the chain there.
 fn within_file(num_sectors: usize, word: u32) -> u32
-    ensures { result ≡ within_file_of num_sectors word }
+    ensures { result ≡ ended_past_file num_sectors word }
 {
     if word <= MAX_REGULAR_SECTOR && word as usize >= num_sectors {
         END_OF_CHAIN
@@ -166,7 +166,7 @@ fn within_file(num_sectors: usize, word: u32) -> u32
 }
 
 fn end_past_file(fat: &mut [u32])
-    ensures { fat.new ≡ map (within_file_of (length fat.old)) fat.old }
+    ensures { fat.new ≡ map (ended_past_file (length fat.old)) fat.old }
 {
     let num_sectors = fat.len();
     for word in fat.iter_mut() {
@@ -203,7 +203,7 @@ fn values_of<A: Allocator>(
     difat_sectors: &[u32],
 ) -> Result<Vec<u32, A>, Error>
     ensures ok { IfOk result (λ fat. fat.items ≡ fat_of_words num_sectors words.items fat_sectors.now difat_sectors.now) }
-    ensures err { IfErr result (Refused ⊥ Unit ⊥) }
+    ensures err { IfErr result (TableRefused ⊥ Unit ⊥) }
 {
     let mut fat = words;
     fat.resize(num_sectors, FREE_SECTOR)?;
@@ -222,7 +222,7 @@ fn names_once<A: Allocator>(alloc: A, fat: &[u32]) -> Result<bool, Error>
     requires within { PointsWithin fat.now }
     ensures once { IfOk result (λ once. once ≡ true → HasDistinctPointers fat.now) }
     ensures twice { IfOk result (λ once. HasDistinctPointers fat.now → once ≡ true) }
-    ensures err { IfErr result (Refused ⊥ Unit ⊥) }
+    ensures err { IfErr result (TableRefused ⊥ Unit ⊥) }
 {
     let mut named = Vec::from_elem(alloc, false, fat.len())?;
     for sector in fat {
@@ -240,7 +240,7 @@ fn names_once<A: Allocator>(alloc: A, fat: &[u32]) -> Result<bool, Error>
 fn check_values<A: Allocator>(alloc: A, fat: &[u32]) -> Result<(), Error>
     requires within { PointsWithin fat.now }
     ensures ok { OnOk result (HasValidValues fat.now) }
-    ensures err { IfErr result (Refused (HasValidValues fat.now → ⊥) Unit ⊥) }
+    ensures err { IfErr result (TableRefused (HasValidValues fat.now → ⊥) Unit ⊥) }
 {
     if !has_no_invalid_mark(fat) {
         return Err(invalid("FAT holds the mark of no sector"));

@@ -1,15 +1,15 @@
 //! The lists that the tables are made of. Each growth of memory is reserved here before anything changes, and what was
 //! reserved for cannot fail.
 ghost use Rattle.std.specs.Prelude.{◌≡◌, ◌≢◌, ◌↔◌, IsTrue, ℕ, nat_eq, List, Contains, ◌+◌, ◌-◌, ◌*◌, ◌<◌, ◌≤◌, [], ◌∷◌, ◌++◌, length, take, drop, min, slice_set, IfOk, IfErr, IfSome, IfNone, OnErr, OnOk, vec_len, vec_capacity};
-ghost use Rattle.cfb_format.specs.Bytes.{max_regular_sector, end_of_chain, free_sector, words_per_sector as words_of};
+ghost use Rattle.cfb_format.specs.Bytes.{max_regular_sector, end_of_chain, free_sector, words_per_sector};
 ghost use Rattle.cfb_format.specs.Chain.{value, IsChain};
 ghost use Rattle.cfb_format.specs.Full.{free_count};
 ghost use Rattle.std.specs.List.{IsDistinct};
 ghost use Rattle.cfb_tables.specs.Changes.{IsNextOf, ListsFree, IsFreed, IsCut};
-ghost use Rattle.cfb_tables.specs.Tables.{TableState, Kept, IsKept, AreSizes, CanHold, TakesNext, IsPrepared, IsTooFew, PassesLimit, HasTaken, Added, Extended, start_of, wiped, tables_of, sizes_of, sizes_after, grown_sizes, numbers_needed as needed, grown, grown_fats, grown_difats};
+ghost use Rattle.cfb_tables.specs.Tables.{TableState, Kept, IsKept, AreSizes, CanHold, TakesNext, IsPrepared, IsTooFew, PassesLimit, HasTaken, Added, Extended, first_or_end, wiped, tables_of, sizes_of, sizes_after, grown_sizes, numbers_needed, grown, grown_fats, grown_difats};
 ghost use Rattle.cfb_tables.specs.Room.{IsTooFewAfter};
 ghost use Rattle.cfb_tables.specs.Listed.{IsShortened};
-ghost use Rattle.cfb_tables.specs.Refused.{Refused, WalkRefused, LastRefused, NextRefused, ExtendRefused};
+ghost use Rattle.cfb_tables.specs.Refused.{TableRefused, WalkRefused, LastRefused, NextRefused, ExtendRefused};
 
 use crate::walk::{last_of, next_in, walk};
 use cfb_format::consts::{
@@ -20,13 +20,6 @@ use cfb_format::error::Error;
 use cfb_format::version::Version;
 use std::alloc::{Allocator, Global};
 use std::marker::Model;
-
-/// How many words a sector holds.
-pub fn words_per_sector(version: Version) -> usize
-    ensures { result ≡ words_of version }
-{
-    version.sector_len() / 4
-}
 
 /// How many sectors, FAT sectors and DIFAT sectors there are.
 #[derive(Clone, Copy)]
@@ -40,9 +33,9 @@ impl Sizes {
     /// How many numbers past the end one more sector takes.
     fn numbers_needed(self, version: Version) -> usize
         requires { AreSizes version self }
-        ensures { result ≡ needed version self }
+        ensures { result ≡ numbers_needed version self }
     {
-        let words = words_per_sector(version);
+        let words = version.words_per_sector();
         if self.sectors < self.fats * words {
             1
         } else if self.fats < NUM_DIFAT_ENTRIES_IN_HEADER + self.difats * (words - 1) {
@@ -56,10 +49,10 @@ impl Sizes {
     fn with_one_more(self, version: Version, limit: usize) -> Option<Sizes>
         requires are { AreSizes version self }
         requires limit { limit ≤ max_regular_sector }
-        ensures sizes { IfSome result (λ sizes. sizes ≡ grown_sizes self (needed version self)) }
+        ensures sizes { IfSome result (λ sizes. sizes ≡ grown_sizes self (numbers_needed version self)) }
         ensures are { IfSome result (λ sizes. AreSizes version sizes) }
         ensures limited { IfSome result (λ sizes. sizes.sectors ≤ limit) }
-        ensures none { IfNone result (limit - self.sectors < needed version self) }
+        ensures none { IfNone result (limit - self.sectors < numbers_needed version self) }
     {
         let numbers = self.numbers_needed(version);
         if limit.saturating_sub(self.sectors) < numbers {
@@ -84,10 +77,10 @@ impl Sizes {
     fn covered(self, version: Version, limit: usize, more: usize) -> usize
         requires are { AreSizes version self }
         ensures few { result ≤ more }
-        ensures words { (0 < result) → self.sectors + result ≤ self.fats * words_of version }
+        ensures words { (0 < result) → self.sectors + result ≤ self.fats * words_per_sector version }
         ensures limited { (0 < result) → self.sectors + result ≤ limit }
     {
-        let words = (self.fats * words_per_sector(version)).saturating_sub(self.sectors);
+        let words = (self.fats * version.words_per_sector()).saturating_sub(self.sectors);
         words.min(limit.saturating_sub(self.sectors)).min(more)
     }
 
@@ -101,7 +94,7 @@ impl Sizes {
         ensures sizes { IfSome result (λ r. r.0 ≡ sizes_after version (more - r.1) self) }
         ensures are { IfSome result (λ r. AreSizes version r.0) }
         ensures limited { IfSome result (λ r. r.0.sectors ≤ limit) }
-        ensures none { IfNone result (limit - self.sectors < needed version self) }
+        ensures none { IfNone result (limit - self.sectors < numbers_needed version self) }
     {
         let run = self.covered(version, limit, more);
         if run > 0 {
@@ -127,7 +120,7 @@ impl Sizes {
         ensures sizes { result.0 ≡ sizes_after version (more - result.1) self }
         ensures are { AreSizes version result.0 }
         ensures limited { (result.1 < more) → result.0.sectors ≤ limit }
-        ensures full { (0 < result.1) → limit - result.0.sectors < needed version result.0 }
+        ensures full { (0 < result.1) → limit - result.0.sectors < numbers_needed version result.0 }
     {
         let mut sizes = self;
         let mut left = more;
@@ -148,7 +141,7 @@ impl Sizes {
         ensures sizes { IfOk result (λ sizes. sizes ≡ sizes_after version more self) }
         ensures are { IfOk result (λ sizes. AreSizes version sizes) }
         ensures limited { IfOk result (λ sizes. (0 < more) → sizes.sectors ≤ limit) }
-        ensures err { IfErr result (Refused ⊥ ⊥ (PassesLimit version limit self more)) }
+        ensures err { IfErr result (TableRefused ⊥ ⊥ (PassesLimit version limit self more)) }
     {
         let (sizes, left) = self.with_most(version, limit, more);
         if left > 0 {
@@ -211,7 +204,7 @@ fn free_numbers<A: Allocator>(alloc: A, fat: &[u32]) -> Result<Vec<u32, A>, Erro
     requires short { length fat.now ≤ max_regular_sector }
     ensures ok { IfOk result (λ free. ListsFree (length fat.now) free.items fat.now) }
     ensures room { IfOk result (λ free. length fat.now ≤ vec_capacity free) }
-    ensures err { IfErr result (Refused ⊥ Unit ⊥) }
+    ensures err { IfErr result (TableRefused ⊥ Unit ⊥) }
 {
     let mut free = Vec::with_capacity(alloc, fat.len())?;
     for number in 0..fat.len() {
@@ -270,7 +263,7 @@ impl<A: Allocator> Lists<A> {
     ) -> Result<Lists<A>, Error>
         requires sizes { AreSizes version (record { sectors = vec_len fat; fats = vec_len fat_sectors; difats = vec_len difat_sectors }) }
         ensures ok { IfOk result (λ lists. lists.state ≡ tables_of version max_regular_sector fat.items fat_sectors.items difat_sectors.items) }
-        ensures err { IfErr result (Refused ⊥ Unit ⊥) }
+        ensures err { IfErr result (TableRefused ⊥ Unit ⊥) }
     {
         let free = free_numbers(alloc, &fat)?;
         Ok(Lists {
@@ -299,7 +292,7 @@ impl<A: Allocator> Lists<A> {
     fn reserve(&mut self, sizes: Sizes) -> Result<(), Error>
         ensures ok { OnOk result (CanHold self.new sizes) }
         ensures rest { self.new ≡ record self.old { fat_capacity = self.new.fat_capacity; fats_capacity = self.new.fats_capacity; difats_capacity = self.new.difats_capacity; free_capacity = self.new.free_capacity } }
-        ensures err { IfErr result (Refused ⊥ Unit ⊥) }
+        ensures err { IfErr result (TableRefused ⊥ Unit ⊥) }
     {
         self.fat
             .reserve(sizes.sectors.saturating_sub(self.fat.len()))?;
@@ -349,7 +342,7 @@ impl<A: Allocator> Lists<A> {
         ensures ok { OnOk result (IsPrepared self.new count) }
         ensures sizes { AreSizes self.old.state.version (sizes_of self.old.state) }
         ensures rest { self.new ≡ record self.old { fat_capacity = self.new.fat_capacity; fats_capacity = self.new.fats_capacity; difats_capacity = self.new.difats_capacity; free_capacity = self.new.free_capacity } }
-        ensures err { IfErr result (Refused ⊥ Unit (IsTooFew self.old.state count)) }
+        ensures err { IfErr result (TableRefused ⊥ Unit (IsTooFew self.old.state count)) }
         ensures enough { OnOk result (IsTooFew self.old.state count → ⊥) }
     {
         let missing = self.missing(count);
@@ -362,8 +355,8 @@ impl<A: Allocator> Lists<A> {
     /// Takes a sector, as the only one of a new chain: the one that was freed last, or one past the end, before which the
     /// tables grow by the sectors that they need.
     pub fn take_prepared(&mut self) -> u32
-        requires held { (self.old.free ≡ []) → CanHold self.old (grown_sizes (sizes_of self.old.state) (needed self.old.state.version (sizes_of self.old.state))) }
-        requires short { (self.old.free ≡ []) → length self.old.state.fat + needed self.old.state.version (sizes_of self.old.state) ≤ max_regular_sector }
+        requires held { (self.old.free ≡ []) → CanHold self.old (grown_sizes (sizes_of self.old.state) (numbers_needed self.old.state.version (sizes_of self.old.state))) }
+        requires short { (self.old.free ≡ []) → length self.old.state.fat + numbers_needed self.old.state.version (sizes_of self.old.state) ≤ max_regular_sector }
         ensures next { TakesNext self.old self.new result }
         ensures kept { IsKept self.old.state self.old.free }
     {
@@ -433,7 +426,7 @@ impl<A: Allocator> Lists<A> {
         requires room { count ≤ vec_capacity list.old }
         requires empty { list.old.items ≡ [] }
         ensures taken { HasTaken self.old.state self.new.state [] list.new.items }
-        ensures chain { IsChain self.new.state.fat (start_of list.new.items) list.new.items }
+        ensures chain { IsChain self.new.state.fat (first_or_end list.new.items) list.new.items }
         ensures count { vec_len list.new ≡ count }
     {
         if count > 0 {
@@ -461,7 +454,7 @@ impl<A: Allocator> Lists<A> {
         ensures chain { IfOk result (λ x. IsChain self.new.state.fat x (x ∷ [])) }
         ensures enough { OnOk result (IsTooFew self.old.state 1 → ⊥) }
         ensures unchanged { OnErr result (self.new.state ≡ self.old.state) }
-        ensures err { IfErr result (Refused ⊥ Unit (IsTooFew self.old.state 1)) }
+        ensures err { IfErr result (TableRefused ⊥ Unit (IsTooFew self.old.state 1)) }
     {
         self.prepare(1)?;
         Ok(self.take_prepared())
@@ -475,7 +468,7 @@ impl<A: Allocator> Lists<A> {
         ensures chain { IfOk result (λ x. IsChain self.new.state.fat last (last ∷ x ∷ [])) }
         ensures enough { OnOk result (IsTooFew self.old.state 1 → ⊥) }
         ensures unchanged { OnErr result (self.new.state ≡ self.old.state) }
-        ensures err { IfErr result (Refused ⊥ Unit (IsTooFew self.old.state 1)) }
+        ensures err { IfErr result (TableRefused ⊥ Unit (IsTooFew self.old.state 1)) }
     {
         let sector = self.take()?;
         self.link(last, sector);
@@ -513,7 +506,7 @@ impl<A: Allocator> Lists<A> {
         ensures count { IfOk result (λ list. vec_len list ≡ count) }
         ensures enough { OnOk result (IsTooFew self.old.state count → ⊥) }
         ensures unchanged { OnErr result (self.new.state ≡ self.old.state) }
-        ensures err { IfErr result (Refused ⊥ Unit (IsTooFew self.old.state count)) }
+        ensures err { IfErr result (TableRefused ⊥ Unit (IsTooFew self.old.state count)) }
     {
         let mut list = Vec::with_capacity(alloc, count)?;
         self.prepare(count)?;
@@ -524,11 +517,11 @@ impl<A: Allocator> Lists<A> {
     /// Takes so many sectors, as a new chain, and gives their numbers. `Full` and `Memory`.
     pub fn take_by(&mut self, alloc: A, count: usize) -> Result<Vec<u32, A>, Error>
         ensures taken { IfOk result (λ list. HasTaken self.old.state self.new.state [] list.items) }
-        ensures chain { IfOk result (λ list. IsChain self.new.state.fat (start_of list.items) list.items) }
+        ensures chain { IfOk result (λ list. IsChain self.new.state.fat (first_or_end list.items) list.items) }
         ensures count { IfOk result (λ list. vec_len list ≡ count) }
         ensures enough { OnOk result (IsTooFew self.old.state count → ⊥) }
         ensures unchanged { OnErr result (self.new.state ≡ self.old.state) }
-        ensures err { IfErr result (Refused ⊥ Unit (IsTooFew self.old.state count)) }
+        ensures err { IfErr result (TableRefused ⊥ Unit (IsTooFew self.old.state count)) }
     {
         let mut list = Vec::with_capacity(alloc, count)?;
         self.prepare(count)?;
@@ -608,7 +601,7 @@ impl<A: Allocator> Lists<A> {
 
     /// Frees the chain that has just these sectors. It asks for no memory.
     pub fn free_listed(&mut self, list: &[u32])
-        requires chain { IsChain self.old.state.fat (start_of list.now) list.now }
+        requires chain { IsChain self.old.state.fat (first_or_end list.now) list.now }
         ensures freed { IsFreed list.now self.old.state.fat self.new.state.fat }
         ensures rest { self.new.state ≡ record self.old.state { fat = self.new.state.fat } }
     {
@@ -617,7 +610,7 @@ impl<A: Allocator> Lists<A> {
 
     /// Leaves so many sectors of the chain that has just these, and frees the ones behind them. It asks for no memory.
     pub fn cut_listed(&mut self, list: &[u32], left: usize)
-        requires chain { IsChain self.old.state.fat (start_of list.now) list.now }
+        requires chain { IsChain self.old.state.fat (first_or_end list.now) list.now }
         requires fewer { left ≤ length list.now }
         ensures cut { IsShortened (take left list.now) (drop left list.now) self.old.state.fat self.new.state.fat }
         ensures rest { self.new.state ≡ record self.old.state { fat = self.new.state.fat } }

@@ -4,10 +4,10 @@ ghost use Rattle.std.specs.Prelude.{◌≡◌, ◌≢◌, ◌↔◌, ℕ, ◌+�
 ghost use Rattle.cfb_format.specs.Bytes.{max_regular_sector, end_of_chain};
 ghost use Rattle.cfb_format.specs.Chain.{IsChain, value};
 ghost use Rattle.cfb_tables.specs.Changes.{IsNextOf, IsFreed, IsCut};
-ghost use Rattle.cfb_tables.specs.Tables.{AreSizes, HasTaken, Extended, IsTooFew, sizes_of, start_of, tables_of};
+ghost use Rattle.cfb_tables.specs.Tables.{AreSizes, HasTaken, Extended, IsTooFew, sizes_of, first_or_end, tables_of};
 ghost use Rattle.cfb_tables.specs.Room.{IsTooFewAfter};
 ghost use Rattle.cfb_tables.specs.Listed.{IsShortened};
-ghost use Rattle.cfb_tables.specs.Refused.{Refused, WalkRefused, LastRefused, NextRefused, ExtendRefused};
+ghost use Rattle.cfb_tables.specs.Refused.{TableRefused, WalkRefused, LastRefused, NextRefused, ExtendRefused};
 
 use crate::lists::Lists;
 use cfb_format::error::Error;
@@ -41,7 +41,7 @@ impl<A: Allocator> Tables<A> {
     ) -> Result<Tables<A>, Error>
         requires sizes { AreSizes version (record { sectors = vec_len fat; fats = vec_len fat_sectors; difats = vec_len difat_sectors }) }
         ensures ok { IfOk result (λ tables. tables ≡ tables_of version max_regular_sector fat.items fat_sectors.items difat_sectors.items) }
-        ensures err { IfErr result (Refused ⊥ Unit ⊥) }
+        ensures err { IfErr result (TableRefused ⊥ Unit ⊥) }
     {
         let lists = Lists::new(alloc, version, fat, fat_sectors, difat_sectors)?;
         Ok(Tables { lists })
@@ -121,7 +121,7 @@ impl<A: Allocator> Tables<A> {
         ensures chain { IfOk result (λ x. IsChain self.new.fat x (x ∷ [])) }
         ensures enough { OnOk result (IsTooFew self.old 1 → ⊥) }
         ensures unchanged { OnErr result (self.new ≡ self.old) }
-        ensures err { IfErr result (Refused ⊥ Unit (IsTooFew self.old 1)) }
+        ensures err { IfErr result (TableRefused ⊥ Unit (IsTooFew self.old 1)) }
     {
         self.lists.take()
     }
@@ -130,11 +130,11 @@ impl<A: Allocator> Tables<A> {
     /// are too few numbers, and `Memory`; the tables then stay as they were.
     pub fn take_by(&mut self, alloc: A, count: usize) -> Result<Vec<u32, A>, Error>
         ensures taken { IfOk result (λ list. HasTaken self.old self.new [] list.items) }
-        ensures chain { IfOk result (λ list. IsChain self.new.fat (start_of list.items) list.items) }
+        ensures chain { IfOk result (λ list. IsChain self.new.fat (first_or_end list.items) list.items) }
         ensures count { IfOk result (λ list. vec_len list ≡ count) }
         ensures enough { OnOk result (IsTooFew self.old count → ⊥) }
         ensures unchanged { OnErr result (self.new ≡ self.old) }
-        ensures err { IfErr result (Refused ⊥ Unit (IsTooFew self.old count)) }
+        ensures err { IfErr result (TableRefused ⊥ Unit (IsTooFew self.old count)) }
     {
         self.lists.take_by(alloc, count)
     }
@@ -148,7 +148,7 @@ impl<A: Allocator> Tables<A> {
         ensures chain { IfOk result (λ x. IsChain self.new.fat last (last ∷ x ∷ [])) }
         ensures enough { OnOk result (IsTooFew self.old 1 → ⊥) }
         ensures unchanged { OnErr result (self.new ≡ self.old) }
-        ensures err { IfErr result (Refused ⊥ Unit (IsTooFew self.old 1)) }
+        ensures err { IfErr result (TableRefused ⊥ Unit (IsTooFew self.old 1)) }
     {
         self.lists.attach(last)
     }
@@ -183,7 +183,7 @@ impl<A: Allocator> Tables<A> {
         ensures count { IfOk result (λ list. vec_len list ≡ count) }
         ensures enough { OnOk result (IsTooFew self.old count → ⊥) }
         ensures unchanged { OnErr result (self.new ≡ self.old) }
-        ensures err { IfErr result (Refused ⊥ Unit (IsTooFew self.old count)) }
+        ensures err { IfErr result (TableRefused ⊥ Unit (IsTooFew self.old count)) }
     {
         self.lists.attach_by(alloc, last, count)
     }
@@ -247,14 +247,14 @@ impl<A: Allocator> Tables<A> {
     pub fn reserve(&mut self, count: usize) -> Result<(), Error>
         ensures enough { OnOk result (IsTooFew self.old count → ⊥) }
         ensures unchanged { self.new ≡ self.old }
-        ensures err { IfErr result (Refused ⊥ Unit (IsTooFew self.old count)) }
+        ensures err { IfErr result (TableRefused ⊥ Unit (IsTooFew self.old count)) }
     {
         self.lists.prepare(count)
     }
 
     /// Frees the chain that has just these sectors. It asks for no memory.
     pub fn free_listed(&mut self, list: &[u32])
-        requires chain { IsChain self.old.fat (start_of list.now) list.now }
+        requires chain { IsChain self.old.fat (first_or_end list.now) list.now }
         ensures freed { IsFreed list.now self.old.fat self.new.fat }
         ensures rest { self.new ≡ record self.old { fat = self.new.fat } }
     {
@@ -263,7 +263,7 @@ impl<A: Allocator> Tables<A> {
 
     /// Leaves so many sectors of the chain that has just these, and frees the ones behind them. It asks for no memory.
     pub fn cut_listed(&mut self, list: &[u32], left: usize)
-        requires chain { IsChain self.old.fat (start_of list.now) list.now }
+        requires chain { IsChain self.old.fat (first_or_end list.now) list.now }
         requires fewer { left ≤ length list.now }
         ensures cut { IsShortened (take left list.now) (drop left list.now) self.old.fat self.new.fat }
         ensures rest { self.new ≡ record self.old { fat = self.new.fat } }

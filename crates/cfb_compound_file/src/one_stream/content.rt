@@ -1,7 +1,7 @@
 //! The bytes of the stream on the medium: writing them behind the directory's sector, and reading
 //! them along the chain.
 ghost use Rattle.std.specs.Prelude.{◌≡◌, ◌+◌, ◌*◌, ◌^◌, ◌<◌, ◌≤◌, ◌++◌, ◌%◌, ◌⊎◌, ℕ, length, replicate, IsTrue, OnOk, IfOk, IfErr};
-ghost use Rattle.cfb_format.specs.Bytes.{sector_len, u32_at};
+ghost use Rattle.cfb_format.specs.Bytes.{sector_len, word_at};
 ghost use Rattle.cfb_format.specs.Medium.{part, written, FailsBy};
 ghost use Rattle.cfb_compound_file.specs.OneStream.{IsLinked};
 
@@ -95,7 +95,7 @@ fn successor<F: ReadMedium>(
     sector: u32,
 ) -> Result<u32, MediumFault>
     ensures same { IsTrue F.tells → F.bytes medium.new ≡ F.bytes medium.old }
-    ensures ok { IsTrue F.tells → IfOk result (λ next. next ≡ u32_at (F.bytes medium.old) (sector_len version + 4 * sector)) }
+    ensures ok { IsTrue F.tells → IfOk result (λ next. next ≡ word_at (F.bytes medium.old) (sector_len version + 4 * sector)) }
     ensures calm { IsTrue F.tells → OnOk result (F.failures medium.new ≡ F.failures medium.old) }
     ensures err { IsTrue F.tells → sector_len version + 4 * sector + 4 ≤ length (F.bytes medium.old)
         → IfErr result (FailsBy F.read_faults (F.failures medium.old) (F.failures medium.new)) }

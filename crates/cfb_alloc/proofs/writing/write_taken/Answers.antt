@@ -7,7 +7,7 @@ use Rattle.cfb_format.specs.Bytes.{sector_start}
 use Rattle.std.proofs.Math.Seq.{take-append_seam}
 use Rattle.cfb_sectors.specs.declared.sector.SectorInit.TheVariants.{Fat}
 use Rattle.cfb_alloc.specs.Alloc.{ChangesSectors, HoldsBut, IsFilled}
-use Rattle.cfb_tables.specs.Changes.{Apart}
+use Rattle.cfb_tables.specs.Changes.{AreDisjoint}
 use Rattle.cfb_alloc.specs.Difat.{ListsTables}
 use Rattle.cfb_sectors.specs.Sectors.{SectorFile}
 use Rattle.cfb_alloc.proofs.Answering.{all_ok}
@@ -91,9 +91,9 @@ returns-clause-holds g c told validation old taken clean fats difats h =
     let first : s0.version ≡ v = c.requires.placed.same_version in
     let own_once = subst (IsDistinct nat_eq) (sym e2) (grown_difats_once old t touched more taken validation s0 h) in
     let list_once = subst (IsDistinct nat_eq) (sym e1) (grown_fats_once old t touched more taken validation s0 h) in
-    let apart = subst (λ (xs : List ℕ). Apart xs r2) (sym e1) (subst (Apart t.fat_sectors) (sym e2) (grown_apart old t touched more taken validation s0 h)) in
-    let own_more = subst (λ (xs : List ℕ). Apart xs more) (sym e2) (difats_apart_more validation old t touched more taken s0 h) in
-    let list_more = subst (λ (xs : List ℕ). Apart xs more) (sym e1) (fats_apart_more validation old t touched more taken s0 h) in
+    let apart = subst (λ (xs : List ℕ). AreDisjoint xs r2) (sym e1) (subst (AreDisjoint t.fat_sectors) (sym e2) (grown_apart old t touched more taken validation s0 h)) in
+    let own_more = subst (λ (xs : List ℕ). AreDisjoint xs more) (sym e2) (difats_apart_more validation old t touched more taken s0 h) in
+    let list_more = subst (λ (xs : List ℕ). AreDisjoint xs more) (sym e1) (fats_apart_more validation old t touched more taken s0 h) in
     let was_v : old.version ≡ s0.version = sym taken.same_version ∙ sym first in
     let takes1 : take c.args.before.fats r1 ≡ old.fat_sectors = ap (take c.args.before.fats) (e1 ∙ taken.fat_sectors) ∙ ap (λ n. take n (old.fat_sectors ++ taken.fats)) fats ∙ take-append_seam old.fat_sectors taken.fats in
     let takes2 : take c.args.before.difats r2 ≡ old.difat_sectors = ap (take c.args.before.difats) (e2 ∙ taken.difat_sectors) ∙ ap (λ n. take n (old.difat_sectors ++ taken.difats)) difats ∙ take-append_seam old.difat_sectors taken.difats in

@@ -1,7 +1,7 @@
 use Rattle.std.proofs.Common.{arith, ap, ◌∙◌, subst, ◌≡◌, ℕ, List, get_or, max, ◌+◌}
 use Rattle.std.specs.Prelude.{Contains}
 use Rattle.cfb_format.specs.declared.version.Version.{Version}
-use Rattle.cfb_format.specs.Medium.{ChangesOnly}
+use Rattle.cfb_format.specs.Medium.{ChangesOnlyBytes}
 use Rattle.cfb_alloc.specs.Agreement.{word_home}
 use Rattle.cfb_sectors.specs.Words.{with_word}
 use Rattle.cfb_alloc.proofs.Answering.{on_both}
@@ -31,7 +31,7 @@ returns-clause-ok g c told validation late held =
     (λ is len. held_word validation late old new t x listing_stays
     (is ∙ ap (λ h. with_word old.bytes h (get_or c.fat.result.now x 0)) home ∙ ap (with_word old.bytes (word_home t.version t.fat_sectors x)) value)
     (len ∙ ap (λ h. max old.len (h + 4)) home)
-    (subst (λ h. ChangesOnly h 4 old.bytes new.bytes) home (w.only told))
+    (subst (λ h. ChangesOnlyBytes h 4 old.bytes new.bytes) home (w.only told))
     c.requires.below
     (omega (arith, value, w.fits))
     (omega (arith, long, held.measured))

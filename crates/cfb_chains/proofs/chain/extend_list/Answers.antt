@@ -1,7 +1,7 @@
 use Rattle.std.proofs.Common.{◌≡◌, ℕ, List, ◌++◌, ap, sym, subst, ◌∙◌}
 use Rattle.std.specs.Prelude.{Some, Contains}
-use Rattle.cfb_chains.specs.ChainLists.{last_of}
-use Rattle.cfb_tables.specs.Tables.{TakesFor, ending, start_of as first_of}
+use Rattle.cfb_chains.specs.ChainLists.{last_or_end}
+use Rattle.cfb_tables.specs.Tables.{TakesFor, ending, first_or_end}
 use Rattle.cfb_alloc.proofs.AllocLemmas.{others_refl}
 use Rattle.cfb_alloc.proofs.ChainView.{chain_few, only_first}
 use Rattle.cfb_chains.proofs.ChainLists.{gained_is, grown_found, last_ends, left_found}
@@ -12,9 +12,9 @@ returns-in_err-reserve-clause-others g c told = others_refl c.args.allocator.now
 
 pub returns-in-Ok-clause-chained : goal.returns-in-Ok-clause-chained
 returns-in-Ok-clause-chained g c =
-    let last : c.last_number-last.result ≡ last_of c.args.ids.now.items = cc in
+    let last : c.last_number-last.result ≡ last_or_end c.args.ids.now.items = cc in
     let listed : c.append_reserved.new.list.items ≡ c.args.ids.now.items ++ c.in-Ok.more.items = cc in
-    let first = c.first_number.ensures ∙ ap first_of c.deref-in-Ok-2.ensures.value in
+    let first = c.first_number.ensures ∙ ap first_or_end c.deref-in-Ok-2.ensures.value in
     grown_found c.args.allocator.now.tables c.extend_chain_by.new.self.tables c.args.start.now c.first_number.result c.last_number-last.result c.args.ids.now.items
     c.append_reserved.new.list.items c.in-Ok.more.items c.requires last c.in-Ok.ensures.taken c.in-Ok.ensures.chain listed first
 
@@ -31,7 +31,7 @@ returns-in-Err-clause-chained g c =
 
 pub returns-in-Err-clause-err : goal.returns-in-Err-clause-err
 returns-in-Err-clause-err g c =
-    let last : c.last_number-last.result ≡ last_of c.args.ids.now.items = cc in
+    let last : c.last_number-last.result ≡ last_or_end c.args.ids.now.items = cc in
     only_first _ _ _ _ _ (last_ends c.args.allocator.now.tables.fat c.args.start.now c.last_number-last.result c.args.ids.now.items c.requires last) c.in-Err.error c.in-Err.ensures.err
 
 pub returns-in-Ok-clause-few : goal.returns-in-Ok-clause-few

@@ -1,6 +1,6 @@
 use Rattle.std.proofs.Common.{ℕ, List, take, drop, ap, subst, ◌∙◌}
 use Rattle.cfb_chains.specs.ChainLists.{Shortens}
-use Rattle.cfb_tables.specs.Tables.{start_of as first_of}
+use Rattle.cfb_tables.specs.Tables.{first_or_end}
 use Rattle.cfb_alloc.proofs.ChainView.{chain_few}
 use Rattle.cfb_chains.proofs.ChainLists.{cut_found, left_found}
 use Rattle.cfb_chains.proofs.chain.shorten_list.Goals as goal
@@ -8,7 +8,7 @@ use Rattle.cfb_chains.proofs.chain.shorten_list.Goals as goal
 pub returns-in-Ok-clause-chained : goal.returns-in-Ok-clause-chained
 returns-in-Ok-clause-chained g c =
     let cut = subst (λ (z : List ℕ). Shortens (take c.args.count z) (drop c.args.count z) c.args.allocator.now.tables c.free_behind.new.allocator.tables) c.deref.ensures.value c.in-Ok.ensures.cut in
-    let first = c.first_number.ensures ∙ ap first_of c.deref-in-Ok.ensures.value in
+    let first = c.first_number.ensures ∙ ap first_or_end c.deref-in-Ok.ensures.value in
     cut_found c.args.allocator.now.tables c.free_behind.new.allocator.tables c.args.start.now c.first_number.result c.args.count c.args.ids.now.items c.truncate.new.self.items
     c.requires.chained cut c.truncate.ensures.items first
 

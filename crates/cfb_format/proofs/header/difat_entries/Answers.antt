@@ -20,13 +20,13 @@ returns-then-word-clause-some c =
       ap (list_all is_regular) same ∙ c.loop-i.invariant.passed.numbers,
     )
 
-pub returns-then-not-is_regular-clause-none : goal.returns-then-not-is_regular-clause-none
-returns-then-not-is_regular-clause-none c = λ all.
+pub returns-then-not-is_regular_word-clause-none : goal.returns-then-not-is_regular_word-clause-none
+returns-then-not-is_regular_word-clause-none c = λ all.
     let ws = words 109 (drop 76 c.args.bytes.now) in
     let n = words-length 109 (drop 76 c.args.bytes.now) in
     let w = word-there c.args.bytes.now c.loop-i.i c.loop-i-test.true ∙ sym c.u32_at-word.ensures in
     passed-bad ws c.loop-i.i c.loop-i.invariant.passed (omega arith) (ne_eqb (get_or ws c.loop-i.i 0) free_sector (λ e. c.if-word.false (sym w ∙ e)))
-    (ap is_regular w ∙ sym c.is_regular.ensures ∙ c.if-not-is_regular.true) all
+    (ap is_regular w ∙ sym c.is_regular_word.ensures ∙ c.if-not-is_regular_word.true) all
 
 pub loop-i-preserved : goal.loop-i-preserved
 loop-i-preserved c =
@@ -35,7 +35,7 @@ loop-i-preserved c =
     let w = word-there c.args.bytes.now c.loop-i.i c.loop-i-test.true ∙ sym c.u32_at-word.ensures in
     record {
       passed = passed-more ws c.loop-i.i c.loop-i.invariant.passed (omega arith) (ne_eqb (get_or ws c.loop-i.i 0) free_sector (λ e. c.if-word.false (sym w ∙ e)))
-          (ap is_regular w ∙ sym c.is_regular.ensures ∙ c.if-not-is_regular.false);
+          (ap is_regular w ∙ sym c.is_regular_word.ensures ∙ c.if-not-is_regular_word.false);
       filled = rw c.loop-i.invariant.filled (filled-more ws c.loop-i.i c.u32_at-word.result c.loop-i-test.true n (sym w));
     }
 

@@ -3,7 +3,7 @@ use Rattle.cfb_format.specs.declared.version.Version.TheVariants.{V3, V4}
 use Rattle.std.proofs.Common.{refl, ◌≡◌, ◌*◌, length}
 use Rattle.cfb_format.specs.declared.validate.Validation.{Validation}
 use Rattle.cfb_format.specs.declared.validate.Validation.TheVariants.{Permissive, Strict}
-use Rattle.cfb_format.specs.Bytes.{sector_len, u32_at, word_bytes, unit_bytes}
+use Rattle.cfb_format.specs.Bytes.{sector_len, word_at, word_bytes, unit_bytes}
 use Rattle.cfb_format.specs.Header.{AcceptsHeader, header_bytes}
 use Rattle.cfb_format.specs.DirectoryEntry.{entry_bytes}
 use Rattle.cfb_format.specs.Names.{Cases}
@@ -57,7 +57,7 @@ returns-clause-tables c = λ cases version. record { reading = created_reading v
 
 -- version 3 counts no directory sectors
 accepted : (validation : Validation) (version : Version) → AcceptsHeader validation (created_bytes version) (created_header version)
-unfolding created_bytes header_bytes word_bytes unit_bytes entry_bytes u32_at
+unfolding created_bytes header_bytes word_bytes unit_bytes entry_bytes word_at
 accepted Permissive V3 = record { header = header3; strict = tt }
 accepted Permissive V4 = record { header = header4; strict = tt }
 accepted Strict V3 = record { header = header3; strict = refl }

@@ -3,7 +3,7 @@ use Rattle.std.specs.Prelude.{Contains}
 use Rattle.std.proofs.lemmas.Result.{err_from_is_err_and}
 use Rattle.cfb_alloc.proofs.AllocLemmas.{others_refl, others_unchanged, placed_reserved, placed_written, shown_below, shown_taken, others_written, held_counted, fats_apart_shown, clean_taken, fats_known, difats_known, refused_changed}
 use Rattle.cfb_format.specs.Chain.{IsChain}
-use Rattle.cfb_tables.specs.Tables.{HasTaken, start_of}
+use Rattle.cfb_tables.specs.Tables.{HasTaken, first_or_end}
 use Rattle.cfb_tables.proofs.ChainLemmas.{chain_of}
 use Rattle.cfb_tables.proofs.TakenLemmas.{taken-nothing}
 use Rattle.cfb_alloc.proofs.alloc.Allocator.begin_chain_by.Goals as goal
@@ -22,7 +22,7 @@ returns-then-count-eq0-clause-taken g c =
 pub returns-then-count-eq0-clause-chain : goal.returns-then-count-eq0-clause-chain
 returns-then-count-eq0-clause-chain g c =
     let fat = c.args.self.now.tables.fat in
-    subst (λ (z : List ℕ). IsChain fat (start_of z) z) (sym c.new.ensures.items) (chain_of fat (start_of []) [] refl)
+    subst (λ (z : List ℕ). IsChain fat (first_or_end z) z) (sym c.new.ensures.items) (chain_of fat (first_or_end []) [] refl)
 
 pub returns-then-count-eq0-clause-others : goal.returns-then-count-eq0-clause-others
 returns-then-count-eq0-clause-others g c told = others_refl c.args.self.now
@@ -72,7 +72,7 @@ returns-clause-holds g c told validation h =
     let now = c.deref.result.now in
     let same = c.deref.ensures.value in
     let taken = c.in_ok-list.ensures.taken in
-    let clean = clean_taken now same c.self.view_is taken validation h (start_of c.in_ok-list.list.items) c.in_ok-list.ensures.chain (omega arith) in
+    let clean = clean_taken now same c.self.view_is taken validation h (first_or_end c.in_ok-list.list.items) c.in_ok-list.ensures.chain (omega arith) in
     record {
       holds = c.in_ok-write_taken.ensures.holds told validation c.self.inside.tables (shown_taken now same c.self.view_is taken) clean
           (fats_known now same c.self.view_is taken c.in_ok-before.before.fats c.in_ok-before.ensures.ok.0)

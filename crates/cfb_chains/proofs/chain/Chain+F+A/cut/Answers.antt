@@ -1,5 +1,5 @@
 use Rattle.std.proofs.Common.{arith}
-use Rattle.cfb_chains.specs.LentChain.{allocator_of, start_of, ids_of, version_of}
+use Rattle.cfb_chains.specs.LentChain.{allocator_of, start_sector_of, ids_of, version_of}
 use Rattle.cfb_alloc.proofs.Answering.{on_ok}
 use Rattle.cfb_alloc.proofs.FrameLemmas.{changes_refl}
 use Rattle.cfb_chains.proofs.LentContent.{content_cut, content_uncut}
@@ -21,6 +21,6 @@ returns-clause-content g c told validation h whole =
     let short = c.shorten_list-cut in
     let fewer = c.if-count-len.false in
     on_ok _ _ short.result
-    (λ is. content_cut validation (allocator_of now).now short.new.allocator (start_of now) (ids_of now) short.new.ids.items now.chained h whole short.ensures.version
+    (λ is. content_cut validation (allocator_of now).now short.new.allocator (start_sector_of now) (ids_of now) short.new.ids.items now.chained h whole short.ensures.version
     c.args.count (omega (arith, fewer)) is (short.ensures.changes told))
     short.ensures.ids

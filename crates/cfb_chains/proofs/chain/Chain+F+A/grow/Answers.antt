@@ -1,5 +1,5 @@
 use Rattle.cfb_chains.specs.ChainLists.{gained}
-use Rattle.cfb_chains.specs.LentChain.{allocator_of, start_of, ids_of, init_of}
+use Rattle.cfb_chains.specs.LentChain.{allocator_of, start_sector_of, ids_of, init_of}
 use Rattle.cfb_alloc.proofs.Answering.{on_three}
 use Rattle.cfb_chains.proofs.LentContent.{content_grown}
 use Rattle.cfb_chains.proofs.chain.Chain+F+A.grow.Goals as goal
@@ -9,6 +9,6 @@ returns-clause-content g c told validation h whole =
     let now = c.args.self.now in
     let grown = c.extend_list-grown in
     on_three _ _ _ _ grown.result
-    (λ listed counted filled. content_grown validation (allocator_of now).now grown.new.allocator (start_of now) (ids_of now) grown.new.ids.items now.chained h whole
+    (λ listed counted filled. content_grown validation (allocator_of now).now grown.new.allocator (start_sector_of now) (ids_of now) grown.new.ids.items now.chained h whole
     grown.ensures.version c.args.count (init_of now) (gained (ids_of now) grown.new.ids.items) listed counted (grown.ensures.others told) filled)
     grown.ensures.ids grown.ensures.count (grown.ensures.filled told validation h)

@@ -5,7 +5,7 @@ use Rattle.cfb_format.specs.Medium.{written}
 use Rattle.cfb_format.specs.Refused.{CountsFailure}
 use Rattle.cfb_sectors.specs.Sectors.{copies, init_bytes}
 use Rattle.cfb_format.specs.Bytes.{sector_len, sector_start}
-use Rattle.cfb_chains.specs.ChainLists.{gained, last_of}
+use Rattle.cfb_chains.specs.ChainLists.{gained, last_or_end}
 use Rattle.cfb_tables.specs.Tables.{ending}
 use Rattle.cfb_chains.specs.LentChain.{allocator_of, ids_of, init_of, missing_of, place_of, position_of, room_of, version_of, content_of, HasBytes}
 use Rattle.cfb_alloc.proofs.Answering.{all_ok}
@@ -112,7 +112,7 @@ returns-clause-foreign g c told =
     let more = gained (ids_of now) (ids_of grown) in
     own_written (ids_of now) old mid (allocator_of c.write_within-2.new.self).now (own_taken (ids_of now) old mid (c.grow.ensures.others told)) c.in_ok-grow.ensures.version
     (ids_of grown) (position_of grown) (length c.args.from.now)
-    (own_gained (ids_of now) old mid (ending (last_of (ids_of now))) (ids_of grown) more c.in_ok-grow.ensures.ids c.in_ok-grow.ensures.taken)
+    (own_gained (ids_of now) old mid (ending (last_or_end (ids_of now))) (ids_of grown) more c.in_ok-grow.ensures.ids c.in_ok-grow.ensures.taken)
     (λ none. (e.none none).1) (e.others told)
 
 pub returns-then-missing-eq0-clause-none : goal.returns-then-missing-eq0-clause-none

@@ -1,7 +1,7 @@
 use Rattle.std.proofs.Common.{◌≡◌, ◌+◌, ◌/◌, ◌%◌, ap, arith, refl}
 use Rattle.std.specs.Prelude.{slice_index}
 use Rattle.cfb_format.specs.Bytes.{sector_len, sector_start}
-use Rattle.cfb_chains.specs.LentChain.{allocator_of, start_of, ids_of, position_of, version_of}
+use Rattle.cfb_chains.specs.LentChain.{allocator_of, start_sector_of, ids_of, position_of, version_of}
 use Rattle.cfb_sectors.specs.Sectors.{SectorFile}
 use Rattle.cfb_tables.specs.Tables.{TableState}
 use Rattle.cfb_chains.proofs.ChainBytes.{step_inside}
@@ -19,7 +19,7 @@ returns-clause-holds g c told validation h =
     let now = c.args.self.now in
     let at = c.sector_at-sector in
     let offset = c.offset_here-offset in
-    held_written validation (allocator_of now).now (start_of now) at.result offset.result (ids_of now) c.args.from.now now.chained (at.ensures.member c.requires.inside)
+    held_written validation (allocator_of now).now (start_sector_of now) at.result offset.result (ids_of now) c.args.from.now now.chained (at.ensures.member c.requires.inside)
     (omega (arith, c.requires.within, offset.ensures.offset)) h c.write_sector.new.allocator c.write_sector.ensures.tables (c.in_ok-write_sector.ensures.ok told)
 
 pub returns-clause-content : goal.returns-clause-content
@@ -32,5 +32,5 @@ returns-clause-content g c told whole =
     λ j. sector_start (version_of now) (at.ensures.sector j) + offset.ensures.offset j in
     content_written (version_of now) (c.write_sector.new.allocator).tables.version (allocator_of now).now.file.bytes (c.write_sector.new.allocator).file.bytes (ids_of now) (ids_of now)
     (position_of now) (sector_start (version_of now) at.result + offset.result) c.args.from.now (ap (λ (t : TableState). t.version) c.write_sector.ensures.tables) refl
-    (found_chain (allocator_of now).now.tables.fat (start_of now) (ids_of now) now.chained).distinct whole c.requires.inside c.requires.within place
+    (found_chain (allocator_of now).now.tables.fat (start_sector_of now) (ids_of now) now.chained).distinct whole c.requires.inside c.requires.within place
     (ap (λ (f : SectorFile). f.bytes) (c.in_ok-write_sector.ensures.ok told))

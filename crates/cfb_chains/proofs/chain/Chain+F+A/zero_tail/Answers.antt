@@ -5,7 +5,7 @@ use Rattle.cfb_format.specs.Bytes.{sector_len, sector_start}
 use Rattle.cfb_format.specs.Medium.{written}
 use Rattle.cfb_sectors.specs.Sectors.{SectorFile}
 use Rattle.cfb_tables.specs.Tables.{TableState}
-use Rattle.cfb_chains.specs.LentChain.{allocator_of, start_of, ids_of, version_of}
+use Rattle.cfb_chains.specs.LentChain.{allocator_of, start_sector_of, ids_of, version_of}
 use Rattle.cfb_alloc.proofs.Answering.{on_ok}
 use Rattle.cfb_chains.proofs.ChainHeld.{held_zeroed}
 use Rattle.cfb_alloc.proofs.ChainView.{found_chain}
@@ -26,7 +26,7 @@ returns-clause-holds g c told validation h =
     let member = c.sector_at-sector.ensures.member
     (not_end v c.args.offset (length (ids_of now)) c.requires (λ zero. c.if-rest-eq0.false (ap (λ (k : ℕ). c.args.offset % k) c.sector_len.ensures ∙ zero))) in
     on_ok _ _ c.zero_behind.result
-    (λ f. held_zeroed validation (allocator_of now).now (start_of now) c.sector_at-sector.result rest (sector_len v - rest) (ids_of now) now.chained member
+    (λ f. held_zeroed validation (allocator_of now).now (start_sector_of now) c.sector_at-sector.result rest (sector_len v - rest) (ids_of now) now.chained member
     (rest_fits v c.args.offset l c.sector_len.ensures) h c.zero_behind.new.allocator c.zero_behind.ensures.tables f)
     (c.zero_behind.ensures.ok told)
 
@@ -46,7 +46,7 @@ returns-clause-content g c told whole some =
     on_ok _ _ c.zero_behind.result
     (λ f. (content_written v (c.zero_behind.new.allocator).tables.version (allocator_of now).now.file.bytes (c.zero_behind.new.allocator).file.bytes (ids_of now) (ids_of now)
     c.args.offset (sector_start v at.result + c.args.offset % c.sector_len.result) zeros (ap (λ (t : TableState). t.version) c.zero_behind.ensures.tables) refl
-    (found_chain (allocator_of now).now.tables.fat (start_of now) (ids_of now) now.chained).distinct whole inside (omega (arith, fits, count)) place
+    (found_chain (allocator_of now).now.tables.fat (start_sector_of now) (ids_of now) now.chained).distinct whole inside (omega (arith, fits, count)) place
     (ap (λ (x : SectorFile). x.bytes) f
     ∙ ap (λ n. written (allocator_of now).now.file.bytes (sector_start v at.result + c.args.offset % c.sector_len.result) (replicate (l - n) 0)) same)).1)
     (c.zero_behind.ensures.ok told)

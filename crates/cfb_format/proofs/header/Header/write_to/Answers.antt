@@ -1,7 +1,7 @@
 use Rattle.std.proofs.Common.{ℕ, List, ◌++◌, ◌≤◌, sym, ◌∙◌, ap, arith, length, take, replicate}
 use Rattle.std.proofs.lemmas.List.{take_all}
 use Rattle.cfb_format.specs.Bytes.{word_bytes, unit_bytes}
-use Rattle.cfb_format.specs.Header.{header_bytes, header_words, version_units}
+use Rattle.cfb_format.specs.Header.{header_bytes, header_words, header_units}
 use Rattle.cfb_format.proofs.header.Header.write_to.Goals as goal
 
 -- each piece stands behind the ones before it, and the last one ends where the bytes end
@@ -19,5 +19,5 @@ returns c =
     (c.put-end-3.ensures.before
     ∙ ap (behind (replicate 6 0))
     (c.put_units-end.ensures.before ∙ ap (λ units. take c.put-end-2.result c.put-end-2.new.into ++ unit_bytes units) c.version_units.ensures
-    ∙ ap (behind (unit_bytes (version_units header.version)))
+    ∙ ap (behind (unit_bytes (header_units header.version)))
     (c.put-end-2.ensures.before ∙ ap (behind (replicate 16 0)) c.put-end.ensures.before))))

@@ -1,5 +1,5 @@
 use Rattle.std.proofs.Common.{◌≡◌, ℕ, suc, ◌-◌, List, [], ◌∷◌, ◌++◌, refl, sym, ◌∙◌, ap, subst, arith}
-use Rattle.cfb_tables.specs.Tables.{IsPrepared, HasTaken, start_of}
+use Rattle.cfb_tables.specs.Tables.{IsPrepared, HasTaken, first_or_end}
 use Rattle.cfb_format.specs.Chain.{IsChain}
 use Rattle.cfb_tables.proofs.ChainLemmas.{chain_of}
 use Rattle.cfb_tables.proofs.TakenLemmas.{taken-nothing}
@@ -68,4 +68,4 @@ returns-else-count-gt0-clause-taken g c =
 pub returns-else-count-gt0-clause-chain : goal.returns-else-count-gt0-clause-chain
 returns-else-count-gt0-clause-chain g c =
     let fat = c.args.self.now.state.fat in
-    subst (λ (z : List ℕ). IsChain fat (start_of z) z) (sym c.requires.empty) (chain_of fat (start_of []) [] refl)
+    subst (λ (z : List ℕ). IsChain fat (first_or_end z) z) (sym c.requires.empty) (chain_of fat (first_or_end []) [] refl)
