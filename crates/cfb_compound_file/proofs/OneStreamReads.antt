@@ -19,8 +19,7 @@ use Rattle.cfb_format.specs.Siblings.{entry_at, is_red_apart, leaf, node}
 use Rattle.cfb_format.specs.Reading.{IsDirectory, IsOutline, IsMinifat, HasLength, Reads, IsStrict, IsStrictCount, numbers}
 use Rattle.cfb_format.specs.Created.{created_bytes, created_header}
 use Rattle.cfb_format.proofs.HeaderStart.{header_at_start}
-use Rattle.cfb_format.proofs.CreatedFacts.{header3}
-use Rattle.cfb_format.proofs.CreatedFacts4.{header4}
+use Rattle.cfb_format.proofs.CreatedFacts.{header_accepted}
 use Rattle.cfb_compound_file.specs.OneStream.{OneStream, content_sectors, used_fat, all_fat_words, entries_with, header_sector, fat_bytes, directory_bytes, HoldsOne}
 use Rattle.cfb_compound_file.proofs.OneStreamFat.{words-written, all-append, all-replicate, tests-replicate, used-points, used-length, used-at, used-fits, values-are, marks-are, pointers-are, directory-chain}
 use Rattle.cfb_compound_file.proofs.OneStreamFacts.{outline_with, reading_with, few-sectors, few-words, length-header_sector, length-fat_bytes, length-directory_bytes, block-at, entries-blocks, entries-kept, entries-length, zip-each, zip-strict}
@@ -64,11 +63,6 @@ words-all v m h =
 
 -- ---- the header
 
-header-of : (v : Version) → AcceptsHeader Strict (created_bytes v) (created_header v)
-unfolding created_bytes header_bytes word_bytes unit_bytes entry_bytes word_at
-header-of V3 = record { header = header3; strict = refl }
-header-of V4 = record { header = header4; strict = tt }
-
 first-bytes : (v : Version) (rest : List ℕ) → take 512 (header_sector v ++ rest) ≡ take 512 (created_bytes v)
 unfolding created_bytes header_sector header_bytes word_bytes unit_bytes entry_bytes
 first-bytes V3 rest = refl
@@ -77,7 +71,7 @@ first-bytes V4 rest = refl
 pub accepts-header : (v : Version) (rest : List ℕ) → AcceptsHeader Strict (header_sector v ++ rest) (created_header v)
 accepts-header v rest =
     (header_at_start Strict (header_sector v ++ rest) (created_header v)).0
-    (subst (λ b. AcceptsHeader Strict b (created_header v)) (sym (first-bytes v rest)) ((header_at_start Strict (created_bytes v) (created_header v)).1 (header-of v)))
+    (subst (λ b. AcceptsHeader Strict b (created_header v)) (sym (first-bytes v rest)) ((header_at_start Strict (created_bytes v) (created_header v)).1 (header_accepted Strict v)))
 
 -- ---- a file of this shape
 

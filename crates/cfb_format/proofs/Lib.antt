@@ -10,7 +10,6 @@ pub mod Along
 pub mod FullChains
 pub mod HeaderFacts
 pub mod CreatedFacts
-pub mod CreatedFacts4
 pub mod ByteLemmas
 pub mod Writing
 pub mod Words
