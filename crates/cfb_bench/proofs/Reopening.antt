@@ -12,7 +12,7 @@ use Rattle.cfb_format.specs.Reading.{HasLength}
 use Rattle.cfb_format.specs.Created.{created_bytes, created_header}
 use Rattle.cfb_compound_file.specs.Files.{FileState, IsAsCreated}
 use Rattle.cfb_compound_file.specs.Laws.{CreatedHoldsNone}
-use Rattle.cfb_compound_file.specs.Opening.{HasHead, OpeningAnswers}
+use Rattle.cfb_compound_file.specs.OneStreamOpening.{HasHead, OpeningAnswers}
 use Rattle.cfb_media.specs.Faults.{IsWantOfMemory}
 
 has_length : (version : Version) (bytes : List ℕ) → length bytes ≡ 3 * sector_len version → HasLength version bytes

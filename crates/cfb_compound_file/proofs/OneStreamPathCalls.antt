@@ -346,7 +346,7 @@ module _ (one : AtMostOneTree) (right : OneStreamMeansItsTree) (file : FileState
   not-put can new Memory unfailed h = subst (λ n. IsRefusedBy can file (creation empties path) (IsNotYet file (creation empties path) path) n Memory) (sym h)
       (creation-refused can Memory unfailed)
   not-put can new (Medium f) unfailed h =
-      let after : AgreesWithBytes new = record { sound = h.sound ∙ agrees.sound; holds = λ ok. let no : true ≡ false = sym h.failed ∙ ok in cc } in
+      let after : AgreesWithBytes new = record { sound = h.setting.is_sound ∙ agrees.sound; holds = λ ok. let no : true ≡ false = sym h.failed ∙ ok in cc } in
       record {
         reply = inl (
           medium_failed,
@@ -367,8 +367,8 @@ module _ (one : AtMostOneTree) (right : OneStreamMeansItsTree) (file : FileState
   module _ (new : FileState) (name : List ℕ) (creatable : IsCreatable file (names_of_path path) name) (put : IsStreamPut file new (record { name = name; len = 0 })) where
     pub put-agrees : AgreesWithBytes new
     put-agrees = record {
-      sound = put.sound ∙ agrees.sound;
-      holds = λ _. subst (λ v. HoldsOne v new.held new.bytes) (sym put.version)
+      sound = put.setting.is_sound ∙ agrees.sound;
+      holds = λ _. subst (λ v. HoldsOne v new.held new.bytes) (sym put.setting.version)
           (subst (λ h. HoldsOne file.version h new.bytes) (sym put.held)
           (subst (HoldsOne file.version (Some (record { name = name; len = 0 }))) (sym put.bytes)
           (directory-put file.version file.held (Some (record { name = name; len = 0 })) file.bytes (agrees.holds creatable.unfailed) (creatable.served, inl refl)
@@ -385,7 +385,7 @@ module _ (one : AtMostOneTree) (right : OneStreamMeansItsTree) (file : FileState
 
     the-tree : tree_now new ≡ tree_after file.cases (creation empties path) (tree_now file)
     the-tree =
-        (λ i. tree_with (put.version i) new.bytes (put.held i))
+        (λ i. tree_with (put.setting.version i) new.bytes (put.held i))
         ∙ sym (changed empties ∙ ap (λ (ns : Option (List (List ℕ))). option_map_or (λ names. added empties names (tree_now file)) ns (tree_now file)) creatable.names_are
         ∙ ap (λ h. added empties (name ∷ []) (tree_with file.version file.bytes h)) creatable.none ∙ made empties)
       where
@@ -406,7 +406,7 @@ module _ (one : AtMostOneTree) (right : OneStreamMeansItsTree) (file : FileState
       runs = runs-from one right (causes_of file new) file new (creation empties path) done agrees put-agrees
           (done-run (causes_of file new) (setting_of file) (tree_now file) (tree_now new) (creation empties path) done file.is_failed new.is_failed creatable.unfailed put.unfailed
           (creation-rule file empties path ∙ none-there) (sound empties) (answer empties) the-tree);
-      keeps = keeps-put file new put.version put.cases agrees put-agrees;
+      keeps = keeps-put file new put.setting put-agrees;
     }
       where
         sound : (b : Bool) → unsound_refusal file.is_sound (creation b path) ≡ None

@@ -14,7 +14,7 @@ use Rattle.cfb_rules.specs.CallRefusals.{is_a_stream, always}
 use Rattle.cfb_rules.specs.CallReplies.{has_object}
 use Rattle.cfb_rules.specs.Runs.{Causes, CallRuns}
 use Rattle.cfb_compound_file.specs.OneStream.{OneStream, HoldsOne, tree_with, stream_content}
-use Rattle.cfb_compound_file.specs.Files.{FileState, AgreesWithBytes, IsAsCreated, KeepsSetting}
+use Rattle.cfb_compound_file.specs.Files.{FileState, AgreesWithBytes, IsAsCreated, KeepsSetting, SameSetting}
 use Rattle.cfb_compound_file.specs.OneStreamCreating.{IsBrokenOff}
 use Rattle.cfb_compound_file.proofs.OneStreamMeans.{one-is-sound}
 use Rattle.cfb_compound_file.specs.Laws.{OneStreamMeansItsTree, CreatedHoldsNone}
@@ -49,27 +49,23 @@ created-agrees created file made = record {
 -- ---- what a call keeps
 
 pub keeps-same : (file : FileState) → KeepsSetting file file
-keeps-same file = record { version = refl; cases = refl; is_sound = refl; stays_sound = λ _ sound. sound }
+keeps-same file = record { same = record { version = refl; cases = refl; is_sound = refl }; stays_sound = λ _ sound. sound }
 
 -- where only the medium's count of failures has changed
 pub keeps-counted : (file : FileState) (failures : ℕ) → KeepsSetting file (record file { failures = failures })
-keeps-counted file failures = record { version = refl; cases = refl; is_sound = refl; stays_sound = λ _ sound. sound }
+keeps-counted file failures = record { same = record { version = refl; cases = refl; is_sound = refl }; stays_sound = λ _ sound. sound }
 
 -- where a write broke off
 pub keeps-broken : (can : MediumFault → Bool) (old new : FileState) (fault : MediumFault) → IsBrokenOff can old new fault → KeepsSetting old new
 keeps-broken can old new fault broken = record {
-  version = broken.version;
-  cases = broken.cases;
-  is_sound = broken.sound;
+  same = broken.setting;
   stays_sound = λ ok _. let no : true ≡ false = sym broken.failed ∙ ok in cc;
 }
 
 -- where a stream was written
-pub keeps-put : (old new : FileState) → new.version ≡ old.version → new.cases ≡ old.cases → AgreesWithBytes old → AgreesWithBytes new → KeepsSetting old new
-keeps-put old new version cases before after = record {
-  version = version;
-  cases = cases;
-  is_sound = after.sound ∙ sym before.sound;
+pub keeps-put : (old new : FileState) → SameSetting old new → AgreesWithBytes new → KeepsSetting old new
+keeps-put old new same after = record {
+  same = same;
   stays_sound = λ ok _. one-is-sound new.cases new.version new.held new.bytes (after.holds ok);
 }
 

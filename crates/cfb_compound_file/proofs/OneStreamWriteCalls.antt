@@ -111,8 +111,8 @@ module _ (old new : FileState) (position : ℕ) (bytes name : List ℕ) (is_open
 
   now-agrees : AgreesWithBytes new
   now-agrees = record {
-    sound = filled.sound ∙ is_open.agrees.sound;
-    holds = λ _. subst (λ v. HoldsOne v new.held new.bytes) (sym filled.version) (subst (λ h. HoldsOne old.version h new.bytes) (sym filled.held) now-holds);
+    sound = filled.setting.is_sound ∙ is_open.agrees.sound;
+    holds = λ _. subst (λ v. HoldsOne v new.held new.bytes) (sym filled.setting.version) (subst (λ h. HoldsOne old.version h new.bytes) (sym filled.held) now-holds);
   }
 
   pub wrote-open : IsOpen new (position + length bytes)
@@ -147,13 +147,13 @@ module _ (old new : FileState) (position : ℕ) (bytes name : List ℕ) (is_open
     runs = stream-done old position (write bytes) (count (length bytes)) new (position + length bytes) fillable.unfailed filled.unfailed
         (subst (λ h. Write (setting_of old).stream bytes (state_at old h position) (count (length bytes)) (state_at new new.held (position + length bytes))) (sym fillable.held)
         (subst (Write (setting_of old).stream bytes (state_at old (Some (record { name = name; len = 0 })) position) (count (length bytes))) (sym now-state) step));
-    keeps = keeps-put old new filled.version filled.cases is_open.agrees now-agrees;
+    keeps = keeps-put old new filled.setting now-agrees;
   }
     where
       now-state : state_at new new.held (position + length bytes) ≡ record { len = length bytes; content = bytes; position = position + length bytes; ahead = 0; pending = false }
       now-state = ap (λ h. state_at new h (position + length bytes)) filled.held ∙ (λ i. record {
         len = length bytes;
-        content = stream_content (filled.version i) new.bytes (record { name = name; len = length bytes });
+        content = stream_content (filled.setting.version i) new.bytes (record { name = name; len = length bytes });
         position = position + length bytes;
         ahead = 0;
         pending = false;
@@ -240,7 +240,7 @@ module _ (old : FileState) (position : ℕ) (bytes : List ℕ) (is_open : IsOpen
     keeps = keeps-broken can old new f h;
     counts = h.fails;
     is_open = record {
-      agrees = record { sound = h.sound ∙ is_open.agrees.sound; holds = λ ok. let no : true ≡ false = sym h.failed ∙ ok in cc };
+      agrees = record { sound = h.setting.is_sound ∙ is_open.agrees.sound; holds = λ ok. let no : true ≡ false = sym h.failed ∙ ok in cc };
       held = ap is_some h.held ∙ is_open.held;
       placed = subst (λ s. position ≤ held_len s) (sym h.held) is_open.placed;
     };

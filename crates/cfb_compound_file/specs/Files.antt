@@ -49,9 +49,13 @@ pub record IsEmptyFile (bytes : List ℕ) : Type 0 where
   pub owned : (cases : Cases) → IsOwnedFile cases bytes
   pub tables : (cases : Cases) → HasExactTablesFile cases bytes
 
--- a call changes no setting of the file, and what it leaves is sound where the bytes were, unless the file has failed
-pub record KeepsSetting (old new : FileState) : Type 0 where
+-- the setting of the file has not changed
+pub record SameSetting (old new : FileState) : Type 0 where
   pub version : new.version ≡ old.version
   pub cases : new.cases ≡ old.cases
   pub is_sound : new.is_sound ≡ old.is_sound
+
+-- a call changes no setting of the file, and what it leaves is sound where the bytes were, unless the file has failed
+pub record KeepsSetting (old new : FileState) : Type 0 where
+  pub same : SameSetting old new
   pub stays_sound : new.is_failed ≡ false → IsSoundFile old.cases old.bytes → IsSoundFile new.cases new.bytes

@@ -15,7 +15,7 @@ use Rattle.cfb_rules.specs.Calls.{Call}
 use Rattle.cfb_rules.specs.CallRefusals.{refusal_of, creation_refusal, is_a_stream, never}
 use Rattle.cfb_compound_file.specs.OneStream.{OneStream, IsServedName, directory_bytes}
 use Rattle.cfb_compound_file.specs.OneStreamStates.{tree_now}
-use Rattle.cfb_compound_file.specs.Files.{FileState}
+use Rattle.cfb_compound_file.specs.Files.{FileState, SameSetting}
 
 -- a creation that the rules allow, but of which not all can be done yet: there is a stream already, or the name is not served
 pub record IsNotYet (old : FileState) (call : Call) (path : List ℕ) (e : Error) : Type 0 where
@@ -54,9 +54,7 @@ pub record IsCreatable (file : FileState) (names : Option (List (List ℕ))) (na
 -- the directory's sector was written with this stream
 pub record IsStreamPut (old new : FileState) (s : OneStream) : Type 0 where
   pub bytes : new.bytes ≡ written old.bytes (2 * sector_len old.version) (directory_bytes old.version (Some s))
-  pub version : new.version ≡ old.version
-  pub sound : new.is_sound ≡ old.is_sound
-  pub cases : new.cases ≡ old.cases
+  pub setting : SameSetting old new
   pub held : new.held ≡ Some s
   pub unfailed : new.is_failed ≡ false
   pub failures : new.failures ≡ old.failures
@@ -65,9 +63,7 @@ pub record IsStreamPut (old new : FileState) (s : OneStream) : Type 0 where
 pub record IsBrokenOff (can_give : MediumFault → Bool) (old new : FileState) (fault : MediumFault) : Type 0 where
   pub fails : FailsBy can_give old.failures new.failures fault
   pub failed : new.is_failed ≡ true
-  pub sound : new.is_sound ≡ old.is_sound
-  pub cases : new.cases ≡ old.cases
-  pub version : new.version ≡ old.version
+  pub setting : SameSetting old new
   pub held : new.held ≡ old.held
 
 -- nothing was written for want of memory, or a write broke off

@@ -8,7 +8,7 @@ use Rattle.cfb_format.specs.Medium.{written}
 use Rattle.cfb_format.specs.Refused.{HasReason, no_error}
 use Rattle.cfb_compound_file.specs.OneStream.{OneStream, IsServedName, fat_bytes, directory_bytes, sectors_taken}
 use Rattle.cfb_compound_file.specs.OneStreamStates.{held_len}
-use Rattle.cfb_compound_file.specs.Files.{FileState}
+use Rattle.cfb_compound_file.specs.Files.{FileState, SameSetting}
 
 -- a write that is not served yet: into a stream with content, or of a length that one FAT sector and sectors of their own don't serve
 pub record IsNotYetWritten (old : FileState) (wanted : ℕ) (e : Error) : Type 0 where
@@ -39,9 +39,7 @@ pub record IsContentPut (old new : FileState) (s : OneStream) (bytes : List ℕ)
   pub padded : length bytes + padding ≡ sectors_taken old.version (length bytes) * sector_len old.version
   pub bytes_are : new.bytes ≡ written (written ((old.bytes ++ bytes) ++ replicate padding 0) (sector_len old.version)
       (fat_bytes old.version (sectors_taken old.version (length bytes)))) (2 * sector_len old.version) (directory_bytes old.version (Some s))
-  pub version : new.version ≡ old.version
-  pub sound : new.is_sound ≡ old.is_sound
-  pub cases : new.cases ≡ old.cases
+  pub setting : SameSetting old new
   pub held : new.held ≡ Some s
   pub unfailed : new.is_failed ≡ false
   pub failures : new.failures ≡ old.failures

@@ -2,8 +2,8 @@
 use Rattle.std.specs.Prelude.{Bool, true, false, IsTrue, ⊤}
 use Rattle.cfb_format.specs.declared.medium.MediumFault.{MediumFault}
 use Rattle.cfb_format.specs.declared.error.Error.{Error}
-use Rattle.cfb_format.specs.declared.error.Error.TheVariants.{NotFound, AlreadyExists, InvalidInput, InvalidData, Medium as MediumError, Memory as MemoryError, Full, Unsound, Failed, Unsupported}
 use Rattle.cfb_format.specs.Memory.{is_refused_growth}
+use Rattle.cfb_format.specs.Refused.{HasReason, no_error}
 use Rattle.cfb_format.specs.declared.medium.MediumFault.TheVariants.{Open, Length, Read, Write, Flush, Stuck, Memory}
 
 -- by a failing read, or by the length
@@ -38,13 +38,4 @@ is_sticking Memory = false
 
 -- memory was refused: to the call, or to the medium in memory that it works on
 abbrev pub IsWantOfMemory : Error → Type 0
-IsWantOfMemory (MediumError fault) = IsTrue (is_refused_growth fault)
-IsWantOfMemory MemoryError = ⊤
-IsWantOfMemory (NotFound d) = ⊥
-IsWantOfMemory (AlreadyExists d) = ⊥
-IsWantOfMemory (InvalidInput d) = ⊥
-IsWantOfMemory (InvalidData d) = ⊥
-IsWantOfMemory Full = ⊥
-IsWantOfMemory Unsound = ⊥
-IsWantOfMemory Failed = ⊥
-IsWantOfMemory Unsupported = ⊥
+IsWantOfMemory = HasReason (record no_error { medium = λ fault. IsTrue (is_refused_growth fault); memory = ⊤ })

@@ -27,9 +27,7 @@ returns-in_err-write_stream-clause-err g c told =
     rw (p.1, p.2) (record {
       fails = subst (λ n. FailsBy g.F.Medium.write_faults n (g.F.ReadMedium.failures c.write_stream.new.medium) c.in_err-write_stream.field-0.0) before (c.in_err-write_stream.ensures.err told);
       failed = refl;
-      sound = ap (λ (f : FileState). f.is_sound) c.self.view_is;
-      cases = ap (λ (f : FileState). f.cases) c.self.view_is;
-      version = ap (λ (f : FileState). f.version) c.self.view_is;
+      setting = record { version = ap (λ (f : FileState). f.version) c.self.view_is; cases = ap (λ (f : FileState). f.cases) c.self.view_is; is_sound = ap (λ (f : FileState). f.is_sound) c.self.view_is };
       held = ap (λ (f : FileState). f.held) c.self.view_is;
     })
 
@@ -48,9 +46,7 @@ returns-clause-ok g c told end =
       padded = c.padding-padding.ensures.padded ∙ ap (λ v. sectors_taken v (length c.args.bytes.now) * sector_len v) version;
       bytes_are = c.in_ok-write_stream.ensures.ok told (ap length bytes ∙ end ∙ ap (λ v. 3 * sector_len v) (sym version))
           ∙ (λ i. written (written ((bytes i ++ c.args.bytes.now) ++ replicate c.padding-padding.result 0) (sector_len (version i)) (fat i)) (2 * sector_len (version i)) (directory i));
-      version = ap (λ (f : FileState). f.version) c.self.view_is;
-      sound = ap (λ (f : FileState). f.is_sound) c.self.view_is;
-      cases = ap (λ (f : FileState). f.cases) c.self.view_is;
+      setting = record { version = ap (λ (f : FileState). f.version) c.self.view_is; cases = ap (λ (f : FileState). f.cases) c.self.view_is; is_sound = ap (λ (f : FileState). f.is_sound) c.self.view_is };
       held = refl;
       unfailed = refl;
       failures = c.in_ok-write_stream.ensures.calm told ∙ failures;

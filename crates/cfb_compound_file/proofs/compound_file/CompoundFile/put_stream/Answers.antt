@@ -13,9 +13,7 @@ returns-in_err-write_all_at-clause-err g c told =
     rw (p.1, p.2) (record {
       fails = subst (λ n. FailsBy g.F.Medium.write_faults n (g.F.ReadMedium.failures c.write_all_at.new.medium) c.in_err-write_all_at.field-0.0) before (c.in_err-write_all_at.ensures.err told);
       failed = refl;
-      sound = search rules;
-      cases = search rules;
-      version = search rules;
+      setting = record { version = search rules; cases = search rules; is_sound = search rules };
       held = search rules;
     })
 
@@ -28,9 +26,7 @@ returns-clause-ok g c told =
     let at : 2 * c.sector_len.result ≡ 2 * sector_len c.args.self.now.version = ap (λ n. 2 * n) (c.sector_len.ensures ∙ ap sector_len version) in
     record {
       bytes = c.in_ok-write_all_at.ensures.ok told ∙ (λ i. written (bytes i) (at i) (laid i));
-      version = search rules;
-      sound = search rules;
-      cases = search rules;
+      setting = record { version = search rules; cases = search rules; is_sound = search rules };
       held = refl;
       unfailed = refl;
       failures = c.in_ok-write_all_at.ensures.calm told ∙ failures;
