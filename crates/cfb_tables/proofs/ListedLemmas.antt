@@ -7,7 +7,7 @@ use Rattle.cfb_format.specs.Bytes.{free_sector, end_of_chain, max_regular_sector
 use Rattle.cfb_format.specs.Chain.{value, IsChain}
 use Rattle.cfb_tables.specs.Changes.{IsFreed, IsCut}
 use Rattle.cfb_tables.specs.Tables.{TableState, IsKept, wiped, ending}
-use Rattle.cfb_tables.specs.Listed.{IsShortened, ShortenedIsChain, last_of}
+use Rattle.cfb_tables.specs.Listed.{IsShortened, ShortenedIsChain, ShortenedIsCut, ShortenedIsFreed, last_of}
 use Rattle.cfb_tables.proofs.Members.{Contains-nil, Contains-here, Contains-one, distinct-apart, value-below}
 use Rattle.cfb_tables.proofs.ChainLemmas.{chain_of, chain-turn, chain-rest, members-busy, regular-le}
 use Rattle.cfb_tables.proofs.FreeLemmas.{lists-count, count-most}
@@ -96,19 +96,55 @@ module _ (list : List ℕ) (left : ℕ) (some : 0 < left) (fewer : left ≤ leng
       only = λ i out. cut.only i (λ m. out (subst (λ (z : List ℕ). Contains (z ++ drop left list) i) (sym ending_is) m));
     }
 
+-- the last one of what is left
+module _ (old : List ℕ) (x : ℕ) (list gone : List ℕ) (c : IsChain old x (x ∷ list ++ gone)) where
+  abbrev tip : ℕ
+  tip = last_of (x ∷ list)
+
+  abbrev head : List ℕ
+  head = take (length (x ∷ list) - 1) (x ∷ list)
+
+  split_is : x ∷ list ≡ head ++ tip ∷ []
+  split_is = last_split (x ∷ list) (omega arith)
+
+  whole_chain : IsChain old x (head ++ tip ∷ gone)
+  whole_chain = subst (IsChain old x) (ap (λ (z : List ℕ). z ++ gone) split_is ∙ append_assoc head (tip ∷ []) gone) c
+
+  tip_alone : ending tip ≡ tip ∷ []
+  tip_alone =
+      let low = regular-le tip (members-busy old x (head ++ tip ∷ gone) whole_chain tip (Contains-append_right head (tip ∷ gone) tip (Contains-here tip gone))).2 in
+      ending_other tip (λ e. omega (arith, low, e))
+
+  module _ (new : List ℕ) (cut : IsShortened (x ∷ list) gone old new) where
+    tip_ended : value new tip ≡ end_of_chain
+    tip_ended = cut.ended tip (subst (λ (e : List ℕ). Contains e tip) (sym tip_alone) (Contains-here tip []))
+
+    turned : IsChain new x (x ∷ list)
+    turned =
+        let stays : (i : ℕ) → Contains head i → value new i ≡ value old i =
+        λ i m. cut.only i (λ t. distinct-apart head (tip ∷ gone) whole_chain.distinct i m (subst (λ (e : List ℕ). Contains (e ++ gone) i) tip_alone t)) in
+        let below : tip < length new = value-below new tip (λ e. let ended = tip_ended in omega (arith, e, ended)) in
+        let tail : IsChain new (value new tip) [] = subst (λ k. IsChain new k []) (sym tip_ended) (end_chain new) in
+        subst (IsChain new x) (sym split_is) (chain-turn old new x head tip gone [] stays below whole_chain tail)
+
+    is_cut : IsCut tip gone old new
+    is_cut = record {
+      same_length = cut.same_length;
+      ended = tip_ended;
+      free = cut.free;
+      only = λ i out. cut.only i (λ m. out (subst (λ (e : List ℕ). Contains (e ++ gone) i) tip_alone m));
+    }
+
 pub shortened-is-chain : ShortenedIsChain
 shortened-is-chain old new [] gone c cut = end_chain new
-shortened-is-chain old new (x ∷ list) gone c cut =
-    let xs = x ∷ list in
-    let last = last_of xs in
-    let head = take (length xs - 1) xs in
-    let is : xs ≡ head ++ last ∷ [] = last_split xs (omega arith) in
-    let c' : IsChain old x (head ++ last ∷ gone) = subst (IsChain old x) (ap (λ (z : List ℕ). z ++ gone) is ∙ append_assoc head (last ∷ []) gone) c in
-    let low = regular-le last (members-busy old x (head ++ last ∷ gone) c' last (Contains-append_right head (last ∷ gone) last (Contains-here last gone))).2 in
-    let one : ending last ≡ last ∷ [] = ending_other last (λ e. omega (arith, low, e)) in
-    let ended : value new last ≡ end_of_chain = cut.ended last (subst (λ (e : List ℕ). Contains e last) (sym one) (Contains-here last [])) in
-    let stays : (i : ℕ) → Contains head i → value new i ≡ value old i =
-    λ i m. cut.only i (λ t. distinct-apart head (last ∷ gone) c'.distinct i m (subst (λ (e : List ℕ). Contains (e ++ gone) i) one t)) in
-    let below : last < length new = value-below new last (λ e. omega (arith, e, ended)) in
-    let tail : IsChain new (value new last) [] = subst (λ k. IsChain new k []) (sym ended) (end_chain new) in
-    subst (IsChain new x) (sym is) (chain-turn old new x head last gone [] stays below c' tail)
+shortened-is-chain old new (x ∷ list) gone c cut = turned old x list gone c new cut
+
+pub shortened-is-cut : ShortenedIsCut
+shortened-is-cut old new [] gone some c cut = absurd (omega (arith, some))
+shortened-is-cut old new (x ∷ list) gone some c cut = (
+  is_cut old x list gone c new cut,
+  chain-rest old x (head old x list gone c) (tip old x list gone c) gone (whole_chain old x list gone c),
+)
+
+pub shortened-is-freed : ShortenedIsFreed
+shortened-is-freed old new gone cut = record { same_length = cut.same_length; free = cut.free; only = cut.only }

@@ -4,7 +4,7 @@ ghost use Rattle.cfb_tables.specs.Changes.{ChainsStay, OtherChainsStay, ChainsTu
 ghost use Rattle.cfb_tables.specs.Clean.{CleanPointsWithin, TakenIsClean, ExtendedIsClean, FreedIsClean, CutIsClean};
 ghost use Rattle.cfb_tables.specs.Tables.{FullIsTooFew, TooFewIsNoRoom, EnoughIsRoom};
 ghost use Rattle.cfb_tables.specs.Room.{NothingGivenBack, TooFewIsNoRoomAfter, EnoughIsRoomAfter, MoreIsTooFew, RoomInTurn, AllTakenIsFull};
-ghost use Rattle.cfb_tables.specs.Listed.{ShortenedIsChain};
+ghost use Rattle.cfb_tables.specs.Listed.{ShortenedIsChain, ShortenedIsCut, ShortenedIsFreed};
 ghost use Rattle.cfb_tables.specs.ReadWords.{PaddingIsApart, TableSectorsAreInFile, DifatSectorsAreFew};
 ghost use Rattle.cfb_tables.specs.Owners.{UsesAreKept, NothingLooseIsKept, UseChangesFollow, TakingChanges, FreeingChanges, TakenIsTaking, FreedIsFreeing, CutIsFreeing};
 
@@ -55,9 +55,12 @@ pub fn tables_stay_clean()
     ensures cut { CutIsClean }
 {}
 
-/// What is left of a chain that is cut by the list of its members is a chain.
+/// What is left of a chain that is cut by the list of its members is a chain, and the cut is one behind its last member, or the
+/// freeing of all.
 pub fn what_is_left_is_a_chain()
-    ensures { ShortenedIsChain }
+    ensures chain { ShortenedIsChain }
+    ensures cut { ShortenedIsCut }
+    ensures freed { ShortenedIsFreed }
 {}
 
 /// The words past the file's sectors are padding and nothing else, and the table sectors are sectors of the file.
