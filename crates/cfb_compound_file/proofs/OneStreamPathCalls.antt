@@ -23,7 +23,7 @@ use Rattle.cfb_rules.specs.CallRefusals.{refusal_of, is_a_stream, object_refusal
 use Rattle.cfb_rules.specs.CallReplies.{reply_of}
 use Rattle.cfb_rules.specs.CallChanges.{tree_after, stream_created_at, stream_added_at}
 use Rattle.cfb_rules.specs.Steps.{kind_of, changing, unsound_refusal}
-use Rattle.cfb_rules.specs.Runs.{Causes, Setting, CallRuns, OnFailed, MayBreak, may_fail}
+use Rattle.cfb_rules.specs.Runs.{Causes, Setting, CallRuns, OnFailed, MayBreak, may_fail, may_stay}
 use Rattle.cfb_compound_file.specs.OneStream.{OneStream, tree_with, sectors_taken, content_sectors, header_sector, fat_bytes, directory_bytes, IsServed, HoldsOne}
 use Rattle.cfb_compound_file.specs.Files.{FileState, AgreesWithBytes}
 use Rattle.cfb_compound_file.specs.Laws.{OneStreamMeansItsTree}
@@ -39,43 +39,43 @@ use Rattle.cfb_compound_file.proofs.OneStreamRuns.{runs-from, object-below, obje
 
 -- on a failed file
 pub failed-run : (causes : Causes) (setting : Setting) (tree : Tree) (call : Call) (b : Bool) → b ≡ true
-    → OnFailed (kind_of call) (refused failed_earlier) (record { tree = tree; failed = true })
-    → CallRuns causes setting (record { tree = tree; failed = b }) call (refused failed_earlier) (record { tree = tree; failed = b })
+    → OnFailed causes (kind_of call) (refused failed_earlier) (record { tree = tree; root_len = 0; failed = true })
+    → CallRuns causes setting (record { tree = tree; root_len = 0; failed = b }) call (refused failed_earlier) (record { tree = tree; root_len = 0; failed = b })
 failed-run causes setting tree call true e h = h
 failed-run causes setting tree call false e h = cc
 
 -- refused by the rules
 pub refused-run : (causes : Causes) (setting : Setting) (tree : Tree) (call : Call) (refusal : Refusal) (b : Bool) → b ≡ false
     → refusal_of setting.cases tree call ≡ Some refusal
-    → CallRuns causes setting (record { tree = tree; failed = b }) call (refused refusal) (record { tree = tree; failed = b })
+    → CallRuns causes setting (record { tree = tree; root_len = 0; failed = b }) call (refused refusal) (record { tree = tree; root_len = 0; failed = b })
 refused-run causes setting tree call refusal true e is = cc
 refused-run causes setting tree call refusal false e is =
     inl (
-      (
-        0,
-        subst (λ o. MatchOption (option_map_or (λ r. Some r) o (unsound_refusal setting.stream.sound call))
+      record {
+        step = subst (λ o. MatchOption (option_map_or (λ r. Some r) o (unsound_refusal setting.stream.sound call))
             ((refused refusal ≡ reply_of setting.cases 0 tree call) × (tree ≡ tree_after setting.cases call tree))
-            (λ r. (refused refusal ≡ refused r) × (tree ≡ tree))) (sym is) (refl, refl),
-      ),
-      refl,
+            (λ r. (refused refusal ≡ refused r) × (tree ≡ tree))) (sym is) (refl, refl);
+        root_len = inr refl;
+        unfailed = refl;
+      }
     )
 
 -- done
 pub done-run : (causes : Causes) (setting : Setting) (tree after : Tree) (call : Call) (reply : Reply) (b c : Bool) → b ≡ false → c ≡ false
     → refusal_of setting.cases tree call ≡ None → unsound_refusal setting.stream.sound call ≡ None
     → reply ≡ reply_of setting.cases 0 tree call → after ≡ tree_after setting.cases call tree
-    → CallRuns causes setting (record { tree = tree; failed = b }) call reply (record { tree = after; failed = c })
+    → CallRuns causes setting (record { tree = tree; root_len = 0; failed = b }) call reply (record { tree = after; root_len = 0; failed = c })
 done-run causes setting tree after call reply true c e f none sound answer is = cc
 done-run causes setting tree after call reply false c e f none sound answer is =
     inl (
-      (
-        0,
-        subst (λ o. MatchOption o
+      record {
+        step = subst (λ o. MatchOption o
             ((reply ≡ reply_of setting.cases 0 tree call) × (after ≡ tree_after setting.cases call tree))
             (λ r. (reply ≡ refused r) × (after ≡ tree)))
-            (sym (ap (λ o. option_map_or (λ r. Some r) o (unsound_refusal setting.stream.sound call)) none ∙ sound)) (answer, is),
-      ),
-      f,
+            (sym (ap (λ o. option_map_or (λ r. Some r) o (unsound_refusal setting.stream.sound call)) none ∙ sound)) (answer, is);
+        root_len = inr refl;
+        unfailed = f;
+      }
     )
 
 -- ---- opening
@@ -118,7 +118,7 @@ is-there cases held (name ∷ next ∷ names) e = cc
 
 module _ (one : AtMostOneTree) (right : OneStreamMeansItsTree) (file : FileState) (path : List ℕ) (agrees : AgreesWithBytes file) where
   refused-at : (can : MediumFault → Bool) (refusal : Refusal) (e : Error) → IsRefusal refusal e → CountsError can file.failures file.failures e
-      → CallRuns (causes_of file file) (setting_of file) (record { tree = tree_now file; failed = file.is_failed }) (open_stream path) (refused refusal) (record { tree = tree_now file; failed = file.is_failed })
+      → CallRuns (causes_of file file) (setting_of file) (record { tree = tree_now file; root_len = 0; failed = file.is_failed }) (open_stream path) (refused refusal) (record { tree = tree_now file; root_len = 0; failed = file.is_failed })
       → IsRefusedBy can file (open_stream path) never_yet file e
   refused-at can refusal e is counts runs = record {
     reply = inl (refusal, is, runs-from one right (causes_of file file) file file (open_stream path) (refused refusal) agrees agrees runs);
@@ -272,15 +272,15 @@ directory-put v held other bytes holds served same =
 -- it broke off, or memory was refused
 pub broken-run : (causes : Causes) (setting : Setting) (tree after : Tree) (call : Call) (b c : Bool) → b ≡ false → c ≡ true → may_fail (kind_of call) ≡ true
     → MayBreak causes (kind_of call) medium_failed
-    → CallRuns causes setting (record { tree = tree; failed = b }) call (refused medium_failed) (record { tree = after; failed = c })
+    → CallRuns causes setting (record { tree = tree; root_len = 0; failed = b }) call (refused medium_failed) (record { tree = after; root_len = 0; failed = c })
 broken-run causes setting tree after call true c e f kind may = cc
 broken-run causes setting tree after call false c e f kind may = inr ((medium_failed, may, refl), inr (kind, f))
 
-pub memory-run : (causes : Causes) (setting : Setting) (tree : Tree) (call : Call) (b : Bool) → b ≡ false
+pub memory-run : (causes : Causes) (setting : Setting) (tree : Tree) (call : Call) (b : Bool) → b ≡ false → may_stay (kind_of call) ≡ true
     → MayBreak causes (kind_of call) out_of_memory
-    → CallRuns causes setting (record { tree = tree; failed = b }) call (refused out_of_memory) (record { tree = tree; failed = b })
-memory-run causes setting tree call true e may = cc
-memory-run causes setting tree call false e may = inr ((out_of_memory, may, refl), inl refl)
+    → CallRuns causes setting (record { tree = tree; root_len = 0; failed = b }) call (refused out_of_memory) (record { tree = tree; root_len = 0; failed = b })
+memory-run causes setting tree call true e stay may = cc
+memory-run causes setting tree call false e stay may = inr ((out_of_memory, may, refl), inl (stay, refl))
 
 -- the kind of both calls
 creation-changes : (empties : Bool) (path : List ℕ) → kind_of (creation empties path) ≡ changing
@@ -293,7 +293,7 @@ creation-rule file false path = refl
 
 module _ (one : AtMostOneTree) (right : OneStreamMeansItsTree) (file : FileState) (empties : Bool) (path : List ℕ) (agrees : AgreesWithBytes file) where
   creation-refused-at : (can : MediumFault → Bool) (refusal : Refusal) (e : Error) → IsRefusal refusal e → CountsError can file.failures file.failures e
-      → CallRuns (causes_of file file) (setting_of file) (record { tree = tree_now file; failed = file.is_failed }) (creation empties path) (refused refusal) (record { tree = tree_now file; failed = file.is_failed })
+      → CallRuns (causes_of file file) (setting_of file) (record { tree = tree_now file; root_len = 0; failed = file.is_failed }) (creation empties path) (refused refusal) (record { tree = tree_now file; root_len = 0; failed = file.is_failed })
       → IsRefusedBy can file (creation empties path) (IsNotYet file (creation empties path) path) file e
   creation-refused-at can refusal e is counts runs = record {
     reply = inl (refusal, is, runs-from one right (causes_of file file) file file (creation empties path) (refused refusal) agrees agrees runs);
@@ -304,14 +304,14 @@ module _ (one : AtMostOneTree) (right : OneStreamMeansItsTree) (file : FileState
   }
 
   ruled : (refusal : Refusal) → file.is_failed ≡ false → creation_rule file empties (names_of_path path) ≡ Some refusal
-      → CallRuns (causes_of file file) (setting_of file) (record { tree = tree_now file; failed = file.is_failed }) (creation empties path) (refused refusal) (record { tree = tree_now file; failed = file.is_failed })
+      → CallRuns (causes_of file file) (setting_of file) (record { tree = tree_now file; root_len = 0; failed = file.is_failed }) (creation empties path) (refused refusal) (record { tree = tree_now file; root_len = 0; failed = file.is_failed })
   ruled refusal unfailed is = refused-run (causes_of file file) (setting_of file) (tree_now file) (creation empties path) refusal file.is_failed unfailed (creation-rule file empties path ∙ is)
 
   may-want : MayBreak (causes_of file file) (kind_of (creation empties path)) out_of_memory
   may-want = subst (λ k. MayBreak (causes_of file file) k out_of_memory) (sym (creation-changes empties path)) tt
 
-  on-failed : OnFailed (kind_of (creation empties path)) (refused failed_earlier) (record { tree = tree_now file; failed = true })
-  on-failed = subst (λ k. OnFailed k (refused failed_earlier) (record { tree = tree_now file; failed = true })) (sym (creation-changes empties path)) (refl, refl)
+  on-failed : OnFailed (causes_of file file) (kind_of (creation empties path)) (refused failed_earlier) (record { tree = tree_now file; root_len = 0; failed = true })
+  on-failed = subst (λ k. OnFailed (causes_of file file) k (refused failed_earlier) (record { tree = tree_now file; root_len = 0; failed = true })) (sym (creation-changes empties path)) (refl, refl)
 
   pub creation-refused : (can : MediumFault → Bool) (e : Error) → IsNotCreatable file empties (names_of_path path) e
       → IsRefusedBy can file (creation empties path) (IsNotYet file (creation empties path) path) file e
@@ -321,7 +321,7 @@ module _ (one : AtMostOneTree) (right : OneStreamMeansItsTree) (file : FileState
   creation-refused can (NotFound d) h = creation-refused-at can not_found (NotFound d) refl refl (ruled not_found h.0 h.1)
   creation-refused can (AlreadyExists d) h = creation-refused-at can already_exists (AlreadyExists d) refl refl (ruled already_exists h.0 h.1)
   creation-refused can Memory h = creation-refused-at can out_of_memory Memory refl refl
-      (memory-run (causes_of file file) (setting_of file) (tree_now file) (creation empties path) file.is_failed h may-want)
+      (memory-run (causes_of file file) (setting_of file) (tree_now file) (creation empties path) file.is_failed h (ap may_stay (creation-changes empties path)) may-want)
   creation-refused can Unsupported h = record {
     reply = inr (
       record {

@@ -1,5 +1,5 @@
 -- Calls on a file with at most one stream follow the rules.
-use Rattle.std.proofs.Common.{◌≡◌, inl, ℕ, List, [], ◌∷◌, Bool, true, false, refl, sym, ◌∙◌, ap, subst}
+use Rattle.std.proofs.Common.{◌≡◌, inl, inr, ℕ, List, [], ◌∷◌, Bool, true, false, refl, sym, ◌∙◌, ap, subst}
 use Rattle.std.specs.Prelude.{Option, Some, None, is_some, unwrap_or, option_and_then, option_map, ◌||◌, ◌&&◌, if◌then◌else◌}
 use Rattle.std.specs.Option.{option_map_or}
 use Rattle.cfb_format.specs.declared.medium.MediumFault.{MediumFault}
@@ -24,7 +24,7 @@ use Rattle.cfb_compound_file.specs.OneStreamStates.{tree_now}
 
 -- what holds for the tree that is kept holds for the tree that the bytes mean
 pub runs-from : AtMostOneTree → OneStreamMeansItsTree → (causes : Causes) (old new : FileState) (call : Call) (reply : Reply) → AgreesWithBytes old → AgreesWithBytes new
-    → CallRuns causes (setting_of old) (record { tree = tree_now old; failed = old.is_failed }) call reply (record { tree = tree_now new; failed = new.is_failed })
+    → CallRuns causes (setting_of old) (record { tree = tree_now old; root_len = 0; failed = old.is_failed }) call reply (record { tree = tree_now new; root_len = 0; failed = new.is_failed })
     → RunsOn causes old call reply new
 unfolding RunsOn
 runs-from one right causes old new call reply agrees after runs = λ tree means. (
@@ -34,9 +34,9 @@ runs-from one right causes old new call reply agrees after runs = λ tree means.
 )
   where
     go : (b : Bool) (tree : Tree) → (b ≡ false → tree_now old ≡ tree)
-        → CallRuns causes (setting_of old) (record { tree = tree_now old; failed = b }) call reply (record { tree = tree_now new; failed = new.is_failed })
-        → CallRuns causes (setting_of old) (record { tree = tree; failed = b }) call reply (record { tree = tree_now new; failed = new.is_failed })
-    go false tree same runs = subst (λ t. CallRuns causes (setting_of old) (record { tree = t; failed = false }) call reply (record { tree = tree_now new; failed = new.is_failed })) (same refl) runs
+        → CallRuns causes (setting_of old) (record { tree = tree_now old; root_len = 0; failed = b }) call reply (record { tree = tree_now new; root_len = 0; failed = new.is_failed })
+        → CallRuns causes (setting_of old) (record { tree = tree; root_len = 0; failed = b }) call reply (record { tree = tree_now new; root_len = 0; failed = new.is_failed })
+    go false tree same runs = subst (λ t. CallRuns causes (setting_of old) (record { tree = t; root_len = 0; failed = false }) call reply (record { tree = tree_now new; root_len = 0; failed = new.is_failed })) (same refl) runs
     go true tree same runs = runs
 
 -- a file that was just created, or opened as it was created
@@ -163,18 +163,18 @@ there-asked cases v bytes held path = go (names_of_path path)
 
 pub asks-stream : (causes : Causes) (file : FileState) (path : List ℕ) (answer : Bool) → file.is_sound ≡ true
     → answer ≡ (is_some (names_of_path path) && has_stream file.cases file.held (names_left path))
-    → CallRuns causes (setting_of file) (record { tree = tree_now file; failed = file.is_failed }) (is_stream path) (flag answer) (record { tree = tree_now file; failed = file.is_failed })
+    → CallRuns causes (setting_of file) (record { tree = tree_now file; root_len = 0; failed = file.is_failed }) (is_stream path) (flag answer) (record { tree = tree_now file; root_len = 0; failed = file.is_failed })
 asks-stream causes file path answer sound is = go file.is_failed
   where
-    go : (b : Bool) → CallRuns causes (setting_of file) (record { tree = tree_now file; failed = b }) (is_stream path) (flag answer) (record { tree = tree_now file; failed = b })
-    go true = refl
-    go false = inl ((0, (ap flag (is ∙ sym (stream-asked file.cases file.version file.bytes file.held path)), refl)), refl)
+    go : (b : Bool) → CallRuns causes (setting_of file) (record { tree = tree_now file; root_len = 0; failed = b }) (is_stream path) (flag answer) (record { tree = tree_now file; root_len = 0; failed = b })
+    go true = (tt, refl)
+    go false = inl (record { step = (ap flag (is ∙ sym (stream-asked file.cases file.version file.bytes file.held path)), refl); root_len = inr refl; unfailed = refl })
 
 pub asks-there : (causes : Causes) (file : FileState) (path : List ℕ) (answer : Bool) → file.is_sound ≡ true
     → answer ≡ (is_some (names_of_path path) && (is_nil (names_left path) || has_stream file.cases file.held (names_left path)))
-    → CallRuns causes (setting_of file) (record { tree = tree_now file; failed = file.is_failed }) (exists path) (flag answer) (record { tree = tree_now file; failed = file.is_failed })
+    → CallRuns causes (setting_of file) (record { tree = tree_now file; root_len = 0; failed = file.is_failed }) (exists path) (flag answer) (record { tree = tree_now file; root_len = 0; failed = file.is_failed })
 asks-there causes file path answer sound is = go file.is_failed
   where
-    go : (b : Bool) → CallRuns causes (setting_of file) (record { tree = tree_now file; failed = b }) (exists path) (flag answer) (record { tree = tree_now file; failed = b })
-    go true = refl
-    go false = inl ((0, (ap flag (is ∙ sym (there-asked file.cases file.version file.bytes file.held path)), refl)), refl)
+    go : (b : Bool) → CallRuns causes (setting_of file) (record { tree = tree_now file; root_len = 0; failed = b }) (exists path) (flag answer) (record { tree = tree_now file; root_len = 0; failed = b })
+    go true = (tt, refl)
+    go false = inl (record { step = (ap flag (is ∙ sym (there-asked file.cases file.version file.bytes file.held path)), refl); root_len = inr refl; unfailed = refl })

@@ -43,7 +43,7 @@ unfolding StreamRunsOn
 stream-failed old position call failed refusable =
     subst (λ b. MatchBool b (StreamOnFailed call (not_done failed_earlier) (stream_run old position)) ((StreamStep (setting_of old).stream (state_at old old.held position) call (not_done failed_earlier) (state_at old old.held position) × (old.is_failed ≡ false))
     ⊎ IsStreamBroken (causes_of old old) (state_at old old.held position) call (not_done failed_earlier) (stream_run old position))) (sym failed)
-    (failed, subst (λ b. MatchBool b ⊤ (not_done failed_earlier ≡ not_done failed_earlier)) (sym refusable) refl)
+    (failed, subst (λ b. MatchBool b (false ≡ true) (not_done failed_earlier ≡ not_done failed_earlier)) (sym refusable) refl)
 
 pub match-true : (b : Bool) (X Y : Type 0) → b ≡ true → X → MatchBool b X Y
 match-true true X Y e x = x
@@ -205,7 +205,8 @@ module _ (old : FileState) (position : ℕ) (bytes : List ℕ) (is_open : IsOpen
   }
     where
       stays : StaysUnfailed (state_at old old.held position).pending (work_of (state_at old old.held position) (write bytes)) out_of_memory
-      stays = subst (λ b. StaysUnfailed b (work_of (state_at old old.held position) (write bytes)) out_of_memory) (sym (calm old old.held position)) tt
+      stays = subst (λ w. StaysUnfailed (state_at old old.held position).pending w out_of_memory) (sym takes)
+          (subst (λ b. StaysUnfailed b taking out_of_memory) (sym (calm old old.held position)) tt)
   not-fillable can Unsupported h = record {
     reply = inr (
       record {

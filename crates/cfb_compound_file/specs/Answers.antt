@@ -29,11 +29,11 @@ setting_of file = record { cases = file.cases; stream = record { limit = max_str
 abbrev pub causes_of : FileState → FileState → Causes
 causes_of old new = record { medium = Rises old.failures new.failures; full = ⊥ }
 
--- by the rules of calls, for the tree that the bytes mean
+-- by the rules of calls, for the tree that the bytes mean. A file of this shape has no mini stream, so the length of its root's entry is 0
 unfoldable pub RunsOn : Causes → FileState → Call → Reply → FileState → Type 0
 RunsOn causes old call reply new = (tree : Tree) → (old.is_failed ≡ false → Means old.cases old.bytes tree)
     → (after : Tree) × (new.is_failed ≡ false → Means new.cases new.bytes after)
-    × CallRuns causes (setting_of old) (record { tree = tree; failed = old.is_failed }) call reply (record { tree = after; failed = new.is_failed })
+    × CallRuns causes (setting_of old) (record { tree = tree; root_len = 0; failed = old.is_failed }) call reply (record { tree = after; root_len = 0; failed = new.is_failed })
 
 -- the two calls that create a stream: one empties a stream that is there
 abbrev pub creation : Bool → List ℕ → Call

@@ -9,17 +9,17 @@ use Rattle.cfb_format.specs.Names.{Cases, name_cmp}
 use Rattle.cfb_format.specs.Tree.{Objects, nothing, storage, stream, names_in, IsOrdered, Object, Found, a_storage, a_stream, is_same_name, object_named, put_before, put_in_order, without}
 use Rattle.cfb_format.proofs.NameOrder.{name_cmp-total}
 
-equal_by_test : (o : Ordering) → is_eq o ≡ true → o ≡ Equal
+pub equal_by_test : (o : Ordering) → is_eq o ≡ true → o ≡ Equal
 equal_by_test Less e = cc
 equal_by_test Equal e = refl
 equal_by_test Greater e = cc
 
 module _ (cases : Cases) where
   -- names that are the same are told from others alike
-  alike : (q name other : List ℕ) → is_same_name cases q name ≡ true → is_same_name cases q other ≡ is_same_name cases name other
+  pub alike : (q name other : List ℕ) → is_same_name cases q name ≡ true → is_same_name cases q other ≡ is_same_name cases name other
   alike q name other e = ap is_eq ((name_cmp-total cases).congr q name other (equal_by_test (name_cmp cases q name) e))
 
-  alike_back : (q name other : List ℕ) → is_same_name cases name other ≡ true → is_same_name cases q name ≡ is_same_name cases q other
+  pub alike_back : (q name other : List ℕ) → is_same_name cases name other ≡ true → is_same_name cases q name ≡ is_same_name cases q other
   alike_back q name other e =
       ap is_eq ((name_cmp-total cases).antisymm q name
       ∙ ap ordering_reverse ((name_cmp-total cases).congr name other q (equal_by_test (name_cmp cases name other) e))

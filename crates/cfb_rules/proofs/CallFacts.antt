@@ -11,8 +11,9 @@ use Rattle.cfb_rules.specs.Calls.{Call, create_storage, create_storage_all, crea
 use Rattle.cfb_rules.specs.Steps.{outcome}
 use Rattle.cfb_rules.specs.CallChanges.{tree_after}
 use Rattle.cfb_rules.specs.CallReplies.{reply_of}
-use Rattle.cfb_rules.specs.StreamCalls.{read, write, seek, set_len, read_to_end, ask_position, from_start, got, count, place, ready, not_done}
-use Rattle.cfb_rules.specs.Runs.{IsLegal, Setting, TreeState, StreamRun, Command, by_path, on_stream, creates_new, replied, streamed, opens}
+use Rattle.cfb_rules.specs.StreamCalls.{StreamState, read, write, seek, set_len, read_to_end, ask_position, from_start, got, count, offset, ready, not_done}
+use Rattle.cfb_rules.specs.Runs.{Setting, TreeState}
+use Rattle.cfb_rules.specs.Lists.{FileView, IsLegal, IsLegalRun, Command, by_path, on_stream, creates_new, replied, streamed, opens, blame_in}
 
 abbrev run : List Call → Tree → Tree
 run [] tree = tree
@@ -183,10 +184,10 @@ tree3 = record {
 }
 
 abbrev unfailed : Tree → TreeState
-unfailed tree = record { tree = tree; failed = false }
+unfailed tree = record { tree = tree; root_len = 0; failed = false }
 
-abbrev state : List ℕ → ℕ → Bool → StreamRun
-state content position pending = record { stream = record { len = length content; content = content; position = position; ahead = 0; pending = pending }; failed = false }
+abbrev at : List ℕ → ℕ → Bool → StreamState
+at content position pending = record { len = length content; content = content; position = position; ahead = 0; pending = pending }
 
 abbrev commands : List Command
 commands = by_path (create_storage (codes "/s") 0)
@@ -198,102 +199,135 @@ x_info = record { name = codes "x"; path = codes "/S/X"; obj_type = Stream; len 
 
 pub a_run : IsLegal setting (unfailed empty_tree) commands
     (replied done
-    ∷ streamed (count 3 ∷ place 1 ∷ got (codes "bc") ∷ got [] ∷ ready ∷ place 1 ∷ got [] ∷ []) None
+    ∷ streamed (count 3 ∷ offset 1 ∷ got (codes "bc") ∷ got [] ∷ ready ∷ offset 1 ∷ got [] ∷ []) None
     ∷ replied (one_entry x_info) ∷ [])
     (unfailed tree3)
 unfolding names_of_path
 a_run = (
   unfailed tree1,
-  inl ((0, (refl, refl)), refl),
+  record { runs = inl (record { step = (refl, refl); root_len = inl (refl, refl); unfailed = refl }); counted = lit≤ tt },
   (
     unfailed tree3,
-    (
-      refl,
-      record {
-        tree = tree2;
-        opening = (refl, refl);
-        stream = state (codes "a") 1 false;
-        calls_run = (
-          state (codes "abc") 3 true,
-          inl ((3, lit≤ tt, lit≤ tt, lit≤ tt, refl, record { len = refl; content = refl; position = refl; ahead = refl }), refl),
+    record {
+      opened = unfailed tree2;
+      opening = record { runs = inl (record { step = (refl, refl); root_len = inl (refl, refl); unfailed = refl }); counted = lit≤ tt };
+      stream = at (codes "a") 1 false;
+      worked = unfailed tree2;
+      works = (
+        at (codes "abc") 3 true,
+        unfailed tree2,
+        record { runs = inl ((3, lit≤ tt, lit≤ tt, lit≤ tt, refl, record { len = refl; content = refl; position = refl; ahead = refl }), refl); counted = lit≤ tt },
+        (
+          at (codes "abc") 1 true,
+          unfailed tree2,
+          record { runs = inl ((refl, record { len = refl; content = refl; position = refl; ahead = refl; pending = λ h. h }), refl); counted = lit≤ tt },
           (
-            state (codes "abc") 1 true,
-            inl ((refl, record { len = refl; content = refl; position = refl; ahead = refl; pending = λ h. h }), refl),
+            at (codes "abc") 3 true,
+            unfailed tree2,
+            record { runs = inl ((2, lit≤ tt, lit≤ tt, lit≤ tt, refl, record { len = refl; content = refl; position = refl; ahead = refl; pending = λ h. h }), refl); counted = lit≤ tt },
             (
-              state (codes "abc") 3 true,
-              inl ((2, lit≤ tt, lit≤ tt, lit≤ tt, refl, record { len = refl; content = refl; position = refl; ahead = refl; pending = λ h. h }), refl),
+              at (codes "abc") 3 true,
+              unfailed tree2,
+              record { runs = inl ((refl, record { len = refl; content = refl; position = refl; ahead = refl; pending = λ h. h }), refl); counted = lit≤ tt },
               (
-                state (codes "abc") 3 true,
-                inl ((refl, record { len = refl; content = refl; position = refl; ahead = refl; pending = λ h. h }), refl),
+                at (codes "a") 1 false,
+                unfailed tree2,
+                record { runs = inl ((refl, record { len = refl; content = refl; position = refl; ahead = refl; pending = λ h. cc }, refl), refl); counted = lit≤ tt },
                 (
-                  state (codes "a") 1 false,
-                  inl ((refl, record { len = refl; content = refl; position = refl; ahead = refl; pending = λ h. cc }, refl), refl),
+                  at (codes "a") 1 false,
+                  unfailed tree2,
+                  record { runs = inl ((refl, refl), refl); counted = lit≤ tt },
                   (
-                    state (codes "a") 1 false,
-                    inl ((refl, refl), refl),
-                    (
-                      state (codes "a") 1 false,
-                      inl ((refl, record { len = refl; content = refl; position = refl; ahead = refl; pending = λ h. h }), refl),
-                      refl,
-                    ),
+                    at (codes "a") 1 false,
+                    unfailed tree2,
+                    record { runs = inl ((refl, record { len = refl; content = refl; position = refl; ahead = refl; pending = λ h. h }), refl); counted = lit≤ tt },
+                    (refl, refl),
                   ),
                 ),
               ),
             ),
           ),
-        );
-        closes = refl;
-        closed = refl;
-      },
+        ),
+      );
+      closes = record { closes = refl; closed = refl; counted = lit≤ tt };
+    },
+    (
+      unfailed tree3,
+      record { runs = inl (record { step = (refl, refl); root_len = inr refl; unfailed = refl }); counted = lit≤ tt },
+      refl,
     ),
-    (unfailed tree3, inl ((0, (refl, refl)), refl), refl),
   ),
 )
 
 -- ---- a run that breaks off
 
+-- a file that is never full, with its count of failures
+pub record Watched : Type 0 where
+  pub state : TreeState
+  pub failures : ℕ
+
+abbrev seen_as : Watched → FileView
+seen_as file = record { state = file.state; failures = file.failures; full = ⊥; too_long = λ names len. ⊥ }
+
+abbrev calm : Watched
+calm = record { state = unfailed tree2; failures = 0 }
+
+abbrev broken : Watched
+broken = record { state = record { tree = tree1; root_len = 64; failed = true }; failures = 1 }
+
 -- memory is refused once and nothing is changed; then the medium fails in a write, the file is failed, and what comes after is told so
-pub a_broken_run : IsLegal setting (unfailed tree2)
+pub a_broken_run : IsLegalRun seen_as setting calm
     (by_path (create_storage (codes "/t") 0)
     ∷ on_stream opens (codes "/s/X") (write (codes "abc") ∷ ask_position ∷ read 1 ∷ [])
     ∷ by_path (remove_stream (codes "/s/x")) ∷ by_path walk ∷ [])
     (replied (refused out_of_memory)
-    ∷ streamed (not_done medium_failed ∷ place 7 ∷ not_done failed_earlier ∷ []) (Some failed_earlier)
+    ∷ streamed (not_done medium_failed ∷ offset 7 ∷ not_done failed_earlier ∷ []) (Some failed_earlier)
     ∷ replied (refused failed_earlier) ∷ replied done ∷ [])
-    (record { tree = tree1; failed = true })
+    broken
 unfolding names_of_path
 a_broken_run = (
-  unfailed tree2,
-  inr ((out_of_memory, tt, refl), inl refl),
+  calm,
+  record { runs = inr ((out_of_memory, tt, refl), inl (refl, refl)); counted = lit≤ tt },
   (
-    record { tree = tree1; failed = true },
-    (
-      refl,
-      record {
-        tree = tree2;
-        opening = (refl, refl);
-        stream = record { stream = (state [] 0 false).stream; failed = true };
-        calls_run = (
-          record { stream = (state [] 0 false).stream; failed = true },
-          inr (medium_failed, tt, refl, inr (refl, refl)),
+    broken,
+    record {
+      opened = calm;
+      opening = record { runs = inl (record { step = (refl, refl); root_len = inr refl; unfailed = refl }); counted = lit≤ tt };
+      stream = at [] 0 false;
+      worked = broken;
+      works = (
+        at [] 0 false,
+        broken,
+        record { runs = inr (medium_failed, record { no_less = lit≤ tt; more = lit≤ tt }, refl, inr (refl, refl)); counted = lit≤ tt },
+        (
+          at [] 0 false,
+          broken,
+          record { runs = (refl, refl); counted = lit≤ tt },
           (
-            record { stream = (state [] 0 false).stream; failed = true },
-            (refl, tt),
-            (
-              record { stream = (state [] 0 false).stream; failed = true },
-              (refl, refl),
-              refl,
-            ),
+            at [] 0 false,
+            broken,
+            record { runs = (refl, refl); counted = lit≤ tt },
+            (refl, refl),
           ),
-        );
-        closes = (refl, refl);
-        closed = tt;
-      },
-    ),
+        ),
+      );
+      closes = record { closes = (refl, refl); closed = tt; counted = lit≤ tt };
+    },
     (
-      record { tree = tree1; failed = true },
-      (refl, refl),
-      (record { tree = tree1; failed = true }, refl, refl),
+      broken,
+      record { runs = (refl, refl); counted = lit≤ tt },
+      (
+        broken,
+        record { runs = (tt, refl); counted = lit≤ tt },
+        refl,
+      ),
     ),
   ),
 )
+
+-- it blames the medium as often as the count rose
+pub blamed_once : blame_in medium_failed
+    (replied (refused out_of_memory)
+    ∷ streamed (not_done medium_failed ∷ offset 7 ∷ not_done failed_earlier ∷ []) (Some failed_earlier)
+    ∷ replied (refused failed_earlier) ∷ replied done ∷ []) ≡ 1
+blamed_once = refl

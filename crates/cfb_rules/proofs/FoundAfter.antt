@@ -1,26 +1,22 @@
 -- What is found at the names of an object that was set, emptied or removed.
-use Rattle.std.proofs.Common.{◌≡◌, ℕ, List, [], ◌∷◌, Bool, true, false, refl, sym, ◌∙◌, ap}
-use Rattle.std.specs.Prelude.{⊤, Option, Some, None, MatchOption, is_some, option_and_then, option_map, if◌then◌else◌}
-use Rattle.std.specs.Option.{option_map_or}
+use Rattle.std.proofs.Common.{◌≡◌, ℕ, List, [], ◌∷◌, Bool, true, false, refl, sym, ◌∙◌, ap, inl, inr, ◌⊎◌}
+use Rattle.std.specs.Prelude.{⊤, Option, Some, None, is_some, option_and_then, option_map, if◌then◌else◌}
 use Rattle.cfb_format.specs.Names.{Cases, is_valid_name}
-use Rattle.cfb_format.specs.Path.{names_of_path}
 use Rattle.cfb_format.specs.Tree.{StorageInfo, StreamInfo, Objects, nothing, storage, stream, Tree, IsOrdered, Object, a_storage, a_stream, Found, is_same_name, object_named, without}
 use Rattle.cfb_format.proofs.TreeMap.{object_named-without}
-use Rattle.cfb_rules.specs.Refusal.{Refusal, invalid_input}
-use Rattle.cfb_rules.specs.Calls.{create_stream, done, refused}
-use Rattle.cfb_rules.specs.CallChanges.{object_with, with_fields, fields_changed_at, same_storage, with_content, stream_added_at, stream_created_at, emptied, removed_at, tree_after}
-use Rattle.cfb_rules.specs.CallRefusals.{creation_refusal, never, is_a_stream, place_refusal, refusal_of}
-use Rattle.cfb_rules.specs.CallReplies.{reply_of}
+use Rattle.cfb_rules.specs.Refusal.{already_exists, invalid_input}
+use Rattle.cfb_rules.specs.Calls.{create_stream, remove_storage, remove_storage_all, remove_stream, set_storage_clsid, set_state_bits, set_created_time, set_modified_time, touch}
+use Rattle.cfb_rules.specs.CallChanges.{with_fields, fields_changed_at, same_storage, same_stream, with_content, stream_added_at, stream_created_at, removed_at, touched_at}
+use Rattle.cfb_rules.specs.CallRefusals.{creation_refusal, never, always, is_a_storage, is_a_stream, is_empty_storage, place_refusal, object_refusal, inner_refusal}
 use Rattle.cfb_rules.specs.Finding.{child_named, found_from, root_of, found_at, last_name, parent_names, object_at}
-use Rattle.cfb_rules.specs.Steps.{outcome, unsound_refusal, Step}
-use Rattle.cfb_rules.proofs.CreatedFound.{inner_object, inner, found_changed, found_last, same_itself, added_found, no_refusal}
+use Rattle.cfb_rules.specs.Laws.{StorageTurns, StreamTurns, Appears, Vanishes, EmptiedStreamIsFound, ClsidIsSet, StateBitsAreSet, CreatedTimeIsSet, ModifiedTimeIsSet, TouchedTimeIsSet, RootIsNotTouched, RemovedStorageIsGone, RemovedStreamIsGone, RemovedAllIsGone, RootIsEmptied}
+use Rattle.cfb_rules.proofs.CreatedFound.{object_of, child_of, inner_object, inner, found_changed, found_last, same_itself, stream_appears, appears_in}
+use Rattle.cfb_rules.proofs.DoneSteps.{done_rule, done_change, allowed_object, allowed_name}
 
-abbrev pub object_of : Option Found → Option Object
-object_of o = option_map (λ (x : Found). x.object) o
-
--- the object of that name in what was found
-abbrev pub child_of : Cases → List ℕ → Option Found → Option Found
-child_of cases name o = option_and_then (λ (x : Found). child_named cases name x.object) o
+-- one object with other fields
+abbrev pub object_with : (StorageInfo → StorageInfo) → (StreamInfo → StreamInfo) → Object → Object
+object_with f g (a_storage info inside) = a_storage (f info) inside
+object_with f g (a_stream info) = a_stream (g info)
 
 -- ---- fields that were set
 
@@ -72,11 +68,74 @@ module _ (cases : Cases) (f : StorageInfo → StorageInfo) (g : StreamInfo → S
       ap object_of (after ∙ ap (child_of cases last) within ∙ in_found last (found_at cases tree parents) ∙ ap (option_map with_these) (sym before))
       ∙ objects_with (found_at cases tree (name ∷ names))
 
+  -- ---- an object that was there, by its kind
+
+  module _ (names : List (List ℕ)) (tree tree' : Tree) (after : tree' ≡ fields_changed_at cases f g names tree) where
+    turned : (object : Object) → object_at cases tree names ≡ Some object → object_at cases tree' names ≡ Some (object_with f g object)
+    turned object there = ap (λ (t : Tree). object_at cases t names) after ∙ fields_found names tree ∙ ap (option_map (object_with f g)) there
+
+    storage_turned : (object : Object) → object_at cases tree names ≡ Some object → is_a_storage object ≡ true → StorageTurns cases f names tree tree'
+    storage_turned (a_storage info inside) there right = (info, inside, there, turned (a_storage info inside) there)
+    storage_turned (a_stream info) there right = cc
+
+    stream_turned : (object : Object) → object_at cases tree names ≡ Some object → is_a_stream object ≡ true → StreamTurns cases g names tree tree'
+    stream_turned (a_storage info inside) there right = cc
+    stream_turned (a_stream info) there right = (info, there, turned (a_stream info) there)
+
+    object_turned : (object : Object) → object_at cases tree names ≡ Some object → StorageTurns cases f names tree tree' ⊎ StreamTurns cases g names tree tree'
+    object_turned (a_storage info inside) there = inl (info, inside, there, turned (a_storage info inside) there)
+    object_turned (a_stream info) there = inr (info, there, turned (a_stream info) there)
+
+    pub storage_set : object_refusal is_a_storage (object_at cases tree names) ≡ None → StorageTurns cases f names tree tree'
+    storage_set rule = let o = allowed_object is_a_storage (object_at cases tree names) rule in storage_turned o.0 o.1 o.2
+
+    pub object_set : object_refusal always (object_at cases tree names) ≡ None → StorageTurns cases f names tree tree' ⊎ StreamTurns cases g names tree tree'
+    object_set rule = let o = allowed_object always (object_at cases tree names) rule in object_turned o.0 o.1
+
+pub clsid_set : ClsidIsSet
+clsid_set cases clsid names tree tree' d =
+    storage_set cases (λ info. record info { clsid = clsid }) same_stream names tree tree'
+    (done_change cases (λ path. set_storage_clsid path clsid) names tree tree' (fields_changed_at cases (λ info. record info { clsid = clsid }) same_stream) (λ path. refl) d)
+    (done_rule cases (λ path. set_storage_clsid path clsid) names tree tree' (λ ns. object_refusal is_a_storage (object_at cases tree ns)) (λ path. refl) d)
+
+pub state_bits_set : StateBitsAreSet
+state_bits_set cases bits names tree tree' d =
+    object_set cases (λ info. record info { state_bits = bits }) (λ info. record info { state_bits = bits }) names tree tree'
+    (done_change cases (λ path. set_state_bits path bits) names tree tree'
+    (fields_changed_at cases (λ info. record info { state_bits = bits }) (λ info. record info { state_bits = bits })) (λ path. refl) d)
+    (done_rule cases (λ path. set_state_bits path bits) names tree tree' (λ ns. object_refusal always (object_at cases tree ns)) (λ path. refl) d)
+
+pub created_time_set : CreatedTimeIsSet
+created_time_set cases moment names tree tree' d =
+    object_set cases (λ info. record info { created = moment }) same_stream names tree tree'
+    (done_change cases (λ path. set_created_time path moment) names tree tree' (fields_changed_at cases (λ info. record info { created = moment }) same_stream) (λ path. refl) d)
+    (done_rule cases (λ path. set_created_time path moment) names tree tree' (λ ns. object_refusal always (object_at cases tree ns)) (λ path. refl) d)
+
+pub modified_time_set : ModifiedTimeIsSet
+modified_time_set cases moment names tree tree' d =
+    object_set cases (λ info. record info { modified = moment }) same_stream names tree tree'
+    (done_change cases (λ path. set_modified_time path moment) names tree tree' (fields_changed_at cases (λ info. record info { modified = moment }) same_stream) (λ path. refl) d)
+    (done_rule cases (λ path. set_modified_time path moment) names tree tree' (λ ns. object_refusal always (object_at cases tree ns)) (λ path. refl) d)
+
+pub touched_time_set : TouchedTimeIsSet
+touched_time_set cases moment name names tree tree' d =
+    object_set cases (λ info. record info { modified = moment }) same_stream (name ∷ names) tree tree'
+    (done_change cases (λ path. touch path moment) (name ∷ names) tree tree' (touched_at cases moment) (λ path. refl) d)
+    (done_rule cases (λ path. touch path moment) (name ∷ names) tree tree' (λ ns. object_refusal always (object_at cases tree ns)) (λ path. refl) d)
+
+pub root_untouched : RootIsNotTouched
+root_untouched cases moment tree tree' d = done_change cases (λ path. touch path moment) [] tree tree' (touched_at cases moment) (λ path. refl) d
+
 -- ---- a stream that was created where one may have been
 
 module _ (cases : Cases) (tree : Tree) (name : List ℕ) (more : List (List ℕ)) where
   abbrev names : List (List ℕ)
   names = name ∷ more
+
+  -- what stands there then, by what stood there
+  abbrev IsEmptied : Tree → Type 0
+  IsEmptied tree' = Appears cases (a_stream (record { state_bits = 0; len = 0; content = [] })) names tree tree'
+      ⊎ StreamTurns cases (λ info. record { state_bits = info.state_bits; len = 0; content = [] }) names tree tree'
 
   -- where nothing is, nothing may stay
   none_stays : (here parent : Option Object) → here ≡ None → place_refusal is_a_stream here parent ≡ place_refusal never here parent
@@ -89,30 +148,29 @@ module _ (cases : Cases) (tree : Tree) (name : List ℕ) (more : List (List ℕ)
   as_new here true e = none_stays here (object_at cases tree (parent_names names)) e
   as_new here false e = refl
 
-  created_there : (o : Option Object) → object_at cases tree names ≡ o → creation_refusal cases tree is_a_stream names ≡ None
-      → object_at cases (if is_some o then fields_changed_at cases same_storage (with_content []) names tree else stream_added_at cases names tree) names ≡ Some (emptied o)
-  created_there None e allowed = added_found cases tree name more (sym (as_new (object_at cases tree names) (is_valid_name (last_name names)) e) ∙ allowed)
-  created_there (Some object) e allowed = fields_found cases same_storage (with_content []) names tree ∙ ap (option_map (object_with same_storage (with_content []))) e
+  -- what is there may stay only if it is a stream
+  may_stay : (object : Object) (parent : Option Object) → place_refusal is_a_stream (Some object) parent ≡ None → is_a_stream object ≡ true
+  may_stay (a_storage info inside) parent e = cc
+  may_stay (a_stream info) parent e = refl
 
-pub emptied_found : (cases : Cases) (sound : Bool) (mini_stream_len : ℕ) (tree tree' : Tree) (path : List ℕ) (names : List (List ℕ)) → names_of_path path ≡ Some names
-    → Step cases sound mini_stream_len tree (create_stream path) done tree' → object_at cases tree' names ≡ Some (emptied (object_at cases tree names))
-emptied_found cases sound mini_stream_len tree tree' path names at = go (outcome cases sound tree (create_stream path)) refl
-  where
-    allowed : (ns : List (List ℕ)) → creation_refusal cases tree is_a_stream ns ≡ None
-        → object_at cases (stream_created_at cases ns tree) ns ≡ Some (emptied (object_at cases tree ns))
-    allowed [] e = cc
-    allowed (name ∷ more) e = created_there cases tree name more (object_at cases tree (name ∷ more)) refl e
+  pub created_there : (tree' : Tree) (o : Option Object) → object_at cases tree names ≡ o → creation_refusal cases tree is_a_stream names ≡ None
+      → tree' ≡ (if is_some o then fields_changed_at cases same_storage (with_content []) names tree else stream_added_at cases names tree) → IsEmptied tree'
+  created_there tree' None e allowed after =
+      inl (appears_in cases (a_stream (record { state_bits = 0; len = 0; content = [] })) names tree (stream_added_at cases names tree) tree' after
+      (stream_appears cases tree name more (sym (as_new (object_at cases tree names) (is_valid_name (last_name names)) e) ∙ allowed)))
+  created_there tree' (Some object) e allowed after =
+      let parent = object_at cases tree (parent_names names) in
+      let rule = allowed_name (is_valid_name (last_name names)) (place_refusal is_a_stream (object_at cases tree names) parent) allowed in
+      inr (stream_turned cases same_storage (with_content []) names tree tree' after object e
+      (may_stay object parent (ap (λ (o : Option Object). place_refusal is_a_stream o parent) (sym e) ∙ rule)))
 
-    go : (o : Option Refusal) → outcome cases sound tree (create_stream path) ≡ o
-        → MatchOption o ((done ≡ reply_of cases mini_stream_len tree (create_stream path)) × (tree' ≡ tree_after cases (create_stream path) tree)) (λ r. (done ≡ refused r) × (tree' ≡ tree))
-        → object_at cases tree' names ≡ Some (emptied (object_at cases tree names))
-    go None e h =
-        let none = no_refusal (refusal_of cases tree (create_stream path)) (unsound_refusal sound (create_stream path)) e in
-        let rule : creation_refusal cases tree is_a_stream names ≡ None =
-        sym (ap (λ (o : Option (List (List ℕ))). option_map_or (creation_refusal cases tree is_a_stream) o (Some invalid_input)) at) ∙ none in
-        let after : tree' ≡ stream_created_at cases names tree = h.1 ∙ ap (λ (o : Option (List (List ℕ))). option_map_or (λ ns. stream_created_at cases ns tree) o tree) at in
-        ap (λ (t : Tree). object_at cases t names) after ∙ allowed names rule
-    go (Some r) e h = cc
+pub emptied_stream : EmptiedStreamIsFound
+emptied_stream cases [] tree tree' d =
+    let rule : Some already_exists ≡ None = done_rule cases (λ path. create_stream path) [] tree tree' (creation_refusal cases tree is_a_stream) (λ path. refl) d in cc
+emptied_stream cases (name ∷ more) tree tree' d =
+    created_there cases tree name more tree' (object_at cases tree (name ∷ more)) refl
+    (done_rule cases (λ path. create_stream path) (name ∷ more) tree tree' (creation_refusal cases tree is_a_stream) (λ path. refl) d)
+    (done_change cases (λ path. create_stream path) (name ∷ more) tree tree' (stream_created_at cases) (λ path. refl) d)
 
 -- ---- an object that was removed
 
@@ -171,3 +229,52 @@ module _ (cases : Cases) where
       let after = found_last cases (root_of (removed_at cases (name ∷ names) tree)) name names in
       let within = found_changed cases (without cases last) parents (root_of tree).name tree.root tree.objects in
       ap object_of (after ∙ ap (child_of cases last) within ∙ found_without last (found_at cases tree parents) (found_ordered parents (root_of tree) o))
+
+  -- ---- each removal
+
+  module _ (tree tree' : Tree) (ordered : IsOrdered cases tree.objects) (name : List ℕ) (names : List (List ℕ)) (after : tree' ≡ removed_at cases (name ∷ names) tree) where
+    gone : object_at cases tree' (name ∷ names) ≡ None
+    gone = ap (λ (t : Tree). object_at cases t (name ∷ names)) after ∙ removed_found name names tree ordered
+
+    pub vanishes : (test : Object → Bool) (IsRight : Object → Type 0) → ((object : Object) → test object ≡ true → IsRight object)
+        → object_refusal test (object_at cases tree (name ∷ names)) ≡ None → Vanishes cases IsRight (name ∷ names) tree tree'
+    vanishes test IsRight right rule =
+        let o = allowed_object test (object_at cases tree (name ∷ names)) rule in ((o.0, o.1, right o.0 o.2), gone)
+
+empty_storage : (object : Object) → is_empty_storage object ≡ true → (info : StorageInfo) × (object ≡ a_storage info nothing)
+empty_storage (a_storage info nothing) e = (info, refl)
+empty_storage (a_storage info (storage name other inside rest)) e = cc
+empty_storage (a_storage info (stream name other rest)) e = cc
+empty_storage (a_stream info) e = cc
+
+any_stream : (object : Object) → is_a_stream object ≡ true → (info : StreamInfo) × (object ≡ a_stream info)
+any_stream (a_storage info inside) e = cc
+any_stream (a_stream info) e = (info, refl)
+
+pub removed_storage : RemovedStorageIsGone
+removed_storage cases [] tree tree' ordered d =
+    let rule : Some invalid_input ≡ None = done_rule cases (λ path. remove_storage path) [] tree tree' (inner_refusal cases tree is_empty_storage) (λ path. refl) d in cc
+removed_storage cases (name ∷ names) tree tree' ordered d =
+    vanishes cases tree tree' ordered name names
+    (done_change cases (λ path. remove_storage path) (name ∷ names) tree tree' (removed_at cases) (λ path. refl) d)
+    is_empty_storage (λ object. (info : StorageInfo) × (object ≡ a_storage info nothing)) empty_storage
+    (done_rule cases (λ path. remove_storage path) (name ∷ names) tree tree' (inner_refusal cases tree is_empty_storage) (λ path. refl) d)
+
+pub removed_stream : RemovedStreamIsGone
+removed_stream cases [] tree tree' ordered d =
+    let rule : Some invalid_input ≡ None = done_rule cases (λ path. remove_stream path) [] tree tree' (λ ns. object_refusal is_a_stream (object_at cases tree ns)) (λ path. refl) d in cc
+removed_stream cases (name ∷ names) tree tree' ordered d =
+    vanishes cases tree tree' ordered name names
+    (done_change cases (λ path. remove_stream path) (name ∷ names) tree tree' (removed_at cases) (λ path. refl) d)
+    is_a_stream (λ object. (info : StreamInfo) × (object ≡ a_stream info)) any_stream
+    (done_rule cases (λ path. remove_stream path) (name ∷ names) tree tree' (λ ns. object_refusal is_a_stream (object_at cases tree ns)) (λ path. refl) d)
+
+pub removed_all : RemovedAllIsGone
+removed_all cases name names tree tree' ordered d =
+    vanishes cases tree tree' ordered name names
+    (done_change cases (λ path. remove_storage_all path) (name ∷ names) tree tree' (removed_at cases) (λ path. refl) d)
+    always (λ object. ⊤) (λ object e. tt)
+    (done_rule cases (λ path. remove_storage_all path) (name ∷ names) tree tree' (λ ns. object_refusal always (object_at cases tree ns)) (λ path. refl) d)
+
+pub root_emptied : RootIsEmptied
+root_emptied cases tree tree' d = done_change cases (λ path. remove_storage_all path) [] tree tree' (removed_at cases) (λ path. refl) d

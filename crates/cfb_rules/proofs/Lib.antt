@@ -1,8 +1,14 @@
 pub mod CallFacts
 pub mod CallSteps
+pub mod DoneSteps
+pub mod RuleKinds
 pub mod OrderKept
 pub mod StreamSteps
 pub mod StreamBounds
 pub mod CreatedFound
 pub mod FoundAfter
 pub mod OthersStay
+pub mod ClosedFound
+pub mod CallBreaks
+pub mod Blaming
+pub mod LegalRuns

@@ -17,6 +17,7 @@ use Rattle.cfb_rules.specs.CallRefusals.{never, is_a_stream, place_refusal, crea
 use Rattle.cfb_rules.specs.CallChanges.{inside_changed, changed_at, with_fields, new_storage, new_stream, with_objects, fields_changed_at, content_changed_at, storage_added_at, stream_added_at, storages_added, stream_created_at, removed_at, touched_at, at_path, tree_after, same_storage, same_stream, with_content}
 use Rattle.cfb_rules.specs.CallReplies.{reply_of}
 use Rattle.cfb_rules.specs.Steps.{outcome, unsound_refusal, Step}
+use Rattle.cfb_rules.proofs.DoneSteps.{no_refusal}
 
 if_true : {A : Type 0} (x y : A) (b : Bool) → b ≡ true → (if b then x else y) ≡ x
 if_true x y b e = ap (λ c. if c then x else y) e
@@ -285,7 +286,7 @@ module _ (cases : Cases) where
         changed-IsOrdered (put_in_order cases (last_name (name ∷ names)) (stream (last_name (name ∷ names)) new_stream)) (parent_names (name ∷ names)) tree.root tree.objects
         (λ inside at o. stream_put (last_name (name ∷ names)) new_stream inside (new_name name names e inside at) o) ordered
 
-    fields_changed : (f : StorageInfo → StorageInfo) (g : StreamInfo → StreamInfo) (names : List (List ℕ)) → IsOrdered cases (fields_changed_at cases f g names tree).objects
+    pub fields_changed : (f : StorageInfo → StorageInfo) (g : StreamInfo → StreamInfo) (names : List (List ℕ)) → IsOrdered cases (fields_changed_at cases f g names tree).objects
     fields_changed f g [] = ordered
     fields_changed f g (name ∷ names) =
         changed-IsOrdered (with_fields cases (last_name (name ∷ names)) f g) (parent_names (name ∷ names)) tree.root tree.objects
@@ -378,14 +379,10 @@ module _ (cases : Cases) where
   after-IsOrdered tree o (touch path moment) e = at_all tree o (touched_at cases moment) path (touched tree o moment)
   after-IsOrdered tree o call e = o
 
-unrefused : (r d : Option Refusal) → option_map_or (λ x. Some x) r d ≡ None → r ≡ None
-unrefused None d e = refl
-unrefused (Some x) d e = no_some x e
-
 pub Step-IsOrdered : (cases : Cases) (sound : Bool) (n : ℕ) (tree tree' : Tree) (call : Call) (reply : Reply) → IsOrdered cases tree.objects → Step cases sound n tree call reply tree' → IsOrdered cases tree'.objects
 Step-IsOrdered cases sound n tree tree' call reply o = go (outcome cases sound tree call) refl
   where
     go : (x : Option Refusal) → outcome cases sound tree call ≡ x
         → MatchOption x ((reply ≡ reply_of cases n tree call) × (tree' ≡ tree_after cases call tree)) (λ r. (reply ≡ refused r) × (tree' ≡ tree)) → IsOrdered cases tree'.objects
-    go None t h = subst (λ u. IsOrdered cases u.objects) (sym h.1) (after-IsOrdered cases tree o call (unrefused (refusal_of cases tree call) (unsound_refusal sound call) t))
+    go None t h = subst (λ u. IsOrdered cases u.objects) (sym h.1) (after-IsOrdered cases tree o call (no_refusal (refusal_of cases tree call) (unsound_refusal sound call) t))
     go (Some r) t h = subst (λ u. IsOrdered cases u.objects) (sym h.1) o

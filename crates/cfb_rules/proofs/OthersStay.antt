@@ -2,33 +2,21 @@
 use Rattle.std.proofs.Common.{◌≡◌, ℕ, inl, inr, List, [], ◌∷◌, Bool, true, false, refl, sym, ◌∙◌, ap, subst}
 use Rattle.std.specs.Prelude.{⊤, Option, Some, None, MatchOption, is_some, option_and_then, option_map, if◌then◌else◌}
 use Rattle.std.specs.Option.{option_map_or}
-use Rattle.std.specs.Ordering.{is_eq, ordering_reverse}
-use Rattle.std.specs.declared.cmp.Ordering.{Ordering}
-use Rattle.std.specs.declared.cmp.Ordering.TheVariants.{Less, Equal, Greater}
-use Rattle.cfb_format.specs.Names.{Cases, name_cmp, is_valid_name}
+use Rattle.cfb_format.specs.Names.{Cases, is_valid_name}
 use Rattle.cfb_format.specs.Path.{names_of_path}
 use Rattle.cfb_format.specs.Tree.{StorageInfo, StreamInfo, Objects, nothing, storage, stream, Tree, IsOrdered, Object, a_storage, a_stream, Found, is_same_name, object_named, put_in_order, without}
-use Rattle.cfb_format.proofs.NameOrder.{name_cmp-total}
-use Rattle.cfb_format.proofs.TreeMap.{object_named-put_in_order, object_named-without}
+use Rattle.cfb_format.proofs.TreeMap.{alike, alike_back, object_named-put_in_order, object_named-without}
 use Rattle.cfb_rules.specs.Refusal.{Refusal, invalid_input}
 use Rattle.cfb_rules.specs.Calls.{Call, create_storage, create_storage_all, create_stream, create_new_stream, open_stream, open_read_stream, remove_storage, remove_storage_all, remove_stream, set_storage_clsid, set_state_bits, set_created_time, set_modified_time, touch, flush, exists, is_stream, is_storage, root_entry, read_root_storage, walk, entry, read_storage, walk_storage, refused}
 use Rattle.cfb_rules.specs.CallChanges.{inside_changed, changed_at, with_fields, new_storage, new_stream, with_content, with_objects, same_storage, same_stream, tree_changed_at, fields_changed_at, content_changed_at, storage_added_at, stream_added_at, storages_added, stream_created_at, removed_at, touched_at, at_path, changed_names, tree_after}
-use Rattle.cfb_rules.specs.CallRefusals.{creation_refusal, never, place_refusal, path_refusal, refusal_of}
+use Rattle.cfb_rules.specs.CallRefusals.{creation_refusal, never, place_refusal, refusal_of}
 use Rattle.cfb_rules.specs.CallReplies.{reply_of}
-use Rattle.cfb_rules.specs.Finding.{found_from, found_at, root_of, last_name, parent_names, object_at, Part}
+use Rattle.cfb_rules.specs.Finding.{found_from, found_at, root_of, last_name, parent_names, object_at, PartWays}
 use Rattle.cfb_rules.specs.Laws.{OthersAreFoundAsBefore, OnlyNamedCallsChange}
 use Rattle.cfb_rules.specs.Steps.{outcome, unsound_refusal}
-use Rattle.cfb_rules.proofs.CreatedFound.{inner_object, inner, named_inside, found_last, no_refusal}
-use Rattle.cfb_rules.proofs.FoundAfter.{object_of, child_of, IsOrderedInside, IsOrderedFound, named_ordered}
-
-equal_by_test : (o : Ordering) → is_eq o ≡ true → o ≡ Equal
-equal_by_test Less e = cc
-equal_by_test Equal e = refl
-equal_by_test Greater e = cc
-
-none_found : (o : Option Found) → object_of o ≡ None → o ≡ None
-none_found None e = refl
-none_found (Some x) e = cc
+use Rattle.cfb_rules.proofs.CreatedFound.{object_of, child_of, none_found, inner_object, inner, named_inside, found_last}
+use Rattle.cfb_rules.proofs.DoneSteps.{no_refusal, rule_of}
+use Rattle.cfb_rules.proofs.FoundAfter.{IsOrderedInside, IsOrderedFound, named_ordered}
 
 -- what may not stay isn't there
 free_place : (b : Bool) (here parent : Option Object) → (if b then place_refusal never here parent else Some invalid_input) ≡ None → here ≡ None
@@ -39,29 +27,20 @@ free_place false here parent e = cc
 module _ (cases : Cases) where
   -- ---- names of one key find the same, and names of other keys miss a change
 
-  alike : (q name other : List ℕ) → is_same_name cases q name ≡ true → is_same_name cases q other ≡ is_same_name cases name other
-  alike q name other e = ap is_eq ((name_cmp-total cases).congr q name other (equal_by_test (name_cmp cases q name) e))
-
-  alike_back : (q name other : List ℕ) → is_same_name cases name other ≡ true → is_same_name cases q name ≡ is_same_name cases q other
-  alike_back q name other e =
-      ap is_eq ((name_cmp-total cases).antisymm q name
-      ∙ ap ordering_reverse ((name_cmp-total cases).congr name other q (equal_by_test (name_cmp cases name other) e))
-      ∙ sym ((name_cmp-total cases).antisymm q other))
-
   named_same : (q name : List ℕ) → is_same_name cases q name ≡ true → (objects : Objects) → object_named cases q objects ≡ object_named cases name objects
   named_same q name e nothing = refl
   named_same q name e (storage other info inside rest) =
-      ap (λ (b : Bool). if b then Some (record { name = other; object = a_storage info inside }) else object_named cases q rest) (alike q name other e)
+      ap (λ (b : Bool). if b then Some (record { name = other; object = a_storage info inside }) else object_named cases q rest) (alike cases q name other e)
       ∙ ap (λ (o : Option Found). if is_same_name cases name other then Some (record { name = other; object = a_storage info inside }) else o) (named_same q name e rest)
   named_same q name e (stream other info rest) =
-      ap (λ (b : Bool). if b then Some (record { name = other; object = a_stream info }) else object_named cases q rest) (alike q name other e)
+      ap (λ (b : Bool). if b then Some (record { name = other; object = a_stream info }) else object_named cases q rest) (alike cases q name other e)
       ∙ ap (λ (o : Option Found). if is_same_name cases name other then Some (record { name = other; object = a_stream info }) else o) (named_same q name e rest)
 
   -- two objects of which neither is the one that is sought
   both_missed : (q name other : List ℕ) (x y : Found) (rest : Option Found) → is_same_name cases q name ≡ false → is_same_name cases name other ≡ true
       → (if is_same_name cases q other then Some x else rest) ≡ (if is_same_name cases q other then Some y else rest)
   both_missed q name other x y rest apart e =
-      let missed : is_same_name cases q other ≡ false = sym (alike_back q name other e) ∙ apart in
+      let missed : is_same_name cases q other ≡ false = sym (alike_back cases q name other e) ∙ apart in
       ap (λ (b : Bool). if b then Some x else rest) missed ∙ sym (ap (λ (b : Bool). if b then Some y else rest) missed)
 
   apart_inside : (q name : List ℕ) → is_same_name cases q name ≡ false → (h : Objects → Objects) (objects : Objects)
@@ -127,7 +106,7 @@ module _ (cases : Cases) where
   below_object h os n (a_storage info inside) same = same info inside refl
   below_object h os n (a_stream info) same = refl
 
-  others_found : (f : Objects → Objects) (name : List ℕ) (more others : List (List ℕ)) (k : List ℕ) (info : StorageInfo) (objects : Objects) → Part cases (name ∷ more) others
+  others_found : (f : Objects → Objects) (name : List ℕ) (more others : List (List ℕ)) (k : List ℕ) (info : StorageInfo) (objects : Objects) → PartWays cases (name ∷ more) others
       → SparesAt (last_name (name ∷ more)) f (parent_names (name ∷ more)) (a_storage info objects)
       → found_from cases (record { name = k; object = a_storage info (changed_at cases f (parent_names (name ∷ more)) objects) }) others
       ≡ found_from cases (record { name = k; object = a_storage info objects }) others
@@ -179,18 +158,18 @@ module _ (cases : Cases) where
       (sym (ap (λ (c : Option Found). child_of cases last (option_and_then (λ (y : Found). found_from cases y names) c)) e) ∙ absent)
   spares_put last before new is (name ∷ names) k (a_stream info) absent = tt
 
-  pub others_at : (f : Objects → Objects) (name : List ℕ) (more others : List (List ℕ)) (tree : Tree) → Part cases (name ∷ more) others
+  pub others_at : (f : Objects → Objects) (name : List ℕ) (more others : List (List ℕ)) (tree : Tree) → PartWays cases (name ∷ more) others
       → SparesAt (last_name (name ∷ more)) f (parent_names (name ∷ more)) (a_storage tree.root tree.objects)
       → object_at cases (tree_changed_at cases f (parent_names (name ∷ more)) tree) others ≡ object_at cases tree others
   others_at f name more others tree part spares = ap object_of (others_found f name more others (root_of tree).name tree.root tree.objects part spares)
 
   -- ---- storages that are added on the way
 
-  in_nothing : (n : List ℕ) (info : StorageInfo) (names others : List (List ℕ)) → Part cases names others
+  in_nothing : (n : List ℕ) (info : StorageInfo) (names others : List (List ℕ)) → PartWays cases names others
       → found_from cases (record { name = n; object = a_storage info nothing }) others ≡ None
   in_nothing n info names [] part = no_part names part
     where
-      no_part : (names : List (List ℕ)) → Part cases names [] → found_from cases (record { name = n; object = a_storage info nothing }) [] ≡ None
+      no_part : (names : List (List ℕ)) → PartWays cases names [] → found_from cases (record { name = n; object = a_storage info nothing }) [] ≡ None
       no_part [] part = elim part [ ]
       no_part (name ∷ more) part = elim part [ ]
   in_nothing n info names (o ∷ os) part = refl
@@ -198,7 +177,7 @@ module _ (cases : Cases) where
   abbrev way_of : ℕ → List ℕ → List (List ℕ) → Found
   way_of moment name names = record { name = name; object = a_storage (new_storage moment) (storages_added cases moment names nothing) }
 
-  storages_found : (moment : ℕ) (names others : List (List ℕ)) (k : List ℕ) (info : StorageInfo) (objects : Objects) → Part cases names others
+  storages_found : (moment : ℕ) (names others : List (List ℕ)) (k : List ℕ) (info : StorageInfo) (objects : Objects) → PartWays cases names others
       → found_from cases (record { name = k; object = a_storage info (storages_added cases moment names objects) }) others
       ≡ found_from cases (record { name = k; object = a_storage info objects }) others
   storages_found moment [] others k info objects part = elim part [ ]
@@ -212,7 +191,7 @@ module _ (cases : Cases) where
       put absent = object_named-put_in_order cases name (storage name (new_storage moment) (storages_added cases moment names nothing)) (way_of moment name names) o (λ rest. refl) objects absent
 
       go : (c : Option Found) → object_named cases name objects ≡ c
-          → (Part cases names os → (n : List ℕ) (i : StorageInfo) (inside : Objects)
+          → (PartWays cases names os → (n : List ℕ) (i : StorageInfo) (inside : Objects)
           → found_from cases (record { name = n; object = a_storage i (storages_added cases moment names inside) }) os
           ≡ found_from cases (record { name = n; object = a_storage i inside }) os)
           → option_and_then (λ (x : Found). found_from cases x os) (object_named cases o (if is_some c then inside_changed cases name (storages_added cases moment names) objects
@@ -245,17 +224,17 @@ module _ (cases : Cases) where
     abbrev Stays : List (List ℕ) → Tree → Type 0
     Stays others tree' = object_at cases tree' others ≡ object_at cases tree others
 
-    fields_stay : (f : StorageInfo → StorageInfo) (g : StreamInfo → StreamInfo) (names others : List (List ℕ)) → Part cases names others → Stays others (fields_changed_at cases f g names tree)
+    fields_stay : (f : StorageInfo → StorageInfo) (g : StreamInfo → StreamInfo) (names others : List (List ℕ)) → PartWays cases names others → Stays others (fields_changed_at cases f g names tree)
     fields_stay f g [] others part = elim part [ ]
     fields_stay f g (name ∷ more) others part =
         others_at (with_fields cases (last_name (name ∷ more)) f g) name more others tree part
         (spares_fields (last_name (name ∷ more)) f g (parent_names (name ∷ more)) (a_storage tree.root tree.objects))
 
-    touched_stay : (moment : ℕ) (names others : List (List ℕ)) → Part cases names others → Stays others (touched_at cases moment names tree)
+    touched_stay : (moment : ℕ) (names others : List (List ℕ)) → PartWays cases names others → Stays others (touched_at cases moment names tree)
     touched_stay moment [] others part = elim part [ ]
     touched_stay moment (name ∷ more) others part = fields_stay (λ info. record info { modified = moment }) same_stream (name ∷ more) others part
 
-    removed_stay : (names others : List (List ℕ)) → Part cases names others → Stays others (removed_at cases names tree)
+    removed_stay : (names others : List (List ℕ)) → PartWays cases names others → Stays others (removed_at cases names tree)
     removed_stay [] others part = elim part [ ]
     removed_stay (name ∷ more) others part =
         others_at (without cases (last_name (name ∷ more))) name more others tree part
@@ -268,24 +247,24 @@ module _ (cases : Cases) where
 
     put_stays : (name : List ℕ) (more others : List (List ℕ)) (before : Objects → Objects) (new : Found)
         → ((q : List ℕ) (rest : Objects) → object_named cases q (before rest) ≡ (if is_same_name cases q (last_name (name ∷ more)) then Some new else object_named cases q rest))
-        → Part cases (name ∷ more) others → object_at cases tree (name ∷ more) ≡ None
+        → PartWays cases (name ∷ more) others → object_at cases tree (name ∷ more) ≡ None
         → Stays others (tree_changed_at cases (put_in_order cases (last_name (name ∷ more)) before) (parent_names (name ∷ more)) tree)
     put_stays name more others before new is part absent =
         others_at (put_in_order cases (last_name (name ∷ more)) before) name more others tree part
         (spares_put (last_name (name ∷ more)) before new is (parent_names (name ∷ more)) (root_of tree).name (a_storage tree.root tree.objects) (absent_in name more absent))
 
-    storage_stays : (moment : ℕ) (name : List ℕ) (more others : List (List ℕ)) → Part cases (name ∷ more) others → object_at cases tree (name ∷ more) ≡ None
+    storage_stays : (moment : ℕ) (name : List ℕ) (more others : List (List ℕ)) → PartWays cases (name ∷ more) others → object_at cases tree (name ∷ more) ≡ None
         → Stays others (storage_added_at cases moment (name ∷ more) tree)
     storage_stays moment name more others part absent =
         put_stays name more others (storage (last_name (name ∷ more)) (new_storage moment) nothing)
         (record { name = last_name (name ∷ more); object = a_storage (new_storage moment) nothing }) (λ q rest. refl) part absent
 
-    stream_stays : (name : List ℕ) (more others : List (List ℕ)) → Part cases (name ∷ more) others → object_at cases tree (name ∷ more) ≡ None
+    stream_stays : (name : List ℕ) (more others : List (List ℕ)) → PartWays cases (name ∷ more) others → object_at cases tree (name ∷ more) ≡ None
         → Stays others (stream_added_at cases (name ∷ more) tree)
     stream_stays name more others part absent =
         put_stays name more others (stream (last_name (name ∷ more)) new_stream) (record { name = last_name (name ∷ more); object = a_stream new_stream }) (λ q rest. refl) part absent
 
-    created_stays : (names others : List (List ℕ)) → Part cases names others → Stays others (stream_created_at cases names tree)
+    created_stays : (names others : List (List ℕ)) → PartWays cases names others → Stays others (stream_created_at cases names tree)
     created_stays [] others part = elim part [ ]
     created_stays (name ∷ more) others part = go (object_at cases tree (name ∷ more)) refl
       where
@@ -298,12 +277,12 @@ module _ (cases : Cases) where
     free_names : (name : List ℕ) (more : List (List ℕ)) → creation_refusal cases tree never (name ∷ more) ≡ None → object_at cases tree (name ∷ more) ≡ None
     free_names name more allowed = free_place (is_valid_name (last_name (name ∷ more))) (object_at cases tree (name ∷ more)) (object_at cases tree (parent_names (name ∷ more))) allowed
 
-    new_storage_stays : (moment : ℕ) (names others : List (List ℕ)) → creation_refusal cases tree never names ≡ None → Part cases names others
+    new_storage_stays : (moment : ℕ) (names others : List (List ℕ)) → creation_refusal cases tree never names ≡ None → PartWays cases names others
         → Stays others (storage_added_at cases moment names tree)
     new_storage_stays moment [] others allowed part = elim part [ ]
     new_storage_stays moment (name ∷ more) others allowed part = storage_stays moment name more others part (free_names name more allowed)
 
-    new_stream_stays : (names others : List (List ℕ)) → creation_refusal cases tree never names ≡ None → Part cases names others → Stays others (stream_added_at cases names tree)
+    new_stream_stays : (names others : List (List ℕ)) → creation_refusal cases tree never names ≡ None → PartWays cases names others → Stays others (stream_added_at cases names tree)
     new_stream_stays [] others allowed part = elim part [ ]
     new_stream_stays (name ∷ more) others allowed part = stream_stays name more others part (free_names name more allowed)
 
@@ -312,10 +291,7 @@ module _ (cases : Cases) where
         → Stays others (change names tree) → Stays others (at_path change path tree)
     on_path change path names others at stays = ap (λ (o : Option (List (List ℕ))). object_at cases (option_map_or (λ ns. change ns tree) o tree) others) at ∙ stays
 
-    rule_of : (rule : List (List ℕ) → Option Refusal) (path : List ℕ) (names : List (List ℕ)) → names_of_path path ≡ Some names → path_refusal rule path ≡ None → rule names ≡ None
-    rule_of rule path names at allowed = sym (ap (λ (o : Option (List (List ℕ))). option_map_or rule o (Some invalid_input)) at) ∙ allowed
-
-    after_call : (call : Call) (names others : List (List ℕ)) → changed_names call ≡ Some names → Part cases names others → refusal_of cases tree call ≡ None
+    after_call : (call : Call) (names others : List (List ℕ)) → changed_names call ≡ Some names → PartWays cases names others → refusal_of cases tree call ≡ None
         → Stays others (tree_after cases call tree)
     after_call (create_storage path moment) names others at part allowed =
         on_path (storage_added_at cases moment) path names others at (new_storage_stays moment names others (rule_of (creation_refusal cases tree never) path names at allowed) part)
@@ -352,10 +328,10 @@ module _ (cases : Cases) where
     after_call (walk_storage path) names others at part allowed = refl
 
 pub others_stay : OthersAreFoundAsBefore
-others_stay cases sound mini_stream_len tree tree' call reply names others at part ordered = go (outcome cases sound tree call) refl
+others_stay cases sound root_len tree tree' call reply names others at part ordered = go (outcome cases sound tree call) refl
   where
     go : (o : Option Refusal) → outcome cases sound tree call ≡ o
-        → MatchOption o ((reply ≡ reply_of cases mini_stream_len tree call) × (tree' ≡ tree_after cases call tree)) (λ r. (reply ≡ refused r) × (tree' ≡ tree))
+        → MatchOption o ((reply ≡ reply_of cases root_len tree call) × (tree' ≡ tree_after cases call tree)) (λ r. (reply ≡ refused r) × (tree' ≡ tree))
         → object_at cases tree' others ≡ object_at cases tree others
     go None e h =
         ap (λ (t : Tree). object_at cases t others) h.1
@@ -363,7 +339,7 @@ others_stay cases sound mini_stream_len tree tree' call reply names others at pa
     go (Some r) e h = ap (λ (t : Tree). object_at cases t others) h.1
 
 pub unnamed_stay : OnlyNamedCallsChange
-unnamed_stay cases sound mini_stream_len tree tree' call reply unnamed = go (outcome cases sound tree call)
+unnamed_stay cases sound root_len tree tree' call reply unnamed = go (outcome cases sound tree call)
   where
     -- a path that has no names is no place of a change
     at_none : (change : List (List ℕ) → Tree → Tree) (path : List ℕ) → names_of_path path ≡ None → at_path change path tree ≡ tree
@@ -396,7 +372,7 @@ unnamed_stay cases sound mini_stream_len tree tree' call reply unnamed = go (out
     after (walk_storage path) none = refl
 
     go : (o : Option Refusal)
-        → MatchOption o ((reply ≡ reply_of cases mini_stream_len tree call) × (tree' ≡ tree_after cases call tree)) (λ r. (reply ≡ refused r) × (tree' ≡ tree))
+        → MatchOption o ((reply ≡ reply_of cases root_len tree call) × (tree' ≡ tree_after cases call tree)) (λ r. (reply ≡ refused r) × (tree' ≡ tree))
         → tree' ≡ tree
     go None h = h.1 ∙ after call unnamed
     go (Some r) h = h.1

@@ -3,8 +3,9 @@ use Rattle.std.proofs.Common.{◌≡◌, ◌≤◌, ◌<◌, ◌+◌, ◌-◌, �
 use Rattle.std.specs.Prelude.{Option, Some, None, MatchOption, MatchBool, [], ◌++◌, length, take, drop, replicate, min, max, nat_lt, nat_le, IsTrue, option_and_then, if◌then◌else◌, ◌==◌, ◌||◌, ◌&&◌}
 use Rattle.std.proofs.lemmas.Bool.{cases_lt, eqb-false, le-leb, leb-true, ltb-true, ltb-false}
 use Rattle.std.proofs.lemmas.List.{length-replicate}
+use Rattle.cfb_format.specs.Medium.{part}
 use Rattle.cfb_rules.specs.Refusal.{invalid_input, invalid_data, not_sound}
-use Rattle.cfb_rules.specs.StreamCalls.{StreamSetting, StreamState, StreamCall, read, fill_buf, consume, read_to_end, write, seek, set_len, flush, ask_len, ask_position, ask_is_empty, StreamReply, ready, got, count, place, answered, not_done, Becomes, Moves, Serves, ReadsAt, ReadToEnd, Write, Wrote, Whence, from_start, from_end, from_current, place_within, place_from, sought, Seek, SetLen, StreamStep, IsStream, part, resized}
+use Rattle.cfb_rules.specs.StreamCalls.{StreamSetting, StreamState, StreamCall, read, fill_buf, consume, read_to_end, write, seek, set_len, flush, ask_len, ask_position, ask_is_empty, StreamReply, ready, got, count, offset, answered, not_done, Becomes, Moves, Serves, ReadsOn, ReadToEnd, Write, Wrote, Whence, from_start, from_end, from_current, place_within, place_from, sought, Seek, SetLen, StreamStep, IsStream, resized}
 
 -- ---- some outcome fits
 
@@ -25,7 +26,7 @@ module _ (setting : StreamSetting) (old : StreamState) where
   moves position ahead = record { len = refl; content = refl; position = refl; ahead = refl; pending = λ t. t }
 
   some_read : (nothing_wanted : Bool) (position_after ahead_after : ℕ → ℕ) (most : ℕ) → (nothing_wanted ≡ false → 0 < length old.content → 1 ≤ most)
-      → Outcome (ReadsAt nothing_wanted position_after ahead_after most old)
+      → Outcome (ReadsOn nothing_wanted position_after ahead_after most old)
   some_read true position_after ahead_after most enough = (got [], moved old.position 0, (refl, moves old.position 0))
   some_read false position_after ahead_after most enough = go (old.position == old.len) (nat_lt old.position (length old.content)) refl
     where
@@ -35,7 +36,7 @@ module _ (setting : StreamSetting) (old : StreamState) where
       go true c h = (got [], moved old.position 0, (refl, moves old.position 0))
       go false true h =
           let lt = ltb-true old.position (length old.content) h in
-          (got (part old 1), moved (position_after 1) (ahead_after 1), (1, omega arith, enough refl (omega (arith, lt)), omega (arith, lt), refl, moves (position_after 1) (ahead_after 1)))
+          (got (part old.content old.position 1), moved (position_after 1) (ahead_after 1), (1, omega arith, enough refl (omega (arith, lt)), omega (arith, lt), refl, moves (position_after 1) (ahead_after 1)))
       go false false h = (not_done invalid_data, old, (refl, refl))
 
   some_to_end : Outcome (ReadToEnd old)
@@ -68,9 +69,9 @@ module _ (setting : StreamSetting) (old : StreamState) where
   some_seek : (whence : Whence) → Outcome (Seek whence old)
   some_seek whence = go (sought old whence)
     where
-      go : (o : Option ℕ) → Outcome (λ reply new. MatchOption o ((reply ≡ not_done invalid_input) × (new ≡ old)) (λ at. (reply ≡ place at) × Moves old new at 0))
+      go : (o : Option ℕ) → Outcome (λ reply new. MatchOption o ((reply ≡ not_done invalid_input) × (new ≡ old)) (λ at. (reply ≡ offset at) × Moves old new at 0))
       go None = (not_done invalid_input, old, (refl, refl))
-      go (Some at) = (place at, moved at 0, (refl, moves at 0))
+      go (Some at) = (offset at, moved at 0, (refl, moves at 0))
 
   abbrev changed_to : ℕ → StreamState
   changed_to len = record { len = len; content = resized old.content len; position = min old.position len; ahead = 0; pending = false }
@@ -96,8 +97,8 @@ module _ (setting : StreamSetting) (old : StreamState) where
   some_outcome (seek whence) = some_seek whence
   some_outcome (set_len len) = some_set_len len
   some_outcome flush = (ready, record old { ahead = 0; pending = false }, (refl, record { len = refl; content = refl; position = refl; ahead = refl; pending = λ t. no_truth t }, refl))
-  some_outcome ask_len = (place old.len, old, (refl, refl))
-  some_outcome ask_position = (place old.position, old, (refl, refl))
+  some_outcome ask_len = (offset old.len, old, (refl, refl))
+  some_outcome ask_position = (offset old.position, old, (refl, refl))
   some_outcome ask_is_empty = (answered (old.len == 0), old, (refl, refl))
 
 pub StreamStep-some : (setting : StreamSetting) (old : StreamState) (call : StreamCall) → (reply : StreamReply) × (new : StreamState) × StreamStep setting old call reply new
@@ -164,7 +165,7 @@ module _ (setting : StreamSetting) (old new : StreamState) (is : IsStream settin
 
   reads_keep : (reply : StreamReply) (nothing_wanted : Bool) (position_after ahead_after : ℕ → ℕ) (most : ℕ)
       → ((n : ℕ) → old.position + n ≤ length old.content → position_after n + ahead_after n ≤ old.len)
-      → ReadsAt nothing_wanted position_after ahead_after most old reply new → IsStream setting new
+      → ReadsOn nothing_wanted position_after ahead_after most old reply new → IsStream setting new
   reads_keep reply nothing_wanted position_after ahead_after most bound = go (nothing_wanted || old.position == old.len) (nat_lt old.position (length old.content))
     where
       go : (b c : Bool) → MatchBool b ((reply ≡ got []) × Moves old new old.position 0)
@@ -212,7 +213,7 @@ module _ (setting : StreamSetting) (old new : StreamState) (is : IsStream settin
   seek_keeps : (reply : StreamReply) (whence : Whence) → Seek whence old reply new → IsStream setting new
   seek_keeps reply whence = go (sought old whence) refl
     where
-      go : (o : Option ℕ) → sought old whence ≡ o → MatchOption o ((reply ≡ not_done invalid_input) × (new ≡ old)) (λ at. (reply ≡ place at) × Moves old new at 0) → IsStream setting new
+      go : (o : Option ℕ) → sought old whence ≡ o → MatchOption o ((reply ≡ not_done invalid_input) × (new ≡ old)) (λ at. (reply ≡ offset at) × Moves old new at 0) → IsStream setting new
       go None e h = stays h.1
       go (Some at) e h = let inside = sought_inside old whence at e in goes at 0 h.1 (omega (arith, inside))
 

@@ -1,14 +1,15 @@
 -- Calls on a stream: refused ones change nothing.
 use Rattle.std.proofs.Common.{◌≡◌, ℕ, List, Bool, true, false, refl, ◌∙◌, ap, ◌≤◌, ◌+◌}
 use Rattle.std.specs.Prelude.{Option, Some, None, MatchOption, MatchBool, length, [], drop, min, nat_lt, nat_le, ◌==◌, ◌||◌, ◌&&◌}
+use Rattle.cfb_format.specs.Medium.{part}
 use Rattle.cfb_rules.specs.Refusal.{Refusal, invalid_input, invalid_data, not_sound}
-use Rattle.cfb_rules.specs.StreamCalls.{StreamSetting, StreamState, StreamCall, read, fill_buf, consume, read_to_end, write, seek, set_len, flush, ask_len, ask_position, ask_is_empty, StreamReply, ready, got, count, place, answered, not_done, Becomes, Moves, Serves, ReadsAt, ReadToEnd, Write, Wrote, Whence, sought, Seek, SetLen, StreamStep, part, resized}
+use Rattle.cfb_rules.specs.StreamCalls.{StreamSetting, StreamState, StreamCall, read, fill_buf, consume, read_to_end, write, seek, set_len, flush, ask_len, ask_position, ask_is_empty, StreamReply, ready, got, count, offset, answered, not_done, Becomes, Moves, Serves, ReadsOn, ReadToEnd, Write, Wrote, Whence, sought, Seek, SetLen, StreamStep, resized}
 
 abbrev is_refused : StreamReply → Bool
 is_refused ready = false
 is_refused (got bytes) = false
 is_refused (count n) = false
-is_refused (place at) = false
+is_refused (offset at) = false
 is_refused (answered b) = false
 is_refused (not_done r) = true
 
@@ -16,13 +17,13 @@ served : {X : Type 0} (r : Refusal) (reply : StreamReply) → not_done r ≡ rep
 served r reply e f = let t : true ≡ false = ap is_refused e ∙ f in cc
 
 module _ (setting : StreamSetting) (old new : StreamState) (r : Refusal) where
-  reads_refused : (nothing_wanted : Bool) (position_after ahead_after : ℕ → ℕ) (most : ℕ) → ReadsAt nothing_wanted position_after ahead_after most old (not_done r) new → new ≡ old
+  reads_refused : (nothing_wanted : Bool) (position_after ahead_after : ℕ → ℕ) (most : ℕ) → ReadsOn nothing_wanted position_after ahead_after most old (not_done r) new → new ≡ old
   reads_refused nothing_wanted position_after ahead_after most = go (nothing_wanted || old.position == old.len) (nat_lt old.position (length old.content))
     where
       go : (b c : Bool) → MatchBool b ((not_done r ≡ got []) × Moves old new old.position 0)
           (MatchBool c (Serves position_after ahead_after most old (not_done r) new) ((not_done r ≡ not_done invalid_data) × (new ≡ old))) → new ≡ old
       go true c h = served r (got []) h.0 refl
-      go false true (n, least, most', fits, e, moves) = served r (got (part old n)) e refl
+      go false true (n, least, most', fits, e, moves) = served r (got (part old.content old.position n)) e refl
       go false false h = h.1
 
   to_end_refused : ReadToEnd old (not_done r) new → new ≡ old
@@ -47,9 +48,9 @@ module _ (setting : StreamSetting) (old new : StreamState) (r : Refusal) where
   seek_refused : (whence : Whence) → Seek whence old (not_done r) new → new ≡ old
   seek_refused whence = go (sought old whence)
     where
-      go : (o : Option ℕ) → MatchOption o ((not_done r ≡ not_done invalid_input) × (new ≡ old)) (λ at. (not_done r ≡ place at) × Moves old new at 0) → new ≡ old
+      go : (o : Option ℕ) → MatchOption o ((not_done r ≡ not_done invalid_input) × (new ≡ old)) (λ at. (not_done r ≡ offset at) × Moves old new at 0) → new ≡ old
       go None h = h.1
-      go (Some at) h = served r (place at) h.0 refl
+      go (Some at) h = served r (offset at) h.0 refl
 
   set_len_refused : (len : ℕ) → SetLen setting len old (not_done r) new → new ≡ old
   set_len_refused len = go (len == old.len) (nat_lt setting.limit len) setting.sound

@@ -1,10 +1,10 @@
 -- What a call makes of the tree.
-use Rattle.std.specs.Prelude.{ℕ, List, [], ◌∷◌, length, Option, Some, None, is_some, if◌then◌else◌}
+use Rattle.std.specs.Prelude.{ℕ, List, [], ◌∷◌, length, Option, None, is_some, if◌then◌else◌}
 use Rattle.std.specs.Option.{option_map_or}
 use Rattle.cfb_format.specs.Names.{Cases}
 use Rattle.cfb_format.specs.Path.{names_of_path}
 use Rattle.cfb_format.specs.DirectoryEntry.{nil_clsid}
-use Rattle.cfb_format.specs.Tree.{StorageInfo, StreamInfo, Objects, nothing, storage, stream, Tree, is_same_name, object_named, put_in_order, without, Object, a_storage, a_stream}
+use Rattle.cfb_format.specs.Tree.{StorageInfo, StreamInfo, Objects, nothing, storage, stream, Tree, is_same_name, object_named, put_in_order, without}
 use Rattle.cfb_rules.specs.Calls.{Call, create_storage, create_storage_all, create_stream, create_new_stream, open_stream, open_read_stream, remove_storage, remove_storage_all, remove_stream, set_storage_clsid, set_state_bits, set_created_time, set_modified_time, touch, flush, exists, is_stream, is_storage, root_entry, read_root_storage, walk, entry, read_storage, walk_storage}
 use Rattle.cfb_rules.specs.Finding.{last_name, parent_names, object_at}
 
@@ -28,11 +28,6 @@ with_fields cases name f g (storage other info inside rest) =
     if is_same_name cases name other then storage other (f info) inside rest else storage other info inside (with_fields cases name f g rest)
 with_fields cases name f g (stream other info rest) =
     if is_same_name cases name other then stream other (g info) rest else stream other info (with_fields cases name f g rest)
-
--- one object with other fields
-abbrev pub object_with : (StorageInfo → StorageInfo) → (StreamInfo → StreamInfo) → Object → Object
-object_with f g (a_storage info inside) = a_storage (f info) inside
-object_with f g (a_stream info) = a_stream (g info)
 
 -- a new storage has both moments as handed in
 abbrev pub new_storage : ℕ → StorageInfo
@@ -91,11 +86,6 @@ storages_added cases moment (name ∷ names) objects =
 abbrev pub stream_created_at : Cases → List (List ℕ) → Tree → Tree
 stream_created_at cases names tree =
     if is_some (object_at cases tree names) then content_changed_at cases [] names tree else stream_added_at cases names tree
-
--- what stands there then, by what stood there
-abbrev pub emptied : Option Object → Object
-emptied None = a_stream new_stream
-emptied (Some object) = object_with same_storage (with_content []) object
 
 -- the tree without the object at these names; of the root, without all that is in it
 abbrev pub removed_at : Cases → List (List ℕ) → Tree → Tree

@@ -40,7 +40,7 @@ stream_entry path name info = record {
 
 -- the root's length is that of the mini stream, which is no part of the tree
 abbrev pub root_info : ℕ → Tree → EntryInfo
-root_info mini_stream_len tree = storage_entry Root mini_stream_len (path_of_names []) root_entry_name tree.root
+root_info root_len tree = storage_entry Root root_len (path_of_names []) root_entry_name tree.root
 
 -- what is told of an object
 abbrev pub object_entry : List ℕ → List ℕ → Object → EntryInfo
@@ -72,12 +72,12 @@ listed_object path (a_stream info) = []
 
 -- the root and all that is in it
 abbrev pub all_walked : ℕ → Tree → List EntryInfo
-all_walked mini_stream_len tree = root_info mini_stream_len tree ∷ walked (path_of_names []) tree.objects
+all_walked root_len tree = root_info root_len tree ∷ walked (path_of_names []) tree.objects
 
 -- one entry has the asked names in its path, and its stored name
 abbrev pub entry_reply : Cases → ℕ → Tree → List (List ℕ) → Reply
-entry_reply cases mini_stream_len tree [] = one_entry (root_info mini_stream_len tree)
-entry_reply cases mini_stream_len tree (name ∷ names) =
+entry_reply cases root_len tree [] = one_entry (root_info root_len tree)
+entry_reply cases root_len tree (name ∷ names) =
     option_map_or (λ found. one_entry (object_entry (path_of_names (name ∷ names)) found.name found.object))
     (found_at cases tree (name ∷ names)) (refused not_found)
 
@@ -87,8 +87,8 @@ read_reply cases tree names =
     option_map_or (λ found. entries (listed_object (path_of_names names) found.object)) (found_at cases tree names) (refused not_found)
 
 abbrev pub walk_reply : Cases → ℕ → Tree → List (List ℕ) → Reply
-walk_reply cases mini_stream_len tree [] = entries (all_walked mini_stream_len tree)
-walk_reply cases mini_stream_len tree (name ∷ names) =
+walk_reply cases root_len tree [] = entries (all_walked root_len tree)
+walk_reply cases root_len tree (name ∷ names) =
     option_map_or (λ found. entries (walked_object (child_path (path_of_names (parent_names (name ∷ names))) found.name) found.name found.object))
     (found_at cases tree (name ∷ names)) (refused not_found)
 
@@ -101,29 +101,29 @@ has_object cases tree test path =
 abbrev pub path_reply : (List (List ℕ) → Reply) → List ℕ → Reply
 path_reply rule path = option_map_or rule (names_of_path path) (refused invalid_input)
 
--- what a call that isn't refused answers; mini_stream_len is the length of entry 0
+-- what a call that isn't refused answers; root_len is the length of entry 0
 abbrev pub reply_of : Cases → ℕ → Tree → Call → Reply
-reply_of cases mini_stream_len tree (create_storage path moment) = done
-reply_of cases mini_stream_len tree (create_storage_all path moment) = done
-reply_of cases mini_stream_len tree (create_stream path) = done
-reply_of cases mini_stream_len tree (create_new_stream path) = done
-reply_of cases mini_stream_len tree (open_stream path) = done
-reply_of cases mini_stream_len tree (open_read_stream path) = done
-reply_of cases mini_stream_len tree (remove_storage path) = done
-reply_of cases mini_stream_len tree (remove_storage_all path) = done
-reply_of cases mini_stream_len tree (remove_stream path) = done
-reply_of cases mini_stream_len tree (set_storage_clsid path clsid) = done
-reply_of cases mini_stream_len tree (set_state_bits path bits) = done
-reply_of cases mini_stream_len tree (set_created_time path moment) = done
-reply_of cases mini_stream_len tree (set_modified_time path moment) = done
-reply_of cases mini_stream_len tree (touch path moment) = done
-reply_of cases mini_stream_len tree flush = done
-reply_of cases mini_stream_len tree (exists path) = flag (has_object cases tree always path)
-reply_of cases mini_stream_len tree (is_stream path) = flag (has_object cases tree is_a_stream path)
-reply_of cases mini_stream_len tree (is_storage path) = flag (has_object cases tree is_a_storage path)
-reply_of cases mini_stream_len tree root_entry = one_entry (root_info mini_stream_len tree)
-reply_of cases mini_stream_len tree read_root_storage = entries (listed (path_of_names []) tree.objects)
-reply_of cases mini_stream_len tree walk = entries (all_walked mini_stream_len tree)
-reply_of cases mini_stream_len tree (entry path) = path_reply (entry_reply cases mini_stream_len tree) path
-reply_of cases mini_stream_len tree (read_storage path) = path_reply (read_reply cases tree) path
-reply_of cases mini_stream_len tree (walk_storage path) = path_reply (walk_reply cases mini_stream_len tree) path
+reply_of cases root_len tree (create_storage path moment) = done
+reply_of cases root_len tree (create_storage_all path moment) = done
+reply_of cases root_len tree (create_stream path) = done
+reply_of cases root_len tree (create_new_stream path) = done
+reply_of cases root_len tree (open_stream path) = done
+reply_of cases root_len tree (open_read_stream path) = done
+reply_of cases root_len tree (remove_storage path) = done
+reply_of cases root_len tree (remove_storage_all path) = done
+reply_of cases root_len tree (remove_stream path) = done
+reply_of cases root_len tree (set_storage_clsid path clsid) = done
+reply_of cases root_len tree (set_state_bits path bits) = done
+reply_of cases root_len tree (set_created_time path moment) = done
+reply_of cases root_len tree (set_modified_time path moment) = done
+reply_of cases root_len tree (touch path moment) = done
+reply_of cases root_len tree flush = done
+reply_of cases root_len tree (exists path) = flag (has_object cases tree always path)
+reply_of cases root_len tree (is_stream path) = flag (has_object cases tree is_a_stream path)
+reply_of cases root_len tree (is_storage path) = flag (has_object cases tree is_a_storage path)
+reply_of cases root_len tree root_entry = one_entry (root_info root_len tree)
+reply_of cases root_len tree read_root_storage = entries (listed (path_of_names []) tree.objects)
+reply_of cases root_len tree walk = entries (all_walked root_len tree)
+reply_of cases root_len tree (entry path) = path_reply (entry_reply cases root_len tree) path
+reply_of cases root_len tree (read_storage path) = path_reply (read_reply cases tree) path
+reply_of cases root_len tree (walk_storage path) = path_reply (walk_reply cases root_len tree) path

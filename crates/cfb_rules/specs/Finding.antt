@@ -37,9 +37,9 @@ parent_names (name ∷ next ∷ names) = name ∷ parent_names (next ∷ names)
 abbrev pub object_at : Cases → Tree → List (List ℕ) → Option Object
 object_at cases tree names = option_map (λ found. found.object) (found_at cases tree names)
 
--- two lists of names part: before either ends they have names of different keys at one place, and of one key before it
-abbrev pub Part : Cases → List (List ℕ) → List (List ℕ) → Type 0
-Part cases [] others = ⊥
-Part cases (name ∷ names) [] = ⊥
-Part cases (name ∷ names) (other ∷ others) =
-    (is_same_name cases other name ≡ false) ⊎ ((is_same_name cases other name ≡ true) × Part cases names others)
+-- two lists of names part ways: before either ends they have names of different keys at one place, and of one key before it
+abbrev pub PartWays : Cases → List (List ℕ) → List (List ℕ) → Type 0
+PartWays cases [] others = ⊥
+PartWays cases (name ∷ names) [] = ⊥
+PartWays cases (name ∷ names) (other ∷ others) =
+    (is_same_name cases other name ≡ false) ⊎ ((is_same_name cases other name ≡ true) × PartWays cases names others)

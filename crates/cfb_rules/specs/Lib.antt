@@ -7,4 +7,5 @@ pub mod CallReplies
 pub mod Steps
 pub mod StreamCalls
 pub mod Runs
+pub mod Lists
 pub mod Laws

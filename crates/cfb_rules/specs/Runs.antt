@@ -1,36 +1,24 @@
--- Calls with refusals by the medium, by memory and by fullness, and with the failed state; and runs of them.
-use Rattle.std.specs.Prelude.{ℕ, ◌+◌, ◌≡◌, ◌⊎◌, List, [], ◌∷◌, Bool, true, false, MatchBool, MatchOption, IsTrue, Option, Some, None, length, option_and_then, unwrap_or, if◌then◌else◌, ◌==◌, ⊤}
+-- Calls with refusals by the medium, by memory and by fullness, and with the failed state.
+use Rattle.std.specs.Prelude.{ℕ, ◌≡◌, ◌⊎◌, List, [], Bool, true, false, MatchBool, MatchOption, IsTrue, Option, Some, length, option_and_then, unwrap_or, if◌then◌else◌, ◌==◌, ⊤}
 use Rattle.cfb_format.specs.Names.{Cases}
 use Rattle.cfb_format.specs.Path.{names_of_path}
 use Rattle.cfb_format.specs.Tree.{StreamInfo, Tree, Object, a_storage, a_stream}
 use Rattle.cfb_rules.specs.Refusal.{Refusal, not_found, already_exists, invalid_input, invalid_data, medium_failed, out_of_memory, file_full, not_sound, failed_earlier}
-use Rattle.cfb_rules.specs.Calls.{Call, create_stream, create_new_stream, open_stream, Reply, done, flag, one_entry, entries, refused}
-use Rattle.cfb_rules.specs.Steps.{CallKind, changing, flushing, opening, opening_to_read, asking, asking_freely, kind_of, Step}
+use Rattle.cfb_rules.specs.Calls.{Call, Reply, done, flag, one_entry, entries, refused}
+use Rattle.cfb_rules.specs.Steps.{CallKind, changing, flushing, opening, opening_to_read, asking, asking_freely, kind_of, is_changing, Step}
 use Rattle.cfb_rules.specs.Finding.{object_at}
 use Rattle.cfb_rules.specs.CallChanges.{new_stream, content_changed_at}
-use Rattle.cfb_rules.specs.StreamCalls.{StreamSetting, StreamState, StreamCall, read, fill_buf, consume, read_to_end, write, seek, set_len, flush, ask_len, ask_position, ask_is_empty, StreamReply, ready, got, count, place, answered, not_done, StreamStep, opened}
-
-pub data Opening : Type 0 where
-  opens creates creates_new : Opening
-
--- a call by path; or a stream opened or created, calls on it, and its closing
-pub data Command : Type 0 where
-  by_path : Call → Command
-  on_stream : Opening → (path : List ℕ) → List StreamCall → Command
-
--- of a stream command: what each operation answered, and why closing was refused, if it was
-pub data CommandReply : Type 0 where
-  replied : Reply → CommandReply
-  streamed : List StreamReply → Option Refusal → CommandReply
+use Rattle.cfb_rules.specs.StreamCalls.{StreamSetting, StreamState, StreamCall, read, fill_buf, consume, read_to_end, write, seek, set_len, flush, ask_len, ask_position, ask_is_empty, StreamReply, ready, got, count, offset, answered, not_done, StreamStep, opened}
 
 -- what stays the same in a run: the letters, and what stays the same for its streams
 pub record Setting : Type 0 where
   pub cases : Cases
   pub stream : StreamSetting
 
--- the tree of the file, and whether a change broke off. Of a failed file's tree nothing is said
+-- the tree of the file, the length of the root's entry, and whether a change broke off. Of a failed file's tree and length nothing is said
 pub record TreeState : Type 0 where
   pub tree : Tree
+  pub root_len : ℕ
   pub failed : Bool
 
 -- ---- refusals beside the rules
@@ -40,7 +28,7 @@ pub record Causes : Type 1 where
   pub medium : Type 0
   pub full : Type 0
 
--- in a run nothing is asked of a single refusal
+-- nothing is asked of a refusal
 abbrev pub any_cause : Causes
 any_cause = record { medium = ⊤; full = ⊤ }
 
@@ -55,6 +43,18 @@ BlamesOneOf medium memory full invalid_input = ⊥
 BlamesOneOf medium memory full invalid_data = ⊥
 BlamesOneOf medium memory full not_sound = ⊥
 BlamesOneOf medium memory full failed_earlier = ⊥
+
+-- a refusal that blames the medium or the numbers has its cause
+abbrev pub MayBlame : Causes → Refusal → Type 0
+MayBlame causes medium_failed = causes.medium
+MayBlame causes file_full = causes.full
+MayBlame causes not_found = ⊤
+MayBlame causes already_exists = ⊤
+MayBlame causes invalid_input = ⊤
+MayBlame causes invalid_data = ⊤
+MayBlame causes out_of_memory = ⊤
+MayBlame causes not_sound = ⊤
+MayBlame causes failed_earlier = ⊤
 
 -- which of them a call by path can answer
 abbrev pub MayBreak : Causes → CallKind → Refusal → Type 0
@@ -74,36 +74,58 @@ may_fail opening_to_read = false
 may_fail asking = false
 may_fail asking_freely = false
 
--- the tree is as before and the file isn't failed, or the file is failed
-abbrev pub BreaksOff : CallKind → Tree → TreeState → Type 0
-BreaksOff kind tree new = (new ≡ record { tree = tree; failed = false }) ⊎ (IsTrue (may_fail kind) × (new.failed ≡ true))
+-- only a refused flush always leaves the file failed
+abbrev pub may_stay : CallKind → Bool
+may_stay changing = true
+may_stay flushing = false
+may_stay opening = true
+may_stay opening_to_read = true
+may_stay asking = true
+may_stay asking_freely = true
+
+-- all is as before, or the file is failed
+abbrev pub CallBreaksOff : CallKind → TreeState → TreeState → Type 0
+CallBreaksOff kind old new = (IsTrue (may_stay kind) × (new ≡ old)) ⊎ (IsTrue (may_fail kind) × (new.failed ≡ true))
 
 -- ---- calls by path
 
--- on a failed file: queries promise nothing
-abbrev pub OnFailed : CallKind → Reply → TreeState → Type 0
-OnFailed changing reply new = (reply ≡ refused failed_earlier) × (new.failed ≡ true)
-OnFailed flushing reply new = (reply ≡ refused failed_earlier) × (new.failed ≡ true)
-OnFailed opening reply new = (reply ≡ refused failed_earlier) × (new.failed ≡ true)
-OnFailed opening_to_read reply new = (reply ≡ refused failed_earlier) × (new.failed ≡ true)
-OnFailed asking reply new = new.failed ≡ true
-OnFailed asking_freely reply new = new.failed ≡ true
+-- what is blamed holds
+abbrev pub HasCause : Causes → Reply → Type 0
+HasCause causes done = ⊤
+HasCause causes (flag b) = ⊤
+HasCause causes (one_entry e) = ⊤
+HasCause causes (entries es) = ⊤
+HasCause causes (refused refusal) = MayBlame causes refusal
+
+-- on a failed file queries answer anything, but they blame nothing without cause
+abbrev pub OnFailed : Causes → CallKind → Reply → TreeState → Type 0
+OnFailed causes changing reply new = (reply ≡ refused failed_earlier) × (new.failed ≡ true)
+OnFailed causes flushing reply new = (reply ≡ refused failed_earlier) × (new.failed ≡ true)
+OnFailed causes opening reply new = (reply ≡ refused failed_earlier) × (new.failed ≡ true)
+OnFailed causes opening_to_read reply new = (reply ≡ refused failed_earlier) × (new.failed ≡ true)
+OnFailed causes asking reply new = HasCause causes reply × (new.failed ≡ true)
+OnFailed causes asking_freely reply new = HasCause causes reply × (new.failed ≡ true)
+
+-- only a change that was done gives the root's entry another length
+abbrev pub KeepsRootLen : TreeState → Call → Reply → TreeState → Type 0
+KeepsRootLen old call reply new = (IsTrue (is_changing (kind_of call)) × (reply ≡ done)) ⊎ (new.root_len ≡ old.root_len)
 
 -- the rules are followed
-abbrev pub FollowsRules : Setting → Tree → Call → Reply → TreeState → Type 0
-FollowsRules setting tree call reply new =
-    ((mini_stream_len : ℕ) × Step setting.cases setting.stream.sound mini_stream_len tree call reply new.tree) × (new.failed ≡ false)
+pub record FollowsRules (setting : Setting) (old : TreeState) (call : Call) (reply : Reply) (new : TreeState) : Type 0 where
+  pub step : Step setting.cases setting.stream.sound old.root_len old.tree call reply new.tree
+  pub root_len : KeepsRootLen old call reply new
+  pub unfailed : new.failed ≡ false
 
 -- it broke off
-abbrev pub IsBroken : Causes → Tree → Call → Reply → TreeState → Type 0
-IsBroken causes tree call reply new =
-    ((refusal : Refusal) × MayBreak causes (kind_of call) refusal × (reply ≡ refused refusal)) × BreaksOff (kind_of call) tree new
+abbrev pub IsBroken : Causes → TreeState → Call → Reply → TreeState → Type 0
+IsBroken causes old call reply new =
+    ((refusal : Refusal) × MayBreak causes (kind_of call) refusal × (reply ≡ refused refusal)) × CallBreaksOff (kind_of call) old new
 
 -- one call by path
 abbrev pub CallRuns : Causes → Setting → TreeState → Call → Reply → TreeState → Type 0
 CallRuns causes setting old call reply new = MatchBool old.failed
-    (OnFailed (kind_of call) reply new)
-    (FollowsRules setting old.tree call reply new ⊎ IsBroken causes old.tree call reply new)
+    (OnFailed causes (kind_of call) reply new)
+    (FollowsRules setting old call reply new ⊎ IsBroken causes old call reply new)
 
 -- ---- calls on a stream
 
@@ -149,16 +171,27 @@ WorkMayBreak causes pending work refusal = MatchBool pending
     (PendingWorkMayBreak causes work refusal)
     (CalmWorkMayBreak causes work refusal)
 
--- the file can be left unfailed where nothing was pending, where the buffer couldn't grow, and where a length was too long or needed too much
--- memory before anything was written
+-- With nothing pending all can be as before, but after a flush: what is refused then is the medium's own, which leaves the file failed
+abbrev pub CalmStaysUnfailed : Work → Type 0
+CalmStaysUnfailed no_work = ⊤
+CalmStaysUnfailed reading = ⊤
+CalmStaysUnfailed moving = ⊤
+CalmStaysUnfailed writing_out = ⊥
+CalmStaysUnfailed taking = ⊤
+CalmStaysUnfailed resizing = ⊤
+
+-- with bytes pending, only where the buffer couldn't grow, and where a length was too long or needed too much memory before anything was written
+abbrev pub PendingStaysUnfailed : Work → Refusal → Type 0
+PendingStaysUnfailed no_work refusal = ⊥
+PendingStaysUnfailed reading refusal = refusal ≡ out_of_memory
+PendingStaysUnfailed moving refusal = ⊥
+PendingStaysUnfailed writing_out refusal = ⊥
+PendingStaysUnfailed taking refusal = refusal ≡ out_of_memory
+PendingStaysUnfailed resizing refusal = (refusal ≡ out_of_memory) ⊎ (refusal ≡ file_full)
+
+-- whether a refused call can leave the file unfailed
 abbrev pub StaysUnfailed : (pending : Bool) → Work → Refusal → Type 0
-StaysUnfailed false work refusal = ⊤
-StaysUnfailed true no_work refusal = ⊥
-StaysUnfailed true reading refusal = refusal ≡ out_of_memory
-StaysUnfailed true moving refusal = ⊥
-StaysUnfailed true writing_out refusal = ⊥
-StaysUnfailed true taking refusal = refusal ≡ out_of_memory
-StaysUnfailed true resizing refusal = (refusal ≡ out_of_memory) ⊎ (refusal ≡ file_full)
+StaysUnfailed pending work refusal = MatchBool pending (PendingStaysUnfailed work refusal) (CalmStaysUnfailed work)
 
 -- the file can be left failed where something was written: what is pending, or by the call itself
 abbrev pub may_leave_failed : (pending : Bool) → Work → Bool
@@ -194,9 +227,18 @@ is_never_refused ask_len = true
 is_never_refused ask_position = true
 is_never_refused ask_is_empty = true
 
--- on a failed file
+-- it isn't refused
+abbrev pub is_served : StreamReply → Bool
+is_served ready = true
+is_served (got bytes) = true
+is_served (count n) = true
+is_served (offset at) = true
+is_served (answered b) = true
+is_served (not_done refusal) = false
+
+-- on a failed file those four answer anything but a refusal
 abbrev pub StreamOnFailed : StreamCall → StreamReply → StreamRun → Type 0
-StreamOnFailed call reply new = (new.failed ≡ true) × MatchBool (is_never_refused call) ⊤ (reply ≡ not_done failed_earlier)
+StreamOnFailed call reply new = (new.failed ≡ true) × MatchBool (is_never_refused call) (is_served reply ≡ true) (reply ≡ not_done failed_earlier)
 
 -- it broke off
 abbrev pub IsStreamBroken : Causes → StreamState → StreamCall → StreamReply → StreamRun → Type 0
@@ -209,14 +251,6 @@ StreamCallRuns causes setting old call reply new = MatchBool old.failed
     (StreamOnFailed call reply new)
     ((StreamStep setting old.stream call reply new.stream × (new.failed ≡ false)) ⊎ IsStreamBroken causes old.stream call reply new)
 
--- one after the other
-abbrev pub StreamCallsRun : StreamSetting → StreamRun → List StreamCall → List StreamReply → StreamRun → Type 0
-StreamCallsRun setting old [] [] new = new ≡ old
-StreamCallsRun setting old [] (reply ∷ replies) new = ⊥
-StreamCallsRun setting old (call ∷ calls) [] new = ⊥
-StreamCallsRun setting old (call ∷ calls) (reply ∷ replies) new =
-    (middle : StreamRun) × StreamCallRuns any_cause setting old call reply middle × StreamCallsRun setting middle calls replies new
-
 -- Closing writes out what is pending; only that can be refused, and the file is failed then. Whether it is failed comes last.
 abbrev pub Closes : Causes → StreamRun → Option Refusal → Bool → Type 0
 Closes causes old closing failed = MatchBool old.failed
@@ -224,28 +258,19 @@ Closes causes old closing failed = MatchBool old.failed
     (MatchOption closing (failed ≡ false)
     (λ refusal. IsTrue old.stream.pending × BlamesOneOf causes.medium ⊤ causes.full refusal × (failed ≡ true)))
 
--- ---- commands
+-- ---- a stream of the tree, as it is opened and as it is closed
 
--- the call that opens a stream command
-abbrev pub opening_call : Opening → List ℕ → Call
-opening_call opens path = open_stream path
-opening_call creates path = create_stream path
-opening_call creates_new path = create_new_stream path
-
--- the stream at a path
+-- its fields
 abbrev pub stream_fields : Object → StreamInfo
 stream_fields (a_stream info) = info
 stream_fields (a_storage info inside) = new_stream
 
-abbrev pub stream_info_at : Cases → Tree → List ℕ → StreamInfo
-stream_info_at cases tree path = stream_fields (unwrap_or (option_and_then (object_at cases tree) (names_of_path path)) (a_stream new_stream))
+-- the stream that a path names
+abbrev pub stream_by_path : Cases → Tree → List ℕ → StreamInfo
+stream_by_path cases tree path = stream_fields (unwrap_or (option_and_then (object_at cases tree) (names_of_path path)) (a_stream new_stream))
 
--- the stream as it is opened
-abbrev pub opened_at : Cases → Tree → List ℕ → StreamRun
-opened_at cases tree path = record {
-  stream = opened (stream_info_at cases tree path).len (stream_info_at cases tree path).content;
-  failed = false;
-}
+abbrev pub opened_by_path : Cases → Tree → List ℕ → StreamState
+opened_by_path cases tree path = opened (stream_by_path cases tree path).len (stream_by_path cases tree path).content
 
 -- the tree with this list for the stream
 abbrev pub tree_with_stream : Cases → Tree → List ℕ → List ℕ → Tree
@@ -255,73 +280,3 @@ tree_with_stream cases tree path content = content_changed_at cases content (unw
 abbrev pub ClosedTree : Setting → Tree → List ℕ → StreamState → TreeState → Type 0
 ClosedTree setting tree path stream new = MatchBool new.failed ⊤
     (new.tree ≡ (if setting.stream.sound then tree_with_stream setting.cases tree path stream.content else tree))
-
--- an opening that succeeds, the operations in their order, refused or not, and the closing
-pub record StreamedRun (setting : Setting) (old : Tree) (call : Call) (path : List ℕ) (calls : List StreamCall) (replies : List StreamReply) (closing : Option Refusal) (new : TreeState) : Type 0 where
-  pub tree : Tree
-  pub opening : Step setting.cases setting.stream.sound 0 old call done tree
-  pub stream : StreamRun
-  pub calls_run : StreamCallsRun setting.stream (opened_at setting.cases tree path) calls replies stream
-  pub closes : Closes any_cause stream closing new.failed
-  pub closed : ClosedTree setting tree path stream.stream new
-
--- one command
-abbrev pub CommandRuns : Setting → TreeState → Command → CommandReply → TreeState → Type 0
-CommandRuns setting old (by_path call) (replied reply) new = CallRuns any_cause setting old call reply new
-CommandRuns setting old (by_path call) (streamed replies closing) new = ⊥
-CommandRuns setting old (on_stream how path calls) (replied reply) new =
-    ((refusal : Refusal) × (reply ≡ refused refusal)) × CallRuns any_cause setting old (opening_call how path) reply new
-CommandRuns setting old (on_stream how path calls) (streamed replies closing) new =
-    (old.failed ≡ false) × StreamedRun setting old.tree (opening_call how path) path calls replies closing new
-
--- the replies to a list of commands, and what they make of the file
-abbrev pub IsLegal : Setting → TreeState → List Command → List CommandReply → TreeState → Type 0
-IsLegal setting old [] [] new = new ≡ old
-IsLegal setting old [] (reply ∷ replies) new = ⊥
-IsLegal setting old (command ∷ commands) [] new = ⊥
-IsLegal setting old (command ∷ commands) (reply ∷ replies) new =
-    (middle : TreeState) × CommandRuns setting old command reply middle × IsLegal setting middle commands replies new
-
--- ---- how many answers blame the medium: no more than its calls that failed
-
-abbrev pub blame_of : Refusal → ℕ
-blame_of medium_failed = 1
-blame_of not_found = 0
-blame_of already_exists = 0
-blame_of invalid_input = 0
-blame_of invalid_data = 0
-blame_of out_of_memory = 0
-blame_of file_full = 0
-blame_of not_sound = 0
-blame_of failed_earlier = 0
-
-abbrev pub reply_blame : Reply → ℕ
-reply_blame done = 0
-reply_blame (flag b) = 0
-reply_blame (one_entry e) = 0
-reply_blame (entries es) = 0
-reply_blame (refused refusal) = blame_of refusal
-
-abbrev pub stream_reply_blame : StreamReply → ℕ
-stream_reply_blame ready = 0
-stream_reply_blame (got bytes) = 0
-stream_reply_blame (count n) = 0
-stream_reply_blame (place at) = 0
-stream_reply_blame (answered b) = 0
-stream_reply_blame (not_done refusal) = blame_of refusal
-
-abbrev pub stream_replies_blame : List StreamReply → ℕ
-stream_replies_blame [] = 0
-stream_replies_blame (reply ∷ replies) = stream_reply_blame reply + stream_replies_blame replies
-
-abbrev pub closing_blame : Option Refusal → ℕ
-closing_blame None = 0
-closing_blame (Some refusal) = blame_of refusal
-
-abbrev pub command_blame : CommandReply → ℕ
-command_blame (replied reply) = reply_blame reply
-command_blame (streamed replies closing) = stream_replies_blame replies + closing_blame closing
-
-abbrev pub blame_in : List CommandReply → ℕ
-blame_in [] = 0
-blame_in (reply ∷ replies) = command_blame reply + blame_in replies

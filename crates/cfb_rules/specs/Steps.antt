@@ -59,6 +59,6 @@ outcome cases sound tree call = option_map_or (λ refusal. Some refusal) (refusa
 
 -- a call on a file that has this tree, medium, memory and fullness aside: its reply and the tree after it
 abbrev pub Step : Cases → Bool → ℕ → Tree → Call → Reply → Tree → Type 0
-Step cases sound mini_stream_len tree call reply tree' = MatchOption (outcome cases sound tree call)
-    ((reply ≡ reply_of cases mini_stream_len tree call) × (tree' ≡ tree_after cases call tree))
+Step cases sound root_len tree call reply tree' = MatchOption (outcome cases sound tree call)
+    ((reply ≡ reply_of cases root_len tree call) × (tree' ≡ tree_after cases call tree))
     (λ refusal. (reply ≡ refused refusal) × (tree' ≡ tree))

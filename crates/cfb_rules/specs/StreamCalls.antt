@@ -1,6 +1,7 @@
 -- A stream as a list of bytes with a position.
 use Rattle.std.specs.Prelude.{ℕ, ◌+◌, ◌-◌, ◌^◌, ◌≡◌, ◌≤◌, min, max, ℤ, pos, negsuc, ◌+ℤ◌, List, [], ◌++◌, Bool, false, ◌||◌, ◌&&◌, length, take, drop, replicate, nat_lt, nat_le, IsTrue, MatchBool, MatchOption, Option, Some, None, option_and_then, if◌then◌else◌, ◌==◌}
 use Rattle.std.specs.Ordering.{int_eq}
+use Rattle.cfb_format.specs.Medium.{part}
 use Rattle.cfb_rules.specs.Refusal.{Refusal, invalid_input, invalid_data, not_sound}
 
 -- the length, the bytes that can be read, the position, how many bytes are lent and not yet consumed, and whether
@@ -35,12 +36,12 @@ pub data StreamCall : Type 0 where
   flush : StreamCall
   ask_len ask_position ask_is_empty : StreamCall
 
--- what they answer
+-- what they answer; an offset is the length or the position
 pub data StreamReply : Type 0 where
   ready : StreamReply
   got : List ℕ → StreamReply
   count : ℕ → StreamReply
-  place : ℕ → StreamReply
+  offset : ℕ → StreamReply
   answered : Bool → StreamReply
   not_done : Refusal → StreamReply
 
@@ -64,18 +65,14 @@ Moves old new position ahead = Becomes old new old.len old.content position ahea
 abbrev pub Refuses : Refusal → StreamState → StreamReply → StreamState → Type 0
 Refuses refusal old reply new = (reply ≡ not_done refusal) × (new ≡ old)
 
--- n bytes from the position on
-abbrev pub part : StreamState → ℕ → List ℕ
-part s n = take n (drop s.position s.content)
-
 -- some bytes, at least one and at most this many, are served; after tells the position and what is lent after n bytes
 abbrev pub Serves : (ℕ → ℕ) → (ℕ → ℕ) → ℕ → StreamState → StreamReply → StreamState → Type 0
 Serves position_after ahead_after most old reply new = (n : ℕ) × (1 ≤ n) × (n ≤ most) × (old.position + n ≤ length old.content)
-    × (reply ≡ got (part old n)) × Moves old new (position_after n) (ahead_after n)
+    × (reply ≡ got (part old.content old.position n)) × Moves old new (position_after n) (ahead_after n)
 
 -- nothing at the end, bytes before the end of the readable part, and a refusal at that end or past it
-abbrev pub ReadsAt : Bool → (ℕ → ℕ) → (ℕ → ℕ) → ℕ → StreamState → StreamReply → StreamState → Type 0
-ReadsAt nothing_wanted position_after ahead_after most old reply new =
+abbrev pub ReadsOn : Bool → (ℕ → ℕ) → (ℕ → ℕ) → ℕ → StreamState → StreamReply → StreamState → Type 0
+ReadsOn nothing_wanted position_after ahead_after most old reply new =
     MatchBool (nothing_wanted || old.position == old.len)
     ((reply ≡ got []) × Moves old new old.position 0)
     (MatchBool (nat_lt old.position (length old.content))
@@ -84,11 +81,11 @@ ReadsAt nothing_wanted position_after ahead_after most old reply new =
 
 -- serves bytes and goes behind them
 abbrev pub Read : ℕ → StreamState → StreamReply → StreamState → Type 0
-Read wanted old reply new = ReadsAt (wanted == 0) (λ n. old.position + n) (λ n. 0) wanted old reply new
+Read wanted old reply new = ReadsOn (wanted == 0) (λ n. old.position + n) (λ n. 0) wanted old reply new
 
 -- lends what a read would give
 abbrev pub FillBuf : StreamState → StreamReply → StreamState → Type 0
-FillBuf old reply new = ReadsAt false (λ n. old.position) (λ n. n) (length old.content) old reply new
+FillBuf old reply new = ReadsOn false (λ n. old.position) (λ n. n) (length old.content) old reply new
 
 -- goes on by what was lent, at most
 abbrev pub Consume : ℕ → StreamState → StreamReply → StreamState → Type 0
@@ -140,7 +137,7 @@ sought s (from_current distance) = option_and_then (place_within s.len) (place_f
 abbrev pub Seek : Whence → StreamState → StreamReply → StreamState → Type 0
 Seek whence old reply new = MatchOption (sought old whence)
     (Refuses invalid_input old reply new)
-    (λ at. (reply ≡ place at) × Moves old new at 0)
+    (λ at. (reply ≡ offset at) × Moves old new at 0)
 
 -- cut, or padded with zeros
 abbrev pub resized : List ℕ → ℕ → List ℕ
@@ -174,8 +171,8 @@ StreamStep setting old (write bytes) reply new = Write setting bytes old reply n
 StreamStep setting old (seek whence) reply new = Seek whence old reply new
 StreamStep setting old (set_len len) reply new = SetLen setting len old reply new
 StreamStep setting old flush reply new = Flush old reply new
-StreamStep setting old ask_len reply new = Asks (place old.len) old reply new
-StreamStep setting old ask_position reply new = Asks (place old.position) old reply new
+StreamStep setting old ask_len reply new = Asks (offset old.len) old reply new
+StreamStep setting old ask_position reply new = Asks (offset old.position) old reply new
 StreamStep setting old ask_is_empty reply new = Asks (answered (old.len == 0)) old reply new
 
 -- ---- what holds of every state

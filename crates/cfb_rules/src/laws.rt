@@ -1,11 +1,21 @@
 //! What the rules of calls promise. None of these functions does anything: each has a law as its
 //! contract.
-ghost use Rattle.cfb_rules.specs.Laws.{RefusedCallsChangeNothing, CallsKeepOrder, CreatedStreamIsFound, EmptiedStreamIsFound, SetFieldsAreFound, RemovedIsNotFound, OthersAreFoundAsBefore, OnlyNamedCallsChange, SomeReplyFits, OneReplyFits, RefusedStreamCallsChangeNothing, SomeStreamReplyFits, StreamsKeepTheirBounds};
+ghost use Rattle.cfb_rules.specs.Lists.{FileView};
+ghost use Rattle.cfb_rules.specs.Laws.{RefusedCallsChangeNothing, RulesRefuseByTheirKinds, SomeReplyFits, OneReplyFits, RefusedStreamCallsChangeNothing, StreamRulesRefuseByTheirKinds, SomeStreamReplyFits, StreamsKeepTheirBounds};
+ghost use Rattle.cfb_rules.specs.Laws.{CreatedStreamIsFound, EmptiedStreamIsFound, CreatedStorageIsFound, AddedStorageIsFound, ClsidIsSet, StateBitsAreSet, CreatedTimeIsSet, ModifiedTimeIsSet, TouchedTimeIsSet, RootIsNotTouched};
+ghost use Rattle.cfb_rules.specs.Laws.{RemovedStorageIsGone, RemovedStreamIsGone, RemovedAllIsGone, RootIsEmptied, CallsKeepOrder, OthersAreFoundAsBefore, OnlyNamedCallsChange, RootLenStays};
+ghost use Rattle.cfb_rules.specs.Laws.{ClosedStreamIsFound, UnsoundFilesStay, ClosingSparesOthers, ClosingKeepsOrder, RefusedFlushFails, RefusedStreamFlushFails, MediumIsBlamedAsItFailed, CalmMediumIsNotBlamed, RoomIsNotBlamed, TreesOfRunsAreLegal};
 
 /// A refused call changes nothing.
 pub fn refused_calls_change_nothing()
     ensures by_path { RefusedCallsChangeNothing }
     ensures on_stream { RefusedStreamCallsChangeNothing }
+{}
+
+/// The rules refuse by kinds of their own, and blame neither medium, memory nor fullness.
+pub fn rules_refuse_by_their_kinds()
+    ensures by_path { RulesRefuseByTheirKinds }
+    ensures on_stream { StreamRulesRefuseByTheirKinds }
 {}
 
 /// The rules say of each call what it answers and what it makes of the tree.
@@ -15,22 +25,47 @@ pub fn rules_are_complete()
     ensures on_stream { SomeStreamReplyFits }
 {}
 
-/// What was created is there: a new stream is empty, and one that was there is emptied.
-pub fn created_streams_are_found()
-    ensures new { CreatedStreamIsFound }
-    ensures emptied { EmptiedStreamIsFound }
+/// What was created is there: a new stream is empty, one that was there is emptied, a new storage
+/// has nothing in it, and one that was there is as before.
+pub fn created_objects_are_found()
+    ensures new_stream { CreatedStreamIsFound }
+    ensures emptied_stream { EmptiedStreamIsFound }
+    ensures new_storage { CreatedStorageIsFound }
+    ensures added_storage { AddedStorageIsFound }
 {}
 
-/// What was set is there, and what was removed is not.
-pub fn changes_are_found()
-    ensures set { SetFieldsAreFound }
-    ensures removed { RemovedIsNotFound }
+/// What was set is there, in an object that is otherwise as before.
+pub fn set_fields_are_found()
+    ensures clsid { ClsidIsSet }
+    ensures state_bits { StateBitsAreSet }
+    ensures created { CreatedTimeIsSet }
+    ensures modified { ModifiedTimeIsSet }
+    ensures touched { TouchedTimeIsSet }
+    ensures root { RootIsNotTouched }
 {}
 
-/// A call changes nothing of what stands at other names than its own.
+/// What was removed was there, and is not any more.
+pub fn removed_objects_are_gone()
+    ensures storage { RemovedStorageIsGone }
+    ensures stream { RemovedStreamIsGone }
+    ensures all { RemovedAllIsGone }
+    ensures root { RootIsEmptied }
+{}
+
+/// A call changes nothing of what stands at other names than its own, and the length of the root's
+/// entry stays where nothing changes.
 pub fn others_stay()
     ensures found { OthersAreFoundAsBefore }
     ensures unnamed { OnlyNamedCallsChange }
+    ensures root_len { RootLenStays }
+{}
+
+/// A stream of a sound file that was closed has its list, and nothing else has changed.
+pub fn closed_streams_are_found()
+    ensures found { ClosedStreamIsFound }
+    ensures unsound { UnsoundFilesStay }
+    ensures others { ClosingSparesOthers }
+    ensures order { ClosingKeepsOrder }
 {}
 
 /// A tree stays a map by name.
@@ -41,4 +76,27 @@ pub fn calls_keep_order()
 /// A stream's position stays within it, and its length within what the version has.
 pub fn streams_keep_their_bounds()
     ensures { StreamsKeepTheirBounds }
+{}
+
+/// A refused flush leaves the file failed.
+pub fn refused_flushes_fail()
+    ensures by_path { RefusedFlushFails }
+    ensures on_stream { RefusedStreamFlushFails }
+{}
+
+/// The states of a file in a list of commands, of any kind, as the rules see them. For laws alone.
+pub trait Seen {
+    ghost seen: { Self → FileView };
+}
+
+/// In a list of commands each refusal that blames the medium or the tables has its cause.
+pub fn refusals_have_causes<S: Seen>()
+    ensures counted { MediumIsBlamedAsItFailed S.seen }
+    ensures calm { CalmMediumIsNotBlamed S.seen }
+    ensures room { RoomIsNotBlamed S.seen }
+{}
+
+/// What a list of commands makes of a file is legal of its tree.
+pub fn runs_are_legal<S: Seen>()
+    ensures { TreesOfRunsAreLegal S.seen }
 {}

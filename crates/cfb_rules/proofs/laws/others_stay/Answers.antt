@@ -1,3 +1,4 @@
+use Rattle.cfb_rules.proofs.CallBreaks.{root_len_stays}
 use Rattle.cfb_rules.proofs.OthersStay.{others_stay, unnamed_stay}
 use Rattle.cfb_rules.proofs.laws.others_stay.Goals as goal
 
@@ -6,3 +7,6 @@ returns-clause-found c = others_stay
 
 pub returns-clause-unnamed : goal.returns-clause-unnamed
 returns-clause-unnamed c = unnamed_stay
+
+pub returns-clause-root_len : goal.returns-clause-root_len
+returns-clause-root_len c = root_len_stays

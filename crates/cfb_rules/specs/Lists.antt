@@ -1,0 +1,168 @@
+-- Lists of commands: chains of single steps over the states of a file, in which each refusal has its cause.
+use Rattle.std.specs.Prelude.{ℕ, ◌+◌, ◌-◌, ◌^◌, ◌≡◌, ◌≤◌, ◌⊎◌, List, [], ◌∷◌, Option, Some, None, unwrap_or, if◌then◌else◌, ◌==◌, ⊤}
+use Rattle.cfb_format.specs.Medium.{Rises}
+use Rattle.cfb_format.specs.Path.{names_of_path}
+use Rattle.cfb_format.specs.Tree.{Tree}
+use Rattle.cfb_rules.specs.Refusal.{Refusal, refusal_number}
+use Rattle.cfb_rules.specs.Calls.{Call, create_stream, create_new_stream, open_stream, Reply, done, flag, one_entry, entries, refused}
+use Rattle.cfb_rules.specs.StreamCalls.{StreamState, StreamCall, read, fill_buf, consume, read_to_end, write, seek, set_len, flush, ask_len, ask_position, ask_is_empty, StreamReply, ready, got, count, offset, answered, not_done}
+use Rattle.cfb_rules.specs.Runs.{Setting, TreeState, Causes, CallRuns, StreamRun, StreamCallRuns, Closes, opened_by_path, ClosedTree}
+
+pub data Opening : Type 0 where
+  opens creates creates_new : Opening
+
+-- a call by path; or a stream opened or created, calls on it, and its closing
+pub data Command : Type 0 where
+  by_path : Call → Command
+  on_stream : Opening → (path : List ℕ) → List StreamCall → Command
+
+-- of a stream command: what each operation answered, and why closing was refused, if it was
+pub data CommandReply : Type 0 where
+  replied : Reply → CommandReply
+  streamed : List StreamReply → Option Refusal → CommandReply
+
+-- the call that opens a stream command
+abbrev pub opening_call : Opening → List ℕ → Call
+opening_call opens path = open_stream path
+opening_call creates path = create_stream path
+opening_call creates_new path = create_new_stream path
+
+-- ---- a file between two calls
+
+-- What the rules see of it: its state, how many calls of its medium have failed, what holds if its tables are full, and what holds if a length of
+-- the stream at some names needs more sectors than there are numbers for
+pub record FileView : Type 1 where
+  pub state : TreeState
+  pub failures : ℕ
+  pub full : Type 0
+  pub too_long : (names : List (List ℕ)) → (len : ℕ) → Type 0
+
+-- a call blames the medium only where its failures rose, and the tables only where they are full as it leaves them
+abbrev pub causes_between : FileView → FileView → Causes
+causes_between old new = record { medium = Rises old.failures new.failures; full = new.full }
+
+-- the length that is set is too long for the tables as they were
+abbrev pub IsTooLongCall : FileView → List (List ℕ) → StreamCall → Type 0
+IsTooLongCall old names (set_len len) = old.too_long names len
+IsTooLongCall old names (read wanted) = ⊥
+IsTooLongCall old names fill_buf = ⊥
+IsTooLongCall old names (consume amount) = ⊥
+IsTooLongCall old names read_to_end = ⊥
+IsTooLongCall old names (write bytes) = ⊥
+IsTooLongCall old names (seek whence) = ⊥
+IsTooLongCall old names flush = ⊥
+IsTooLongCall old names ask_len = ⊥
+IsTooLongCall old names ask_position = ⊥
+IsTooLongCall old names ask_is_empty = ⊥
+
+-- a call on the stream at these names can blame that too
+abbrev pub stream_causes_between : List (List ℕ) → StreamCall → FileView → FileView → Causes
+stream_causes_between names call old new =
+    record { medium = Rises old.failures new.failures; full = new.full ⊎ IsTooLongCall old names call }
+
+-- the names of a path that has some
+abbrev pub names_at : List ℕ → List (List ℕ)
+names_at path = unwrap_or (names_of_path path) []
+
+-- ---- steps between the states of a file, of any kind, as the rules see them
+
+module _ {S : Type 0} (seen : S → FileView) (setting : Setting) where
+  -- one call by path
+  pub record CallSteps (old : S) (call : Call) (reply : Reply) (new : S) : Type 0 where
+    pub runs : CallRuns (causes_between (seen old) (seen new)) setting (seen old).state call reply (seen new).state
+    pub counted : (seen old).failures ≤ (seen new).failures
+
+  -- the stream while it is open
+  abbrev pub stream_in : StreamState → S → StreamRun
+  stream_in stream file = record { stream = stream; failed = (seen file).state.failed }
+
+  -- one call on the stream at these names
+  pub record StreamCallSteps (names : List (List ℕ)) (old : StreamState) (file : S) (call : StreamCall) (reply : StreamReply) (new : StreamState) (file' : S) : Type 0 where
+    pub runs : StreamCallRuns (stream_causes_between names call (seen file) (seen file')) setting.stream (stream_in old file) call reply (stream_in new file')
+    pub counted : (seen file).failures ≤ (seen file').failures
+
+  -- one after the other
+  abbrev pub StreamCallsStep : List (List ℕ) → StreamState → S → List StreamCall → List StreamReply → StreamState → S → Type 0
+  StreamCallsStep names old file [] [] new file' = (new ≡ old) × (file' ≡ file)
+  StreamCallsStep names old file [] (reply ∷ replies) new file' = ⊥
+  StreamCallsStep names old file (call ∷ calls) [] new file' = ⊥
+  StreamCallsStep names old file (call ∷ calls) (reply ∷ replies) new file' =
+      (middle : StreamState) × (between : S) × StreamCallSteps names old file call reply middle between
+      × StreamCallsStep names middle between calls replies new file'
+
+  -- the closing of a stream that was opened in a file with this tree
+  pub record ClosingSteps (path : List ℕ) (tree : Tree) (stream : StreamState) (old : S) (closing : Option Refusal) (new : S) : Type 0 where
+    pub closes : Closes (causes_between (seen old) (seen new)) (stream_in stream old) closing (seen new).state.failed
+    pub closed : ClosedTree setting tree path stream (seen new).state
+    pub counted : (seen old).failures ≤ (seen new).failures
+
+  -- an opening that succeeds, the operations in their order, refused or not, and the closing
+  pub record StreamedSteps (old : S) (how : Opening) (path : List ℕ) (calls : List StreamCall) (replies : List StreamReply) (closing : Option Refusal) (new : S) : Type 0 where
+    pub opened : S
+    pub opening : CallSteps old (opening_call how path) done opened
+    pub stream : StreamState
+    pub worked : S
+    pub works : StreamCallsStep (names_at path) (opened_by_path setting.cases (seen opened).state.tree path) opened calls replies stream worked
+    pub closes : ClosingSteps path (seen opened).state.tree stream worked closing new
+
+  -- one command
+  abbrev pub CommandSteps : S → Command → CommandReply → S → Type 0
+  CommandSteps old (by_path call) (replied reply) new = CallSteps old call reply new
+  CommandSteps old (by_path call) (streamed replies closing) new = ⊥
+  CommandSteps old (on_stream how path calls) (replied reply) new =
+      ((refusal : Refusal) × (reply ≡ refused refusal)) × CallSteps old (opening_call how path) reply new
+  CommandSteps old (on_stream how path calls) (streamed replies closing) new = StreamedSteps old how path calls replies closing new
+
+  -- the replies to a list of commands, and what they make of the file
+  abbrev pub IsLegalRun : S → List Command → List CommandReply → S → Type 0
+  IsLegalRun old [] [] new = new ≡ old
+  IsLegalRun old [] (reply ∷ replies) new = ⊥
+  IsLegalRun old (command ∷ commands) [] new = ⊥
+  IsLegalRun old (command ∷ commands) (reply ∷ replies) new =
+      (middle : S) × CommandSteps old command reply middle × IsLegalRun middle commands replies new
+
+-- ---- of trees alone
+
+-- Where nothing but the tree is seen, any refusal may blame anything: the count of failures stands at its top, where it rises no more
+abbrev pub tree_alone : TreeState → FileView
+tree_alone state = record { state = state; failures = 2 ^ 64 - 1; full = ⊤; too_long = λ names len. ⊤ }
+
+-- the replies to a list of commands, and what they make of the tree
+abbrev pub IsLegal : Setting → TreeState → List Command → List CommandReply → TreeState → Type 0
+IsLegal setting old commands replies new = IsLegalRun tree_alone setting old commands replies new
+
+-- ---- how many answers blame one thing
+
+abbrev pub blame_of : (blamed : Refusal) → Refusal → ℕ
+blame_of blamed refusal = if refusal_number refusal == refusal_number blamed then 1 else 0
+
+abbrev pub reply_blame : (blamed : Refusal) → Reply → ℕ
+reply_blame blamed done = 0
+reply_blame blamed (flag b) = 0
+reply_blame blamed (one_entry e) = 0
+reply_blame blamed (entries es) = 0
+reply_blame blamed (refused refusal) = blame_of blamed refusal
+
+abbrev pub stream_reply_blame : (blamed : Refusal) → StreamReply → ℕ
+stream_reply_blame blamed ready = 0
+stream_reply_blame blamed (got bytes) = 0
+stream_reply_blame blamed (count n) = 0
+stream_reply_blame blamed (offset at) = 0
+stream_reply_blame blamed (answered b) = 0
+stream_reply_blame blamed (not_done refusal) = blame_of blamed refusal
+
+abbrev pub stream_replies_blame : (blamed : Refusal) → List StreamReply → ℕ
+stream_replies_blame blamed [] = 0
+stream_replies_blame blamed (reply ∷ replies) = stream_reply_blame blamed reply + stream_replies_blame blamed replies
+
+abbrev pub closing_blame : (blamed : Refusal) → Option Refusal → ℕ
+closing_blame blamed None = 0
+closing_blame blamed (Some refusal) = blame_of blamed refusal
+
+abbrev pub command_blame : (blamed : Refusal) → CommandReply → ℕ
+command_blame blamed (replied reply) = reply_blame blamed reply
+command_blame blamed (streamed replies closing) = stream_replies_blame blamed replies + closing_blame blamed closing
+
+abbrev pub blame_in : (blamed : Refusal) → List CommandReply → ℕ
+blame_in blamed [] = 0
+blame_in blamed (reply ∷ replies) = command_blame blamed reply + blame_in blamed replies
