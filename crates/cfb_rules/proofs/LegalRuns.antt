@@ -8,7 +8,7 @@ use Rattle.cfb_rules.specs.Calls.{Call, Reply, done, refused}
 use Rattle.cfb_rules.specs.Steps.{CallKind, changing, flushing, opening, opening_to_read, asking, asking_freely, kind_of}
 use Rattle.cfb_rules.specs.StreamCalls.{StreamSetting, StreamState, StreamCall, set_len, StreamReply, StreamStep}
 use Rattle.cfb_rules.specs.Runs.{Setting, TreeState, Causes, BlamesOneOf, MayBlame, MayBreak, HasCause, OnFailed, FollowsRules, IsBroken, CallRuns, Work, no_work, reading, moving, writing_out, taking, resizing, work_of, CalmWorkMayBreak, PendingWorkMayBreak, WorkMayBreak, StreamRun, StreamOnFailed, IsStreamBroken, StreamCallRuns, Closes}
-use Rattle.cfb_rules.specs.Lists.{Opening, Command, by_path, on_stream, CommandReply, replied, streamed, opening_call, FileView, causes_between, IsTooLongCall, stream_causes_between, names_at, CallSteps, stream_in, StreamCallSteps, StreamCallsStep, ClosingSteps, StreamedSteps, CommandSteps, IsLegalRun, tree_alone, reply_blame, stream_reply_blame, stream_replies_blame, closing_blame, command_blame, blame_in}
+use Rattle.cfb_rules.specs.Lists.{Opening, Command, by_path, on_stream, CommandReply, replied, streamed, opening_call, FileView, causes_between, IsTooLongCall, stream_causes_between, names_at, CallStep, stream_in, StreamCallStep, StreamCallsRun, ClosingStep, StreamedRun, CommandRuns, IsLegalRun, tree_alone, reply_blame, stream_reply_blame, stream_replies_blame, closing_blame, command_blame, blame_in}
 use Rattle.cfb_rules.specs.Laws.{MediumIsBlamedAsItFailed, CalmMediumIsNotBlamed, RoomIsNotBlamed, TreesOfRunsAreLegal}
 use Rattle.cfb_rules.proofs.Blaming.{blamed_by, Blames, call_blames, stream_call_blames, closing_blames}
 
@@ -19,15 +19,15 @@ module _ {S : Type 0} (seen : S → FileView) (setting : Setting) (b : Bool) (Su
   pub record Summing : Type 0 where
     pub none : (s : S) → Sums s s 0
     pub join : (s t u : S) (k l : ℕ) → Sums s t k → Sums t u l → Sums s u (k + l)
-    pub call : (old new : S) (call : Call) (reply : Reply) → CallSteps seen setting old call reply new → Sums old new (reply_blame (blamed_by b) reply)
+    pub call : (old new : S) (call : Call) (reply : Reply) → CallStep seen setting old call reply new → Sums old new (reply_blame (blamed_by b) reply)
     pub stream_call : (names : List (List ℕ)) (s t : StreamState) (old new : S) (call : StreamCall) (reply : StreamReply)
-        → StreamCallSteps seen setting names s old call reply t new → Sums old new (stream_reply_blame (blamed_by b) reply)
+        → StreamCallStep seen setting names s old call reply t new → Sums old new (stream_reply_blame (blamed_by b) reply)
     pub closing : (path : List ℕ) (tree : Tree) (s : StreamState) (old new : S) (closing : Option Refusal)
-        → ClosingSteps seen setting path tree s old closing new → Sums old new (closing_blame (blamed_by b) closing)
+        → ClosingStep seen setting path tree s old closing new → Sums old new (closing_blame (blamed_by b) closing)
 
   module _ (m : Summing) where
     calls_sum : (names : List (List ℕ)) (calls : List StreamCall) (replies : List StreamReply) (s t : StreamState) (old new : S)
-        → StreamCallsStep seen setting names s old calls replies t new → Sums old new (stream_replies_blame (blamed_by b) replies)
+        → StreamCallsRun seen setting names s old calls replies t new → Sums old new (stream_replies_blame (blamed_by b) replies)
     calls_sum names [] [] s t old new h = subst (λ (u : S). Sums old u 0) (sym h.1) (m.none old)
     calls_sum names [] (reply ∷ replies) s t old new h = elim h [ ]
     calls_sum names (call ∷ calls) [] s t old new h = elim h [ ]
@@ -36,7 +36,7 @@ module _ {S : Type 0} (seen : S → FileView) (setting : Setting) (b : Bool) (Su
         (m.stream_call names s middle old between call reply step) (calls_sum names calls replies middle t between new rest)
 
     streamed_sum : (old new : S) (how : Opening) (path : List ℕ) (calls : List StreamCall) (replies : List StreamReply) (closing : Option Refusal)
-        → StreamedSteps seen setting old how path calls replies closing new → Sums old new (stream_replies_blame (blamed_by b) replies + closing_blame (blamed_by b) closing)
+        → StreamedRun seen setting old how path calls replies closing new → Sums old new (stream_replies_blame (blamed_by b) replies + closing_blame (blamed_by b) closing)
     streamed_sum old new how path calls replies closing h =
         let first : Sums old h.opened 0 = m.call old h.opened (opening_call how path) done h.opening in
         let works = calls_sum (names_at path) calls replies _ h.stream h.opened h.worked h.works in
@@ -48,7 +48,7 @@ module _ {S : Type 0} (seen : S → FileView) (setting : Setting) (b : Bool) (Su
         zero_plus : (k : ℕ) → 0 + k ≡ k
         zero_plus k = omega arith
 
-    command_sum : (old new : S) (command : Command) (reply : CommandReply) → CommandSteps seen setting old command reply new → Sums old new (command_blame (blamed_by b) reply)
+    command_sum : (old new : S) (command : Command) (reply : CommandReply) → CommandRuns seen setting old command reply new → Sums old new (command_blame (blamed_by b) reply)
     command_sum old new (by_path call) (replied reply) h = m.call old new call reply h
     command_sum old new (by_path call) (streamed replies closing) h = elim h [ ]
     command_sum old new (on_stream how path calls) (replied reply) h = m.call old new (opening_call how path) reply h.1
@@ -255,7 +255,7 @@ at_top : Rises (2 ^ 64 - 1) (2 ^ 64 - 1)
 at_top = record { no_less = lit≤ tt; more = lit≤ tt }
 
 module _ {S : Type 0} (seen : S → FileView) (setting : Setting) where
-  tree_call : (old new : S) (call : Call) (reply : Reply) → CallSteps seen setting old call reply new → CallSteps tree_alone setting (seen old).state call reply (seen new).state
+  tree_call : (old new : S) (call : Call) (reply : Reply) → CallStep seen setting old call reply new → CallStep tree_alone setting (seen old).state call reply (seen new).state
   tree_call old new call reply h = record {
     runs = call_weaker (causes_between (seen old) (seen new)) (causes_between (tree_alone (seen old).state) (tree_alone (seen new).state)) (λ x. at_top) (λ x. tt)
         setting (seen old).state (seen new).state call reply h.runs;
@@ -263,7 +263,7 @@ module _ {S : Type 0} (seen : S → FileView) (setting : Setting) where
   }
 
   tree_stream_call : (names : List (List ℕ)) (s t : StreamState) (old new : S) (call : StreamCall) (reply : StreamReply)
-      → StreamCallSteps seen setting names s old call reply t new → StreamCallSteps tree_alone setting names s (seen old).state call reply t (seen new).state
+      → StreamCallStep seen setting names s old call reply t new → StreamCallStep tree_alone setting names s (seen old).state call reply t (seen new).state
   tree_stream_call names s t old new call reply h = record {
     runs = stream_call_weaker (stream_causes_between names call (seen old) (seen new)) (stream_causes_between names call (tree_alone (seen old).state) (tree_alone (seen new).state))
         (λ x. at_top) (λ x. inl tt) setting.stream (stream_in seen setting s old) (stream_in seen setting t new) call reply h.runs;
@@ -271,7 +271,7 @@ module _ {S : Type 0} (seen : S → FileView) (setting : Setting) where
   }
 
   tree_stream_calls : (names : List (List ℕ)) (calls : List StreamCall) (replies : List StreamReply) (s t : StreamState) (old new : S)
-      → StreamCallsStep seen setting names s old calls replies t new → StreamCallsStep tree_alone setting names s (seen old).state calls replies t (seen new).state
+      → StreamCallsRun seen setting names s old calls replies t new → StreamCallsRun tree_alone setting names s (seen old).state calls replies t (seen new).state
   tree_stream_calls names [] [] s t old new h = (h.0, ap (λ (u : S). (seen u).state) h.1)
   tree_stream_calls names [] (reply ∷ replies) s t old new h = h
   tree_stream_calls names (call ∷ calls) [] s t old new h = h
@@ -279,7 +279,7 @@ module _ {S : Type 0} (seen : S → FileView) (setting : Setting) where
       (middle, (seen between).state, tree_stream_call names s middle old between call reply step, tree_stream_calls names calls replies middle t between new rest)
 
   tree_closing : (path : List ℕ) (tree : Tree) (s : StreamState) (old new : S) (closing : Option Refusal)
-      → ClosingSteps seen setting path tree s old closing new → ClosingSteps tree_alone setting path tree s (seen old).state closing (seen new).state
+      → ClosingStep seen setting path tree s old closing new → ClosingStep tree_alone setting path tree s (seen old).state closing (seen new).state
   tree_closing path tree s old new closing h = record {
     closes = closing_weaker (causes_between (seen old) (seen new)) (causes_between (tree_alone (seen old).state) (tree_alone (seen new).state)) (λ x. at_top) (λ x. tt)
         (stream_in seen setting s old) closing (seen new).state.failed h.closes;
@@ -287,8 +287,8 @@ module _ {S : Type 0} (seen : S → FileView) (setting : Setting) where
     counted = lit≤ tt;
   }
 
-  tree_command : (old new : S) (command : Command) (reply : CommandReply) → CommandSteps seen setting old command reply new
-      → CommandSteps tree_alone setting (seen old).state command reply (seen new).state
+  tree_command : (old new : S) (command : Command) (reply : CommandReply) → CommandRuns seen setting old command reply new
+      → CommandRuns tree_alone setting (seen old).state command reply (seen new).state
   tree_command old new (by_path call) (replied reply) h = tree_call old new call reply h
   tree_command old new (by_path call) (streamed replies closing) h = h
   tree_command old new (on_stream how path calls) (replied reply) h = (h.0, tree_call old new (opening_call how path) reply h.1)

@@ -1,4 +1,4 @@
--- Lists of commands: chains of single steps over the states of a file, in which each refusal has its cause.
+-- Lists of commands: single steps between the states of a file, one after the other, in which each refusal has its cause.
 use Rattle.std.specs.Prelude.{ℕ, ◌+◌, ◌-◌, ◌^◌, ◌≡◌, ◌≤◌, ◌⊎◌, List, [], ◌∷◌, Option, Some, None, unwrap_or, if◌then◌else◌, ◌==◌, ⊤}
 use Rattle.cfb_format.specs.Medium.{Rises}
 use Rattle.cfb_format.specs.Path.{names_of_path}
@@ -68,7 +68,7 @@ names_at path = unwrap_or (names_of_path path) []
 
 module _ {S : Type 0} (seen : S → FileView) (setting : Setting) where
   -- one call by path
-  pub record CallSteps (old : S) (call : Call) (reply : Reply) (new : S) : Type 0 where
+  pub record CallStep (old : S) (call : Call) (reply : Reply) (new : S) : Type 0 where
     pub runs : CallRuns (causes_between (seen old) (seen new)) setting (seen old).state call reply (seen new).state
     pub counted : (seen old).failures ≤ (seen new).failures
 
@@ -77,41 +77,41 @@ module _ {S : Type 0} (seen : S → FileView) (setting : Setting) where
   stream_in stream file = record { stream = stream; failed = (seen file).state.failed }
 
   -- one call on the stream at these names
-  pub record StreamCallSteps (names : List (List ℕ)) (old : StreamState) (file : S) (call : StreamCall) (reply : StreamReply) (new : StreamState) (file' : S) : Type 0 where
+  pub record StreamCallStep (names : List (List ℕ)) (old : StreamState) (file : S) (call : StreamCall) (reply : StreamReply) (new : StreamState) (file' : S) : Type 0 where
     pub runs : StreamCallRuns (stream_causes_between names call (seen file) (seen file')) setting.stream (stream_in old file) call reply (stream_in new file')
     pub counted : (seen file).failures ≤ (seen file').failures
 
   -- one after the other
-  abbrev pub StreamCallsStep : List (List ℕ) → StreamState → S → List StreamCall → List StreamReply → StreamState → S → Type 0
-  StreamCallsStep names old file [] [] new file' = (new ≡ old) × (file' ≡ file)
-  StreamCallsStep names old file [] (reply ∷ replies) new file' = ⊥
-  StreamCallsStep names old file (call ∷ calls) [] new file' = ⊥
-  StreamCallsStep names old file (call ∷ calls) (reply ∷ replies) new file' =
-      (middle : StreamState) × (between : S) × StreamCallSteps names old file call reply middle between
-      × StreamCallsStep names middle between calls replies new file'
+  abbrev pub StreamCallsRun : List (List ℕ) → StreamState → S → List StreamCall → List StreamReply → StreamState → S → Type 0
+  StreamCallsRun names old file [] [] new file' = (new ≡ old) × (file' ≡ file)
+  StreamCallsRun names old file [] (reply ∷ replies) new file' = ⊥
+  StreamCallsRun names old file (call ∷ calls) [] new file' = ⊥
+  StreamCallsRun names old file (call ∷ calls) (reply ∷ replies) new file' =
+      (middle : StreamState) × (between : S) × StreamCallStep names old file call reply middle between
+      × StreamCallsRun names middle between calls replies new file'
 
   -- the closing of a stream that was opened in a file with this tree
-  pub record ClosingSteps (path : List ℕ) (tree : Tree) (stream : StreamState) (old : S) (closing : Option Refusal) (new : S) : Type 0 where
+  pub record ClosingStep (path : List ℕ) (tree : Tree) (stream : StreamState) (old : S) (closing : Option Refusal) (new : S) : Type 0 where
     pub closes : Closes (causes_between (seen old) (seen new)) (stream_in stream old) closing (seen new).state.failed
     pub closed : ClosedTree setting tree path stream (seen new).state
     pub counted : (seen old).failures ≤ (seen new).failures
 
   -- an opening that succeeds, the operations in their order, refused or not, and the closing
-  pub record StreamedSteps (old : S) (how : Opening) (path : List ℕ) (calls : List StreamCall) (replies : List StreamReply) (closing : Option Refusal) (new : S) : Type 0 where
+  pub record StreamedRun (old : S) (how : Opening) (path : List ℕ) (calls : List StreamCall) (replies : List StreamReply) (closing : Option Refusal) (new : S) : Type 0 where
     pub opened : S
-    pub opening : CallSteps old (opening_call how path) done opened
+    pub opening : CallStep old (opening_call how path) done opened
     pub stream : StreamState
     pub worked : S
-    pub works : StreamCallsStep (names_at path) (opened_by_path setting.cases (seen opened).state.tree path) opened calls replies stream worked
-    pub closes : ClosingSteps path (seen opened).state.tree stream worked closing new
+    pub works : StreamCallsRun (names_at path) (opened_by_path setting.cases (seen opened).state.tree path) opened calls replies stream worked
+    pub closes : ClosingStep path (seen opened).state.tree stream worked closing new
 
   -- one command
-  abbrev pub CommandSteps : S → Command → CommandReply → S → Type 0
-  CommandSteps old (by_path call) (replied reply) new = CallSteps old call reply new
-  CommandSteps old (by_path call) (streamed replies closing) new = ⊥
-  CommandSteps old (on_stream how path calls) (replied reply) new =
-      ((refusal : Refusal) × (reply ≡ refused refusal)) × CallSteps old (opening_call how path) reply new
-  CommandSteps old (on_stream how path calls) (streamed replies closing) new = StreamedSteps old how path calls replies closing new
+  abbrev pub CommandRuns : S → Command → CommandReply → S → Type 0
+  CommandRuns old (by_path call) (replied reply) new = CallStep old call reply new
+  CommandRuns old (by_path call) (streamed replies closing) new = ⊥
+  CommandRuns old (on_stream how path calls) (replied reply) new =
+      ((refusal : Refusal) × (reply ≡ refused refusal)) × CallStep old (opening_call how path) reply new
+  CommandRuns old (on_stream how path calls) (streamed replies closing) new = StreamedRun old how path calls replies closing new
 
   -- the replies to a list of commands, and what they make of the file
   abbrev pub IsLegalRun : S → List Command → List CommandReply → S → Type 0
@@ -119,7 +119,7 @@ module _ {S : Type 0} (seen : S → FileView) (setting : Setting) where
   IsLegalRun old [] (reply ∷ replies) new = ⊥
   IsLegalRun old (command ∷ commands) [] new = ⊥
   IsLegalRun old (command ∷ commands) (reply ∷ replies) new =
-      (middle : S) × CommandSteps old command reply middle × IsLegalRun middle commands replies new
+      (middle : S) × CommandRuns old command reply middle × IsLegalRun middle commands replies new
 
 -- ---- of trees alone
 
