@@ -22,21 +22,33 @@ use cfb_format::version::Version;
 use std::alloc::{Allocator, Global};
 use uuid::Uuid;
 
-/// An entry of the directory.
+/// An entry of the directory (MS-CFB 2.6.1). A field that no object of its kind has is 0.
 #[derive(Debug, Drop)]
 pub struct DirEntry<A: Allocator = Global> {
+    /// The name, of at most 31 UTF-16 units. The root's is `ROOT_DIR_NAME`.
     pub name: String<A>,
+    /// What the entry stands for.
     pub obj_type: ObjType,
+    /// The colour of its node in the tree of its siblings (MS-CFB 2.6.4).
     pub color: Color,
-    /// The entry's number of the left sibling, or `NO_STREAM`; likewise the next two.
+    /// The number of the entry that hangs to its left there, or `NO_STREAM`.
     pub left_sibling: u32,
+    /// The number of the entry that hangs to its right there, or `NO_STREAM`.
     pub right_sibling: u32,
+    /// The number of the entry at the top of the tree of its children, or `NO_STREAM`.
     pub child: u32,
+    /// The class id of a storage or the root.
     pub clsid: Uuid,
+    /// Bits that a program may set as it likes.
     pub state_bits: u32,
+    /// When a storage was made.
     pub creation_time: Timestamp,
+    /// When a storage was changed last.
     pub modified_time: Timestamp,
+    /// The number of a stream's first sector, or of its first mini sector where it is shorter than
+    /// `MINI_STREAM_CUTOFF`; of the root, the first sector of the mini stream (MS-CFB 2.6.3).
     pub start_sector: u32,
+    /// The length of a stream, in bytes; of the root, the length of the mini stream.
     pub stream_len: u64,
 }
 
@@ -141,10 +153,7 @@ impl<A: Allocator> DirEntry<A> {
         if validation.is_strict() && details != stored {
             return Err(malformed("directory entry with a field that is not of its type"));
         }
-        let name = match read_name(alloc, slot, obj_type, validation) {
-            Ok(name) => name,
-            Err(error) => return Err(error),
-        };
+        let name = read_name(alloc, slot, obj_type, validation)?;
         Ok(DirEntry {
             name,
             obj_type,
@@ -299,10 +308,7 @@ fn read_name<A: Allocator>(
     ensures short { IfOk result (λ name. length (utf16_units (chars (string_bytes name))) ≤ max_name_len) }
     ensures refused { IfErr result (IsInvalidOrMemory ((name : List ℕ) → AcceptsName validation kind slot.now name → ⊥)) }
 {
-    let stored = match stored_text(alloc, slot) {
-        Ok(stored) => stored,
-        Err(error) => return Err(error),
-    };
+    let stored = stored_text(alloc, slot)?;
     if validation.is_strict() && !has_terminator(slot) {
         return Err(malformed("directory entry whose name does not end"));
     }

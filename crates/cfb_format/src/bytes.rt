@@ -1,8 +1,8 @@
 //! Little-endian numbers in bytes.
-ghost use Rattle.std.specs.Prelude.{◌≡◌, ◌+◌, ◌*◌, ◌≤◌, ◌++◌, length, take, drop, replicate};
+ghost use Rattle.std.specs.Prelude.{◌≡◌, ◌+◌, ◌*◌, ◌≤◌, ◌++◌, length, take, drop};
 ghost use Rattle.cfb_format.specs.Bytes.{unit_at, word_at, word_bytes, unit_bytes};
 
-/// The number of the 2 bytes at `at`.
+/// The little-endian number of the 2 bytes at `at` (MS-CFB 2.1).
 #[tactic(auto, unfolding(crate::specs::Bytes::unit_at))]
 pub fn u16_at(bytes: &[u8], at: usize) -> u16
     requires { at + 2 ≤ length bytes.now }
@@ -11,7 +11,7 @@ pub fn u16_at(bytes: &[u8], at: usize) -> u16
     u16::from_le_bytes([bytes[at], bytes[at + 1]])
 }
 
-/// The number of the 4 bytes at `at`.
+/// The little-endian number of the 4 bytes at `at` (MS-CFB 2.1).
 #[tactic(auto, unfolding(crate::specs::Bytes::word_at))]
 pub fn u32_at(bytes: &[u8], at: usize) -> u32
     requires { at + 4 ≤ length bytes.now }
@@ -20,7 +20,7 @@ pub fn u32_at(bytes: &[u8], at: usize) -> u32
     u32::from_le_bytes([bytes[at], bytes[at + 1], bytes[at + 2], bytes[at + 3]])
 }
 
-/// Puts `from` at `at`, and answers the place behind it.
+/// Puts `from` at `at`, and answers the place behind it. All other bytes stay.
 pub fn put(into: &mut [u8], at: usize, from: &[u8]) -> usize
     requires { at + length from.now ≤ length into.old }
     ensures end { result ≡ at + length from.now }
@@ -32,7 +32,8 @@ pub fn put(into: &mut [u8], at: usize, from: &[u8]) -> usize
     end
 }
 
-/// Puts numbers of 2 bytes at `at`, and answers the place behind them.
+/// Puts little-endian numbers of 2 bytes at `at`, and answers the place behind them. All other
+/// bytes stay.
 pub fn put_units(into: &mut [u8], at: usize, units: &[u16]) -> usize
     requires { at + 2 * length units.now ≤ length into.old }
     ensures end { result ≡ at + 2 * length units.now }
@@ -46,7 +47,8 @@ pub fn put_units(into: &mut [u8], at: usize, units: &[u16]) -> usize
     end
 }
 
-/// Puts numbers of 4 bytes at `at`, and answers the place behind them.
+/// Puts little-endian numbers of 4 bytes at `at`, and answers the place behind them. All other
+/// bytes stay.
 pub fn put_words(into: &mut [u8], at: usize, words: &[u32]) -> usize
     requires { at + 4 * length words.now ≤ length into.old }
     ensures end { result ≡ at + 4 * length words.now }

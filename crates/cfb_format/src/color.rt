@@ -7,7 +7,9 @@ use crate::consts;
 /// The colour of a node in a sibling tree.
 #[derive(Clone, Copy, Debug, PartialEq, Eq)]
 pub enum Color {
+    /// A red node, which has no red child.
     Red,
+    /// A black node.
     Black,
 }
 

@@ -15,14 +15,15 @@ pub const DIR_ENTRY_LEN: usize = 128;
 pub const NUM_DIFAT_ENTRIES_IN_HEADER: usize = 109;
 
 // The header's fixed fields (MS-CFB 2.2).
+/// The header signature: the first 8 bytes of a file.
 pub const MAGIC_NUMBER: [u8; 8] = [0xd0, 0xcf, 0x11, 0xe0, 0xa1, 0xb1, 0x1a, 0xe1];
-
+/// The minor version that is written. It is not looked at when a header is read.
 pub const MINOR_VERSION: u16 = 0x3e;
-
+/// Says that numbers are little-endian.
 pub const BYTE_ORDER_MARK: u16 = 0xfffe;
-
+/// The power of 2 that the length of a mini sector is.
 pub const MINI_SECTOR_SHIFT: u16 = 6;
-/// The length of a mini sector, in bytes.
+/// The length of a mini sector, in bytes (MS-CFB 2.4).
 pub const MINI_SECTOR_LEN: usize = 64;
 /// The length, in bytes, from which on a stream lies in sectors and no more in mini sectors.
 pub const MINI_STREAM_CUTOFF: u32 = 4096;
@@ -30,30 +31,31 @@ pub const MINI_STREAM_CUTOFF: u32 = 4096;
 // What stands in a table in place of a sector's number (MS-CFB 2.1).
 /// The greatest number that a sector may have.
 pub const MAX_REGULAR_SECTOR: u32 = 0xffff_fffa;
-
+/// Reserved: it is neither a sector's number nor a mark.
 pub const INVALID_SECTOR: u32 = 0xffff_fffb;
-
+/// Marks a sector that holds entries of the DIFAT (MS-CFB 2.5).
 pub const DIFAT_SECTOR: u32 = 0xffff_fffc;
-
+/// Marks a sector that holds words of the FAT (MS-CFB 2.3).
 pub const FAT_SECTOR: u32 = 0xffff_fffd;
-
+/// Marks the last sector of a chain.
 pub const END_OF_CHAIN: u32 = 0xffff_fffe;
-
+/// Marks a sector that is not used.
 pub const FREE_SECTOR: u32 = 0xffff_ffff;
 
 // The fields of a directory entry (MS-CFB 2.6.1).
+/// The name of the root's entry (MS-CFB 2.6.2).
 pub const ROOT_DIR_NAME: &str = "Root Entry";
-
+/// The type of an entry that is not used.
 pub const OBJ_TYPE_UNALLOCATED: u8 = 0;
-
+/// The type of a storage.
 pub const OBJ_TYPE_STORAGE: u8 = 1;
-
+/// The type of a stream.
 pub const OBJ_TYPE_STREAM: u8 = 2;
-
+/// The type of the root storage.
 pub const OBJ_TYPE_ROOT: u8 = 5;
-
+/// The colour of a red node.
 pub const COLOR_RED: u8 = 0;
-
+/// The colour of a black node.
 pub const COLOR_BLACK: u8 = 1;
 /// The number of the root's entry.
 pub const ROOT_STREAM_ID: u32 = 0;
@@ -67,12 +69,13 @@ pub const NO_STREAM: u32 = 0xffff_ffff;
 pub enum Run {
     /// So many free sectors.
     Free(u32),
+    /// The end of a chain.
     End,
     /// So many sectors of the FAT.
     Fat(u32),
     /// So many sectors of the DIFAT.
     Difat(u32),
-    /// A number, and so many more that follow it in order.
+    /// A number, and so many more that follow it in order. The last one stays below the marks.
     Numbers(u32, u32),
 }
 

@@ -130,7 +130,7 @@ impl From<MediumFault> for Error {
 }
 
 impl Error {
-    /// The number of the kind, from 1 on.
+    /// The number of the kind, from 1 to 10.
     pub fn number(&self) -> u8
         ensures { result ≡ number_of self.now }
     {

@@ -1,5 +1,5 @@
 //! The header (MS-CFB 2.2).
-ghost use Rattle.std.specs.Prelude.{◌≡◌, ◌↔◌, ◌-◌, ◌++◌, ℕ, true, length, take, replicate, IsTrue, IfOk, IfErr, IfSome, IfNone};
+ghost use Rattle.std.specs.Prelude.{◌≡◌, ◌↔◌, ◌-◌, true, length, take, IsTrue, IfOk, IfErr, IfSome, IfNone};
 ghost use Rattle.std.specs.List.{list_all};
 ghost use Rattle.cfb_format.specs.declared.version.Version.{Version as VersionOf};
 ghost use Rattle.cfb_format.specs.Bytes.{is_regular};
@@ -14,19 +14,26 @@ use crate::validate::Validation;
 use crate::version::Version;
 use std::fmt;
 
-/// The fields of a header.
+/// The fields of a header (MS-CFB 2.2).
 #[derive(Clone, Copy, PartialEq, Eq)]
 pub struct Header {
+    /// The major version, which fixes the length of a sector.
     pub version: Version,
-    /// The number of directory sectors; 0 in version 3.
+    /// How many directory sectors there are; 0 in version 3, which does not count them.
     pub num_dir_sectors: u32,
+    /// How many FAT sectors there are (MS-CFB 2.3).
     pub num_fat_sectors: u32,
+    /// The number of the directory's first sector (MS-CFB 2.6).
     pub first_dir_sector: u32,
+    /// The number of the MiniFAT's first sector, or `END_OF_CHAIN` (MS-CFB 2.4).
     pub first_minifat_sector: u32,
+    /// How many MiniFAT sectors there are.
     pub num_minifat_sectors: u32,
+    /// The number of the first DIFAT sector, or `END_OF_CHAIN` (MS-CFB 2.5).
     pub first_difat_sector: u32,
+    /// How many DIFAT sectors there are.
     pub num_difat_sectors: u32,
-    /// The first entries of the DIFAT, and FREE after the last one.
+    /// The first entries of the DIFAT: numbers of FAT sectors, and `FREE_SECTOR` after the last.
     pub initial_difat_entries: [u32; consts::NUM_DIFAT_ENTRIES_IN_HEADER],
 }
 
@@ -62,8 +69,8 @@ impl Header {
     ghost use Rattle.cfb_format.specs.declared.header.Header.{Header as HeaderOf};
     ghost use Rattle.cfb_format.specs.Header.{AcceptsHeader, header_words, header_bytes};
 
-    /// The header that these bytes hold. `InvalidData` where they hold none, or where opening is
-    /// strict and the bytes of version 3 count directory sectors. Reserved bytes, the minor
+    /// The header that these bytes hold (MS-CFB 2.2). `InvalidData` exactly where they hold none,
+    /// or where opening is strict and the bytes of version 3 count directory sectors. Reserved bytes, the minor
     /// version and the transaction signature are not looked at.
     pub fn read_from(
         bytes: &[u8; consts::HEADER_LEN],
@@ -96,7 +103,7 @@ impl Header {
         })
     }
 
-    /// Writes the header. A valid one is read back as it was written.
+    /// Writes the header as its 512 bytes (MS-CFB 2.2). A valid one is read back as it was written.
     pub fn write_to(&self, into: &mut [u8; consts::HEADER_LEN])
         ensures { into.new ≡ header_bytes self.now }
     {
@@ -148,7 +155,7 @@ fn version_units(version: Version) -> [u16; 5]
 fn has_magic(bytes: &[u8; consts::HEADER_LEN]) -> bool
     ensures { IsTrue result ↔ (take 8 bytes.now ≡ magic_number) }
 {
-    bytes[..8] == [0xd0, 0xcf, 0x11, 0xe0, 0xa1, 0xb1, 0x1a, 0xe1]
+    bytes[..8] == consts::MAGIC_NUMBER[..]
 }
 
 fn has_fixed_fields(bytes: &[u8; consts::HEADER_LEN], version: Version) -> bool

@@ -10,8 +10,11 @@ pub enum MediumFault {
     Open,
     /// It did not tell its length.
     Length,
+    /// It did not read.
     Read,
+    /// It did not write.
     Write,
+    /// It did not hand on what was written.
     Flush,
     /// It served no byte, though it was asked for one and one lies there.
     Stuck,

@@ -1,6 +1,6 @@
 //! A medium in memory.
 ghost use Rattle.std.specs.Prelude.{◌≡◌, ◌+◌, ◌-◌, ◌<◌, ◌≤◌, min, true, false, [], IsOk, IfOk, OnOk, OnErr, MatchResult, IsOkAnd, length};
-ghost use Rattle.cfb_format.specs.Medium.{FailsBy, ReadsAt, WritesAt, FailsToWriteAt, written};
+ghost use Rattle.cfb_format.specs.Medium.{ReadsAt, WritesAt, FailsToWriteAt, written};
 ghost use Rattle.cfb_format.specs.Memory.{is_refused_growth};
 
 use crate::medium::{Medium, MediumFault, ReadMedium};

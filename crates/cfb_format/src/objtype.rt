@@ -9,7 +9,9 @@ use crate::consts;
 pub enum ObjType {
     /// Nothing: the entry is not used.
     Unallocated,
+    /// A storage: it holds storages and streams.
     Storage,
+    /// A stream: it holds bytes.
     Stream,
     /// The root storage, which also holds the mini stream.
     Root,

@@ -4,7 +4,8 @@ ghost use Rattle.cfb_format.specs.Medium.{part, written, ChangesOnlyBytes, Fails
 
 use crate::medium::{Medium, MediumFault, ReadMedium};
 
-/// Fills `into` with the bytes from `at` on, by as many reads as it takes.
+/// Fills `into` with the bytes from byte `at` on, by as many reads as it takes. It answers the fault
+/// of the first read that fails, `Stuck` where one serves no byte.
 #[tactic(auto, using(crate::proofs::ByteLemmas::served_more))]
 pub fn read_exact_at<F: ReadMedium>(
     medium: &mut F,
@@ -29,7 +30,8 @@ pub fn read_exact_at<F: ReadMedium>(
     Ok(())
 }
 
-/// Writes all of `from` at `at`, by as many writes as it takes.
+/// Writes all of `from` at byte `at`, by as many writes as it takes. It answers the fault of the
+/// first write that fails, `Stuck` where one takes no byte; bytes out of that range stay then too.
 #[tactic(auto, using(crate::proofs::ByteLemmas::write_steps))]
 pub fn write_all_at<F: Medium>(medium: &mut F, at: u64, from: &[u8]) -> Result<(), MediumFault>
     requires fits { at + length from.now < 2 ^ 64 }
@@ -50,7 +52,7 @@ pub fn write_all_at<F: Medium>(medium: &mut F, at: u64, from: &[u8]) -> Result<(
     Ok(())
 }
 
-/// Writes `len` zeros at `at`, at most 4096.
+/// Writes `len` zeros at byte `at`, at most 4096, as `write_all_at` does.
 #[tactic(auto, using(crate::proofs::ByteLemmas::zeros))]
 pub fn write_zeros_at<F: Medium>(medium: &mut F, at: u64, len: usize) -> Result<(), MediumFault>
     requires some { 0 < len }

@@ -35,7 +35,7 @@ impl Version {
         }
     }
 
-    /// The power of 2 that the length of a sector is.
+    /// The power of 2 that the length of a sector in bytes is (MS-CFB 2.2).
     pub fn sector_shift(self) -> u16
         ensures { result ≡ sector_shift self }
     {
@@ -45,7 +45,7 @@ impl Version {
         }
     }
 
-    /// The length of a sector, in bytes.
+    /// The length of a sector, in bytes (MS-CFB 2.1).
     pub fn sector_len(self) -> usize
         ensures { result ≡ sector_len self }
     {
@@ -56,7 +56,7 @@ impl Version {
     }
 
     /// The bits of a directory entry's length that count, and so also the greatest length of a
-    /// stream, in bytes.
+    /// stream, in bytes (MS-CFB 2.6.3).
     pub fn stream_len_mask(self) -> u64
         ensures { result ≡ max_stream_len self }
     {
@@ -66,7 +66,7 @@ impl Version {
         }
     }
 
-    /// How many directory entries a sector holds.
+    /// How many directory entries a sector holds (MS-CFB 2.6).
     pub fn dir_entries_per_sector(self) -> usize
         ensures { result ≡ entries_per_sector self }
     {
