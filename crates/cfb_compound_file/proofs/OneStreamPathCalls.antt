@@ -51,13 +51,13 @@ pub refused-run : (causes : Causes) (setting : Setting) (tree : Tree) (call : Ca
 refused-run causes setting tree call refusal true e is = cc
 refused-run causes setting tree call refusal false e is =
     inl (
-      record {
-        step = subst (λ o. MatchOption (option_map_or (λ r. Some r) o (unsound_refusal setting.stream.sound call))
-            ((refused refusal ≡ reply_of setting.cases 0 tree call) × (tree ≡ tree_after setting.cases call tree))
-            (λ r. (refused refusal ≡ refused r) × (tree ≡ tree))) (sym is) (refl, refl);
-        root_len = inr refl;
-        unfailed = refl;
-      }
+    record {
+      step = subst (λ o. MatchOption (option_map_or (λ r. Some r) o (unsound_refusal setting.stream.sound call))
+          ((refused refusal ≡ reply_of setting.cases 0 tree call) × (tree ≡ tree_after setting.cases call tree))
+          (λ r. (refused refusal ≡ refused r) × (tree ≡ tree))) (sym is) (refl, refl);
+      root_len = inr refl;
+      unfailed = refl;
+    }
     )
 
 -- done
@@ -68,14 +68,14 @@ pub done-run : (causes : Causes) (setting : Setting) (tree after : Tree) (call :
 done-run causes setting tree after call reply true c e f none sound answer is = cc
 done-run causes setting tree after call reply false c e f none sound answer is =
     inl (
-      record {
-        step = subst (λ o. MatchOption o
-            ((reply ≡ reply_of setting.cases 0 tree call) × (after ≡ tree_after setting.cases call tree))
-            (λ r. (reply ≡ refused r) × (after ≡ tree)))
-            (sym (ap (λ o. option_map_or (λ r. Some r) o (unsound_refusal setting.stream.sound call)) none ∙ sound)) (answer, is);
-        root_len = inr refl;
-        unfailed = f;
-      }
+    record {
+      step = subst (λ o. MatchOption o
+          ((reply ≡ reply_of setting.cases 0 tree call) × (after ≡ tree_after setting.cases call tree))
+          (λ r. (reply ≡ refused r) × (after ≡ tree)))
+          (sym (ap (λ o. option_map_or (λ r. Some r) o (unsound_refusal setting.stream.sound call)) none ∙ sound)) (answer, is);
+      root_len = inr refl;
+      unfailed = f;
+    }
     )
 
 -- ---- opening
