@@ -1,20 +1,10 @@
-//! Vectors, and tests that cross the crates.
+//! Whole reads and writes with their contracts, and the tests of compound files.
 #![tactic(auto)]
 
 #[cfg(test)]
-mod empty_files;
+mod files;
 #[cfg(test)]
-mod one_stream;
+mod streams;
 #[cfg(test)]
-mod refusals;
-#[cfg(test)]
-mod reopened;
-#[cfg(test)]
-mod stream_failures;
-#[cfg(test)]
-mod tests;
-#[cfg(test)]
-mod texts;
-#[cfg(test)]
-mod vectors;
+mod support;
 pub mod whole;

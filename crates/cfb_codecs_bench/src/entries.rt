@@ -1,0 +1,209 @@
+//! Directory entries: what is written of new ones, what is read of slots, and which slots each mode
+//! takes.
+use crate::bytes::{Parts, with};
+use cfb_codecs::direntry::DirEntry;
+use cfb_codecs::path;
+use cfb_codecs::timestamp::Timestamp;
+use cfb_format::color::Color::{self, Black, Red};
+use cfb_format::consts::{DIR_ENTRY_LEN, END_OF_CHAIN, NO_STREAM as NONE};
+use cfb_format::objtype::ObjType::{self, Root, Storage, Stream, Unallocated};
+use cfb_format::validate::Validation::{self, Permissive, Strict};
+use cfb_format::version::Version::{self, V3, V4};
+use cfb_media::refusing::Refusing;
+use std::test::Fail;
+use uuid::Uuid;
+
+type Slot = [u8; DIR_ENTRY_LEN];
+
+#[rattlefmt::skip]
+const ROOT: Parts = &[
+    (0, b"R\0o\0o\0t\0 \0E\0n\0t\0r\0y\0"), (64, &[22, 0, 5, 1]), (68, &[0xff; 12]), (116, &[0xfe, 0xff, 0xff, 0xff]),
+];
+
+/// A name of 31 units, two of which are a surrogate pair.
+const LONGEST_NAME: &str = "Ünïcödé-name-of-31-units-😀????";
+
+#[rattlefmt::skip]
+const LONGEST: Parts = &[
+    (
+        0,
+        b"\xdc\0n\0\xef\0c\0\xf6\0d\0\xe9\0-\0n\0a\0m\0e\0-\0o\0f\0-\x003\x001\0-\0u\0n\0i\0t\0s\0-\0=\xd8\0\xde?\0?\0?\0?\0",
+    ),
+    (64, &[64, 0, 2, 1]),
+    (68, &[0xff; 12]),
+    (116, &[0xfe, 0xff, 0xff, 0xff]),
+];
+
+const UNALLOCATED: Parts = &[(0, &[0; 68]), (68, &[0xff; 12])];
+
+/// New entries: name, type and class, and what is written of them over zeros.
+#[rattlefmt::skip]
+const NEW: [(&str, ObjType, u128, Parts); 3] = [
+    (
+        "Foo", Stream, 0,
+        &[(0, b"F\0o\0o\0"), (64, &[8, 0, 2, 1]), (68, &[0xff; 12]), (116, &[0xfe, 0xff, 0xff, 0xff])],
+    ),
+    (
+        "Foo", Storage, 0x00112233_4455_6677_8899_aabbccddeeff,
+        &[
+            (0, b"F\0o\0o\0"), (64, &[8, 0, 1, 1]), (68, &[0xff; 12]),
+            (80, b"\x33\x22\x11\x00\x55\x44\x77\x66\x88\x99\xaa\xbb\xcc\xdd\xee\xff"),
+        ],
+    ),
+    (LONGEST_NAME, Stream, 0, LONGEST),
+];
+
+#[test]
+fn new_entries_are_written(rt: HostRuntime) -> Result<(), Fail> {
+    let mut slot = [0xaa; DIR_ENTRY_LEN];
+    for (name, kind, id, parts) in &NEW {
+        assert!(rt; path::validate_name(rt.alloc(), name)?.len() < 32);
+        let mut entry = DirEntry::new(
+            String::from_str(rt.alloc(), name)?,
+            *kind,
+            Timestamp::zero(),
+        );
+        entry.clsid = Uuid::from_u128(*id);
+        entry.write_to(&mut slot);
+        assert_eq!(rt; slot, with([0; DIR_ENTRY_LEN], parts), "{name}");
+    }
+    DirEntry::empty_root_entry(rt.alloc())?.write_to(&mut slot);
+    assert_eq!(rt; slot, with([0; DIR_ENTRY_LEN], ROOT));
+    // An empty name takes no memory.
+    let heap = Refusing::new(rt.alloc());
+    heap.refuse_all();
+    DirEntry::unallocated(&heap).write_to(&mut slot);
+    assert_eq!(rt; slot, with([0; DIR_ENTRY_LEN], UNALLOCATED));
+    assert_eq!(rt; heap.asked(), 0);
+    Ok(())
+}
+
+/// The slot of a black object `Foobar` with siblings and no child.
+fn foobar(kind: u8) -> Slot {
+    with(
+        [0; DIR_ENTRY_LEN],
+        &[
+            (0, b"F\0o\0o\0b\0a\0r\0"),
+            (64, &[14, 0, kind, 1, 12, 0, 0, 0, 34, 0, 0, 0]),
+            (76, &[0xff; 4]),
+        ],
+    )
+}
+
+type What = (&'static str, ObjType, Color);
+
+/// Name, type and colour; links; class and bits; moments; start and length.
+type Fields = (What, [u32; 3], (u128, u32), [u64; 2], (u32, u64));
+
+/// Type and bytes that are put into `foobar`'s slot, version and mode; what is read then, and what is
+/// written in other bytes again.
+#[rattlefmt::skip]
+const READ: [(u8, Parts, Version, Validation, Fields, Parts); 9] = [
+    (
+        1,
+        &[
+            (76, &[56, 0, 0, 0]), (80, b"\xe0\x85\x9f\xf2\xf9\x4f\x68\x10\xab\x91\x08\x00\x2b\x27\xb3\xd9"),
+            (96, &[239, 190, 173, 222]), (108, &[0, 128, 62, 213, 222, 177, 157, 1]),
+        ],
+        V4, Strict,
+        (
+            ("Foobar", Storage, Black), [12, 34, 56], (0xf29f85e0_4ff9_1068_ab91_08002b27b3d9, 0xdead_beef),
+            [0, 116444736000000000], (0, 0),
+        ),
+        &[],
+    ),
+    (
+        1, &[(80, &[7; 36])], V4, Strict,
+        (
+            ("Foobar", Storage, Black), [12, 34, NONE], (0x07070707_0707_0707_0707_070707070707, 0x0707_0707),
+            [0x0707_0707_0707_0707, 0x0707_0707_0707_0707], (0, 0),
+        ),
+        &[],
+    ),
+    (5, ROOT, V3, Strict, (("Root Entry", Root, Black), [NONE; 3], (0, 0), [0, 0], (END_OF_CHAIN, 0)), &[]),
+    (2, LONGEST, V4, Strict, ((LONGEST_NAME, Stream, Black), [NONE; 3], (0, 0), [0, 0], (END_OF_CHAIN, 0)), &[]),
+    (0, UNALLOCATED, V3, Permissive, (("", Unallocated, Red), [NONE; 3], (0, 0), [0, 0], (0, 0)), &[]),
+    // What a kind may not have is not there.
+    (
+        2, &[(80, &[1; 36])], V4, Permissive,
+        (("Foobar", Stream, Black), [12, 34, NONE], (0, 0x0101_0101), [0, 0], (0, 0)),
+        &[(80, &[0; 16]), (100, &[0; 16])],
+    ),
+    (
+        1, &[(116, &[1; 12])], V4, Permissive,
+        (("Foobar", Storage, Black), [12, 34, NONE], (0, 0), [0, 0], (0, 0)), &[(116, &[0; 12])],
+    ),
+    (
+        5, &[], V4, Permissive, (("Root Entry", Root, Black), [12, 34, NONE], (0, 0), [0, 0], (0, 0)),
+        &[(0, b"R\0o\0o\0t\0 \0E\0n\0t\0r\0y\0"), (64, &[22])],
+    ),
+    // In version 3 a length is its lower half.
+    (
+        2, &[(120, &[1; 8])], V3, Strict,
+        (("Foobar", Stream, Black), [12, 34, NONE], (0, 0), [0, 0], (0, 0x0101_0101)), &[(124, &[0; 4])],
+    ),
+];
+
+#[test]
+fn slots_are_read_and_written_again(rt: HostRuntime) -> Result<(), Fail> {
+    for (kind, parts, version, mode, (what, links, class, moments, content), others) in &READ {
+        let slot = with(foobar(*kind), parts);
+        let e = DirEntry::read_from(rt.alloc(), &slot, *version, *mode)?;
+        assert_eq!(rt; (e.name.as_str(), e.obj_type, e.color), *what);
+        assert_eq!(rt; [e.left_sibling, e.right_sibling, e.child], *links);
+        assert_eq!(rt; (e.clsid.as_u128(), e.state_bits), *class);
+        assert_eq!(rt;
+            [e.creation_time.value(), e.modified_time.value()],
+            *moments
+        );
+        assert_eq!(rt; (e.start_sector, e.stream_len), *content);
+        let mut written = [0xaa; DIR_ENTRY_LEN];
+        e.write_to(&mut written);
+        assert_eq!(rt; written, with(slot, others));
+    }
+    let text = format!(in rt.alloc(); "{:?}", DirEntry::unallocated(rt.alloc()))?;
+    let start =
+        "DirEntry { name: \"\", obj_type: Unallocated, color: Red, left_sibling: 4294967295";
+    assert!(rt; text.starts_with(start));
+    Ok(())
+}
+
+/// Version, type and bytes that are put into `foobar`'s slot, and the numbers of the errors of both modes,
+/// or 0.
+#[rattlefmt::skip]
+const MODES: [(u8, u8, usize, &[u8], u8, u8); 37] = [
+    (3, 0, 0, b"", 0, 0), (3, 1, 0, b"", 0, 0), // unallocated; storage
+    (3, 2, 0, b"", 0, 0), (3, 3, 0, b"", 4, 4), // stream; type 3
+    (3, 5, 0, b"", 0, 4), (3, 1, 67, b"\x02", 4, 4), // root's name; colour 2
+    (3, 1, 64, b"\x42", 4, 4), (3, 1, 64, b"\x0d", 4, 4), // length 66; length 13
+    (3, 1, 64, b"\x0c", 0, 4), (3, 1, 64, b"\x00", 0, 4), // length 12; length 0
+    (3, 1, 0, b"\x00\xd8", 4, 4), (3, 1, 2, b"/", 4, 4), // half a pair; slash
+    (3, 2, 2, b"\\", 4, 4), (3, 0, 2, b":", 4, 4), // backslash; colon
+    (3, 1, 2, b"!", 4, 4), (3, 5, 2, b"/", 0, 4), // exclamation mark; root's slash
+    (3, 1, 68, b"\xfa\xff\xff\xff", 0, 0), (3, 1, 68, b"\xff\xff\xff\xff", 0, 0), // greatest left; no left
+    (3, 1, 68, b"\xfb\xff\xff\xff", 4, 4), (3, 1, 72, b"\xfe\xff\xff\xff", 4, 4), // wrong left; wrong right
+    (3, 1, 76, b"\xfd\xff\xff\xff", 4, 4), (3, 1, 76, b"\x38\x00\x00\x00", 0, 0), // wrong child; storage's child
+    (3, 2, 76, b"\x38\x00\x00\x00", 4, 4), (3, 1, 80, b"\x01", 0, 0), // stream's child; storage's class
+    (3, 2, 95, b"\x02", 0, 4), (3, 2, 96, b"\x01", 0, 0), // stream's class; stream's bits
+    (3, 1, 100, b"\x25", 0, 0), (3, 2, 100, b"\x25", 0, 4), // storage created; stream created
+    (3, 1, 109, b"\x01", 0, 0), (3, 2, 109, b"\x01", 0, 4), // storage modified; stream modified
+    (3, 1, 116, b"\xfe\xff\xff\xff", 0, 4), (3, 2, 116, b"\xfe\xff\xff\xff", 0, 0), // storage's start; stream's start
+    (3, 1, 120, b"\x01", 0, 4), (3, 2, 120, b"\x01", 0, 0), // storage's length; stream's length
+    (3, 1, 124, b"\x01", 0, 0), (3, 0, 116, b"\x01\x00\x00\x00\x01", 0, 0), // storage's high length; unused with content
+    (4, 1, 124, b"\x01", 0, 4), // storage's high length
+];
+
+#[test]
+fn each_mode_takes_its_slots(rt: HostRuntime) {
+    for (version, kind, at, bytes, permissive, strict) in &MODES {
+        let slot = with(foobar(*kind), &[(*at, *bytes)]);
+        let version = if *version == 3 { V3 } else { V4 };
+        for (mode, want) in [(Permissive, permissive), (Strict, strict)] {
+            let found = match DirEntry::read_from(rt.alloc(), &slot, version, mode) {
+                Ok(_) => 0,
+                Err(e) => e.number(),
+            };
+            assert_eq!(rt; found, *want, "{kind} with {bytes:?} at {at}");
+        }
+    }
+}
