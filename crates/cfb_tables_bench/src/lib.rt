@@ -1,0 +1,10 @@
+//! Tests of `cfb_sectors` and `cfb_tables`: a crate beside them, because `rt ci` proves the tests of one crate in one
+//! job, and begins with them as soon as what they stand on is proved.
+#![tactic(auto)]
+
+#[cfg(test)]
+mod fats;
+#[cfg(test)]
+mod sectors;
+#[cfg(test)]
+mod tables;
