@@ -14,29 +14,29 @@ pub fn content(alloc: Global, len: usize) -> Result<Vec<u8>, AllocError> {
     Ok(bytes)
 }
 
-/// Bytes, where they begin, and how often they stand, each 128 bytes behind the ones before.
-type Part = (usize, usize, &'static [u8]);
+/// Where bytes begin, how far it is to the next of the same, how many these are, and the bytes.
+type Part = (usize, usize, usize, &'static [u8]);
 
 /// The bytes of a version 3 file without objects, put together by hand over zeros.
 #[rattlefmt::skip]
 const EMPTY_3: [Part; 12] = [
-    (0, 1, &[0xd0, 0xcf, 0x11, 0xe0, 0xa1, 0xb1, 0x1a, 0xe1]), (24, 1, &[0x3e, 0, 3, 0, 0xfe, 0xff, 9, 0, 6, 0]),
-    (44, 1, &[1, 0, 0, 0, 1, 0, 0, 0]), (57, 1, &[0x10, 0, 0, 0xfe, 0xff, 0xff, 0xff]),
-    (68, 1, &[0xfe, 0xff, 0xff, 0xff]), (80, 1, &[0xff; 432]),
-    (512, 1, &[0xfd, 0xff, 0xff, 0xff, 0xfe, 0xff, 0xff, 0xff]), (520, 1, &[0xff; 504]),
-    (1024, 1, b"R\0o\0o\0t\0 \0E\0n\0t\0r\0y\0"), (1088, 1, &[0x16, 0, 5, 1]),
-    (1140, 1, &[0xfe, 0xff, 0xff, 0xff]), (1092, 4, &[0xff; 12]),
+    (0, 0, 1, &[0xd0, 0xcf, 0x11, 0xe0, 0xa1, 0xb1, 0x1a, 0xe1]), (24, 0, 1, &[0x3e, 0, 3, 0, 0xfe, 0xff, 9, 0, 6, 0]),
+    (44, 0, 1, &[1, 0, 0, 0, 1, 0, 0, 0]), (57, 0, 1, &[0x10, 0, 0, 0xfe, 0xff, 0xff, 0xff]),
+    (68, 0, 1, &[0xfe, 0xff, 0xff, 0xff]), (80, 1, 432, &[0xff]),
+    (512, 0, 1, &[0xfd, 0xff, 0xff, 0xff, 0xfe, 0xff, 0xff, 0xff]), (520, 1, 504, &[0xff]),
+    (1024, 0, 1, b"R\0o\0o\0t\0 \0E\0n\0t\0r\0y\0"), (1088, 0, 1, &[0x16, 0, 5, 1]),
+    (1140, 0, 1, &[0xfe, 0xff, 0xff, 0xff]), (1092, 128, 4, &[0xff; 12]),
 ];
 
 /// The same of version 4.
 #[rattlefmt::skip]
 const EMPTY_4: [Part; 12] = [
-    (0, 1, &[0xd0, 0xcf, 0x11, 0xe0, 0xa1, 0xb1, 0x1a, 0xe1]), (24, 1, &[0x3e, 0, 4, 0, 0xfe, 0xff, 12, 0, 6, 0]),
-    (40, 1, &[1, 0, 0, 0, 1, 0, 0, 0, 1, 0, 0, 0]), (57, 1, &[0x10, 0, 0, 0xfe, 0xff, 0xff, 0xff]),
-    (68, 1, &[0xfe, 0xff, 0xff, 0xff]), (80, 1, &[0xff; 432]),
-    (4096, 1, &[0xfd, 0xff, 0xff, 0xff, 0xfe, 0xff, 0xff, 0xff]), (4104, 1, &[0xff; 4088]),
-    (8192, 1, b"R\0o\0o\0t\0 \0E\0n\0t\0r\0y\0"), (8256, 1, &[0x16, 0, 5, 1]),
-    (8308, 1, &[0xfe, 0xff, 0xff, 0xff]), (8260, 32, &[0xff; 12]),
+    (0, 0, 1, &[0xd0, 0xcf, 0x11, 0xe0, 0xa1, 0xb1, 0x1a, 0xe1]), (24, 0, 1, &[0x3e, 0, 4, 0, 0xfe, 0xff, 12, 0, 6, 0]),
+    (40, 0, 1, &[1, 0, 0, 0, 1, 0, 0, 0, 1, 0, 0, 0]), (57, 0, 1, &[0x10, 0, 0, 0xfe, 0xff, 0xff, 0xff]),
+    (68, 0, 1, &[0xfe, 0xff, 0xff, 0xff]), (80, 1, 432, &[0xff]),
+    (4096, 0, 1, &[0xfd, 0xff, 0xff, 0xff, 0xfe, 0xff, 0xff, 0xff]), (4104, 1, 4088, &[0xff]),
+    (8192, 0, 1, b"R\0o\0o\0t\0 \0E\0n\0t\0r\0y\0"), (8256, 0, 1, &[0x16, 0, 5, 1]),
+    (8308, 0, 1, &[0xfe, 0xff, 0xff, 0xff]), (8260, 128, 32, &[0xff; 12]),
 ];
 
 fn empty_bytes(alloc: Global, version: Version) -> Result<Vec<u8>, AllocError> {
@@ -45,9 +45,9 @@ fn empty_bytes(alloc: Global, version: Version) -> Result<Vec<u8>, AllocError> {
         Version::V4 => (12288, &EMPTY_4),
     };
     let mut bytes = vec![in alloc; 0u8; len]?;
-    for (at, times, part) in parts {
+    for (at, step, times, part) in parts {
         for i in 0..*times {
-            let start = at.saturating_add(i.saturating_mul(128));
+            let start = at.saturating_add(i.saturating_mul(*step));
             for (place, byte) in bytes.iter_mut().skip(start).zip(*part) {
                 *place = *byte;
             }
