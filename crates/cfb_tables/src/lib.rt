@@ -3,6 +3,6 @@
 
 pub mod fat;
 pub mod laws;
-pub mod lists;
+mod lists;
 pub mod tables;
 pub mod walk;
