@@ -67,7 +67,7 @@ pub ending_other : (last : ℕ) → last ≢ end_of_chain → ending last ≡ la
 ending_other last ne = ap (λ (b : Bool). if b then [] else last ∷ []) (ne_eqb last end_of_chain ne)
 
 pub others_refl : (a : AllocatorState) → OthersStay a a
-others_refl a = record { no_shorter = omega arith; sectors = λ i busy out. SectorStays_refl a.tables.version i a.file.bytes; header = λ i lt other. refl }
+others_refl a = record { no_shorter = omega arith; sectors = λ i busy out mine. SectorStays_refl a.tables.version i a.file.bytes; header = λ i lt other. refl }
 
 module _ (t0 t : TableState) (touched more : List ℕ) (taken : HasTaken t0 t touched more) where
   -- the table sectors are among the sectors
@@ -95,7 +95,7 @@ module _ (t0 t : TableState) (touched more : List ℕ) (taken : HasTaken t0 t to
   pub others_taken : (a b : AllocatorState) → a.tables ≡ t0 → ChangesSectors (t.fat_sectors ++ t.difat_sectors ++ more) t.version a.file.bytes b.file.bytes → OthersStay a b
   others_taken a b same change = record {
     no_shorter = change.no_shorter;
-    sectors = λ i busy out.
+    sectors = λ i busy out mine.
         let version = ap (λ (z : TableState). z.version) same ∙ sym taken.same_version in
         let busy' : value t0.fat i ≡ free_sector → ⊥ = λ e. busy (ap (λ (z : TableState). value z.fat i) same ∙ e) in
         let out' : Contains (t0.fat_sectors ++ t0.difat_sectors) i → ⊥ = λ m. out (subst (λ (z : TableState). Contains (z.fat_sectors ++ z.difat_sectors) i) (sym same) m) in

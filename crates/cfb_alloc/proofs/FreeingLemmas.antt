@@ -12,7 +12,7 @@ use Rattle.cfb_format.specs.Bytes.{end_of_chain, max_regular_sector, fat_sector,
 use Rattle.cfb_format.specs.Chain.{value, IsChain}
 use Rattle.cfb_alloc.specs.Agreement.{IsStrictBut}
 use Rattle.cfb_alloc.specs.Alloc.{AllocatorState, HoldsBut, IsPlaced, ChangesSectors}
-use Rattle.cfb_tables.specs.Changes.{ChangesOnlyValues, IsFreed, IsCut, IsNextOf, NoChain}
+use Rattle.cfb_tables.specs.Changes.{ChangesOnlyValues, GivesBack, IsNextOf, NoChain}
 use Rattle.cfb_tables.specs.Clean.{IsClean}
 use Rattle.cfb_tables.specs.Refused.{TableRefused, ChangeRefused}
 use Rattle.cfb_alloc.specs.Broken.{BreaksOff}
@@ -134,14 +134,14 @@ module _ (t0 t : TableState) (rest : t ≡ record t0 { fat = t.fat }) where
     })
 
   -- a chain is freed
-  pub freed_holds : (list : List ℕ) (start : ℕ) → IsChain t0.fat start list → IsFreed list t0.fat t.fat → (validation : Validation) (file : SectorFile) → IsClean t.fat
+  pub freed_holds : (list : List ℕ) (start : ℕ) → IsChain t0.fat start list → GivesBack [] list t0.fat t.fat → (validation : Validation) (file : SectorFile) → IsClean t.fat
       → HoldsBut validation [] file t0 → HoldsBut validation (list ++ []) file t
   freed_holds list start chain freed validation file clean h =
       changed_holds list freed.same_length freed.only (follows-values t0.fat start list chain.follows) validation (list ++ []) file
       (λ i m. Contains-append_left list [] i m) clean h
 
   -- a chain is cut behind x
-  pub cut_holds : (list : List ℕ) (x : ℕ) → IsChain t0.fat (value t0.fat x) list → IsCut x list t0.fat t.fat → (validation : Validation) (file : SectorFile) → IsClean t.fat
+  pub cut_holds : (list : List ℕ) (x : ℕ) → IsChain t0.fat (value t0.fat x) list → GivesBack (x ∷ []) list t0.fat t.fat → (validation : Validation) (file : SectorFile) → IsClean t.fat
       → HoldsBut validation [] file t0 → HoldsBut validation (list ++ (x ∷ [])) file t
   cut_holds list x chain cut validation file clean h =
       changed_holds (x ∷ list) cut.same_length cut.only

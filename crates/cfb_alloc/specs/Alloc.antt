@@ -72,19 +72,16 @@ pub record ChangesSectors (touched : List ℕ) (version : Version) (old new : Li
   pub sectors : (i : ℕ) → (Contains touched i → ⊥) → SectorStays version i old new
   pub header : (i : ℕ) → i < length old → IsOtherHeaderByte version i → slice_index new i ≡ slice_index old i
 
--- every sector that is in use stays, but for the table sectors
-pub record OthersStay (old new : AllocatorState) : Type 0 where
-  pub no_shorter : length old.file.bytes ≤ length new.file.bytes
-  pub sectors : (i : ℕ) → (value old.tables.fat i ≡ free_sector → ⊥) → (Contains (old.tables.fat_sectors ++ old.tables.difat_sectors) i → ⊥)
-      → SectorStays old.tables.version i old.file.bytes new.file.bytes
-  pub header : (i : ℕ) → i < length old.file.bytes → IsOtherHeaderByte old.tables.version i → slice_index new.file.bytes i ≡ slice_index old.file.bytes i
-
 -- every sector that is in use stays, but for the table sectors and these
 pub record OthersStayBut (own : List ℕ) (old new : AllocatorState) : Type 0 where
   pub no_shorter : length old.file.bytes ≤ length new.file.bytes
   pub sectors : (i : ℕ) → (value old.tables.fat i ≡ free_sector → ⊥) → (Contains (old.tables.fat_sectors ++ old.tables.difat_sectors) i → ⊥)
       → (Contains own i → ⊥) → SectorStays old.tables.version i old.file.bytes new.file.bytes
   pub header : (i : ℕ) → i < length old.file.bytes → IsOtherHeaderByte old.tables.version i → slice_index new.file.bytes i ≡ slice_index old.file.bytes i
+
+-- every sector that is in use stays, but for the table sectors
+abbrev pub OthersStay : AllocatorState → AllocatorState → Type 0
+OthersStay = OthersStayBut []
 
 -- the FAT sectors have a place for each sector's value, and are not more than the sectors
 pub record IsUsable (t : TableState) : Type 0 where

@@ -5,3 +5,4 @@ pub mod Held
 pub mod InSector
 pub mod LentSector
 pub mod Broken
+pub mod Frame

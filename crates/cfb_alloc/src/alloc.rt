@@ -9,7 +9,7 @@ ghost use Rattle.cfb_tables.specs.ReadFat.{AcceptsFat, AcceptsNoFat};
 ghost use Rattle.cfb_tables.specs.Changes.{IsNextOf, NoChain};
 ghost use Rattle.cfb_tables.specs.Refused.{TableRefused, NextRefused, NoLast, WalkRefused, ChangeRefused};
 ghost use Rattle.cfb_alloc.specs.Broken.{BreaksOff};
-ghost use Rattle.cfb_tables.specs.Tables.{HasTaken, TakesFor, Extended, ExtendsFrom, FreesChain, CutsChain, AreSizes, IsTooFew, ending, first_or_end, sizes_of, tables_of};
+ghost use Rattle.cfb_tables.specs.Tables.{HasTaken, TakesFor, Extended, ExtendsFrom, GivesBackChain, AreSizes, IsTooFew, ending, first_or_end, sizes_of, tables_of};
 ghost use Rattle.cfb_tables.specs.Clean.{IsUnnamed};
 ghost use Rattle.cfb_sectors.specs.Sectors.{IsMediumError, IsRaised, OtherSectorsStay, place_in_sector, sectors_end};
 ghost use Rattle.cfb_format.specs.Medium.{ChangesOnlyBytes, part, written};
@@ -378,13 +378,13 @@ impl<F: Medium, A: Heap + Clone> Allocator<F, A> {
     /// and `Memory`. Nothing has changed where it is refused, but after `Medium`: then the chain is free in memory, and of the
     /// file's bytes the FAT sectors alone have changed.
     pub fn free_chain(&mut self, start: u32) -> Result<(), Error>
-        ensures freed { OnOk result (FreesChain start self.old.tables self.new.tables) }
+        ensures freed { OnOk result (GivesBackChain [] start self.old.tables self.new.tables) }
         ensures none { start ≡ end_of_chain → self.new ≡ self.old }
         ensures holds { IsTrue F.tells → (validation : Validation) → HoldsTables validation self.old → IsUnnamed self.old.tables.fat start
             → OnOk result (HoldsTables validation self.new) }
         ensures changes { IsTrue F.tells → ChangesSectors self.old.tables.fat_sectors self.old.tables.version self.old.file.bytes self.new.file.bytes }
         ensures begun { OnOk result (IsRaised (start ≢ end_of_chain) self.old.file self.new.file) }
-        ensures refused { IfErr result (BreaksOff (FreesChain start) self.old self.new) }
+        ensures refused { IfErr result (BreaksOff (GivesBackChain [] start) self.old self.new) }
         ensures err { IfErr result (ChangeRefused ((IsUsable self.old.tables → ⊥) ⊎ NoChain self.old.tables.fat start) Unit ⊥ Unit) }
         ensures counts { IsTrue F.tells → CountsFailure F.write_faults result self.old.file.failures self.new.file.failures }
     {
@@ -401,11 +401,11 @@ impl<F: Medium, A: Heap + Clone> Allocator<F, A> {
     /// `InvalidData` where no chain goes on from the sector, and where the FAT sectors do not cover the file; `Medium` and `Memory`
     /// as in `free_chain`.
     pub fn free_chain_after(&mut self, sector: u32) -> Result<(), Error>
-        ensures cut { OnOk result (CutsChain sector self.old.tables self.new.tables) }
+        ensures cut { OnOk result (GivesBackChain (sector ∷ []) (value self.old.tables.fat sector) self.old.tables self.new.tables) }
         ensures holds { IsTrue F.tells → (validation : Validation) → HoldsTables validation self.old → OnOk result (HoldsTables validation self.new) }
         ensures changes { IsTrue F.tells → ChangesSectors self.old.tables.fat_sectors self.old.tables.version self.old.file.bytes self.new.file.bytes }
         ensures begun { OnOk result (self.new.file.begun ≡ true) }
-        ensures refused { IfErr result (BreaksOff (CutsChain sector) self.old self.new) }
+        ensures refused { IfErr result (BreaksOff (GivesBackChain (sector ∷ []) (value self.old.tables.fat sector)) self.old self.new) }
         ensures err { IfErr result (ChangeRefused ((IsUsable self.old.tables → ⊥) ⊎ NoChain self.old.tables.fat (value self.old.tables.fat sector)) Unit ⊥ Unit) }
         ensures counts { IsTrue F.tells → CountsFailure F.write_faults result self.old.file.failures self.new.file.failures }
     {

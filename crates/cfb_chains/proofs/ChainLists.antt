@@ -10,16 +10,18 @@ use Rattle.cfb_format.specs.Bytes.{end_of_chain, max_regular_sector}
 use Rattle.cfb_format.specs.Chain.{value, IsChain, chain_from}
 use Rattle.cfb_format.proofs.Unique.{IsChain-unique}
 use Rattle.cfb_alloc.specs.Alloc.{AllocatorState}
-use Rattle.cfb_chains.specs.ChainLists.{StaysOrBecomes, Shortens, gained, last_or_end}
-use Rattle.cfb_tables.specs.Changes.{NoChain, IsFreed}
+use Rattle.cfb_chains.specs.ChainLists.{StaysOrBecomes, gained}
+use Rattle.cfb_tables.specs.Listed.{ends_of, last_or_end}
+use Rattle.cfb_tables.specs.Changes.{NoChain, GivesBack}
 use Rattle.cfb_alloc.specs.Broken.{BreaksOff}
-use Rattle.cfb_tables.specs.Tables.{TableState, HasTaken, FreesChain, CutsChain, ending, first_or_end}
+use Rattle.cfb_tables.specs.Tables.{TableState, HasTaken, GivesBackChain, TablesGiveBack, ending, first_or_end}
 use Rattle.cfb_alloc.proofs.AllocLemmas.{ending_other}
 use Rattle.cfb_alloc.proofs.Answering.{on_ok, all_ok}
 use Rattle.cfb_tables.proofs.AttachLemmas.{extended, last-known}
 use Rattle.cfb_tables.proofs.ChainLemmas.{chain-turn, chain-rest, members-busy, regular-le}
 use Rattle.cfb_alloc.proofs.ChainView.{found_chain, chain_found}
 use Rattle.cfb_alloc.proofs.EmptyChain.{none_freed}
+use Rattle.cfb_tables.proofs.ListedLemmas.{what_is_left-is-chain}
 use Rattle.cfb_tables.proofs.Members.{Contains-nil, Contains-here, Contains-one, none_distinct, distinct-apart, value-below}
 
 pub on_err : {T E : Type 0} (P Q : E → Type 0) (r : Result T E) → ((e : E) → P e → Q e) → IfErr r P → IfErr r Q
@@ -121,56 +123,37 @@ left_found made old new s s' ids ids' Unsupported was b list start = (λ j. chai
 
 -- ---- cuts
 
-cut_chain : (old new : TableState) (s : ℕ) (left gone : List ℕ) → IsChain old.fat s (left ++ gone) → Shortens left gone old new → IsChain new.fat (first_or_end left) left
+cut_chain : (old new : TableState) (s : ℕ) (left gone : List ℕ) → IsChain old.fat s (left ++ gone) → TablesGiveBack (ends_of left) gone old new → IsChain new.fat (first_or_end left) left
 cut_chain old new s [] gone c cut = end_chain new.fat
 cut_chain old new s (x ∷ list) gone c cut =
-    let xs = x ∷ list in
-    let last = last_or_end xs in
-    let head = take (length xs - 1) xs in
-    let is : xs ≡ head ++ last ∷ [] = last_split xs (omega arith) in
-    let c' : IsChain old.fat s (head ++ last ∷ gone) = subst (IsChain old.fat s) (ap (λ (z : List ℕ). z ++ gone) is ∙ append_assoc head (last ∷ []) gone) c in
-    let low = regular-le last (members-busy old.fat s (head ++ last ∷ gone) c' last (Contains-append_right head (last ∷ gone) last (Contains-here last gone))).2 in
-    let one : ending last ≡ last ∷ [] = ending_other last (λ e. omega (arith, low, e)) in
-    let ended : value new.fat last ≡ end_of_chain = cut.ended last (subst (λ (e : List ℕ). Contains e last) (sym one) (Contains-here last [])) in
-    let stays : (i : ℕ) → Contains head i → value new.fat i ≡ value old.fat i =
-    λ i m. cut.only i (λ t. distinct-apart head (last ∷ gone) c'.distinct i m (subst (λ (e : List ℕ). Contains (e ++ gone) i) one t)) in
-    let below : last < length new.fat = value-below new.fat last (λ e. omega (arith, e, ended)) in
-    let tail : IsChain new.fat (value new.fat last) [] = subst (λ k. IsChain new.fat k []) (sym ended) (end_chain new.fat) in
-    let turned : IsChain new.fat s (head ++ last ∷ []) = chain-turn old.fat new.fat s head last gone [] stays below c' tail in
-    subst (λ k. IsChain new.fat k xs) c.follows.0 (subst (IsChain new.fat s) (sym is) turned)
+    what_is_left-is-chain old.fat new.fat (x ∷ list) gone (subst (λ k. IsChain old.fat k (x ∷ list ++ gone)) c.follows.0 c) cut.given
 
-pub cut_found : (old new : TableState) (s s' count : ℕ) (ids ids' : List ℕ) → chain_from old.fat s ≡ Some ids → Shortens (take count ids) (drop count ids) old new
+pub cut_found : (old new : TableState) (s s' count : ℕ) (ids ids' : List ℕ) → chain_from old.fat s ≡ Some ids → TablesGiveBack (ends_of (take count ids)) (drop count ids) old new
     → ids' ≡ take count ids → s' ≡ first_or_end ids' → chain_from new.fat s' ≡ Some ids'
 cut_found old new s s' count ids ids' e cut listed first =
     let whole : IsChain old.fat s (take count ids ++ drop count ids) = subst (IsChain old.fat s) (sym (take-append-drop count ids)) (found_chain old.fat s ids e) in
     let c = cut_chain old new s (take count ids) (drop count ids) whole cut in
     chain_found new.fat s' ids' (subst (λ k. IsChain new.fat k ids') (sym first) (subst (λ (z : List ℕ). IsChain new.fat (first_or_end z) z) (sym listed) c))
 
-freed_all : (old new : TableState) (s : ℕ) (ids : List ℕ) → chain_from old.fat s ≡ Some ids → FreesChain s old new → Shortens [] ids old new
+freed_all : (old new : TableState) (s : ℕ) (ids : List ℕ) → chain_from old.fat s ≡ Some ids → GivesBackChain [] s old new → TablesGiveBack [] ids old new
 freed_all old new s ids e f =
-    let same : f.list ≡ ids = IsChain-unique old.fat s f.list ids f.was (found_chain old.fat s ids e) in
-    let freed : IsFreed ids old.fat new.fat = subst (λ (z : List ℕ). IsFreed z old.fat new.fat) same f.freed in
-    record { same_length = freed.same_length; ended = λ i m. absurd (Contains-nil i m); free = freed.free; only = freed.only; rest = f.rest }
+    let same : f.0 ≡ ids = IsChain-unique old.fat s f.0 ids f.1 (found_chain old.fat s ids e) in
+    subst (λ (z : List ℕ). TablesGiveBack [] z old new) same f.2
 
-pub freed_shortens : (old new : TableState) (s count : ℕ) (ids : List ℕ) → count ≡ 0 → chain_from old.fat s ≡ Some ids → FreesChain s old new
-    → Shortens (take count ids) (drop count ids) old new
-freed_shortens old new s count ids zero e f = subst (λ k. Shortens (take k ids) (drop k ids) old new) (sym zero) (freed_all old new s ids e f)
+pub freed_shortens : (old new : TableState) (s count : ℕ) (ids : List ℕ) → count ≡ 0 → chain_from old.fat s ≡ Some ids → GivesBackChain [] s old new
+    → TablesGiveBack (ends_of (take count ids)) (drop count ids) old new
+freed_shortens old new s count ids zero e f = subst (λ k. TablesGiveBack (ends_of (take k ids)) (drop k ids) old new) (sym zero) (freed_all old new s ids e f)
 
 -- a chain is freed as it is cut behind nothing
-pub shortened_frees : (old new : TableState) (s : ℕ) (ids : List ℕ) → chain_from old.fat s ≡ Some ids → Shortens [] ids old new → FreesChain s old new
-shortened_frees old new s ids e cut = record {
-  list = ids;
-  was = found_chain old.fat s ids e;
-  freed = record { same_length = cut.same_length; free = cut.free; only = cut.only };
-  rest = cut.rest;
-}
+pub shortened_frees : (old new : TableState) (s : ℕ) (ids : List ℕ) → chain_from old.fat s ≡ Some ids → TablesGiveBack [] ids old new → GivesBackChain [] s old new
+shortened_frees old new s ids e cut = (ids, found_chain old.fat s ids e, cut)
 
 pub freed_of : {T : Type 0} (r : Result T Error) (old new : AllocatorState) (s : ℕ) (ids : List ℕ) → chain_from old.tables.fat s ≡ Some ids
-    → (length ids ≤ 0 → OnErr r ⊥ × (new ≡ old)) → (0 < length ids → OnOk r (Shortens [] ids old.tables new.tables)) → OnOk r (FreesChain s old.tables new.tables)
+    → (length ids ≤ 0 → OnErr r ⊥ × (new ≡ old)) → (0 < length ids → OnOk r (TablesGiveBack [] ids old.tables new.tables)) → OnOk r (GivesBackChain [] s old.tables new.tables)
 freed_of r old new s [] e none some =
-    all_ok r (subst (λ (a : AllocatorState). FreesChain s old.tables a.tables) (sym (none (omega arith)).1) (none_freed old.tables s e))
+    all_ok r (subst (λ (a : AllocatorState). GivesBackChain [] s old.tables a.tables) (sym (none (omega arith)).1) (none_freed old.tables s e))
 freed_of r old new s (x ∷ list) e none some =
-    on_ok (Shortens [] (x ∷ list) old.tables new.tables) (FreesChain s old.tables new.tables) r (shortened_frees old.tables new.tables s (x ∷ list) e) (some (omega arith))
+    on_ok (TablesGiveBack [] (x ∷ list) old.tables new.tables) (GivesBackChain [] s old.tables new.tables) r (shortened_frees old.tables new.tables s (x ∷ list) e) (some (omega arith))
 
 -- the sector at a place, with those before it and behind it
 module _ (ids : List ℕ) (count sector : ℕ) (some : count ≡ 0 → ⊥) (fewer : count < length ids) (at : sector ≡ slice_index ids (count - 1)) where
@@ -197,18 +180,12 @@ module _ (ids : List ℕ) (count sector : ℕ) (some : count ≡ 0 → ⊥) (few
         ap ending (ap last_or_end left_is ∙ last_pushed (take (count - 1) ids) sector) ∙ ending_other sector (λ is. omega (arith, low, is))
 
 pub cut_shortens : (old new : TableState) (s count sector : ℕ) (ids : List ℕ) → (count ≡ 0 → ⊥) → count < length ids → sector ≡ slice_index ids (count - 1)
-    → chain_from old.fat s ≡ Some ids → CutsChain sector old new → Shortens (take count ids) (drop count ids) old new
+    → chain_from old.fat s ≡ Some ids → GivesBackChain (sector ∷ []) (value old.fat sector) old new → TablesGiveBack (ends_of (take count ids)) (drop count ids) old new
 cut_shortens old new s count sector ids some fewer at e f =
     let gone = drop count ids in
-    let same : f.list ≡ gone = IsChain-unique old.fat (value old.fat sector) f.list gone f.was (behind_is ids count sector some fewer at old.fat s e) in
+    let same : f.0 ≡ gone = IsChain-unique old.fat (value old.fat sector) f.0 gone f.1 (behind_is ids count sector some fewer at old.fat s e) in
     let one = ending_is ids count sector some fewer at old.fat s e in
-    record {
-      same_length = f.cut.same_length;
-      ended = λ i m. ap (value new.fat) (sym (Contains-one sector i (subst (λ (z : List ℕ). Contains z i) one m))) ∙ f.cut.ended;
-      free = λ i m. f.cut.free i (subst (λ (z : List ℕ). Contains z i) (sym same) m);
-      only = λ i out. f.cut.only i (λ m. out (subst (λ (z : List ℕ). Contains (z ++ gone) i) (sym one) (subst (λ (z : List ℕ). Contains (sector ∷ z) i) same m)));
-      rest = f.rest;
-    }
+    subst (λ (z : List ℕ). TablesGiveBack z gone old new) (sym one) (subst (λ (z : List ℕ). TablesGiveBack (sector ∷ []) z old new) same f.2)
 
 pub behind_found : (table : List ℕ) (s count sector : ℕ) (ids : List ℕ) → (count ≡ 0 → ⊥) → count < length ids → sector ≡ slice_index ids (count - 1)
     → chain_from table s ≡ Some ids → NoChain table (value table sector) → ⊥

@@ -20,7 +20,7 @@ use Rattle.cfb_sectors.specs.declared.sector.SectorInit.{SectorInit}
 use Rattle.cfb_chains.proofs.ChainContent.{along_len, along_stays, sectors_stay, along_grown, grown_has, along_written, written_has, along_read, along_cut, cut_has, written_to_end}
 use Rattle.cfb_tables.proofs.ChainLemmas.{follows-values, members-busy}
 use Rattle.cfb_alloc.proofs.ChainView.{found_chain}
-use Rattle.cfb_tables.proofs.Members.{value-at}
+use Rattle.cfb_tables.proofs.Members.{Contains-nil, value-at}
 
 -- the chain has each of its sectors whole, and these are its bytes
 abbrev pub HasContent : Version → List ℕ → List ℕ → List ℕ → Type 0
@@ -85,7 +85,7 @@ module _ (validation : Validation) (a b : AllocatorState) (s : ℕ) (ids ids' : 
   content_grown count init more listed counted others filled =
       let filled' : (i : ℕ) → Contains more i → IsFilled v init b.file.bytes i = λ i m. subst (λ (w : Version). IsFilled w init b.file.bytes i) version (filled i m) in
       let keeps : KeepsSectors v ids a.file.bytes b.file.bytes =
-      λ i m. others.sectors i ((members-busy a.tables.fat s ids (found_chain a.tables.fat s ids e) i m).0) (no_table_sector validation a s ids e h i m) in
+      λ i m. others.sectors i ((members-busy a.tables.fat s ids (found_chain a.tables.fat s ids e) i m).0) (no_table_sector validation a s ids e h i m) (Contains-nil i) in
       content_same v b.tables.version b.file.bytes b.file.bytes (ids ++ more) ids' (content ++ copies count (init_bytes v init)) version refl listed (
         grown_has v init a.file.bytes b.file.bytes ids more has others.no_shorter filled',
         along_grown v init a.file.bytes b.file.bytes ids more has keeps others.no_shorter filled' ∙ ap (λ n. content ++ copies n (init_bytes v init)) counted,

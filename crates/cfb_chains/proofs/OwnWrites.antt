@@ -15,7 +15,7 @@ use Rattle.cfb_tables.specs.Tables.{HasTaken}
 use Rattle.cfb_alloc.proofs.ChainView.{sector_member}
 use Rattle.cfb_chains.proofs.ChainWrites.{not_end, rest_short}
 use Rattle.cfb_alloc.proofs.FrameLemmas.{changes_in_sector}
-use Rattle.cfb_tables.proofs.Members.{Contains-one, first_of_three}
+use Rattle.cfb_tables.proofs.Members.{Contains-nil, Contains-one, first_of_three}
 use Rattle.cfb_sectors.proofs.SectorLemmas.{SectorStays_refl, SectorStays_trans}
 
 -- a sector that is the chain's own, or was free
@@ -32,7 +32,7 @@ own_none own old = record {
 pub own_taken : (own : List ℕ) (old new : AllocatorState) → OthersStay old new → OthersStayBut own old new
 own_taken own old new others = record {
   no_shorter = others.no_shorter;
-  sectors = λ i busy out mine. others.sectors i busy out;
+  sectors = λ i busy out mine. others.sectors i busy out (Contains-nil i);
   header = others.header;
 }
 

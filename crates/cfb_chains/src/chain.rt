@@ -11,8 +11,9 @@ ghost use Rattle.cfb_tables.specs.Clean.{IsUnnamed};
 ghost use Rattle.cfb_sectors.specs.Sectors.{copies, init_bytes, IsMediumError, IsRaised, SectorStays};
 ghost use Rattle.cfb_tables.specs.Refused.{WalkRefused, ChangeRefused};
 ghost use Rattle.cfb_alloc.specs.Broken.{BreaksOff};
-ghost use Rattle.cfb_tables.specs.Tables.{FreesChain, HasTaken, TakesFor, IsTooFew, ending, first_or_end};
-ghost use Rattle.cfb_chains.specs.ChainLists.{StaysOrBecomes, Shortens, gained, last_or_end};
+ghost use Rattle.cfb_tables.specs.Tables.{GivesBackChain, TablesGiveBack, HasTaken, TakesFor, IsTooFew, ending, first_or_end};
+ghost use Rattle.cfb_chains.specs.ChainLists.{StaysOrBecomes, gained};
+ghost use Rattle.cfb_tables.specs.Listed.{ends_of, last_or_end};
 
 use cfb_alloc::alloc::Allocator;
 use cfb_format::consts::END_OF_CHAIN;
@@ -381,12 +382,12 @@ impl<'a, F: Medium, A: Heap + Clone> Chain<'a, F, A> {
         ensures init { init_of self.new ≡ init_of self.old }
         ensures ids { OnOk result (ids_of self.new ≡ []) }
         ensures none { ids_of self.old ≡ [] → OnErr result ⊥ × IsAsBefore self.old self.new }
-        ensures freed { OnOk result (FreesChain (start_sector_of self.old) (allocator_of self.old).now.tables (allocator_of self.new).now.tables) }
+        ensures freed { OnOk result (GivesBackChain [] (start_sector_of self.old) (allocator_of self.old).now.tables (allocator_of self.new).now.tables) }
         ensures holds { IsTrue F.tells → (validation : Validation) → HoldsTables validation (allocator_of self.old).now
             → IsUnnamed (allocator_of self.old).now.tables.fat (start_sector_of self.old) → OnOk result (HoldsTables validation (allocator_of self.new).now) }
         ensures changes { IsTrue F.tells → ChangesSectors (allocator_of self.old).now.tables.fat_sectors (allocator_of self.old).now.tables.version
             (allocator_of self.old).now.file.bytes (allocator_of self.new).now.file.bytes }
-        ensures refused { IfErr result (BreaksOff (FreesChain (start_sector_of self.old)) (allocator_of self.old).now (allocator_of self.new).now) }
+        ensures refused { IfErr result (BreaksOff (GivesBackChain [] (start_sector_of self.old)) (allocator_of self.old).now (allocator_of self.new).now) }
         ensures view { IfErr result (StaysOrBecomes [] (ids_of self.old) (ids_of self.new)) }
         ensures place { IfErr result (StaysOrBecomes 0 (position_of self.old) (position_of self.new)) }
         ensures err { IfErr result (ChangeRefused (IsUsable (allocator_of self.old).now.tables → ⊥) Unit ⊥ Unit) }
@@ -468,7 +469,7 @@ impl<'a, F: Medium, A: Heap + Clone> Chain<'a, F, A> {
             → OnOk result ((i : ℕ) → Contains (gained (ids_of self.old) (ids_of self.new)) i
             → IsFilled (version_of self.new) (init_of self.old) (allocator_of self.new).now.file.bytes i) }
         ensures cut { wanted_of self.old len ≤ length (ids_of self.old) → OnOk result (ids_of self.new ≡ take (wanted_of self.old len) (ids_of self.old)) }
-        ensures freed { wanted_of self.old len < length (ids_of self.old) → OnOk result (Shortens (take (wanted_of self.old len) (ids_of self.old))
+        ensures freed { wanted_of self.old len < length (ids_of self.old) → OnOk result (TablesGiveBack (ends_of (take (wanted_of self.old len) (ids_of self.old)))
             (drop (wanted_of self.old len) (ids_of self.old)) (allocator_of self.old).now.tables (allocator_of self.new).now.tables) }
         ensures zeroed { IsTrue F.tells → wanted_of self.old len ≤ length (ids_of self.old) → 0 < len % sector_len (version_of self.old)
             → OnOk result (part (allocator_of self.new).now.file.bytes
@@ -554,7 +555,7 @@ impl<'a, F: Medium, A: Heap + Clone> Chain<'a, F, A> {
         ensures ids { OnOk result (ids_of self.new ≡ take count (ids_of self.old)) }
         ensures position { OnOk result (position_of self.new ≡ min (position_of self.old) (len_of self.new)) }
         ensures none { length (ids_of self.old) ≤ count → OnErr result ⊥ × IsAsBefore self.old self.new }
-        ensures cut { count < length (ids_of self.old) → OnOk result (Shortens (take count (ids_of self.old)) (drop count (ids_of self.old))
+        ensures cut { count < length (ids_of self.old) → OnOk result (TablesGiveBack (ends_of (take count (ids_of self.old))) (drop count (ids_of self.old))
             (allocator_of self.old).now.tables (allocator_of self.new).now.tables) }
         ensures holds { IsTrue F.tells → (validation : Validation) → HoldsTables validation (allocator_of self.old).now
             → (count ≡ 0 → IsUnnamed (allocator_of self.old).now.tables.fat (start_sector_of self.old)) → OnOk result (HoldsTables validation (allocator_of self.new).now) }
@@ -562,7 +563,7 @@ impl<'a, F: Medium, A: Heap + Clone> Chain<'a, F, A> {
             → OnOk result (HasBytes self.new (take (count * sector_len (version_of self.old)) (content_of self.old))) }
         ensures changes { IsTrue F.tells → ChangesSectors (allocator_of self.old).now.tables.fat_sectors (allocator_of self.old).now.tables.version
             (allocator_of self.old).now.file.bytes (allocator_of self.new).now.file.bytes }
-        ensures refused { IfErr result (BreaksOff (Shortens (take count (ids_of self.old)) (drop count (ids_of self.old)))
+        ensures refused { IfErr result (BreaksOff (TablesGiveBack (ends_of (take count (ids_of self.old))) (drop count (ids_of self.old)))
             (allocator_of self.old).now (allocator_of self.new).now) }
         ensures view { IfErr result (StaysOrBecomes [] (ids_of self.old) (ids_of self.new)) }
         ensures place { IfErr result (StaysOrBecomes 0 (position_of self.old) (position_of self.new)) }
@@ -677,11 +678,11 @@ fn shorten_list<F: Medium, A: Heap + Clone>(
     ensures few { length ids.new.items ≤ max_regular_sector + 1 }
     ensures version { allocator.new.tables.version ≡ allocator.old.tables.version }
     ensures ids { OnOk result (ids.new.items ≡ take count ids.old.items) }
-    ensures cut { OnOk result (Shortens (take count ids.old.items) (drop count ids.old.items) allocator.old.tables allocator.new.tables) }
+    ensures cut { OnOk result (TablesGiveBack (ends_of (take count ids.old.items)) (drop count ids.old.items) allocator.old.tables allocator.new.tables) }
     ensures holds { IsTrue F.tells → (validation : Validation) → HoldsTables validation allocator.old
         → (count ≡ 0 → IsUnnamed allocator.old.tables.fat start.old) → OnOk result (HoldsTables validation allocator.new) }
     ensures changes { IsTrue F.tells → ChangesSectors allocator.old.tables.fat_sectors allocator.old.tables.version allocator.old.file.bytes allocator.new.file.bytes }
-    ensures refused { IfErr result (BreaksOff (Shortens (take count ids.old.items) (drop count ids.old.items)) allocator.old allocator.new) }
+    ensures refused { IfErr result (BreaksOff (TablesGiveBack (ends_of (take count ids.old.items)) (drop count ids.old.items)) allocator.old allocator.new) }
     ensures view { IfErr result (StaysOrBecomes [] ids.old.items ids.new.items) }
     ensures err { IfErr result (ChangeRefused (IsUsable allocator.old.tables → ⊥) Unit ⊥ Unit) }
     ensures begun { OnOk result (allocator.new.file.begun ≡ true) }
@@ -709,11 +710,11 @@ fn free_behind<F: Medium, A: Heap + Clone>(
 ) -> Result<(), Error>
     requires chained { chain_from allocator.old.tables.fat start ≡ Some ids.now }
     requires fewer { count < length ids.now }
-    ensures cut { OnOk result (Shortens (take count ids.now) (drop count ids.now) allocator.old.tables allocator.new.tables) }
+    ensures cut { OnOk result (TablesGiveBack (ends_of (take count ids.now)) (drop count ids.now) allocator.old.tables allocator.new.tables) }
     ensures holds { IsTrue F.tells → (validation : Validation) → HoldsTables validation allocator.old
         → (count ≡ 0 → IsUnnamed allocator.old.tables.fat start) → OnOk result (HoldsTables validation allocator.new) }
     ensures changes { IsTrue F.tells → ChangesSectors allocator.old.tables.fat_sectors allocator.old.tables.version allocator.old.file.bytes allocator.new.file.bytes }
-    ensures refused { IfErr result (BreaksOff (Shortens (take count ids.now) (drop count ids.now)) allocator.old allocator.new) }
+    ensures refused { IfErr result (BreaksOff (TablesGiveBack (ends_of (take count ids.now)) (drop count ids.now)) allocator.old allocator.new) }
     ensures err { IfErr result (ChangeRefused (IsUsable allocator.old.tables → ⊥) Unit ⊥ Unit) }
     ensures begun { OnOk result (allocator.new.file.begun ≡ true) }
     ensures counts { IsTrue F.tells → CountsFailure F.write_faults result allocator.old.file.failures allocator.new.file.failures }

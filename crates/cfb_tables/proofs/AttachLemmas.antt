@@ -6,7 +6,7 @@ use Rattle.std.proofs.lemmas.List.{take_more, take-append-drop}
 use Rattle.std.proofs.lemmas.List.Elements.{Contains-append_left, Contains-push}
 use Rattle.cfb_format.specs.Bytes.{free_sector, end_of_chain, max_regular_sector}
 use Rattle.cfb_format.specs.Chain.{value, IsChain}
-use Rattle.cfb_tables.specs.Changes.{IsFreed, IsCut}
+use Rattle.cfb_tables.specs.Changes.{GivesBack}
 use Rattle.cfb_tables.specs.Tables.{TableState, Kept, HasTaken, Added, Extended, sizes_of, first_or_end, wiped}
 use Rattle.cfb_tables.proofs.Members.{Contains-nil, Contains-here, Contains-there, Contains-cases, Contains-one, Contains-or, in_three, first_of_three, second_of_three, third_of_three, value-below, value-set, value-set_other, distinct-apart, distinct-left}
 use Rattle.cfb_tables.proofs.ChainLemmas.{chain-stays, chain-turn, chain-rest, chain-apart, members-busy, regular-le, le-regular}
@@ -74,8 +74,8 @@ module _ (old mid b : TableState) (first last x : ℕ) (more : List ℕ) (at : A
 
 -- ---- freeing
 
-pub wiped-freed : (list table : List ℕ) → ((i : ℕ) → Contains list i → i < length table) → IsFreed list table (wiped table list)
-wiped-freed [] table below = record { same_length = refl; free = λ i m. absurd (Contains-nil i m); only = λ i out. refl }
+pub wiped-freed : (list table : List ℕ) → ((i : ℕ) → Contains list i → i < length table) → GivesBack [] list table (wiped table list)
+wiped-freed [] table below = record { same_length = refl; ended = λ i m. absurd (Contains-nil i m); free = λ i m. absurd (Contains-nil i m); only = λ i out. refl }
 wiped-freed (x ∷ list) table below =
     let next = set table x free_sector in
     let len = length-set table x free_sector in
@@ -83,6 +83,7 @@ wiped-freed (x ∷ list) table below =
     let lx = below x (Contains-here x list) in
     record {
       same_length = rest.same_length ∙ len;
+      ended = λ i m. absurd (Contains-nil i m);
       free = λ i m. elim (Contains-or list i) [
         | inl r ↦ rest.free i r
         | inr out ↦ elim (Contains-cases x list i m) [
@@ -168,7 +169,7 @@ last-known table start front last c =
 
 -- a chain is cut behind x
 pub cut-freed : (table list : List ℕ) (x : ℕ) → x < length table → x ≤ max_regular_sector → IsChain table (value table x) list
-    → IsCut x list table (wiped (set table x end_of_chain) list)
+    → GivesBack (x ∷ []) list table (wiped (set table x end_of_chain) list)
 cut-freed table list x lt regular c =
     let next = set table x end_of_chain in
     let len = length-set table x end_of_chain in
@@ -176,7 +177,7 @@ cut-freed table list x lt regular c =
     let f = wiped-freed list next (λ i m. let b = (members-busy table (value table x) list c i m).1 in omega (arith, b, len)) in
     record {
       same_length = f.same_length ∙ len;
-      ended = f.only x out ∙ value-set table x end_of_chain lt;
+      ended = λ i m. ap (value (wiped next list)) (sym (Contains-one x i m)) ∙ f.only x out ∙ value-set table x end_of_chain lt;
       free = f.free;
       only = λ i no_member. f.only i (λ m. no_member (Contains-there x list i m)) ∙ value-set_other table x i end_of_chain (λ e. no_member (0, omega arith, sym e));
     }

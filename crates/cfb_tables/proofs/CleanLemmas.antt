@@ -10,7 +10,7 @@ use Rattle.cfb_format.specs.Chain.{value, Follows, IsChain}
 use Rattle.cfb_format.specs.Fat.{HasDistinctPointers}
 use Rattle.cfb_format.proofs.Chains.{Follows-distinct}
 use Rattle.cfb_tables.specs.Changes.{PointsWithin}
-use Rattle.cfb_tables.specs.Changes.{IsFreed, IsCut}
+use Rattle.cfb_tables.specs.Changes.{GivesBack}
 use Rattle.cfb_tables.specs.Clean.{IsClean}
 use Rattle.cfb_tables.specs.Tables.{TableState, HasTaken, Extended}
 use Rattle.cfb_tables.proofs.Members.{Contains-nil, Contains-here, Contains-there, Contains-cases, Contains-or, in_three, first_of_three, distinct-cons, cons-distinct, distinct-apart, value-at, value-below}
@@ -251,7 +251,7 @@ fewer-clean old new stays kept marks clean =
       marks = λ i is. c.marks i (sym (marks i is) ∙ is);
     })
 
-pub freed-clean : (old new list : List ℕ) (start : ℕ) → IsFreed list old new → IsChain old start list
+pub freed-clean : (old new list : List ℕ) (start : ℕ) → GivesBack [] list old new → IsChain old start list
     → ((i : ℕ) → i < length old → IsTrue (is_regular (value old i)) → value old i ≢ start) → IsClean old → IsClean new
 freed-clean old new list start f chain no_other clean =
     let c = clean-at old clean in
@@ -270,11 +270,12 @@ freed-clean old new list start f chain no_other clean =
     (λ i is. f.only i (λ m. let free = f.free i m in omega (arith, free, is)))
     clean
 
-pub cut-clean : (old new list : List ℕ) (member : ℕ) → IsCut member list old new → IsChain old (value old member) list → IsClean old → IsClean new
+pub cut-clean : (old new list : List ℕ) (member : ℕ) → GivesBack (member ∷ []) list old new → IsChain old (value old member) list → IsClean old → IsClean new
 cut-clean old new list member f chain clean =
     let c = clean-at old clean in
+    let ended : value new member ≡ end_of_chain = f.ended member (Contains-here member []) in
     let out : (i : ℕ) → Regular (value new i) → Contains (member ∷ list) i → ⊥ = λ i r m. elim (Contains-cases member list i m) [
-      | inl e ↦ regular-goes_on (value new i) r (ap (value new) (sym e) ∙ f.ended)
+      | inl e ↦ regular-goes_on (value new i) r (ap (value new) (sym e) ∙ ended)
       | inr n ↦ regular-busy (value new i) r (f.free i n)
     ] in
     let stays : (i : ℕ) → Regular (value new i) → value new i ≡ value old i = λ i r. f.only i (out i r) in
@@ -283,7 +284,7 @@ cut-clean old new list member f chain clean =
       | inl m ↦
           let was = subst Regular (stays i r) r in
           elim (Contains-cases member list (value old i) m) [
-            | inl e ↦ (λ free. let is : value new (value old i) ≡ end_of_chain = ap (value new) (sym e) ∙ f.ended in omega (arith, is, free))
+            | inl e ↦ (λ free. let is : value new (value old i) ≡ end_of_chain = ap (value new) (sym e) ∙ ended in omega (arith, is, free))
             | inr n ↦ elim (follows-named old (value old member) list chain.follows (value old i) n) [
               | inl e ↦ absurd (out i r (0, omega arith, sym (c.once i member was e)))
               | inr q ↦ absurd (out i r (Contains-there member list i (subst (Contains list) (sym (c.once i q.0 was (sym q.2))) q.1)))
@@ -292,7 +293,7 @@ cut-clean old new list member f chain clean =
       | inr n ↦ (λ e. busy (sym (f.only (value old i) n) ∙ e))
     ])
     (λ i is. f.only i (λ m. elim (Contains-cases member list i m) [
-      | inl e ↦ (let end : value new i ≡ end_of_chain = ap (value new) (sym e) ∙ f.ended in omega (arith, end, is))
+      | inl e ↦ (let end : value new i ≡ end_of_chain = ap (value new) (sym e) ∙ ended in omega (arith, end, is))
       | inr n ↦ (let free = f.free i n in omega (arith, free, is))
     ]))
     clean

@@ -5,9 +5,9 @@ use Rattle.std.proofs.lemmas.List.{take_more, take_all, take-append-drop, get_or
 use Rattle.std.proofs.lemmas.List.Elements.{Contains-append_right}
 use Rattle.cfb_format.specs.Bytes.{free_sector, end_of_chain, max_regular_sector}
 use Rattle.cfb_format.specs.Chain.{value, IsChain}
-use Rattle.cfb_tables.specs.Changes.{IsFreed, IsCut}
+use Rattle.cfb_tables.specs.Changes.{GivesBack}
 use Rattle.cfb_tables.specs.Tables.{TableState, IsKept, wiped, ending}
-use Rattle.cfb_tables.specs.Listed.{IsShortened, ShortenedIsChain, ShortenedIsCut, ShortenedIsFreed, last_of}
+use Rattle.cfb_tables.specs.Listed.{WhatIsLeftIsChain, WhatIsLeftEnds, last_or_end, ends_of}
 use Rattle.cfb_tables.proofs.Members.{Contains-nil, Contains-here, Contains-one, distinct-apart, value-below}
 use Rattle.cfb_tables.proofs.ChainLemmas.{chain_of, chain-turn, chain-rest, members-busy, regular-le}
 use Rattle.cfb_tables.proofs.FreeLemmas.{lists-count, count-most}
@@ -35,24 +35,21 @@ end_chain table = chain_of table end_of_chain [] refl
 ending_other : (last : ℕ) → last ≢ end_of_chain → ending last ≡ last ∷ []
 ending_other last ne = ap (λ (b : Bool). if b then [] else last ∷ []) (ne_eqb last end_of_chain ne)
 
-last_split : (xs : List ℕ) → 0 < length xs → xs ≡ take (length xs - 1) xs ++ last_of xs ∷ []
+last_split : (xs : List ℕ) → 0 < length xs → xs ≡ take (length xs - 1) xs ++ last_or_end xs ∷ []
 last_split xs some =
     let n : length xs ≡ length xs - 1 + 1 = omega (arith, some) in
     sym (take_all (length xs) xs (omega arith)) ∙ ap (λ (k : ℕ). take k xs) n ∙ take_more xs (length xs - 1) end_of_chain (omega (arith, some))
 
-last_pushed : (front : List ℕ) (y : ℕ) → last_of (front ++ y ∷ []) ≡ y
+last_pushed : (front : List ℕ) (y : ℕ) → last_or_end (front ++ y ∷ []) ≡ y
 last_pushed front y =
     let len : length (front ++ y ∷ []) ≡ length front + 1 = length-append front (y ∷ []) in
     get_or_push front y end_of_chain (length (front ++ y ∷ []) - 1) (omega (arith, len))
 
-pub freed-by-list : (table list : List ℕ) (s : ℕ) → IsChain table s list → IsFreed list table (wiped table list)
+pub freed-by-list : (table list : List ℕ) (s : ℕ) → IsChain table s list → GivesBack [] list table (wiped table list)
 freed-by-list table list s c = wiped-freed list table (λ i m. (members-busy table s list c i m).1)
 
-freed_shortens : (list old new : List ℕ) → IsFreed list old new → IsShortened [] list old new
-freed_shortens list old new f = record { same_length = f.same_length; ended = λ i m. absurd (Contains-nil i m); free = f.free; only = f.only }
-
-pub shortened-to-none : (list old new : List ℕ) (left : ℕ) → left ≡ 0 → IsFreed list old new → IsShortened (take left list) (drop left list) old new
-shortened-to-none list old new left none f = subst (λ k. IsShortened (take k list) (drop k list) old new) (sym none) (freed_shortens list old new f)
+pub shortened-to-none : (list old new : List ℕ) (left : ℕ) → left ≡ 0 → GivesBack [] list old new → GivesBack (ends_of (take left list)) (drop left list) old new
+shortened-to-none list old new left none f = subst (λ k. GivesBack (ends_of (take k list)) (drop k list) old new) (sym none) f
 
 -- what a slice from there on lists
 pub rest-is : (list : List ℕ) (left : ℕ) → take (length list - left) (drop left list) ≡ drop left list
@@ -83,23 +80,18 @@ module _ (list : List ℕ) (left : ℕ) (some : 0 < left) (fewer : left ≤ leng
         (Contains-append_right (take (left - 1) list) (last ∷ drop left list) last (Contains-here last (drop left list))) in
         (m.0, m.1, regular-le last m.2)
 
-    ending_is : ending (last_of (take left list)) ≡ last ∷ []
+    ending_is : ending (last_or_end (take left list)) ≡ last ∷ []
     ending_is =
         let low = last-there.2 in
-        ap ending (ap last_of left_is ∙ last_pushed (take (left - 1) list) last) ∙ ending_other last (λ is. omega (arith, low, is))
+        ap ending (ap last_or_end left_is ∙ last_pushed (take (left - 1) list) last) ∙ ending_other last (λ is. omega (arith, low, is))
 
-    pub shortened-behind : (new : List ℕ) → IsCut last (drop left list) table new → IsShortened (take left list) (drop left list) table new
-    shortened-behind new cut = record {
-      same_length = cut.same_length;
-      ended = λ i m. ap (value new) (sym (Contains-one last i (subst (λ (z : List ℕ). Contains z i) ending_is m))) ∙ cut.ended;
-      free = cut.free;
-      only = λ i out. cut.only i (λ m. out (subst (λ (z : List ℕ). Contains (z ++ drop left list) i) (sym ending_is) m));
-    }
+    pub shortened-behind : (new : List ℕ) → GivesBack (last ∷ []) (drop left list) table new → GivesBack (ends_of (take left list)) (drop left list) table new
+    shortened-behind new cut = subst (λ (z : List ℕ). GivesBack z (drop left list) table new) (sym ending_is) cut
 
 -- the last one of what is left
 module _ (old : List ℕ) (x : ℕ) (list gone : List ℕ) (c : IsChain old x (x ∷ list ++ gone)) where
   abbrev tip : ℕ
-  tip = last_of (x ∷ list)
+  tip = last_or_end (x ∷ list)
 
   abbrev head : List ℕ
   head = take (length (x ∷ list) - 1) (x ∷ list)
@@ -115,7 +107,10 @@ module _ (old : List ℕ) (x : ℕ) (list gone : List ℕ) (c : IsChain old x (x
       let low = regular-le tip (members-busy old x (head ++ tip ∷ gone) whole_chain tip (Contains-append_right head (tip ∷ gone) tip (Contains-here tip gone))).2 in
       ending_other tip (λ e. omega (arith, low, e))
 
-  module _ (new : List ℕ) (cut : IsShortened (x ∷ list) gone old new) where
+  pub behind_tip : (ends_of (x ∷ list) ≡ tip ∷ []) × IsChain old (value old tip) gone
+  behind_tip = (tip_alone, chain-rest old x head tip gone whole_chain)
+
+  module _ (new : List ℕ) (cut : GivesBack (ends_of (x ∷ list)) gone old new) where
     tip_ended : value new tip ≡ end_of_chain
     tip_ended = cut.ended tip (subst (λ (e : List ℕ). Contains e tip) (sym tip_alone) (Contains-here tip []))
 
@@ -127,24 +122,10 @@ module _ (old : List ℕ) (x : ℕ) (list gone : List ℕ) (c : IsChain old x (x
         let tail : IsChain new (value new tip) [] = subst (λ k. IsChain new k []) (sym tip_ended) (end_chain new) in
         subst (IsChain new x) (sym split_is) (chain-turn old new x head tip gone [] stays below whole_chain tail)
 
-    is_cut : IsCut tip gone old new
-    is_cut = record {
-      same_length = cut.same_length;
-      ended = tip_ended;
-      free = cut.free;
-      only = λ i out. cut.only i (λ m. out (subst (λ (e : List ℕ). Contains (e ++ gone) i) tip_alone m));
-    }
+pub what_is_left-is-chain : WhatIsLeftIsChain
+what_is_left-is-chain old new [] gone c cut = end_chain new
+what_is_left-is-chain old new (x ∷ list) gone c cut = turned old x list gone c new cut
 
-pub shortened-is-chain : ShortenedIsChain
-shortened-is-chain old new [] gone c cut = end_chain new
-shortened-is-chain old new (x ∷ list) gone c cut = turned old x list gone c new cut
-
-pub shortened-is-cut : ShortenedIsCut
-shortened-is-cut old new [] gone some c cut = absurd (omega (arith, some))
-shortened-is-cut old new (x ∷ list) gone some c cut = (
-  is_cut old x list gone c new cut,
-  chain-rest old x (head old x list gone c) (tip old x list gone c) gone (whole_chain old x list gone c),
-)
-
-pub shortened-is-freed : ShortenedIsFreed
-shortened-is-freed old new gone cut = record { same_length = cut.same_length; free = cut.free; only = cut.only }
+pub what_is_left-ends : WhatIsLeftEnds
+what_is_left-ends old [] gone some c = absurd (omega (arith, some))
+what_is_left-ends old (x ∷ list) gone some c = behind_tip old x list gone c

@@ -6,9 +6,9 @@ use Rattle.std.proofs.lemmas.List.Elements.{Contains-append_left, Contains-appen
 use Rattle.cfb_format.specs.Bytes.{is_regular, free_sector, end_of_chain}
 use Rattle.cfb_format.specs.Chain.{value}
 use Rattle.cfb_format.specs.Soundness.{IsLoose}
-use Rattle.cfb_tables.specs.Changes.{IsFreed, IsCut}
+use Rattle.cfb_tables.specs.Changes.{GivesBack}
 use Rattle.cfb_tables.specs.Tables.{TableState, HasTaken}
-use Rattle.cfb_tables.specs.Owners.{Uses, AllUsed, UseChanges, Takes, Frees}
+use Rattle.cfb_tables.specs.Owners.{Uses, AllUsed, UseChanges, Takes, Frees, GivenBackIsFreeing}
 use Rattle.cfb_tables.proofs.Members.{Contains-nil, Contains-one, Contains-or, in_three, distinct-left, distinct-right, distinct-apart, distinct-join, first_of_three, second_of_three, third_of_three}
 use Rattle.cfb_tables.proofs.TakenLemmas.{taken-busy, three-distinct}
 
@@ -177,12 +177,5 @@ taken-takes old new touched more h = record {
       ]
     ]
 
-pub freed-frees : (old new list : List ℕ) → IsFreed list old new → Frees old new [] list
-freed-frees old new list f = record { only = f.only; free = f.free; busy = λ i m. absurd (Contains-nil i m) }
-
-pub cut-frees : (old new list : List ℕ) (member : ℕ) → IsCut member list old new → Frees old new (member ∷ []) list
-cut-frees old new list member c = record {
-  only = c.only;
-  free = c.free;
-  busy = λ i m e. let is : value new i ≡ end_of_chain = ap (value new) (sym (Contains-one member i m)) ∙ c.ended in omega (arith, is, e);
-}
+pub given-back-frees : GivenBackIsFreeing
+given-back-frees old new ends gone g = record { only = g.only; free = g.free; busy = λ i m e. let is = g.ended i m in omega (arith, is, e) }

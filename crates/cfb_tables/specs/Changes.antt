@@ -30,18 +30,12 @@ pub record ListsFree (below : ℕ) (free table : List ℕ) : Type 0 where
   pub sound : (i : ℕ) → Contains free i → (i < below) × (value table i ≡ free_sector)
   pub whole : (i : ℕ) → i < below → value table i ≡ free_sector → Contains free i
 
--- these numbers are free now, and nothing else changed
-pub record IsFreed (list old new : List ℕ) : Type 0 where
+-- these numbers are given back: they are free now, a chain ends at each of `ends`, which has none or one, and nothing else changed
+pub record GivesBack (ends gone old new : List ℕ) : Type 0 where
   pub same_length : length new ≡ length old
-  pub free : (i : ℕ) → Contains list i → value new i ≡ free_sector
-  pub only : ChangesOnlyValues list old new
-
--- a chain ends at this member now, these numbers behind it are free, and nothing else changed
-pub record IsCut (member : ℕ) (list old new : List ℕ) : Type 0 where
-  pub same_length : length new ≡ length old
-  pub ended : value new member ≡ end_of_chain
-  pub free : (i : ℕ) → Contains list i → value new i ≡ free_sector
-  pub only : ChangesOnlyValues (member ∷ list) old new
+  pub ended : (i : ℕ) → Contains ends i → value new i ≡ end_of_chain
+  pub free : (i : ℕ) → Contains gone i → value new i ≡ free_sector
+  pub only : ChangesOnlyValues (ends ++ gone) old new
 
 -- each pointer of the table is a number of it
 abbrev pub PointsWithin : List ℕ → Type 0

@@ -1,11 +1,11 @@
 -- Tables in which no number is named twice, and how they stay so.
-use Rattle.std.specs.Prelude.{ℕ, ◌≡◌, ◌≢◌, ◌<◌, ◌≤◌, List, ◌++◌, true, not, ◌==◌, length, IsTrue}
+use Rattle.std.specs.Prelude.{ℕ, ◌≡◌, ◌≢◌, ◌<◌, ◌≤◌, List, [], ◌∷◌, ◌++◌, true, not, ◌==◌, length, IsTrue}
 use Rattle.std.specs.List.{list_all}
 use Rattle.cfb_format.specs.Bytes.{free_sector, invalid_sector, is_regular}
 use Rattle.cfb_format.specs.Chain.{value, IsChain}
 use Rattle.cfb_format.specs.Fat.{HasDistinctPointers}
 use Rattle.cfb_tables.specs.Changes.{PointsWithin}
-use Rattle.cfb_tables.specs.Changes.{IsFreed, IsCut}
+use Rattle.cfb_tables.specs.Changes.{GivesBack}
 use Rattle.cfb_tables.specs.Tables.{TableState, HasTaken, Extended}
 
 -- no number is named twice, a free one is never named, and the mark that is refused is not there
@@ -34,9 +34,9 @@ ExtendedIsClean = (old new : TableState) (start : ℕ) (more : List ℕ) → Ext
 
 -- a chain whose start nothing names is freed
 abbrev pub FreedIsClean : Type 0
-FreedIsClean = (old new list : List ℕ) (start : ℕ) → IsFreed list old new → IsChain old start list
+FreedIsClean = (old new list : List ℕ) (start : ℕ) → GivesBack [] list old new → IsChain old start list
     → ((i : ℕ) → i < length old → IsTrue (is_regular (value old i)) → value old i ≢ start) → IsClean old → IsClean new
 
 -- a chain is cut behind a member
 abbrev pub CutIsClean : Type 0
-CutIsClean = (old new list : List ℕ) (member : ℕ) → IsCut member list old new → IsChain old (value old member) list → IsClean old → IsClean new
+CutIsClean = (old new list : List ℕ) (member : ℕ) → GivesBack (member ∷ []) list old new → IsChain old (value old member) list → IsClean old → IsClean new

@@ -4,7 +4,7 @@ use Rattle.std.specs.List.{IsDistinct}
 use Rattle.cfb_format.specs.Bytes.{free_sector}
 use Rattle.cfb_format.specs.Chain.{value}
 use Rattle.cfb_format.specs.Soundness.{KeepsLoose}
-use Rattle.cfb_tables.specs.Changes.{ChangesOnlyValues, IsFreed, IsCut}
+use Rattle.cfb_tables.specs.Changes.{ChangesOnlyValues, GivesBack}
 use Rattle.cfb_tables.specs.Tables.{TableState, HasTaken}
 
 -- nothing is used twice, what is used isn't free, and what is loose points to loose numbers alone
@@ -63,8 +63,5 @@ TakenIsTaking = (old new : TableState) (touched more : List ℕ) (taken : HasTak
     → Takes old.fat new.fat touched (more ++ taken.fats ++ taken.difats)
 
 -- what is freed is given back
-abbrev pub FreedIsFreeing : Type 0
-FreedIsFreeing = (old new list : List ℕ) → IsFreed list old new → Frees old new [] list
-
-abbrev pub CutIsFreeing : Type 0
-CutIsFreeing = (old new list : List ℕ) (member : ℕ) → IsCut member list old new → Frees old new (member ∷ []) list
+abbrev pub GivenBackIsFreeing : Type 0
+GivenBackIsFreeing = (old new ends gone : List ℕ) → GivesBack ends gone old new → Frees old new ends gone

@@ -7,7 +7,7 @@ use Rattle.cfb_format.specs.Chain.{value, IsChain}
 use Rattle.cfb_format.specs.Full.{HasRoom, free_count, rounded_up}
 use Rattle.cfb_format.specs.Header.{header_difat_len}
 use Rattle.cfb_tables.specs.declared.lists.Sizes.{Sizes}
-use Rattle.cfb_tables.specs.Changes.{ChangesOnlyValues, NoneFree, ListsFree, IsFreed, IsCut}
+use Rattle.cfb_tables.specs.Changes.{ChangesOnlyValues, NoneFree, ListsFree, GivesBack}
 
 -- the FAT's values, the FAT sectors and the DIFAT sectors in order, and the number of sectors that the file may grow to
 pub record TableState : Type 0 where
@@ -151,19 +151,14 @@ TakesFor touched old new = (more : List ℕ) × HasTaken old new touched more
 abbrev pub ending : ℕ → List ℕ
 ending last = if last == end_of_chain then [] else last ∷ []
 
--- the chain from the start is freed, and nothing else changed
-pub record FreesChain (start : ℕ) (old new : TableState) : Type 0 where
-  pub list : List ℕ
-  pub was : IsChain old.fat start list
-  pub freed : IsFreed list old.fat new.fat
+-- tables give these numbers back, a chain ends at each of `ends`, and nothing else changed
+pub record TablesGiveBack (ends gone : List ℕ) (old new : TableState) : Type 0 where
+  pub given : GivesBack ends gone old.fat new.fat
   pub rest : new ≡ record old { fat = new.fat }
 
--- a chain ends at this sector now, the ones behind it are freed, and nothing else changed
-pub record CutsChain (sector : ℕ) (old new : TableState) : Type 0 where
-  pub list : List ℕ
-  pub was : IsChain old.fat (value old.fat sector) list
-  pub cut : IsCut sector list old.fat new.fat
-  pub rest : new ≡ record old { fat = new.fat }
+-- they give back the chain that starts there
+abbrev pub GivesBackChain : List ℕ → ℕ → TableState → TableState → Type 0
+GivesBackChain ends start old new = (list : List ℕ) × IsChain old.fat start list × TablesGiveBack ends list old new
 
 -- sectors were added behind the last one of a chain, and appended to a list
 pub record Added (old new : TableState) (last : ℕ) (before after : List ℕ) : Type 0 where

@@ -4,9 +4,9 @@ ghost use Rattle.cfb_tables.specs.Changes.{ChainsStay, OtherChainsStay, ChainsTu
 ghost use Rattle.cfb_tables.specs.Clean.{CleanPointsWithin, TakenIsClean, ExtendedIsClean, FreedIsClean, CutIsClean};
 ghost use Rattle.cfb_tables.specs.Tables.{FullIsTooFew, TooFewIsNoRoom, EnoughIsRoom};
 ghost use Rattle.cfb_tables.specs.Room.{NothingGivenBack, TooFewIsNoRoomAfter, EnoughIsRoomAfter, MoreIsTooFew, RoomInTurn, AllTakenIsFull};
-ghost use Rattle.cfb_tables.specs.Listed.{ShortenedIsChain, ShortenedIsCut, ShortenedIsFreed};
+ghost use Rattle.cfb_tables.specs.Listed.{WhatIsLeftIsChain, WhatIsLeftEnds};
 ghost use Rattle.cfb_tables.specs.ReadWords.{PaddingIsApart, TableSectorsAreInFile, DifatSectorsAreFew};
-ghost use Rattle.cfb_tables.specs.Owners.{UsesAreKept, NothingLooseIsKept, UseChangesFollow, TakingChanges, FreeingChanges, TakenIsTaking, FreedIsFreeing, CutIsFreeing};
+ghost use Rattle.cfb_tables.specs.Owners.{UsesAreKept, NothingLooseIsKept, UseChangesFollow, TakingChanges, FreeingChanges, TakenIsTaking, GivenBackIsFreeing};
 
 /// A chain stays while the table changes elsewhere, and turns where one member's value changes.
 pub fn chains_follow_changes()
@@ -41,8 +41,7 @@ pub fn uses_follow_changes()
     ensures taking { TakingChanges }
     ensures freeing { FreeingChanges }
     ensures taken { TakenIsTaking }
-    ensures freed { FreedIsFreeing }
-    ensures cut { CutIsFreeing }
+    ensures given_back { GivenBackIsFreeing }
 {}
 
 /// A table in which no number is named twice and no free one is named stays so while sectors are taken and freed, and its
@@ -55,12 +54,10 @@ pub fn tables_stay_clean()
     ensures cut { CutIsClean }
 {}
 
-/// What is left of a chain that is cut by the list of its members is a chain, and the cut is one behind its last member, or the
-/// freeing of all.
+/// What is left of a chain whose last members are given back is a chain, and ends at the last of those that are left.
 pub fn what_is_left_is_a_chain()
-    ensures chain { ShortenedIsChain }
-    ensures cut { ShortenedIsCut }
-    ensures freed { ShortenedIsFreed }
+    ensures chain { WhatIsLeftIsChain }
+    ensures ends { WhatIsLeftEnds }
 {}
 
 /// The words past the file's sectors are padding and nothing else, and the table sectors are sectors of the file.

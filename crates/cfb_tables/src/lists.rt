@@ -5,10 +5,10 @@ ghost use Rattle.cfb_format.specs.Bytes.{max_regular_sector, end_of_chain, free_
 ghost use Rattle.cfb_format.specs.Chain.{value, IsChain};
 ghost use Rattle.cfb_format.specs.Full.{free_count};
 ghost use Rattle.std.specs.List.{IsDistinct};
-ghost use Rattle.cfb_tables.specs.Changes.{IsNextOf, ListsFree, IsFreed, IsCut};
+ghost use Rattle.cfb_tables.specs.Changes.{IsNextOf, ListsFree, GivesBack};
 ghost use Rattle.cfb_tables.specs.Tables.{TableState, Kept, IsKept, AreSizes, CanHold, TakesNext, IsPrepared, IsTooFew, PassesLimit, HasTaken, Added, Extended, first_or_end, wiped, tables_of, sizes_of, sizes_after, grown_sizes, numbers_needed, grown, grown_fats, grown_difats};
 ghost use Rattle.cfb_tables.specs.Room.{IsTooFewAfter};
-ghost use Rattle.cfb_tables.specs.Listed.{IsShortened};
+ghost use Rattle.cfb_tables.specs.Listed.{ends_of};
 ghost use Rattle.cfb_tables.specs.Refused.{TableRefused, WalkRefused, LastRefused, NextRefused, ExtendRefused};
 
 use crate::walk::{last_of, next_in, walk};
@@ -573,7 +573,7 @@ impl<A: Allocator> Lists<A> {
     /// `Memory`.
     pub fn free(&mut self, alloc: A, start: u32) -> Result<Vec<u32, A>, Error>
         ensures ok { IfOk result (λ list. IsChain self.old.state.fat start list.items) }
-        ensures freed { IfOk result (λ list. IsFreed list.items self.old.state.fat self.new.state.fat) }
+        ensures freed { IfOk result (λ list. GivesBack [] list.items self.old.state.fat self.new.state.fat) }
         ensures rest { self.new.state ≡ record self.old.state { fat = self.new.state.fat } }
         ensures unchanged { OnErr result (self.new.state ≡ self.old.state) }
         ensures err { IfErr result (WalkRefused self.old.state.fat start) }
@@ -588,7 +588,7 @@ impl<A: Allocator> Lists<A> {
     pub fn free_after(&mut self, alloc: A, sector: u32) -> Result<Vec<u32, A>, Error>
         requires below { sector < length self.old.state.fat }
         ensures ok { IfOk result (λ list. IsChain self.old.state.fat (value self.old.state.fat sector) list.items) }
-        ensures cut { IfOk result (λ list. IsCut sector list.items self.old.state.fat self.new.state.fat) }
+        ensures cut { IfOk result (λ list. GivesBack (sector ∷ []) list.items self.old.state.fat self.new.state.fat) }
         ensures rest { self.new.state ≡ record self.old.state { fat = self.new.state.fat } }
         ensures unchanged { OnErr result (self.new.state ≡ self.old.state) }
         ensures err { IfErr result (WalkRefused self.old.state.fat (value self.old.state.fat sector)) }
@@ -602,7 +602,7 @@ impl<A: Allocator> Lists<A> {
     /// Frees the chain that has just these sectors. It asks for no memory.
     pub fn free_listed(&mut self, list: &[u32])
         requires chain { IsChain self.old.state.fat (first_or_end list.now) list.now }
-        ensures freed { IsFreed list.now self.old.state.fat self.new.state.fat }
+        ensures freed { GivesBack [] list.now self.old.state.fat self.new.state.fat }
         ensures rest { self.new.state ≡ record self.old.state { fat = self.new.state.fat } }
     {
         self.free_all(list);
@@ -612,7 +612,7 @@ impl<A: Allocator> Lists<A> {
     pub fn cut_listed(&mut self, list: &[u32], left: usize)
         requires chain { IsChain self.old.state.fat (first_or_end list.now) list.now }
         requires fewer { left ≤ length list.now }
-        ensures cut { IsShortened (take left list.now) (drop left list.now) self.old.state.fat self.new.state.fat }
+        ensures cut { GivesBack (ends_of (take left list.now)) (drop left list.now) self.old.state.fat self.new.state.fat }
         ensures rest { self.new.state ≡ record self.old.state { fat = self.new.state.fat } }
     {
         if left == 0 {

@@ -3,10 +3,10 @@
 ghost use Rattle.std.specs.Prelude.{◌≡◌, ◌≢◌, ◌↔◌, ℕ, ◌+◌, ◌-◌, ◌<◌, ◌≤◌, [], ◌∷◌, ◌++◌, List, length, take, drop, min, IsTrue, IfOk, IfErr, OnErr, OnOk, vec_len};
 ghost use Rattle.cfb_format.specs.Bytes.{max_regular_sector, end_of_chain};
 ghost use Rattle.cfb_format.specs.Chain.{IsChain, value};
-ghost use Rattle.cfb_tables.specs.Changes.{IsNextOf, IsFreed, IsCut};
+ghost use Rattle.cfb_tables.specs.Changes.{IsNextOf, GivesBack};
 ghost use Rattle.cfb_tables.specs.Tables.{AreSizes, HasTaken, Extended, IsTooFew, sizes_of, first_or_end, tables_of};
 ghost use Rattle.cfb_tables.specs.Room.{IsTooFewAfter};
-ghost use Rattle.cfb_tables.specs.Listed.{IsShortened};
+ghost use Rattle.cfb_tables.specs.Listed.{ends_of};
 ghost use Rattle.cfb_tables.specs.Refused.{TableRefused, WalkRefused, LastRefused, NextRefused, ExtendRefused};
 
 use crate::lists::Lists;
@@ -205,7 +205,7 @@ impl<A: Allocator> Tables<A> {
     /// `Memory`; the tables then stay as they were.
     pub fn free(&mut self, alloc: A, start: u32) -> Result<Vec<u32, A>, Error>
         ensures ok { IfOk result (λ list. IsChain self.old.fat start list.items) }
-        ensures freed { IfOk result (λ list. IsFreed list.items self.old.fat self.new.fat) }
+        ensures freed { IfOk result (λ list. GivesBack [] list.items self.old.fat self.new.fat) }
         ensures rest { self.new ≡ record self.old { fat = self.new.fat } }
         ensures unchanged { OnErr result (self.new ≡ self.old) }
         ensures err { IfErr result (WalkRefused self.old.fat start) }
@@ -218,7 +218,7 @@ impl<A: Allocator> Tables<A> {
     pub fn free_after(&mut self, alloc: A, sector: u32) -> Result<Vec<u32, A>, Error>
         requires below { sector < length self.old.fat }
         ensures ok { IfOk result (λ list. IsChain self.old.fat (value self.old.fat sector) list.items) }
-        ensures cut { IfOk result (λ list. IsCut sector list.items self.old.fat self.new.fat) }
+        ensures cut { IfOk result (λ list. GivesBack (sector ∷ []) list.items self.old.fat self.new.fat) }
         ensures rest { self.new ≡ record self.old { fat = self.new.fat } }
         ensures unchanged { OnErr result (self.new ≡ self.old) }
         ensures err { IfErr result (WalkRefused self.old.fat (value self.old.fat sector)) }
@@ -255,7 +255,7 @@ impl<A: Allocator> Tables<A> {
     /// Frees the chain that has just these sectors. It asks for no memory.
     pub fn free_listed(&mut self, list: &[u32])
         requires chain { IsChain self.old.fat (first_or_end list.now) list.now }
-        ensures freed { IsFreed list.now self.old.fat self.new.fat }
+        ensures freed { GivesBack [] list.now self.old.fat self.new.fat }
         ensures rest { self.new ≡ record self.old { fat = self.new.fat } }
     {
         self.lists.free_listed(list);
@@ -265,7 +265,7 @@ impl<A: Allocator> Tables<A> {
     pub fn cut_listed(&mut self, list: &[u32], left: usize)
         requires chain { IsChain self.old.fat (first_or_end list.now) list.now }
         requires fewer { left ≤ length list.now }
-        ensures cut { IsShortened (take left list.now) (drop left list.now) self.old.fat self.new.fat }
+        ensures cut { GivesBack (ends_of (take left list.now)) (drop left list.now) self.old.fat self.new.fat }
         ensures rest { self.new ≡ record self.old { fat = self.new.fat } }
     {
         self.lists.cut_listed(list, left);

@@ -1,6 +1,6 @@
 use Rattle.std.proofs.Common.{◌≡◌, ℕ, List, ◌++◌, ap, sym, subst, ◌∙◌}
 use Rattle.std.specs.Prelude.{Some, Contains}
-use Rattle.cfb_chains.specs.ChainLists.{last_or_end}
+use Rattle.cfb_tables.specs.Listed.{last_or_end}
 use Rattle.cfb_tables.specs.Tables.{TakesFor, ending, first_or_end}
 use Rattle.cfb_alloc.proofs.AllocLemmas.{others_refl}
 use Rattle.cfb_alloc.proofs.ChainView.{chain_few, only_first}

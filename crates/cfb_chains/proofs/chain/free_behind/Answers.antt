@@ -1,7 +1,8 @@
-use Rattle.std.proofs.Common.{refl, ◌-◌, take, drop, arith}
+use Rattle.std.proofs.Common.{refl, [], ◌∷◌, ◌-◌, take, drop, arith}
 use Rattle.std.specs.Prelude.{slice_index}
-use Rattle.cfb_chains.specs.ChainLists.{Shortens}
-use Rattle.cfb_tables.specs.Tables.{FreesChain, CutsChain}
+use Rattle.cfb_format.specs.Chain.{value}
+use Rattle.cfb_tables.specs.Listed.{ends_of}
+use Rattle.cfb_tables.specs.Tables.{GivesBackChain, TablesGiveBack}
 use Rattle.cfb_alloc.proofs.Answering.{on_ok}
 use Rattle.cfb_alloc.proofs.ChainView.{only_first, some_chain, started}
 use Rattle.cfb_chains.proofs.ChainLists.{on_err, breaks_map, freed_shortens, cut_shortens, behind_found}
@@ -15,7 +16,7 @@ returns-then-count-eq0-clause-cut g c =
 pub returns-then-count-eq0-clause-refused : goal.returns-then-count-eq0-clause-refused
 returns-then-count-eq0-clause-refused g c =
     on_err _ _ c.free_chain.result
-    (breaks_map (FreesChain c.args.start) (Shortens (take c.args.count c.args.ids.now) (drop c.args.count c.args.ids.now)) c.args.allocator.now c.free_chain.new.self
+    (breaks_map (GivesBackChain [] c.args.start) (TablesGiveBack (ends_of (take c.args.count c.args.ids.now)) (drop c.args.count c.args.ids.now)) c.args.allocator.now c.free_chain.new.self
     (freed_shortens c.args.allocator.now.tables c.free_chain.new.self.tables c.args.start c.args.count c.args.ids.now c.if-count-eq0.true c.requires.chained))
     c.free_chain.ensures.refused
 
@@ -32,7 +33,7 @@ returns-clause-cut g c =
 pub returns-clause-refused : goal.returns-clause-refused
 returns-clause-refused g c =
     on_err _ _ c.free_chain_after.result
-    (breaks_map (CutsChain (slice_index c.args.ids.now (c.args.count - 1))) (Shortens (take c.args.count c.args.ids.now) (drop c.args.count c.args.ids.now)) c.args.allocator.now c.free_chain_after.new.self
+    (breaks_map (GivesBackChain (slice_index c.args.ids.now (c.args.count - 1) ∷ []) (value c.args.allocator.now.tables.fat (slice_index c.args.ids.now (c.args.count - 1)))) (TablesGiveBack (ends_of (take c.args.count c.args.ids.now)) (drop c.args.count c.args.ids.now)) c.args.allocator.now c.free_chain_after.new.self
     (cut_shortens c.args.allocator.now.tables c.free_chain_after.new.self.tables c.args.start c.args.count _ c.args.ids.now c.if-count-eq0.false c.requires.fewer refl c.requires.chained))
     c.free_chain_after.ensures.refused
 

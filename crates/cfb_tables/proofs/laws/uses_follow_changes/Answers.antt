@@ -1,4 +1,4 @@
-use Rattle.cfb_tables.proofs.UseLemmas.{uses-kept, nothing-loose, use-changes-follow, taking-changes, freeing-changes, taken-takes, freed-frees, cut-frees}
+use Rattle.cfb_tables.proofs.UseLemmas.{uses-kept, nothing-loose, use-changes-follow, taking-changes, freeing-changes, taken-takes, given-back-frees}
 use Rattle.cfb_tables.proofs.laws.uses_follow_changes.Goals as goal
 
 pub returns-clause-kept : goal.returns-clause-kept
@@ -19,8 +19,5 @@ returns-clause-freeing c = freeing-changes
 pub returns-clause-taken : goal.returns-clause-taken
 returns-clause-taken c = taken-takes
 
-pub returns-clause-freed : goal.returns-clause-freed
-returns-clause-freed c = freed-frees
-
-pub returns-clause-cut : goal.returns-clause-cut
-returns-clause-cut c = cut-frees
+pub returns-clause-given_back : goal.returns-clause-given_back
+returns-clause-given_back c = given-back-frees

@@ -1,11 +1,8 @@
-use Rattle.cfb_tables.proofs.ListedLemmas.{shortened-is-chain, shortened-is-cut, shortened-is-freed}
+use Rattle.cfb_tables.proofs.ListedLemmas.{what_is_left-is-chain, what_is_left-ends}
 use Rattle.cfb_tables.proofs.laws.what_is_left_is_a_chain.Goals as goal
 
 pub returns-clause-chain : goal.returns-clause-chain
-returns-clause-chain c = shortened-is-chain
+returns-clause-chain c = what_is_left-is-chain
 
-pub returns-clause-cut : goal.returns-clause-cut
-returns-clause-cut c = shortened-is-cut
-
-pub returns-clause-freed : goal.returns-clause-freed
-returns-clause-freed c = shortened-is-freed
+pub returns-clause-ends : goal.returns-clause-ends
+returns-clause-ends c = what_is_left-ends

@@ -4,10 +4,10 @@ use Rattle.std.proofs.lemmas.Result.{err_from_is_err_and}
 use Rattle.cfb_format.specs.declared.version.Version.{Version}
 use Rattle.cfb_format.specs.Chain.{value, IsChain}
 use Rattle.cfb_alloc.specs.Alloc.{AllocatorState, ChangesSectors, HoldsTables, HoldsBut}
-use Rattle.cfb_tables.specs.Changes.{IsCut}
+use Rattle.cfb_tables.specs.Changes.{GivesBack}
 use Rattle.cfb_tables.specs.Clean.{IsClean}
 use Rattle.cfb_sectors.specs.Sectors.{SectorFile}
-use Rattle.cfb_tables.specs.Tables.{TableState, CutsChain}
+use Rattle.cfb_tables.specs.Tables.{TableState, GivesBackChain}
 use Rattle.cfb_alloc.proofs.Answering.{all_ok, on_ok}
 use Rattle.cfb_tables.proofs.ChainLemmas.{members-busy}
 use Rattle.cfb_tables.proofs.CleanLemmas.{cut-clean}
@@ -95,15 +95,15 @@ returns-clause-changes g c told =
 
 -- the chain is cut in memory
 cuts : (x : ℕ) (a : AllocatorState) (file : SectorFile) (t0 t : TableState) (list : List ℕ) → record { file = file; tables = t0 } ≡ a → IsChain t0.fat (value t0.fat x) list
-    → IsCut x list t0.fat t.fat → t ≡ record t0 { fat = t.fat } → CutsChain x a.tables t
-cuts x a file t0 t list is was cut rest = subst (λ (b : AllocatorState). CutsChain x b.tables t) is (record { list = list; was = was; cut = cut; rest = rest })
+    → GivesBack (x ∷ []) list t0.fat t.fat → t ≡ record t0 { fat = t.fat } → GivesBackChain (x ∷ []) (value a.tables.fat x) a.tables t
+cuts x a file t0 t list is was cut rest = subst (λ (b : AllocatorState). GivesBackChain (x ∷ []) (value b.tables.fat x) b.tables t) is (list, was, record { given = cut; rest = rest })
 
 pub returns-in_err-write_values-clause-refused : goal.returns-in_err-write_values-clause-refused
 returns-in_err-write_values-clause-refused g c =
     let e = c.in_ok-freed.ensures in
     let p = err_from_is_err_and c.from_residual-in_err-write_values.result c.from_residual-in_err-write_values.ensures.1 in
     let w = c.in_err-write_values.ensures in
-    rw (p.1, p.2) (breaks_by_medium (CutsChain c.args.sector) c.args.self.now (record { file = c.write_values.new.sectors; tables = c.free_after.new.self }) c.in_err-write_values.field-0.0
+    rw (p.1, p.2) (breaks_by_medium (GivesBackChain (c.args.sector ∷ []) (value c.args.self.now.tables.fat c.args.sector)) c.args.self.now (record { file = c.write_values.new.sectors; tables = c.free_after.new.self }) c.in_err-write_values.field-0.0
     w.err w.begun (cuts c.args.sector c.args.self.now c.self.inside.sectors c.self.inside.tables c.free_after.new.self c.in_ok-freed.freed.items c.self.view_is e.ok e.cut c.free_after.ensures.rest))
 
 pub returns-clause-cut : goal.returns-clause-cut
@@ -114,6 +114,6 @@ returns-clause-cut g c =
 pub returns-clause-refused : goal.returns-clause-refused
 returns-clause-refused g c =
     let e = c.in_ok-freed.ensures in
-    breaks_back c.write_values-2.result (CutsChain c.args.sector) c.args.self.now
+    breaks_back c.write_values-2.result (GivesBackChain (c.args.sector ∷ []) (value c.args.self.now.tables.fat c.args.sector)) c.args.self.now
     (record { file = c.write_values-2.new.sectors; tables = c.free_after.new.self }) c.write_values-2.ensures.err c.write_values-2.ensures.begun
     (cuts c.args.sector c.args.self.now c.self.inside.sectors c.self.inside.tables c.free_after.new.self c.in_ok-freed.freed.items c.self.view_is e.ok e.cut c.free_after.ensures.rest)

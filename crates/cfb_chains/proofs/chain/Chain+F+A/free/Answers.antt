@@ -1,7 +1,6 @@
 use Rattle.std.proofs.Common.{[]}
-use Rattle.cfb_chains.specs.ChainLists.{Shortens}
 use Rattle.cfb_chains.specs.LentChain.{allocator_of, start_sector_of, ids_of}
-use Rattle.cfb_tables.specs.Tables.{FreesChain}
+use Rattle.cfb_tables.specs.Tables.{GivesBackChain, TablesGiveBack}
 use Rattle.cfb_chains.proofs.ChainLists.{on_err, breaks_map, shortened_frees, freed_of}
 use Rattle.cfb_chains.proofs.chain.Chain+F+A.free.Goals as goal
 
@@ -17,7 +16,7 @@ returns-clause-refused g c =
     let old = (allocator_of now).now in
     let new = (allocator_of c.cut.new.self).now in
     on_err _ _ c.cut.result
-    (breaks_map (Shortens [] (ids_of now)) (FreesChain (start_sector_of now)) old new (shortened_frees old.tables new.tables (start_sector_of now) (ids_of now) now.chained))
+    (breaks_map (TablesGiveBack [] (ids_of now)) (GivesBackChain [] (start_sector_of now)) old new (shortened_frees old.tables new.tables (start_sector_of now) (ids_of now) now.chained))
     c.cut.ensures.refused
 
 pub returns-clause-holds : goal.returns-clause-holds

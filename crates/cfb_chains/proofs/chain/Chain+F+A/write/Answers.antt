@@ -5,13 +5,15 @@ use Rattle.cfb_format.specs.Medium.{written}
 use Rattle.cfb_format.specs.Refused.{CountsFailure}
 use Rattle.cfb_sectors.specs.Sectors.{copies, init_bytes}
 use Rattle.cfb_format.specs.Bytes.{sector_len, sector_start}
-use Rattle.cfb_chains.specs.ChainLists.{gained, last_or_end}
+use Rattle.cfb_chains.specs.ChainLists.{gained}
+use Rattle.cfb_tables.specs.Listed.{last_or_end}
 use Rattle.cfb_tables.specs.Tables.{ending}
 use Rattle.cfb_chains.specs.LentChain.{allocator_of, ids_of, init_of, missing_of, place_of, position_of, room_of, version_of, content_of, HasBytes}
 use Rattle.cfb_alloc.proofs.Answering.{all_ok}
 use Rattle.cfb_chains.proofs.ChainWrites.{goes_nowhere, if_ok, none_needed, rest_short, room_after, there_of}
 use Rattle.cfb_chains.proofs.OwnWrites.{own_gained, own_none, own_taken, own_written}
 use Rattle.cfb_sectors.proofs.SectorLemmas.{SectorStays_next}
+use Rattle.cfb_tables.proofs.Members.{Contains-nil}
 use Rattle.cfb_chains.proofs.chain.Chain+F+A.write.Goals as goal
 
 pub returns-clause-count : goal.returns-clause-count
@@ -34,7 +36,7 @@ returns-clause-others g c told i busy out other =
     let version = c.in_ok-grow.ensures.version in
     let position = c.in_ok-grow.ensures.position in
     let ids = c.write_within-2.ensures.chain.0 in
-    SectorStays_next (version_of now) (version_of grown) i _ _ _ version ((c.in_ok-grow.ensures.others told).sectors i busy out)
+    SectorStays_next (version_of now) (version_of grown) i _ _ _ version ((c.in_ok-grow.ensures.others told).sectors i busy out (Contains-nil i))
     (c.write_within-2.ensures.sectors told i (λ e. other (e ∙ (λ j. slice_index (sym ids j) (position j / sector_len (version j))))))
 
 pub returns-clause-begun : goal.returns-clause-begun

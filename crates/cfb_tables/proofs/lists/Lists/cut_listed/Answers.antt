@@ -1,8 +1,8 @@
-use Rattle.std.proofs.Common.{◌<◌, ◌-◌, ℕ, List, drop, sym, ◌∙◌, ap, subst, arith}
+use Rattle.std.proofs.Common.{[], ◌∷◌, ◌<◌, ◌-◌, ℕ, List, drop, sym, ◌∙◌, ap, subst, arith}
 use Rattle.std.specs.Prelude.{Contains, nat_eq, slice_index}
 use Rattle.std.specs.List.{IsDistinct}
 use Rattle.cfb_format.specs.Chain.{value}
-use Rattle.cfb_tables.specs.Changes.{IsFreed, IsCut}
+use Rattle.cfb_tables.specs.Changes.{GivesBack}
 use Rattle.cfb_tables.specs.Tables.{Kept, first_or_end, wiped}
 use Rattle.cfb_tables.proofs.ChainLemmas.{members-busy}
 use Rattle.cfb_tables.proofs.AttachLemmas.{behind-busy, cut-freed}
@@ -19,7 +19,7 @@ returns-then-left-eq0-clause-cut g c =
     let t = c.args.self.now.state.fat in
     let list = c.args.list.now in
     let now = ap (λ (z : Kept). z.state.fat) c.free_all.ensures in
-    let freed = subst (λ (z : List ℕ). IsFreed list t z) (sym now) (freed-by-list t list (first_or_end list) c.requires.chain) in
+    let freed = subst (λ (z : List ℕ). GivesBack [] list t z) (sym now) (freed-by-list t list (first_or_end list) c.requires.chain) in
     shortened-to-none list t c.free_all.new.self.state.fat c.args.left c.if-left-eq0.true freed
 
 pub end-requires : goal.end-requires
@@ -62,4 +62,4 @@ returns-clause-cut g c =
     let ended = ap (λ (z : Kept). z.state.fat) c.end.ensures in
     let now = ap (λ (z : Kept). z.state.fat) c.free_all-2.ensures ∙ (λ j. wiped (ended j) (rest j)) in
     shortened-behind list left some c.requires.fewer t (first_or_end list) c.requires.chain c.free_all-2.new.self.state.fat
-    (subst (λ (z : List ℕ). IsCut x (drop left list) t z) (sym now) (cut-freed t (drop left list) x there.1 there.2 behind))
+    (subst (λ (z : List ℕ). GivesBack (x ∷ []) (drop left list) t z) (sym now) (cut-freed t (drop left list) x there.1 there.2 behind))

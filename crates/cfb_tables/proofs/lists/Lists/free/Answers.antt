@@ -1,6 +1,6 @@
-use Rattle.std.proofs.Common.{List, ℕ, sym, ◌∙◌, ap, subst}
+use Rattle.std.proofs.Common.{[], List, ℕ, sym, ◌∙◌, ap, subst}
 use Rattle.std.specs.Prelude.{Contains}
-use Rattle.cfb_tables.specs.Changes.{IsFreed}
+use Rattle.cfb_tables.specs.Changes.{GivesBack}
 use Rattle.cfb_tables.specs.Tables.{Kept, wiped}
 use Rattle.cfb_tables.proofs.ChainLemmas.{members-busy}
 use Rattle.cfb_tables.proofs.ListedLemmas.{freed-by-list}
@@ -16,4 +16,4 @@ returns-clause-freed g c =
     let t = c.args.self.now.state.fat in
     let list = c.in_ok-list.list.items in
     let now = ap (λ (z : Kept). z.state.fat) c.free_all.ensures ∙ ap (wiped t) c.deref.ensures.value in
-    subst (λ (z : List ℕ). IsFreed list t z) (sym now) (freed-by-list t list c.args.start c.in_ok-list.ensures.ok)
+    subst (λ (z : List ℕ). GivesBack [] list t z) (sym now) (freed-by-list t list c.args.start c.in_ok-list.ensures.ok)

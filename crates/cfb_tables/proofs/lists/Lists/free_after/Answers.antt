@@ -1,8 +1,8 @@
-use Rattle.std.proofs.Common.{ℕ, List, ◌≤◌, sym, ◌∙◌, ap, subst, arith}
+use Rattle.std.proofs.Common.{[], ◌∷◌, ℕ, List, ◌≤◌, sym, ◌∙◌, ap, subst, arith}
 use Rattle.std.specs.Prelude.{Contains}
 use Rattle.cfb_format.specs.Bytes.{max_regular_sector}
 use Rattle.cfb_format.specs.Chain.{value}
-use Rattle.cfb_tables.specs.Changes.{IsCut}
+use Rattle.cfb_tables.specs.Changes.{GivesBack}
 use Rattle.cfb_tables.specs.Tables.{Kept, wiped}
 use Rattle.cfb_tables.proofs.AttachLemmas.{start-busy, behind-busy, cut-freed}
 use Rattle.cfb_tables.proofs.lists.Lists.free_after.Goals as goal
@@ -30,4 +30,4 @@ returns-clause-cut g c =
     let regular : x ≤ max_regular_sector = omega (arith, c.requires.below, c.in_ok-list.ensures.short) in
     let ended = ap (λ (z : Kept). z.state.fat) c.end.ensures in
     let now = ap (λ (z : Kept). z.state.fat) c.free_all.ensures ∙ (λ j. wiped (ended j) (c.deref.ensures.value j)) in
-    subst (λ (z : List ℕ). IsCut x list t z) (sym now) (cut-freed t list x c.requires.below regular c.in_ok-list.ensures.ok)
+    subst (λ (z : List ℕ). GivesBack (x ∷ []) list t z) (sym now) (cut-freed t list x c.requires.below regular c.in_ok-list.ensures.ok)

@@ -1,5 +1,5 @@
-use Rattle.std.proofs.Common.{List, ℕ, sym, ap, subst}
-use Rattle.cfb_tables.specs.Changes.{IsFreed}
+use Rattle.std.proofs.Common.{[], List, ℕ, sym, ap, subst}
+use Rattle.cfb_tables.specs.Changes.{GivesBack}
 use Rattle.cfb_tables.specs.Tables.{Kept, first_or_end}
 use Rattle.cfb_tables.proofs.ChainLemmas.{members-busy}
 use Rattle.cfb_tables.proofs.ListedLemmas.{freed-by-list}
@@ -15,4 +15,4 @@ returns-clause-freed g c =
     let t = c.args.self.now.state.fat in
     let list = c.args.list.now in
     let now = ap (λ (z : Kept). z.state.fat) c.free_all.ensures in
-    subst (λ (z : List ℕ). IsFreed list t z) (sym now) (freed-by-list t list (first_or_end list) c.requires.chain)
+    subst (λ (z : List ℕ). GivesBack [] list t z) (sym now) (freed-by-list t list (first_or_end list) c.requires.chain)

@@ -1,0 +1,55 @@
+-- What a change leaves alone: the sectors in use that are none of its own.
+use Rattle.std.specs.Prelude.{ℕ, ◌≡◌, ◌≢◌, ◌<◌, ◌≤◌, ◌⊎◌, List, ◌++◌, length, slice_index, Contains}
+use Rattle.cfb_format.specs.declared.version.Version.{Version}
+use Rattle.cfb_format.specs.Bytes.{sector_len, free_sector}
+use Rattle.cfb_format.specs.Chain.{value, IsChain}
+use Rattle.cfb_tables.specs.Changes.{AreDisjoint}
+use Rattle.cfb_tables.specs.Tables.{TableState}
+use Rattle.cfb_sectors.specs.Sectors.{SectorStays}
+use Rattle.cfb_alloc.specs.Agreement.{KeepsSectors}
+use Rattle.cfb_alloc.specs.Alloc.{AllocatorState}
+
+-- the sectors that hold the tables
+abbrev pub table_sectors : TableState → List ℕ
+table_sectors t = t.fat_sectors ++ t.difat_sectors
+
+-- the sector is in use, and neither one of these nor a table sector
+pub record IsForeign (own : List ℕ) (t : TableState) (i : ℕ) : Type 0 where
+  pub busy : value t.fat i ≢ free_sector
+  pub other : Contains own i → ⊥
+  pub no_table : Contains (table_sectors t) i → ⊥
+
+-- a byte of the header, or behind it, that no change of sectors and no word of its own writes (MS-CFB 2.2)
+abbrev pub IsFixedHeaderByte : Version → ℕ → Type 0
+IsFixedHeaderByte version i = (i < 40) ⊎ ((48 ≤ i) × (i < 60)) ⊎ ((512 ≤ i) × (i < sector_len version))
+
+-- a change of these sectors and of table sectors: every other sector in use keeps its value and its bytes, and becomes no table sector
+pub record Spares (own : List ℕ) (old new : AllocatorState) : Type 0 where
+  pub same_version : new.tables.version ≡ old.tables.version
+  pub no_shorter : length old.file.bytes ≤ length new.file.bytes
+  pub values : (i : ℕ) → IsForeign own old.tables i → value new.tables.fat i ≡ value old.tables.fat i
+  pub tables : (i : ℕ) → IsForeign own old.tables i → Contains (table_sectors new.tables) i → ⊥
+  pub sectors : (i : ℕ) → IsForeign own old.tables i → SectorStays old.tables.version i old.file.bytes new.file.bytes
+  pub header : (i : ℕ) → i < length old.file.bytes → IsFixedHeaderByte old.tables.version i → slice_index new.file.bytes i ≡ slice_index old.file.bytes i
+
+-- ---- laws
+
+-- where neither tables nor bytes change, everything is spared
+abbrev pub NothingIsTouched : Type 0
+NothingIsTouched = (own : List ℕ) (old new : AllocatorState) → new.tables.version ≡ old.tables.version → new.tables.fat ≡ old.tables.fat
+    → table_sectors new.tables ≡ table_sectors old.tables → new.file.bytes ≡ old.file.bytes → Spares own old new
+
+-- more sectors may be a change's own
+abbrev pub SparesLess : Type 0
+SparesLess = (own more : List ℕ) (old new : AllocatorState) → ((i : ℕ) → Contains own i → Contains more i) → Spares own old new → Spares more old new
+
+-- a change, and then one that may also touch what was free before the first
+abbrev pub SparesInTurn : Type 0
+SparesInTurn = (own more : List ℕ) (a b c : AllocatorState) → ((i : ℕ) → Contains more i → value a.tables.fat i ≡ free_sector)
+    → Spares own a b → Spares (own ++ more) b c → Spares own a c
+
+-- a chain of other sectors stays, and so do its bytes
+abbrev pub OtherChainsAreSpared : Type 0
+OtherChainsAreSpared = (own : List ℕ) (old new : AllocatorState) (start : ℕ) (list : List ℕ) → Spares own old new → IsChain old.tables.fat start list
+    → AreDisjoint list own → AreDisjoint list (table_sectors old.tables)
+    → IsChain new.tables.fat start list × AreDisjoint list (table_sectors new.tables) × KeepsSectors old.tables.version list old.file.bytes new.file.bytes
