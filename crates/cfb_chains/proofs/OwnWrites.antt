@@ -131,7 +131,7 @@ own_gained ids old new touched ids' more is taken i m = elim (Contains-append_ca
   | inr gained ↦ inr (taken.fresh i (first_of_three more taken.fats taken.difats i gained))
 ]
 
-enough_by : (v : Version) (len : ℕ) → len ≤ rounded_up len (sector_len v) * sector_len v
+pub enough_by : (v : Version) (len : ℕ) → len ≤ rounded_up len (sector_len v) * sector_len v
 enough_by V3 len = omega arith
 enough_by V4 len = omega arith
 

@@ -8,7 +8,7 @@ use Rattle.cfb_chains.proofs.LentContent.{content_long, shortened_of, taken_len,
 use Rattle.std.proofs.lemmas.List.Elements.{Contains-append_left}
 use Rattle.cfb_format.specs.Bytes.{sector_len, sector_start}
 use Rattle.cfb_format.specs.declared.version.Version.{Version}
-use Rattle.cfb_chains.specs.LentChain.{allocator_of, ids_of, init_of, version_of, tail_of, tail_place, content_of, HasBytes}
+use Rattle.cfb_chains.specs.LentChain.{allocator_of, ids_of, init_of, version_of, tail_of, place_at, content_of, HasBytes}
 use Rattle.cfb_chains.proofs.ChainWrites.{none_wanted, same_rest, same_wanted, zeroed_of}
 use Rattle.cfb_chains.proofs.OwnWrites.{enough_kept, own_freed, own_kept, own_taken, own_zeroed}
 use Rattle.cfb_sectors.proofs.SectorLemmas.{SectorStays_next}
@@ -43,7 +43,7 @@ returns-clause-zeroed g c told fewer some =
     let len = c.args.len in
     let version = c.cut.ensures.version in
     let ids = c.zero_tail.ensures.chain.0 in
-    zeroed_of c.zero_tail.result (allocator_of cut).now.file (allocator_of c.zero_tail.new.self).now.file (tail_place cut len) _ (tail_of cut len) _
+    zeroed_of c.zero_tail.result (allocator_of cut).now.file (allocator_of c.zero_tail.new.self).now.file (place_at cut len) _ (tail_of cut len) _
     (λ j. sector_start (version j) (slice_index (sym ids j) (len / sector_len (version j))) + len % sector_len (version j))
     (λ j. sector_len (version j) - len % sector_len (version j))
     (c.zero_tail.ensures.ok told (subst (λ (v : Version). 0 < len % sector_len v) (sym version) some))
