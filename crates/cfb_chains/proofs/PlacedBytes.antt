@@ -47,16 +47,24 @@ gained_index : (v : Version) (k m n : ℕ) → k < (m + n) * sector_len v → m 
 gained_index V3 k m n high low = omega arith
 gained_index V4 k m n high low = omega arith
 
-fresh_there : (v : Version) (init : SectorInit) (b ids more : List ℕ) (k : ℕ) → ((i : ℕ) → Contains more i → IsFilled v init b i)
-    → length ids * sector_len v ≤ k → k < length (ids ++ more) * sector_len v
-    → (place_along v (ids ++ more) k < length b) × (slice_index b (place_along v (ids ++ more) k) ≡ slice_index (init_bytes v init) (k % sector_len v))
-fresh_there v init b ids more k filled low high =
+pub index_before : (v : Version) (ids more : List ℕ) (k : ℕ) → k < length ids * sector_len v → slice_index (ids ++ more) (k / sector_len v) ≡ slice_index ids (k / sector_len v)
+index_before v ids more k inside = get_or_append_left ids more 0 (k / sector_len v) (index_inside v k (length ids) inside)
+
+pub gained_member : (v : Version) (ids more : List ℕ) (k : ℕ) → length ids * sector_len v ≤ k → k < length (ids ++ more) * sector_len v
+    → Contains more (slice_index (ids ++ more) (k / sector_len v))
+gained_member v ids more k low high =
     let q = k / sector_len v in
     let from = first_gained v k (length ids) low in
     let there = gained_index v k (length ids) (length more) (subst (λ n. k < n * sector_len v) (length-append ids more) high) from in
     let right : slice_index (ids ++ more) q ≡ slice_index more (q - length ids) = get_or-append_right ids more (length ids) q 0 refl from in
-    let member : Contains more (slice_index (ids ++ more) q) = subst (Contains more) (sym right) (Contains-get_or more (q - length ids) 0 there) in
-    filled_there v init b (slice_index (ids ++ more) q) (k % sector_len v) (filled (slice_index (ids ++ more) q) member) (rest_short v k)
+    subst (Contains more) (sym right) (Contains-get_or more (q - length ids) 0 there)
+
+fresh_there : (v : Version) (init : SectorInit) (b ids more : List ℕ) (k : ℕ) → ((i : ℕ) → Contains more i → IsFilled v init b i)
+    → length ids * sector_len v ≤ k → k < length (ids ++ more) * sector_len v
+    → (place_along v (ids ++ more) k < length b) × (slice_index b (place_along v (ids ++ more) k) ≡ slice_index (init_bytes v init) (k % sector_len v))
+fresh_there v init b ids more k filled low high =
+    let i = slice_index (ids ++ more) (k / sector_len v) in
+    filled_there v init b i (k % sector_len v) (filled i (gained_member v ids more k low high)) (rest_short v k)
 
 no_fewer : (v : Version) (m n : ℕ) → m * sector_len v ≤ (m + n) * sector_len v
 no_fewer V3 m n = omega arith
@@ -79,7 +87,7 @@ module _ (v v' : Version) (ids ids' more : List ℕ) (version : v' ≡ v) (liste
   pub grown_place : (k : ℕ) → k < length ids * sector_len v → place_along v' ids' k ≡ place_along v ids k
   grown_place k inside =
       (λ j. place_along (version j) (listed j) k)
-      ∙ ap (λ i. sector_start v i + k % sector_len v) (get_or_append_left ids more 0 (k / sector_len v) (index_inside v k (length ids) inside))
+      ∙ ap (λ i. sector_start v i + k % sector_len v) (index_before v ids more k inside)
 
   pub grown_stays : (a b : List ℕ) (k : ℕ) → KeepsSectors v ids a b → k < length ids * sector_len v → place_along v ids k < length a
       → slice_index b (place_along v' ids' k) ≡ slice_index a (place_along v ids k)

@@ -4,19 +4,21 @@ use Rattle.std.specs.Prelude.{Contains, Vec, slice_index, nat_eq}
 use Rattle.std.specs.List.{IsDistinct}
 use Rattle.std.proofs.lemmas.Bool.{cases_lt}
 use Rattle.std.proofs.lemmas.List.{get_or_past}
-use Rattle.cfb_format.specs.Bytes.{sector_len}
+use Rattle.cfb_format.specs.Bytes.{sector_len, free_sector}
+use Rattle.cfb_format.specs.Chain.{value}
+use Rattle.cfb_format.specs.declared.version.Version.{Version}
 use Rattle.cfb_format.specs.Full.{rounded_up}
 use Rattle.cfb_format.specs.Medium.{ChangesOnlyBytes, written}
 use Rattle.cfb_format.specs.declared.medium.ReadMedium as medium
 use Rattle.cfb_alloc.specs.Agreement.{KeepsSectors}
 use Rattle.cfb_alloc.specs.Alloc.{IsFilled}
 use Rattle.cfb_chains.specs.ChainPlaces.{place_along}
-use Rattle.cfb_chains.specs.LentChain.{ids_of, init_of, version_of, len_of, position_of, file_bytes_of, place_at, place_of, byte_of, ChangesOnlyWanted, HasWritten, HasResized}
+use Rattle.cfb_chains.specs.LentChain.{allocator_of, ids_of, init_of, version_of, len_of, position_of, file_bytes_of, place_at, place_of, byte_of, HoldsWanted, ChangesOnlyWanted, HasWritten, HasResized}
 use Rattle.cfb_chains.specs.declared.chain.Chain.{Chain}
 use Rattle.cfb_chains.specs.declared.chain.Numbers as numbers
 use Rattle.cfb_chains.proofs.ChainContent.{place_later}
 use Rattle.cfb_chains.proofs.OwnWrites.{enough_by}
-use Rattle.cfb_chains.proofs.PlacedBytes.{as_many, grown_fresh, grown_place, grown_stays, kept_beside, kept_there, left_len, left_place, longer_chain, no_more, no_shorter_chain, put_there, zero_kept, zero_there}
+use Rattle.cfb_chains.proofs.PlacedBytes.{as_many, gained_member, index_before, grown_fresh, grown_place, grown_stays, kept_beside, kept_there, left_len, left_place, longer_chain, no_more, no_shorter_chain, put_there, zero_kept, zero_there}
 
 module _ {F A : Type 0} {g : medium.Ghosts F} {l : numbers.Ghosts (Vec ℕ A)} where
   -- ---- a write within a sector
@@ -145,6 +147,29 @@ module _ {F A : Type 0} {g : medium.Ghosts F} {l : numbers.Ghosts (Vec ℕ A)} w
                 wrote.stays k lower (inr (omega (arith, behind, few, position))) there ∙ is.1,
               );
         }
+
+  -- a sector that was in use before holds of what is wanted what it held before
+  pub was_wanted : (old grown : Chain F A (Vec ℕ A) g l) (more : List ℕ) (count i : ℕ) → version_of grown ≡ version_of old → position_of grown ≡ position_of old
+      → ids_of grown ≡ ids_of old ++ more → ((k : ℕ) → Contains more k → value (allocator_of old).now.tables.fat k ≡ free_sector)
+      → (value (allocator_of old).now.tables.fat i ≡ free_sector → ⊥) → (HoldsWanted count old i → ⊥) → HoldsWanted count grown i → ⊥
+  was_wanted old grown more count i version position listed fresh busy other holds =
+      let k = holds.byte in
+      let behind = holds.behind in
+      let wanted = holds.wanted in
+      let here : slice_index (ids_of old ++ more) (k / sector_len (version_of old)) ≡ i = (λ j. slice_index (sym listed j) (k / sector_len (sym version j))) ∙ holds.here in
+      let high : k < length (ids_of old ++ more) * sector_len (version_of old) =
+      subst (λ (z : List ℕ). k < length z * sector_len (version_of old)) listed (subst (λ (v : Version). k < length (ids_of grown) * sector_len v) version holds.there) in
+      elim (cases_lt k (len_of old)) [
+        | inl low ↦
+            other (record {
+              byte = k;
+              behind = omega (arith, behind, position);
+              wanted = omega (arith, wanted, position);
+              there = low;
+              here = sym (index_before (version_of old) (ids_of old) more k low) ∙ here;
+            })
+        | inr past ↦ busy (fresh i (subst (Contains more) here (gained_member (version_of old) (ids_of old) more k past high)))
+      ]
 
   -- ---- a cut, and zeros behind the length then
 
