@@ -1,7 +1,6 @@
 -- Writing into a chain: the room that it has, and its zeros.
-use Rattle.std.proofs.Common.{◌≡◌, ◌<◌, ◌≤◌, ◌+◌, ◌-◌, ◌*◌, ◌/◌, ◌%◌, inl, inr, min, max, true, ℕ, List, ◌++◌, take, replicate, length, sym, subst, ◌∙◌, ap, arith, length-append, length-take}
-use Rattle.std.specs.Prelude.{Result, Ok, Err, IfOk, MatchResult, OnOk, nat_lt, if◌then◌else◌}
-use Rattle.std.proofs.lemmas.Bool.{cases_lt, lt-ltb}
+use Rattle.std.proofs.Common.{◌≡◌, ◌<◌, ◌≤◌, ◌+◌, ◌-◌, ◌*◌, ◌/◌, ◌%◌, min, max, true, ℕ, List, ◌++◌, take, replicate, length, sym, subst, ◌∙◌, ap, arith, length-append, length-take}
+use Rattle.std.specs.Prelude.{Result, Ok, Err, IfOk, MatchResult, OnOk}
 use Rattle.std.proofs.lemmas.List.{take-replicate, length-replicate}
 use Rattle.cfb_format.specs.Refused.{AfterMedium}
 use Rattle.cfb_format.specs.declared.error.Error.{Error}

@@ -31,8 +31,7 @@ kept_there v ids a b k keeps inside there =
 filled_there : (v : Version) (init : SectorInit) (b : List ℕ) (i r : ℕ) → IsFilled v init b i → r < sector_len v
     → (sector_start v i + r < length b) × (slice_index b (sector_start v i + r) ≡ slice_index (init_bytes v init) r)
 filled_there v init b i r filled short =
-    let whole = filled.whole in
-    (
+    let whole = filled.whole in (
       omega (arith, whole, short),
       sym (get_or-take (sector_len v) (drop (sector_start v i) b) r 0 short ∙ get_or-drop (sector_start v i) b r 0) ∙ ap (λ (xs : List ℕ). slice_index xs r) filled.filled,
     )
@@ -134,8 +133,7 @@ module _ (v : Version) (ids a : List ℕ) (p : ℕ) (f : List ℕ) (once : IsDis
       → (place_along v ids (p + j) < length (written a (place_along v ids p) f)) × (slice_index (written a (place_along v ids p) f) (place_along v ids (p + j)) ≡ slice_index f j)
   put_there j less =
       let later = place_later v ids p j (omega (arith, short, less)) in
-      let long = length-written a (place_along v ids p) f in
-      (
+      let long = length-written a (place_along v ids p) f in (
         omega (arith, later, long, less),
         ap (slice_index (written a (place_along v ids p) f)) later ∙ written_at a (place_along v ids p) f j less,
       )

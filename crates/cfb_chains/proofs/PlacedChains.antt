@@ -1,5 +1,5 @@
 -- What a write and a set length make of each byte of a lent chain.
-use Rattle.std.proofs.Common.{◌≡◌, ◌≢◌, ◌≤◌, ◌<◌, ◌+◌, ◌-◌, ◌*◌, ◌/◌, ◌%◌, ◌⊎◌, inl, inr, ℕ, List, ◌++◌, refl, sym, ◌∙◌, ap, subst, length, take, replicate, arith, length-take, get_or-take}
+use Rattle.std.proofs.Common.{◌≡◌, ◌≤◌, ◌<◌, ◌+◌, ◌-◌, ◌*◌, ◌/◌, ◌%◌, ◌⊎◌, inl, inr, ℕ, List, ◌++◌, sym, ◌∙◌, ap, subst, length, take, replicate, arith, length-take, get_or-take}
 use Rattle.std.specs.Prelude.{Contains, Vec, slice_index, nat_eq}
 use Rattle.std.specs.List.{IsDistinct}
 use Rattle.std.proofs.lemmas.Bool.{cases_lt}
@@ -18,7 +18,7 @@ use Rattle.cfb_chains.specs.declared.chain.Chain.{Chain}
 use Rattle.cfb_chains.specs.declared.chain.Numbers as numbers
 use Rattle.cfb_chains.proofs.ChainContent.{place_later}
 use Rattle.cfb_chains.proofs.OwnWrites.{enough_by}
-use Rattle.cfb_chains.proofs.PlacedBytes.{as_many, gained_member, index_before, grown_fresh, grown_place, grown_stays, kept_beside, kept_there, left_len, left_place, longer_chain, no_more, no_shorter_chain, put_there, zero_kept, zero_there}
+use Rattle.cfb_chains.proofs.PlacedBytes.{as_many, gained_member, index_before, grown_fresh, grown_place, grown_stays, kept_beside, kept_there, left_len, left_place, longer_chain, no_more, put_there, zero_kept, zero_there}
 
 module _ {F A : Type 0} {g : medium.Ghosts F} {l : numbers.Ghosts (Vec ℕ A)} where
   -- ---- a write within a sector
@@ -86,8 +86,7 @@ module _ {F A : Type 0} {g : medium.Ghosts F} {l : numbers.Ghosts (Vec ℕ A)} w
           let stands = put_there (version_of old) (ids_of old) (file_bytes_of old) (position_of old) (take m from) once inside fits j (omega (arith, is, less)) in
           let at = same_place (position_of old + j) in
           let long = ap (λ (xs : List ℕ). length xs) put in
-          let within = stands.0 in
-          (
+          let within = stands.0 in (
             omega (arith, at, long, within),
             (λ i. slice_index (put i) (at i)) ∙ stands.1 ∙ get_or-take m from j 0 less,
           )
@@ -141,8 +140,7 @@ module _ {F A : Type 0} {g : medium.Ghosts F} {l : numbers.Ghosts (Vec ℕ A)} w
               let is = grown_fresh (version_of old) (version_of grown) (ids_of old) (ids_of grown) more version listed (init_of old) (file_bytes_of grown) k filled low lower in
               let at : place_at new k ≡ place_at grown k = λ j. place_along (version' j) (listed' j) k in
               let there = is.0 in
-              let no_less = changes.no_shorter in
-              (
+              let no_less = changes.no_shorter in (
                 omega (arith, at, there, no_less),
                 wrote.stays k lower (inr (omega (arith, behind, few, position))) there ∙ is.1,
               );

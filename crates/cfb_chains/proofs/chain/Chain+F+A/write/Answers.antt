@@ -1,4 +1,4 @@
-use Rattle.std.proofs.Common.{inl, refl, ◌≡◌, ◌<◌, ◌+◌, ◌-◌, ◌/◌, ◌%◌, ◌++◌, ◌∙◌, min, ℕ, List, length, take, ap, sym, subst, arith}
+use Rattle.std.proofs.Common.{inl, refl, ◌≡◌, ◌<◌, ◌+◌, ◌/◌, ◌%◌, ◌++◌, ◌∙◌, min, ℕ, List, length, take, ap, sym, subst, arith}
 use Rattle.std.specs.Prelude.{slice_index, IfOk}
 use Rattle.std.proofs.lemmas.List.{append-nil}
 use Rattle.cfb_format.specs.Medium.{written}

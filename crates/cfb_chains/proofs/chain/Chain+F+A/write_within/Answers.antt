@@ -1,10 +1,10 @@
-use Rattle.std.proofs.Common.{◌≡◌, ◌<◌, ◌≤◌, ◌+◌, ◌%◌, ℕ, refl, ap, sym, take, length, length-take, arith}
+use Rattle.std.proofs.Common.{◌≤◌, ◌+◌, ◌%◌, refl, ap, sym, take, length, length-take, arith}
 use Rattle.cfb_format.specs.Bytes.{sector_len}
 use Rattle.cfb_sectors.specs.Sectors.{SectorFile}
 use Rattle.cfb_tables.specs.Tables.{TableState}
 use Rattle.cfb_alloc.proofs.ChainView.{found_chain}
 use Rattle.cfb_sectors.proofs.SectorLemmas.{SectorStays_refl}
-use Rattle.cfb_chains.specs.LentChain.{ids_of, len_of, position_of, version_of}
+use Rattle.cfb_chains.specs.LentChain.{ids_of, position_of, version_of}
 use Rattle.cfb_chains.proofs.ChainBytes.{step_inside}
 use Rattle.cfb_chains.proofs.PlacedChains.{only_wanted, wrote_here}
 use Rattle.cfb_chains.proofs.chain.Chain+F+A.write_within.Goals as goal
