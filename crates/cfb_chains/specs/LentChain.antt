@@ -103,7 +103,7 @@ module _ {F A : Type 0} {g : medium.Ghosts F} {n : numbers.Ghosts (Vec ℕ A)} w
         → ((k : ℕ) → position_of old ≤ k → k < position_of old + count → k < len_of old → place_at old k ≡ i → ⊥)
         → slice_index (file_bytes_of new) i ≡ slice_index (file_bytes_of old) i
 
-  -- of these bytes so many were written at the position, and all of them have room: where sectors were missing they were gained
+  -- so many of these bytes were written at the position; the chain may have gained sectors for all of them first
   pub record HasWritten (count : ℕ) (from : List ℕ) (old new : Chain F A (Vec ℕ A) g n) : Type 0 where
     -- each byte of the old chain has its place in the file still
     pub places : (k : ℕ) → k < len_of old → place_at new k ≡ place_at old k
@@ -117,7 +117,7 @@ module _ {F A : Type 0} {g : medium.Ghosts F} {n : numbers.Ghosts (Vec ℕ A)} w
     pub fresh : (k : ℕ) → len_of old ≤ k → k < len_of new → position_of old + length from ≤ k
         → (place_at new k < length (file_bytes_of new)) × (byte_of new k ≡ slice_index (init_bytes (version_of old) (init_of old)) (k % sector_len (version_of old)))
 
-  -- it has the sectors that this length needs: it gained those that were missing, or those behind are gone
+  -- the chain was made as long as this length needs, by sectors that it gained or lost
   pub record HasResized (len : ℕ) (old new : Chain F A (Vec ℕ A) g n) : Type 0 where
     -- each byte of the old chain below the length has its place in the file still
     pub places : (k : ℕ) → k < len → k < len_of old → place_at new k ≡ place_at old k

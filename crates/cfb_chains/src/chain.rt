@@ -253,7 +253,7 @@ impl<'a, F: Medium, A: Heap> Chain<'a, F, A> {
 
     /// Writes a beginning of `from` over what the chain has from the position on, goes on behind it, and answers how many bytes that
     /// is: none exactly where `from` is empty or the end is reached. `Medium` where the medium fails: the position then stays, and no
-    /// byte has changed but those for which all of `from` was meant.
+    /// byte of the file has changed but where `from` was to stand.
     pub fn write_within(&mut self, from: &[u8]) -> Result<usize, Error>
         ensures same_allocator { (allocator_of self.new).ghost_name ≡ (allocator_of self.old).ghost_name }
         ensures tables { (allocator_of self.new).now.tables ≡ (allocator_of self.old).now.tables }
@@ -401,12 +401,13 @@ impl<'a, F: Medium, A: Heap + Clone> Chain<'a, F, A> {
 
     /// Writes a beginning of `from`, at least one byte of it, from the position on, goes on behind it, and answers how many bytes
     /// that is: none exactly where `from` is empty, and then nothing changes. The chain has room for all of `from` then: where sectors
-    /// were missing it has gained them. What of `from` was not written may stand there as anything, in gained sectors alone.
+    /// were missing it has gained them. Behind what was written all is as before, but that a gained sector may hold
+    /// anything where more of `from` was to stand.
     ///
     /// Where sectors are missing: `InvalidData` where the FAT sectors do not cover the file, `Full` where fewer numbers are left than
     /// the missing sectors and the table sectors that they need, and `Memory`: nothing has changed then. `Medium` where the medium
-    /// fails: then it has gained the sectors or, where that broke off, has none, and no byte has changed but in the sectors for which
-    /// `from` was meant, in table sectors and in sectors that were free.
+    /// fails: then it has gained the sectors or, where that broke off, has none, and no byte has changed but in the sectors where `from`
+    /// was to stand, in table sectors and in sectors that were free.
     pub fn write(&mut self, from: &[u8]) -> Result<usize, Error>
         ensures same_allocator { (allocator_of self.new).ghost_name ≡ (allocator_of self.old).ghost_name }
         ensures init { init_of self.new ≡ init_of self.old }
