@@ -14,6 +14,7 @@ use Rattle.cfb_format.specs.Medium.{part, written}
 use Rattle.cfb_format.proofs.ByteLemmas.{length-written, written_below, written_at, written_above, written_from_bytes, written_inside, part_at, length-part}
 use Rattle.cfb_alloc.specs.Agreement.{HasSectors, KeepsSectors}
 use Rattle.cfb_alloc.specs.Alloc.{IsFilled}
+use Rattle.cfb_chains.specs.ChainPlaces.{place_along}
 use Rattle.cfb_sectors.specs.Sectors.{SectorStays, copies, init_bytes}
 use Rattle.cfb_sectors.specs.declared.sector.SectorInit.{SectorInit}
 use Rattle.cfb_alloc.proofs.Listed.{in_rest, place_once}
@@ -90,18 +91,14 @@ next_inside : (v : Version) (k n : ℕ) → sector_len v ≤ k → k < suc n * s
 next_inside V3 k n h lt = omega arith
 next_inside V4 k n h lt = omega arith
 
--- the place of byte k
-abbrev pub place_at : Version → List ℕ → ℕ → ℕ
-place_at v ids k = sector_start v (slice_index ids (k / sector_len v)) + k % sector_len v
-
-place_first : (v : Version) (i : ℕ) (list : List ℕ) (k : ℕ) → k < sector_len v → place_at v (i ∷ list) k ≡ sector_start v i + k
+place_first : (v : Version) (i : ℕ) (list : List ℕ) (k : ℕ) → k < sector_len v → place_along v (i ∷ list) k ≡ sector_start v i + k
 place_first v i list k h = λ j. sector_start v (slice_index (i ∷ list) (first_quotient v k h j)) + first_rest v k h j
 
-place_next : (v : Version) (i : ℕ) (list : List ℕ) (k : ℕ) → sector_len v ≤ k → place_at v (i ∷ list) k ≡ place_at v list (k - sector_len v)
+place_next : (v : Version) (i : ℕ) (list : List ℕ) (k : ℕ) → sector_len v ≤ k → place_along v (i ∷ list) k ≡ place_along v list (k - sector_len v)
 place_next v i list k h = λ j. sector_start v (slice_index (i ∷ list) (next_quotient v k h j)) + next_rest v k h j
 
 pub along_at : (v : Version) (bytes ids : List ℕ) (k : ℕ) → HasSectors v bytes ids → k < length ids * sector_len v
-    → slice_index (bytes_along v bytes ids) k ≡ slice_index bytes (place_at v ids k)
+    → slice_index (bytes_along v bytes ids) k ≡ slice_index bytes (place_along v ids k)
 along_at v bytes [] k h lt = let none = none_long v in absurd (omega arith)
 along_at v bytes (i ∷ list) k h lt =
     let whole = first_has v bytes i list h in
@@ -124,15 +121,15 @@ along_at v bytes (i ∷ list) k h lt =
 pub sectors_stay : (v : Version) (old new ids : List ℕ) → HasSectors v old ids → length old ≤ length new → HasSectors v new ids
 sectors_stay v old new ids h longer = λ i m. let there = h i m in omega (arith, there, longer)
 
-index_inside : (v : Version) (k m : ℕ) → k < m * sector_len v → k / sector_len v < m
+pub index_inside : (v : Version) (k m : ℕ) → k < m * sector_len v → k / sector_len v < m
 index_inside V3 k m h = omega arith
 index_inside V4 k m h = omega arith
 
-rest_short : (v : Version) (k : ℕ) → k % sector_len v < sector_len v
+pub rest_short : (v : Version) (k : ℕ) → k % sector_len v < sector_len v
 rest_short V3 k = omega arith
 rest_short V4 k = omega arith
 
-next_start : (v : Version) (i : ℕ) → sector_start v (i + 1) ≡ sector_start v i + sector_len v
+pub next_start : (v : Version) (i : ℕ) → sector_start v (i + 1) ≡ sector_start v i + sector_len v
 next_start V3 i = omega arith
 next_start V4 i = omega arith
 
@@ -196,7 +193,7 @@ step_within V3 k m n inside short = omega arith
 step_within V4 k m n inside short = omega arith
 
 -- the places of the bytes of one sector follow each other
-pub place_later : (v : Version) (ids : List ℕ) (k j : ℕ) → k % sector_len v + j < sector_len v → place_at v ids (k + j) ≡ place_at v ids k + j
+pub place_later : (v : Version) (ids : List ℕ) (k j : ℕ) → k % sector_len v + j < sector_len v → place_along v ids (k + j) ≡ place_along v ids k + j
 place_later v ids k j short =
     (λ n. sector_start v (slice_index ids (same_quotient v k j short n)) + later_rest v k j short n)
     ∙ omega arith
@@ -216,8 +213,8 @@ behind_there V3 s t r q n less short = omega arith
 behind_there V4 s t r q n less short = omega arith
 
 -- the place of another byte than those that are written lies beside them
-beside : (v : Version) (ids : List ℕ) (i k n : ℕ) → IsDistinct nat_eq ids → i < length ids * sector_len v → k < length ids * sector_len v
-    → k % sector_len v + n ≤ sector_len v → (i < k) ⊎ (k + n ≤ i) → (place_at v ids i < place_at v ids k) ⊎ (place_at v ids k + n ≤ place_at v ids i)
+pub beside : (v : Version) (ids : List ℕ) (i k n : ℕ) → IsDistinct nat_eq ids → i < length ids * sector_len v → k < length ids * sector_len v
+    → k % sector_len v + n ≤ sector_len v → (i < k) ⊎ (k + n ≤ i) → (place_along v ids i < place_along v ids k) ⊎ (place_along v ids k + n ≤ place_along v ids i)
 beside v ids i k n once low inside short other =
     elim (cases_eq (i / sector_len v) (k / sector_len v)) [
       | inl same ↦
@@ -236,7 +233,7 @@ beside v ids i k n once low inside short other =
           ]
     ]
 
-beside_kept : (bytes : List ℕ) (at p : ℕ) (from : List ℕ) → (p < at) ⊎ (at + length from ≤ p) → slice_index (written bytes at from) p ≡ slice_index bytes p
+pub beside_kept : (bytes : List ℕ) (at p : ℕ) (from : List ℕ) → (p < at) ⊎ (at + length from ≤ p) → slice_index (written bytes at from) p ≡ slice_index bytes p
 beside_kept bytes at p from (inl low) = written_below bytes at from p low
 beside_kept bytes at p from (inr high) = written_above bytes at from p high
 
@@ -247,23 +244,23 @@ pub along_written : (v : Version) (bytes ids : List ℕ) (k : ℕ) (from : List 
     → k % sector_len v + length from ≤ sector_len v
     → bytes_along v (written bytes (sector_start v (slice_index ids (k / sector_len v)) + k % sector_len v) from) ids ≡ written (bytes_along v bytes ids) k from
 along_written v bytes ids k from once h inside short =
-    let new = written bytes (place_at v ids k) from in
-    let has = written_has v bytes ids (place_at v ids k) from h in
+    let new = written bytes (place_along v ids k) from in
+    let has = written_has v bytes ids (place_along v ids k) from h in
     let long = along_len v new ids has in
     let before = along_len v bytes ids h in
     written_from_bytes (bytes_along v bytes ids) k from (bytes_along v new ids)
     (omega (arith, long, before, step_within v k (length ids) (length from) inside short))
     (λ i less within.
     let low : i < length ids * sector_len v = omega (arith, within, long) in
-    along_at v new ids i has low ∙ beside_kept bytes (place_at v ids k) (place_at v ids i) from (beside v ids i k (length from) once low inside short (inl less))
+    along_at v new ids i has low ∙ beside_kept bytes (place_along v ids k) (place_along v ids i) from (beside v ids i k (length from) once low inside short (inl less))
     ∙ sym (along_at v bytes ids i h low))
     (λ i less.
     let here : k % sector_len v + i < sector_len v = omega (arith, short, less) in
     let low : k + i < length ids * sector_len v = omega (arith, step_within v k (length ids) (length from) inside short, less) in
-    along_at v new ids (k + i) has low ∙ ap (slice_index new) (place_later v ids k i here) ∙ written_at bytes (place_at v ids k) from i less)
+    along_at v new ids (k + i) has low ∙ ap (slice_index new) (place_later v ids k i here) ∙ written_at bytes (place_along v ids k) from i less)
     (λ i more within.
     let low : i < length ids * sector_len v = omega (arith, within, long) in
-    along_at v new ids i has low ∙ beside_kept bytes (place_at v ids k) (place_at v ids i) from (beside v ids i k (length from) once low inside short (inr more))
+    along_at v new ids i has low ∙ beside_kept bytes (place_along v ids k) (place_along v ids i) from (beside v ids i k (length from) once low inside short (inr more))
     ∙ sym (along_at v bytes ids i h low))
 
 -- ---- a read within one of its sectors
@@ -275,7 +272,7 @@ place_fits v bytes ids k h inside = h (slice_index ids (k / sector_len v)) (Cont
 pub along_read : (v : Version) (bytes ids : List ℕ) (k n : ℕ) → HasSectors v bytes ids → k < length ids * sector_len v → k % sector_len v + n ≤ sector_len v
     → part bytes (sector_start v (slice_index ids (k / sector_len v)) + k % sector_len v) n ≡ part (bytes_along v bytes ids) k n
 along_read v bytes ids k n h inside short =
-    let at = place_at v ids k in
+    let at = place_along v ids k in
     let fits = place_fits v bytes ids k h inside in
     let step = step_within v k (length ids) n inside short in
     let left = length-part bytes at n in
@@ -325,7 +322,7 @@ last_room : (v : Version) (m len : ℕ) → (m - 1) * sector_len v < len → len
 last_room V3 m len more less = omega arith
 last_room V4 m len more less = omega arith
 
-taken_index : (ids : List ℕ) (m k : ℕ) → k < m → slice_index (take m ids) k ≡ slice_index ids k
+pub taken_index : (ids : List ℕ) (m k : ℕ) → k < m → slice_index (take m ids) k ≡ slice_index ids k
 taken_index ids m k low = get_or-take m ids k 0 low
 
 front_distinct : (ids : List ℕ) (m : ℕ) → IsDistinct nat_eq ids → IsDistinct nat_eq (take m ids)
@@ -344,7 +341,7 @@ along_zeroed v bytes ids m len once h few more less =
     let count : length kept ≡ m = omega (arith, length-take m ids, few) in
     let size : length kept * sector_len v ≡ m * sector_len v = ap (λ n. n * sector_len v) count in
     let long = along_len v bytes kept has in
-    let there : sector_start v (slice_index ids (len / sector_len v)) + len % sector_len v ≡ place_at v kept len =
+    let there : sector_start v (slice_index ids (len / sector_len v)) + len % sector_len v ≡ place_along v kept len =
     ap (λ n. sector_start v n + len % sector_len v) (sym (taken_index ids m (len / sector_len v) (last_index v m len more less))) in
     let zero_count = length-replicate {A = ℕ} (m * sector_len v - len) 0 in
     let room = last_room v m len more less in

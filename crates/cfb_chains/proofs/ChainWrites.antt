@@ -1,7 +1,6 @@
 -- Writing into a chain: the room that it has, and its zeros.
-use Rattle.std.proofs.Common.{◌≡◌, ◌<◌, ◌≤◌, ◌+◌, ◌-◌, ◌*◌, ◌/◌, ◌%◌, inl, inr, min, max, true, ℕ, List, ◌++◌, take, replicate, length, sym, subst, ◌∙◌, ap, arith, length-append, length-take}
-use Rattle.std.specs.Prelude.{Result, Ok, Err, IfOk, MatchResult, OnOk, nat_lt, if◌then◌else◌}
-use Rattle.std.proofs.lemmas.Bool.{cases_lt, lt-ltb}
+use Rattle.std.proofs.Common.{◌≡◌, ◌<◌, ◌≤◌, ◌+◌, ◌-◌, ◌*◌, ◌/◌, ◌%◌, min, max, true, ℕ, List, ◌++◌, take, replicate, length, sym, subst, ◌∙◌, ap, arith, length-append, length-take}
+use Rattle.std.specs.Prelude.{Result, Ok, Err, IfOk, MatchResult, OnOk}
 use Rattle.std.proofs.lemmas.List.{take-replicate, length-replicate}
 use Rattle.cfb_format.specs.Refused.{AfterMedium}
 use Rattle.cfb_format.specs.declared.error.Error.{Error}
@@ -33,7 +32,7 @@ none_needed V3 p m n none le = omega arith
 none_needed V4 p m n none le = omega arith
 
 -- a position that goes on by nothing
-pub goes_nowhere : {E : Type 0} (r : Result ℕ E) (p q m : ℕ) → m ≡ 0 → IfOk r (λ n. n ≡ m) → MatchResult r (λ n. q ≡ p + n) (λ _. q ≡ p) → q ≡ p
+pub goes_nowhere : {E : Type 0} (r : Result ℕ E) (p q m : ℕ) → m ≡ 0 → IfOk r (λ n. n ≤ m) → MatchResult r (λ n. q ≡ p + n) (λ _. q ≡ p) → q ≡ p
 goes_nowhere (Ok n) p q m zero is at = omega (arith, zero, is, at)
 goes_nowhere (Err e) p q m zero is at = at
 
@@ -49,14 +48,6 @@ same_rest V4 len m is = omega arith
 pub enough_room : (v : Version) (p n m more : ℕ) → more ≡ rounded_up (p + n - m * sector_len v) (sector_len v) → p + n ≤ (m + more) * sector_len v
 enough_room V3 p n m more is = omega arith
 enough_room V4 p n m more is = omega arith
-
--- as much as is given fits behind the position
-pub room_enough : (v : Version) (p n len : ℕ) → p + n ≤ len
-    → min n (if nat_lt p len then sector_len v - p % sector_len v else 0) ≡ min n (sector_len v - p % sector_len v)
-room_enough v p n len fits = elim (cases_lt p len) [
-  | inl lt ↦ ap (λ b. min n (if b then sector_len v - p % sector_len v else 0)) (lt-ltb p len lt)
-  | inr ge ↦ (let none : n ≡ 0 = omega (arith, ge, fits) in omega (arith, none))
-]
 
 pub zeros_of : (zeros : List ℕ) (n : ℕ) → zeros ≡ replicate 4096 0 → n ≤ 4096 → take n zeros ≡ replicate n 0
 zeros_of zeros n is few = ap (take n) is ∙ take-replicate n 4096 0 few
@@ -77,14 +68,22 @@ pub if_ok : {T E : Type 0} (P Q : T → Type 0) (r : Result T E) → ((x : T) �
 if_ok P Q (Ok x) f p = f x p
 if_ok P Q (Err e) f p = tt
 
-pub room_after : (v v' : Version) (p p' n : ℕ) (ids ids' more : List ℕ) → v' ≡ v → p' ≡ p → ids' ≡ ids ++ more
-    → length more ≡ rounded_up (p + n - length ids * sector_len v) (sector_len v)
-    → min n (if nat_lt p' (length ids' * sector_len v') then sector_len v' - p' % sector_len v' else 0) ≡ min n (sector_len v - p % sector_len v)
-room_after v v' p p' n ids ids' more ve pe listed is =
-    let len : length ids' ≡ length ids + length more = ap (λ (z : List ℕ). length z) listed ∙ length-append ids more in
-    let fits : p + n ≤ length ids' * sector_len v = subst (λ k. p + n ≤ k * sector_len v) (sym len) (enough_room v p n (length ids) (length more) is) in
-    (λ j. min n (if nat_lt (pe j) (length ids' * sector_len (ve j)) then sector_len (ve j) - pe j % sector_len (ve j) else 0))
-    ∙ room_enough v p n (length ids' * sector_len v) fits
+pub if_both : {T E : Type 0} (P Q R : T → Type 0) (r : Result T E) → ((x : T) → P x → Q x → R x) → IfOk r P → IfOk r Q → IfOk r R
+if_both P Q R (Ok x) f p q = f x p q
+if_both P Q R (Err e) f p q = tt
+
+pub on_if : {T E : Type 0} (P Q R : Type 0) (r : Result T E) → ((P → Q) → R) → (P → OnOk r Q) → OnOk r R
+on_if P Q R (Ok x) f q = f q
+on_if P Q R (Err e) f q = tt
+
+-- once the missing sectors are there, as much as is given has room behind the position
+pub left_after : (v v' : Version) (p p' n : ℕ) (ids ids' more : List ℕ) → v' ≡ v → p' ≡ p → ids' ≡ ids ++ more
+    → length more ≡ rounded_up (p + n - length ids * sector_len v) (sector_len v) → n ≤ length ids' * sector_len v' - p'
+left_after v v' p p' n ids ids' more version position listed is =
+    let fits = enough_room v p n (length ids) (length more) is in
+    let size : length ids' * sector_len v' ≡ (length ids + length more) * sector_len v =
+    (λ j. length (listed j) * sector_len (version j)) ∙ ap (λ k. k * sector_len v) (length-append ids more) in
+    omega (arith, fits, size, position)
 
 rest_le : (v : Version) (k : ℕ) → k % sector_len v ≤ sector_len v
 rest_le V3 k = omega arith
@@ -103,7 +102,7 @@ pub none_wanted : (v : Version) (len r l : ℕ) → l ≡ sector_len v → r ≡
 none_wanted v len r l is eq zero = none_wanted_of v len r (subst (λ (k : ℕ). r ≡ len / k + min 1 (len % k)) is eq) zero
 
 -- what was written stands there
-pub there_of : {E : Type 0} (r : Result ℕ E) (x y : SectorFile) (at at' m : ℕ) (from : List ℕ) → at ≡ at' → IfOk r (λ n. n ≡ min (length from) m)
+pub there_of : {E : Type 0} (r : Result ℕ E) (x y : SectorFile) (at at' m : ℕ) (from : List ℕ) → at ≡ at' → IfOk r (λ n. n ≤ min (length from) m)
     → IfOk r (λ n. 0 < n → y ≡ record x { bytes = written x.bytes at (take n from); len = max x.len (at + n); begun = true })
     → IfOk r (λ n. 0 < n → part y.bytes at' n ≡ take n from)
 there_of (Err e) x y at at' m from same count file = tt

@@ -43,7 +43,7 @@ module _ (validation : Validation) (a : AllocatorState) (s : ℕ) (ids : List �
       let marked : value fat i ≡ w = value-at fat i ((members-busy fat s ids chain i m).1) ∙ is in
       elim (follows-values fat s ids chain.follows i m) [ inl le ↦ omega (arith, le, marked, high) | inr end ↦ omega (arith, end, marked, low) ]
 
-  pub no_fat_sector : Contains a.tables.fat_sectors i → ⊥
+  no_fat_sector : Contains a.tables.fat_sectors i → ⊥
   no_fat_sector t = no_mark fat_sector (h.holds.agrees.fat_marks i t).1 (omega arith) (omega arith)
 
   no_difat_sector : Contains a.tables.difat_sectors i → ⊥
@@ -51,6 +51,16 @@ module _ (validation : Validation) (a : AllocatorState) (s : ℕ) (ids : List �
 
   pub no_table_sector : Contains (a.tables.fat_sectors ++ a.tables.difat_sectors) i → ⊥
   no_table_sector t = elim (Contains-append_cases a.tables.fat_sectors a.tables.difat_sectors i t) [ inl f ↦ no_fat_sector f | inr d ↦ no_difat_sector d ]
+
+-- so they stay where those in use do, and where the FAT sectors alone change
+pub keeps_own : (validation : Validation) (a b : AllocatorState) (s : ℕ) (ids : List ℕ) → chain_from a.tables.fat s ≡ Some ids → HoldsTables validation a → OthersStay a b
+    → KeepsSectors a.tables.version ids a.file.bytes b.file.bytes
+keeps_own validation a b s ids e h others i m =
+    others.sectors i ((members-busy a.tables.fat s ids (found_chain a.tables.fat s ids e) i m).0) (no_table_sector validation a s ids e h i m) (Contains-nil i)
+
+pub keeps_cut : (validation : Validation) (a b : AllocatorState) (s : ℕ) (ids : List ℕ) → chain_from a.tables.fat s ≡ Some ids → HoldsTables validation a
+    → ChangesSectors a.tables.fat_sectors a.tables.version a.file.bytes b.file.bytes → KeepsSectors a.tables.version ids a.file.bytes b.file.bytes
+keeps_cut validation a b s ids e h changes i m = changes.sectors i (no_fat_sector validation a s ids e h i m)
 
 -- ---- reading and writing
 
@@ -84,8 +94,7 @@ module _ (validation : Validation) (a b : AllocatorState) (s : ℕ) (ids ids' : 
       → HasContent b.tables.version b.file.bytes ids' (content ++ copies count (init_bytes v init))
   content_grown count init more listed counted others filled =
       let filled' : (i : ℕ) → Contains more i → IsFilled v init b.file.bytes i = λ i m. subst (λ (w : Version). IsFilled w init b.file.bytes i) version (filled i m) in
-      let keeps : KeepsSectors v ids a.file.bytes b.file.bytes =
-      λ i m. others.sectors i ((members-busy a.tables.fat s ids (found_chain a.tables.fat s ids e) i m).0) (no_table_sector validation a s ids e h i m) (Contains-nil i) in
+      let keeps = keeps_own validation a b s ids e h others in
       content_same v b.tables.version b.file.bytes b.file.bytes (ids ++ more) ids' (content ++ copies count (init_bytes v init)) version refl listed (
         grown_has v init a.file.bytes b.file.bytes ids more has others.no_shorter filled',
         along_grown v init a.file.bytes b.file.bytes ids more has keeps others.no_shorter filled' ∙ ap (λ n. content ++ copies n (init_bytes v init)) counted,
@@ -94,7 +103,7 @@ module _ (validation : Validation) (a b : AllocatorState) (s : ℕ) (ids ids' : 
   pub content_cut : (m : ℕ) → m ≤ length ids → ids' ≡ take m ids → ChangesSectors a.tables.fat_sectors v a.file.bytes b.file.bytes
       → HasContent b.tables.version b.file.bytes ids' (take (m * sector_len v) content)
   content_cut m few listed changes =
-      let keeps : KeepsSectors v ids a.file.bytes b.file.bytes = λ i t. changes.sectors i (no_fat_sector validation a s ids e h i t) in
+      let keeps = keeps_cut validation a b s ids e h changes in
       let whole = sectors_stay v a.file.bytes b.file.bytes ids has changes.no_shorter in
       content_same v b.tables.version b.file.bytes b.file.bytes (take m ids) ids' (take (m * sector_len v) content) version refl listed (
         cut_has v b.file.bytes ids m whole,

@@ -6,3 +6,5 @@ pub mod ChainWrites
 pub mod FreedLemmas
 pub mod LentContent
 pub mod OwnWrites
+pub mod PlacedBytes
+pub mod PlacedChains

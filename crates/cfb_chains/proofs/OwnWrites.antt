@@ -1,7 +1,6 @@
 -- What a chain's own write leaves alone: every sector of others, and the header.
-use Rattle.std.proofs.Common.{◌≡◌, ◌<◌, ◌≤◌, ◌+◌, ◌-◌, ◌*◌, ◌/◌, ◌%◌, ◌⊎◌, inl, inr, ℕ, zero, suc, List, [], ◌∷◌, ◌++◌, length, min, take, drop, refl, sym, ap, subst, ◌∙◌, arith}
-use Rattle.std.specs.Prelude.{Bool, Contains, slice_index, nat_lt, if◌then◌else◌}
-use Rattle.std.proofs.lemmas.Bool.{cases_lt, lt-ltb, le-ltb}
+use Rattle.std.proofs.Common.{◌≡◌, ◌<◌, ◌≤◌, ◌+◌, ◌-◌, ◌*◌, ◌/◌, ◌%◌, ◌⊎◌, inl, inr, ℕ, zero, suc, List, [], ◌∷◌, ◌++◌, length, take, drop, refl, sym, subst, ◌∙◌, arith}
+use Rattle.std.specs.Prelude.{Contains, Vec, slice_index}
 use Rattle.std.proofs.lemmas.List.{take-append-drop}
 use Rattle.std.proofs.lemmas.List.Elements.{Contains-append_left, Contains-append_cases}
 use Rattle.cfb_format.specs.declared.version.Version.{Version}
@@ -10,13 +9,18 @@ use Rattle.cfb_format.specs.Bytes.{sector_len, sector_start, free_sector}
 use Rattle.cfb_format.specs.Chain.{value}
 use Rattle.cfb_format.specs.Full.{rounded_up}
 use Rattle.cfb_format.specs.Medium.{ChangesOnlyBytes}
-use Rattle.cfb_alloc.specs.Alloc.{AllocatorState, ChangesSectors, OthersStay, OthersStayBut}
+use Rattle.cfb_format.specs.declared.medium.ReadMedium as medium
+use Rattle.cfb_alloc.specs.Alloc.{AllocatorState, ChangesSectors, IsOtherHeaderByte, OthersStay, OthersStayBut}
 use Rattle.cfb_tables.specs.Tables.{HasTaken}
 use Rattle.cfb_alloc.proofs.ChainView.{sector_member}
+use Rattle.cfb_chains.specs.LentChain.{allocator_of, ids_of, version_of, file_bytes_of, HoldsWanted, ChangesOnlyWanted}
+use Rattle.cfb_chains.specs.declared.chain.Chain.{Chain}
+use Rattle.cfb_chains.specs.declared.chain.Numbers as numbers
+use Rattle.cfb_sectors.specs.Sectors.{SectorStays}
 use Rattle.cfb_chains.proofs.ChainWrites.{not_end, rest_short}
 use Rattle.cfb_alloc.proofs.FrameLemmas.{changes_in_sector}
 use Rattle.cfb_tables.proofs.Members.{Contains-nil, Contains-one, first_of_three}
-use Rattle.cfb_sectors.proofs.SectorLemmas.{SectorStays_refl, SectorStays_trans}
+use Rattle.cfb_sectors.proofs.SectorLemmas.{SectorStays_next, SectorStays_refl, SectorStays_trans}
 
 -- a sector that is the chain's own, or was free
 abbrev IsOwn : List ℕ → AllocatorState → ℕ → Type 0
@@ -62,40 +66,6 @@ module _ (own : List ℕ) (old mid new : AllocatorState) (first : OthersStayBut 
   own_same : new ≡ mid → OthersStayBut own old new
   own_same same = subst (λ (a : AllocatorState). OthersStayBut own old a) (sym same) first
 
-  -- a write at a place of the chain, as far as its sector goes
-  pub own_written : (ids : List ℕ) (p count : ℕ) → ((i : ℕ) → Contains ids i → IsOwn own old i)
-      → (min count (if nat_lt p (length ids * sector_len mid.tables.version) then sector_len mid.tables.version - p % sector_len mid.tables.version else 0) ≡ 0 → new ≡ mid)
-      → ChangesOnlyBytes (sector_start mid.tables.version (slice_index ids (p / sector_len mid.tables.version)) + p % sector_len mid.tables.version)
-      (min count (if nat_lt p (length ids * sector_len mid.tables.version) then sector_len mid.tables.version - p % sector_len mid.tables.version else 0))
-      mid.file.bytes new.file.bytes
-      → OthersStayBut own old new
-  own_written ids p count owns none change = elim (cases_lt p (length ids * l)) [ inl lt ↦ inside lt | inr ge ↦ past ge ]
-    where
-      l : ℕ
-      l = sector_len mid.tables.version
-
-      room : Bool → ℕ
-      room b = min count (if b then l - p % l else 0)
-
-      fits : (n k m : ℕ) → k < m → k + min n (m - k) ≤ m
-      fits n k m lt = omega arith
-
-      no_more : (n : ℕ) → min n 0 ≡ 0
-      no_more n = omega arith
-
-      inside : p < length ids * l → OthersStayBut own old new
-      inside lt =
-          let s = slice_index ids (p / l) in
-          let short = rest_short mid.tables.version p in
-          let there : ChangesOnlyBytes (sector_start mid.tables.version s + p % l) (min count (l - p % l)) mid.file.bytes new.file.bytes
-          = subst (λ (b : Bool). ChangesOnlyBytes (sector_start mid.tables.version s + p % l) (room b) mid.file.bytes new.file.bytes) (lt-ltb p (length ids * l) lt) change in
-          own_next s (owns s (sector_member mid.tables.version ids p lt))
-          (changes_in_sector mid.tables.version s (p % l) (min count (l - p % l)) (sector_start mid.tables.version s + p % l) mid.file.bytes new.file.bytes refl
-          (fits count (p % l) l short) there)
-
-      past : length ids * l ≤ p → OthersStayBut own old new
-      past ge = own_same (none (ap room (le-ltb p (length ids * l) ge) ∙ no_more count))
-
   -- zeros behind a place of the chain, as far as its sector goes
   pub own_zeroed : (ids : List ℕ) (len : ℕ) → ((i : ℕ) → Contains ids i → IsOwn own old i) → len ≤ length ids * sector_len mid.tables.version
       → (len % sector_len mid.tables.version ≡ 0 → new ≡ mid)
@@ -119,6 +89,37 @@ module _ (own : List ℕ) (old mid new : AllocatorState) (first : OthersStayBut 
           (changes_in_sector mid.tables.version s (len % l) (l - len % l) (sector_start mid.tables.version s + len % l) mid.file.bytes new.file.bytes refl
           (omega (arith, short)) change)
 
+-- a byte of the header stands before all sectors
+before_sectors : (v : Version) (sector offset i : ℕ) → IsOtherHeaderByte v i → sector_start v sector + offset ≡ i → ⊥
+before_sectors V3 sector offset i (inl low) is = omega (arith, is, low)
+before_sectors V3 sector offset i (inr (inl mid)) is = omega (arith, is, mid.1)
+before_sectors V3 sector offset i (inr (inr high)) is = omega (arith, is, high.1)
+before_sectors V4 sector offset i (inl low) is = omega (arith, is, low)
+before_sectors V4 sector offset i (inr (inl mid)) is = omega (arith, is, mid.1)
+before_sectors V4 sector offset i (inr (inr high)) is = omega (arith, is, high.1)
+
+-- a write within the chain, once it is as it has to be
+module _ {F A : Type 0} {g : medium.Ghosts F} {l : numbers.Ghosts (Vec ℕ A)} where
+  pub own_wanted : (own : List ℕ) (old : AllocatorState) (mid new : Chain F A (Vec ℕ A) g l) (count : ℕ) → OthersStayBut own old (allocator_of mid).now → version_of mid ≡ old.tables.version
+      → ((i : ℕ) → Contains (ids_of mid) i → IsOwn own old i)
+      → ((i : ℕ) → (HoldsWanted count mid i → ⊥) → SectorStays (version_of mid) i (file_bytes_of mid) (file_bytes_of new))
+      → ChangesOnlyWanted count mid new → OthersStayBut own old (allocator_of new).now
+  own_wanted own old mid new count first version owns sectors changes =
+      let longer = first.no_shorter in
+      let no_less = changes.no_shorter in
+      record {
+        no_shorter = omega (arith, longer, no_less);
+        sectors = λ i busy out mine.
+            SectorStays_next old.tables.version (version_of mid) i old.file.bytes (file_bytes_of mid) (file_bytes_of new) version (first.sectors i busy out mine)
+            (sectors i (λ holds.
+            let member = subst (Contains (ids_of mid)) holds.here (sector_member (version_of mid) (ids_of mid) holds.byte holds.there) in
+            elim (owns i member) [ inl among ↦ mine among | inr free ↦ busy free ]));
+        header = λ i lt other.
+            let here : IsOtherHeaderByte (version_of mid) i = subst (λ (v : Version). IsOtherHeaderByte v i) (sym version) other in
+            changes.others i (omega (arith, lt, longer)) (λ k behind wanted there is. before_sectors (version_of mid) (slice_index (ids_of mid) (k / sector_len (version_of mid))) (k % sector_len (version_of mid)) i here is)
+            ∙ first.header i lt other;
+      }
+
 -- whose sectors the members of a list are
 pub own_kept : (ids : List ℕ) (old : AllocatorState) (ids' : List ℕ) (n : ℕ) → ids' ≡ take n ids → (i : ℕ) → Contains ids' i → IsOwn ids old i
 own_kept ids old ids' n is i m =
@@ -131,7 +132,7 @@ own_gained ids old new touched ids' more is taken i m = elim (Contains-append_ca
   | inr gained ↦ inr (taken.fresh i (first_of_three more taken.fats taken.difats i gained))
 ]
 
-enough_by : (v : Version) (len : ℕ) → len ≤ rounded_up len (sector_len v) * sector_len v
+pub enough_by : (v : Version) (len : ℕ) → len ≤ rounded_up len (sector_len v) * sector_len v
 enough_by V3 len = omega arith
 enough_by V4 len = omega arith
 

@@ -1,2 +1,3 @@
 pub mod ChainLists
+pub mod ChainPlaces
 pub mod LentChain

@@ -85,7 +85,7 @@ impl<'a, F: ReadMedium, A: Heap + Clone> Chain<'a, F, A> {
 }
 
 impl<'a, F: ReadMedium, A: Heap> Chain<'a, F, A> {
-    ghost use Rattle.cfb_chains.specs.LentChain.{allocator_of, start_sector_of, ids_of, init_of, version_of, len_of, position_of, room_of, place_of, IsWholeChain, content_of};
+    ghost use Rattle.cfb_chains.specs.LentChain.{allocator_of, start_sector_of, ids_of, init_of, version_of, len_of, left_of, position_of, room_of, place_at, place_of, IsWholeChain, content_of};
 
     /// The number of its first sector, or END where it has none.
     pub fn start_sector_id(&self) -> u32
@@ -168,9 +168,10 @@ impl<'a, F: ReadMedium, A: Heap> Chain<'a, F, A> {
         self.allocator.sector_len() - self.offset_here()
     }
 
-    /// Reads what is there of the sector at the position from there on, as far as `into` has room, goes on behind it, and answers
-    /// how many bytes that is: none exactly where `into` is empty or the end is reached. `InvalidData` exactly where the file ends
-    /// before the byte at the position, and `Medium` where the medium fails: the position then stays.
+    /// Reads a beginning of what there is from the position on, as far as `into` has room, goes on behind it, and answers how many
+    /// bytes that is: none exactly where `into` is empty or the end is reached, and none behind one that the file does not have.
+    /// `InvalidData` exactly where the file does not have the byte at the position, and `Medium` where the medium fails: the position
+    /// then stays.
     pub fn read(&mut self, into: &mut [u8]) -> Result<usize, Error>
         ensures same_allocator { (allocator_of self.new).ghost_name ≡ (allocator_of self.old).ghost_name }
         ensures tables { (allocator_of self.new).now.tables ≡ (allocator_of self.old).now.tables }
@@ -179,15 +180,16 @@ impl<'a, F: ReadMedium, A: Heap> Chain<'a, F, A> {
           failures = (allocator_of self.new).now.file.failures;
         } }
         ensures chain { (ids_of self.new ≡ ids_of self.old) × (start_sector_of self.new ≡ start_sector_of self.old) × (init_of self.new ≡ init_of self.old) }
-        ensures count { IfOk result (λ n. n ≡ min (min (length into.old) (room_of self.old)) ((allocator_of self.old).now.file.len - place_of self.old)) }
-        ensures some { IfOk result (λ n. 0 < min (length into.old) (room_of self.old) → 0 < n) }
+        ensures count { IfOk result (λ n. n ≤ min (length into.old) (left_of self.old)) }
+        ensures some { IfOk result (λ n. 0 < min (length into.old) (left_of self.old) → 0 < n) }
+        ensures within { IfOk result (λ n. (j : ℕ) → j < n → place_at self.old (position_of self.old + j) < (allocator_of self.old).now.file.len) }
         ensures position { MatchResult result (λ n. position_of self.new ≡ position_of self.old + n) (λ _. position_of self.new ≡ position_of self.old) }
         ensures ok { IsTrue F.tells → IfOk result (λ n. take n into.new
             ≡ placed_from (allocator_of self.old).now.file.bytes (place_in_chain (version_of self.old) (allocator_of self.old).now.file.bytes (ids_of self.old)) (position_of self.old) n) }
         ensures rest { IfOk result (λ n. drop n into.new ≡ drop n into.old) }
         ensures content { IsTrue F.tells → IsWholeChain self.old → IfOk result (λ n. take n into.new ≡ part (content_of self.old) (position_of self.old) n) }
-        ensures cut { 0 < min (length into.old) (room_of self.old) → (allocator_of self.old).now.file.len ≤ place_of self.old → IsErrAnd result IsInvalidData }
-        ensures there { min (length into.old) (room_of self.old) ≡ 0 → OnErr result ⊥ }
+        ensures cut { 0 < min (length into.old) (left_of self.old) → (allocator_of self.old).now.file.len ≤ place_of self.old → IsErrAnd result IsInvalidData }
+        ensures there { min (length into.old) (left_of self.old) ≡ 0 → OnErr result ⊥ }
         ensures err { place_of self.old < (allocator_of self.old).now.file.len → IfErr result IsMediumError }
         ensures same { IsTrue F.tells → OnOk result ((allocator_of self.new).now ≡ (allocator_of self.old).now) }
         ensures bytes { IsTrue F.tells → (allocator_of self.new).now.file.bytes ≡ (allocator_of self.old).now.file.bytes }
@@ -248,11 +250,11 @@ impl<'a, F: ReadMedium, A: Heap> Chain<'a, F, A> {
 }
 
 impl<'a, F: Medium, A: Heap> Chain<'a, F, A> {
-    ghost use Rattle.cfb_chains.specs.LentChain.{allocator_of, start_sector_of, ids_of, init_of, version_of, len_of, position_of, room_of, sector_of, place_of, tail_of, tail_place, IsWholeChain, content_of, HasBytes};
+    ghost use Rattle.cfb_chains.specs.LentChain.{allocator_of, start_sector_of, ids_of, init_of, version_of, len_of, position_of, left_of, place_at, place_of, tail_of, IsWholeChain, content_of, HasBytes, HoldsWanted, ChangesOnlyWanted, HasWritten};
 
-    /// Writes a beginning of `from` over what the sector at the position has from there on, goes on behind it, and answers how many
-    /// bytes that is: none exactly where `from` is empty or the end is reached. `Medium` where the medium fails: the position then
-    /// stays, and of the sectors that one alone has changed.
+    /// Writes a beginning of `from` over what the chain has from the position on, goes on behind it, and answers how many bytes that
+    /// is: none exactly where `from` is empty or the end is reached. `Medium` where the medium fails: the position then stays, and no
+    /// byte of the file has changed but where `from` was to stand.
     pub fn write_within(&mut self, from: &[u8]) -> Result<usize, Error>
         ensures same_allocator { (allocator_of self.new).ghost_name ≡ (allocator_of self.old).ghost_name }
         ensures tables { (allocator_of self.new).now.tables ≡ (allocator_of self.old).now.tables }
@@ -263,23 +265,24 @@ impl<'a, F: Medium, A: Heap> Chain<'a, F, A> {
           begun = (allocator_of self.new).now.file.begun;
         } }
         ensures chain { (ids_of self.new ≡ ids_of self.old) × (start_sector_of self.new ≡ start_sector_of self.old) × (init_of self.new ≡ init_of self.old) }
-        ensures count { IfOk result (λ n. n ≡ min (length from.now) (room_of self.old)) }
-        ensures none { min (length from.now) (room_of self.old) ≡ 0 → OnErr result ⊥ × ((allocator_of self.new).now ≡ (allocator_of self.old).now) }
+        ensures count { IfOk result (λ n. n ≤ min (length from.now) (left_of self.old)) }
+        ensures some { IfOk result (λ n. 0 < min (length from.now) (left_of self.old) → 0 < n) }
+        ensures none { min (length from.now) (left_of self.old) ≡ 0 → OnErr result ⊥ × ((allocator_of self.new).now ≡ (allocator_of self.old).now) }
         ensures position { MatchResult result (λ n. position_of self.new ≡ position_of self.old + n) (λ _. position_of self.new ≡ position_of self.old) }
         ensures ok { IsTrue F.tells → IfOk result (λ n. 0 < n → (allocator_of self.new).now.file ≡ record (allocator_of self.old).now.file {
           bytes = written (allocator_of self.old).now.file.bytes (place_of self.old) (take n from.now);
           len = max (allocator_of self.old).now.file.len (place_of self.old + n);
           begun = true;
         }) }
+        ensures places { IsTrue F.tells → IfOk result (λ n. HasWritten n from.now self.old self.new) }
         ensures holds { IsTrue F.tells → (validation : Validation) → HoldsTables validation (allocator_of self.old).now → OnOk result (HoldsTables validation (allocator_of self.new).now) }
         ensures content { IsTrue F.tells → IsWholeChain self.old
             → IfOk result (λ n. 0 < n → HasBytes self.new (written (content_of self.old) (position_of self.old) (take n from.now))) }
         ensures err { IfErr result IsMediumError }
-        ensures begun { 0 < min (length from.now) (room_of self.old) → (allocator_of self.new).now.file.begun ≡ true }
-        ensures sectors { IsTrue F.tells → (i : ℕ) → i ≢ sector_of self.old
+        ensures begun { 0 < min (length from.now) (left_of self.old) → (allocator_of self.new).now.file.begun ≡ true }
+        ensures sectors { IsTrue F.tells → (i : ℕ) → (HoldsWanted (length from.now) self.old i → ⊥)
             → SectorStays (version_of self.old) i (allocator_of self.old).now.file.bytes (allocator_of self.new).now.file.bytes }
-        ensures others { IsTrue F.tells → ChangesOnlyBytes (place_of self.old) (min (length from.now) (room_of self.old))
-            (allocator_of self.old).now.file.bytes (allocator_of self.new).now.file.bytes }
+        ensures others { IsTrue F.tells → ChangesOnlyWanted (length from.now) self.old self.new }
         ensures counts { IsTrue F.tells → CountsFailure F.write_faults result (allocator_of self.old).now.file.failures (allocator_of self.new).now.file.failures }
     {
         let room = from.len().min(self.room_here());
@@ -314,7 +317,7 @@ impl<'a, F: Medium, A: Heap> Chain<'a, F, A> {
         ensures content { IsTrue F.tells → IsWholeChain self.old → OnOk result (HasBytes self.new (written (content_of self.old) (position_of self.old) from.now)) }
         ensures err { IfErr result IsMediumError }
         ensures begun { (allocator_of self.new).now.file.begun ≡ true }
-        ensures sectors { IsTrue F.tells → (i : ℕ) → i ≢ sector_of self.old
+        ensures sectors { IsTrue F.tells → (i : ℕ) → i ≢ slice_index (ids_of self.old) (position_of self.old / sector_len (version_of self.old))
             → SectorStays (version_of self.old) i (allocator_of self.old).now.file.bytes (allocator_of self.new).now.file.bytes }
         ensures others { IsTrue F.tells → ChangesOnlyBytes (place_of self.old) (length from.now)
             (allocator_of self.old).now.file.bytes (allocator_of self.new).now.file.bytes }
@@ -343,8 +346,8 @@ impl<'a, F: Medium, A: Heap> Chain<'a, F, A> {
         ensures position { position_of self.new ≡ position_of self.old }
         ensures none { offset % sector_len (version_of self.old) ≡ 0 → OnErr result ⊥ × ((allocator_of self.new).now ≡ (allocator_of self.old).now) }
         ensures ok { IsTrue F.tells → 0 < offset % sector_len (version_of self.old) → OnOk result ((allocator_of self.new).now.file ≡ record (allocator_of self.old).now.file {
-          bytes = written (allocator_of self.old).now.file.bytes (tail_place self.old offset) (replicate (tail_of self.old offset) 0);
-          len = max (allocator_of self.old).now.file.len (tail_place self.old offset + tail_of self.old offset);
+          bytes = written (allocator_of self.old).now.file.bytes (place_at self.old offset) (replicate (tail_of self.old offset) 0);
+          len = max (allocator_of self.old).now.file.len (place_at self.old offset + tail_of self.old offset);
           begun = true;
         }) }
         ensures holds { IsTrue F.tells → (validation : Validation) → HoldsTables validation (allocator_of self.old).now → OnOk result (HoldsTables validation (allocator_of self.new).now) }
@@ -356,7 +359,7 @@ impl<'a, F: Medium, A: Heap> Chain<'a, F, A> {
         ensures begun { 0 < offset % sector_len (version_of self.old) → (allocator_of self.new).now.file.begun ≡ true }
         ensures sectors { IsTrue F.tells → (i : ℕ) → i ≢ slice_index (ids_of self.old) (offset / sector_len (version_of self.old))
             → SectorStays (version_of self.old) i (allocator_of self.old).now.file.bytes (allocator_of self.new).now.file.bytes }
-        ensures others { IsTrue F.tells → ChangesOnlyBytes (tail_place self.old offset) (tail_of self.old offset)
+        ensures others { IsTrue F.tells → ChangesOnlyBytes (place_at self.old offset) (tail_of self.old offset)
             (allocator_of self.old).now.file.bytes (allocator_of self.new).now.file.bytes }
         ensures counts { IsTrue F.tells → CountsFailure F.write_faults result (allocator_of self.old).now.file.failures (allocator_of self.new).now.file.failures }
     {
@@ -370,7 +373,7 @@ impl<'a, F: Medium, A: Heap> Chain<'a, F, A> {
 }
 
 impl<'a, F: Medium, A: Heap + Clone> Chain<'a, F, A> {
-    ghost use Rattle.cfb_chains.specs.LentChain.{allocator_of, start_sector_of, ids_of, init_of, version_of, len_of, position_of, missing_of, wanted_of, HasNoSectors, HasGained, HasKept, IsAsBefore, IsWholeChain, content_of, HasBytes};
+    ghost use Rattle.cfb_chains.specs.LentChain.{allocator_of, start_sector_of, ids_of, init_of, version_of, len_of, position_of, missing_of, wanted_of, HasNoSectors, HasGained, HasKept, IsAsBefore, IsWholeChain, content_of, HasBytes, HoldsWanted, HasWritten, HasResized};
 
     /// Frees its sectors: then it has none. Where it had none nothing changes.
     ///
@@ -397,19 +400,21 @@ impl<'a, F: Medium, A: Heap + Clone> Chain<'a, F, A> {
         self.cut(0)
     }
 
-    /// Writes a beginning of `from`, at least one byte of it, into the sector at the position from there on, goes on behind it, and
-    /// answers how many bytes that is: none exactly where `from` is empty, and then nothing changes. The chain has room for all of
-    /// `from` then: where sectors were missing it has gained them.
+    /// Writes a beginning of `from`, at least one byte of it, from the position on, goes on behind it, and answers how many bytes
+    /// that is: none exactly where `from` is empty, and then nothing changes. The chain has room for all of `from` then: where sectors
+    /// were missing it has gained them. Behind what was written all is as before, but that a gained sector may hold
+    /// anything where more of `from` was to stand.
     ///
     /// Where sectors are missing: `InvalidData` where the FAT sectors do not cover the file, `Full` where fewer numbers are left than
     /// the missing sectors and the table sectors that they need, and `Memory`: nothing has changed then. `Medium` where the medium
-    /// fails: then it has gained the sectors or, where that broke off, has none, and no byte has changed but in the sector at the
-    /// position, in table sectors and in sectors that were free.
+    /// fails: then it has gained the sectors or, where that broke off, has none, and no byte has changed but in the sectors where `from`
+    /// was to stand, in table sectors and in sectors that were free.
     pub fn write(&mut self, from: &[u8]) -> Result<usize, Error>
         ensures same_allocator { (allocator_of self.new).ghost_name ≡ (allocator_of self.old).ghost_name }
         ensures init { init_of self.new ≡ init_of self.old }
         ensures version { version_of self.new ≡ version_of self.old }
-        ensures count { IfOk result (λ n. n ≡ min (length from.now) (sector_len (version_of self.old) - position_of self.old % sector_len (version_of self.old))) }
+        ensures count { IfOk result (λ n. n ≤ length from.now) }
+        ensures some { IfOk result (λ n. 0 < length from.now → 0 < n) }
         ensures position { IfOk result (λ n. position_of self.new ≡ position_of self.old + n) }
         ensures none { length from.now ≡ 0 → OnErr result ⊥ × IsAsBefore self.old self.new }
         ensures ids { OnOk result (ids_of self.new ≡ ids_of self.old ++ gained (ids_of self.old) (ids_of self.new)) }
@@ -419,12 +424,14 @@ impl<'a, F: Medium, A: Heap + Clone> Chain<'a, F, A> {
             (ending (last_or_end (ids_of self.old))) (gained (ids_of self.old) (ids_of self.new))) }
         ensures enough { 0 < missing_of self.old (length from.now) → OnOk result (IsTooFew (allocator_of self.old).now.tables (missing_of self.old (length from.now)) → ⊥) }
         ensures holds { IsTrue F.tells → (validation : Validation) → HoldsTables validation (allocator_of self.old).now → OnOk result (HoldsTables validation (allocator_of self.new).now) }
+        ensures places { IsTrue F.tells → (validation : Validation) → HoldsTables validation (allocator_of self.old).now
+            → IfOk result (λ n. HasWritten n from.now self.old self.new) }
         ensures content { IsTrue F.tells → (validation : Validation) → HoldsTables validation (allocator_of self.old).now → IsWholeChain self.old
-            → IfOk result (λ n. 0 < n → HasBytes self.new
+            → IfOk result (λ n. 0 < n → (n ≡ length from.now) ⊎ (missing_of self.old (length from.now) ≡ 0) → HasBytes self.new
             (written (content_of self.old ++ copies (missing_of self.old (length from.now)) (init_bytes (version_of self.old) (init_of self.old))) (position_of self.old) (take n from.now))) }
         ensures others { IsTrue F.tells → (i : ℕ) → (value (allocator_of self.old).now.tables.fat i ≡ free_sector → ⊥)
             → (Contains ((allocator_of self.old).now.tables.fat_sectors ++ (allocator_of self.old).now.tables.difat_sectors) i → ⊥)
-            → i ≢ slice_index (ids_of self.new) (position_of self.old / sector_len (version_of self.old))
+            → (HoldsWanted (length from.now) self.old i → ⊥)
             → SectorStays (version_of self.old) i (allocator_of self.old).now.file.bytes (allocator_of self.new).now.file.bytes }
         ensures foreign { IsTrue F.tells → OthersStayBut (ids_of self.old) (allocator_of self.old).now (allocator_of self.new).now }
         ensures there { IsTrue F.tells → IfOk result (λ n. 0 < n → part (allocator_of self.new).now.file.bytes
@@ -479,6 +486,7 @@ impl<'a, F: Medium, A: Heap + Clone> Chain<'a, F, A> {
         ensures tables { wanted_of self.old len ≡ length (ids_of self.old) → (allocator_of self.new).now.tables ≡ (allocator_of self.old).now.tables }
         ensures holds { IsTrue F.tells → (validation : Validation) → HoldsTables validation (allocator_of self.old).now
             → (len ≡ 0 → IsUnnamed (allocator_of self.old).now.tables.fat (start_sector_of self.old)) → OnOk result (HoldsTables validation (allocator_of self.new).now) }
+        ensures places { IsTrue F.tells → (validation : Validation) → HoldsTables validation (allocator_of self.old).now → OnOk result (HasResized len self.old self.new) }
         ensures longer { IsTrue F.tells → (validation : Validation) → HoldsTables validation (allocator_of self.old).now → IsWholeChain self.old
             → length (ids_of self.old) < wanted_of self.old len → OnOk result (HasBytes self.new
             (content_of self.old ++ copies (wanted_of self.old len - length (ids_of self.old)) (init_bytes (version_of self.old) (init_of self.old)))) }

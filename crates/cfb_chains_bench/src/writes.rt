@@ -173,3 +173,38 @@ fn the_last_sector_of_a_cut_file_is_written(rt: HostRuntime) -> Result<(), Fail>
     }
     Ok(())
 }
+
+/// Lengths of the same chain over the same file, how many sectors it has then, how long the file is then, and up to which
+/// place it is as before: zeros follow.
+const CUT_LENGTHS: [(u64, usize, usize, usize); 3] = [
+    (5000, 10, 6656, 6536),
+    (5120, 10, 6556, 6556),
+    (5121, 11, 7168, 6556),
+];
+
+/// How many sectors the chain has at this length, and the file then.
+fn resized(alloc: Global, before: Vec<u8>, len: u64) -> Result<(usize, MemoryMedium), Error> {
+    let mut allocator = opened(alloc, MemoryMedium::from_bytes(before))?;
+    let mut chain = Chain::new(&mut allocator, 2, SectorInit::Zero)?;
+    let answer = chain.set_len(len);
+    let count = chain.num_sectors();
+    chain.end();
+    answer?;
+    Ok((count, allocator.into_inner()))
+}
+
+/// What stands below the length stays where the last sector is cut, and so does the end of the file where the chain grows.
+#[test]
+fn a_cut_chain_is_set_to_a_length(rt: HostRuntime) -> Result<(), Fail> {
+    for (len, sectors, end, same) in CUT_LENGTHS {
+        let mut before = file_of(rt.alloc(), &[1, 11])?;
+        before.truncate(6556);
+        let mut wanted = before.to_vec(rt.alloc())?;
+        wanted.truncate(same);
+        wanted.resize(end, 0)?;
+        let (count, left) = resized(rt.alloc(), before, len)?;
+        let is_right = count == sectors && left.bytes().get(1024..) == wanted.get(1024..);
+        assert!(rt; is_right, "at {len}");
+    }
+    Ok(())
+}

@@ -3,13 +3,19 @@ use Rattle.std.specs.Prelude.{slice_index}
 use Rattle.std.specs.Result.{OnOk}
 use Rattle.cfb_format.specs.Full.{rounded_up}
 use Rattle.cfb_format.specs.Refused.{CountsFailure}
-use Rattle.cfb_sectors.specs.Sectors.{copies, init_bytes}
-use Rattle.cfb_chains.proofs.LentContent.{content_long, shortened_of, taken_len, wanted_is}
+use Rattle.cfb_sectors.specs.Sectors.{SectorFile, copies, init_bytes}
+use Rattle.cfb_chains.proofs.LentContent.{content_long, keeps_cut, keeps_own, shortened_of, taken_len, wanted_is}
 use Rattle.std.proofs.lemmas.List.Elements.{Contains-append_left}
 use Rattle.cfb_format.specs.Bytes.{sector_len, sector_start}
 use Rattle.cfb_format.specs.declared.version.Version.{Version}
-use Rattle.cfb_chains.specs.LentChain.{allocator_of, ids_of, init_of, version_of, tail_of, tail_place, content_of, HasBytes}
-use Rattle.cfb_chains.proofs.ChainWrites.{none_wanted, same_rest, same_wanted, zeroed_of}
+use Rattle.cfb_alloc.specs.Alloc.{AllocatorState}
+use Rattle.cfb_tables.specs.Tables.{TableState}
+use Rattle.cfb_alloc.proofs.Answering.{on_three}
+use Rattle.cfb_alloc.proofs.ChainView.{found_chain}
+use Rattle.cfb_chains.specs.ChainLists.{gained}
+use Rattle.cfb_chains.proofs.PlacedChains.{cut_resized, grown_resized}
+use Rattle.cfb_chains.specs.LentChain.{allocator_of, start_sector_of, ids_of, init_of, version_of, tail_of, place_at, content_of, HasBytes}
+use Rattle.cfb_chains.proofs.ChainWrites.{none_wanted, on_if, same_rest, same_wanted, zeroed_of}
 use Rattle.cfb_chains.proofs.OwnWrites.{enough_kept, own_freed, own_kept, own_taken, own_zeroed}
 use Rattle.cfb_sectors.proofs.SectorLemmas.{SectorStays_next}
 use Rattle.cfb_chains.proofs.chain.Chain+F+A.set_len.Goals as goal
@@ -43,7 +49,7 @@ returns-clause-zeroed g c told fewer some =
     let len = c.args.len in
     let version = c.cut.ensures.version in
     let ids = c.zero_tail.ensures.chain.0 in
-    zeroed_of c.zero_tail.result (allocator_of cut).now.file (allocator_of c.zero_tail.new.self).now.file (tail_place cut len) _ (tail_of cut len) _
+    zeroed_of c.zero_tail.result (allocator_of cut).now.file (allocator_of c.zero_tail.new.self).now.file (place_at cut len) _ (tail_of cut len) _
     (λ j. sector_start (version j) (slice_index (sym ids j) (len / sector_len (version j))) + len % sector_len (version j))
     (λ j. sector_len (version j) - len % sector_len (version j))
     (c.zero_tail.ensures.ok told (subst (λ (v : Version). 0 < len % sector_len v) (sym version) some))
@@ -128,3 +134,32 @@ returns-clause-none g c same =
     let rest = (λ j. c.args.len % sector_len (version j)) ∙ same_rest (version_of now) c.args.len (length (ids_of now)) same in
     let none = e.none rest in
     (none.0, (none.1 ∙ kept.1.0, e.chain.0 ∙ kept.1.1, e.position ∙ kept.1.2))
+
+pub returns-then-sectors-have-clause-places : goal.returns-then-sectors-have-clause-places
+returns-then-sectors-have-clause-places g c told validation h =
+    let now = c.args.self.now in
+    let grown = c.grow.new.self in
+    let e = c.grow.ensures in
+    let more = c.if-sectors-have.true in
+    on_three _ _ _ _ c.grow.result
+    (λ listed counted filled. grown_resized now grown (gained (ids_of now) (ids_of grown)) e.version listed (omega (arith, counted, more))
+    (keeps_own validation (allocator_of now).now (allocator_of grown).now (start_sector_of now) (ids_of now) now.chained h (e.others told)) filled c.args.len)
+    e.ids e.count (e.filled told validation h)
+
+pub returns-clause-places : goal.returns-clause-places
+returns-clause-places g c told validation h =
+    let now = c.args.self.now in
+    let cut = c.cut.new.self in
+    let new = c.zero_tail.new.self in
+    let e = c.zero_tail.ensures in
+    let few = c.if-sectors-have.false in
+    let have = c.num_sectors-have.ensures in
+    on_if _ _ _ c.zero_tail.result
+    (λ zeroed. cut_resized now cut new c.args.len c.div_ceil-sectors.result (found_chain _ _ _ cut.chained).distinct c.cut.ensures.version c.in_ok-cut.ensures.ids
+    (wanted_is (version_of now) c.args.len c.div_ceil-sectors.result c.sector_len.result c.sector_len.ensures c.div_ceil-sectors.ensures) (omega (arith, few, have))
+    (keeps_cut validation (allocator_of now).now (allocator_of cut).now (start_sector_of now) (ids_of now) now.chained h (c.cut.ensures.changes told))
+    (λ all. ap (λ (a : AllocatorState). a.file.bytes) (c.in_ok-cut.ensures.none all).1.0)
+    (ap (λ (t : TableState). t.version) e.tables) e.chain.0
+    (λ whole. ap (λ (a : AllocatorState). a.file.bytes) (e.none whole).1)
+    (λ parted. ap (λ (f : SectorFile). f.bytes) (zeroed parted)))
+    (e.ok told)
