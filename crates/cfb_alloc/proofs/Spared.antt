@@ -11,9 +11,9 @@ use Rattle.cfb_format.specs.Medium.{ChangesOnlyBytes}
 use Rattle.cfb_format.proofs.Unique.{IsChain-unique}
 use Rattle.cfb_tables.specs.Tables.{TableState, HasTaken, TablesGiveBack}
 use Rattle.cfb_sectors.specs.Words.{Apart}
-use Rattle.cfb_sectors.specs.Sectors.{SectorFile, SectorStays}
+use Rattle.cfb_sectors.specs.Sectors.{SectorFile, SectorStays, place_in_sector}
 use Rattle.cfb_sectors.proofs.SectorLemmas.{SectorStays_refl, sector_apart}
-use Rattle.cfb_alloc.specs.Alloc.{AllocatorState, ChangesSectors, IsOtherHeaderByte, OthersStay}
+use Rattle.cfb_alloc.specs.Alloc.{AllocatorState, ChangesSectors, IsOtherHeaderByte, IsPlaced, OthersStay}
 use Rattle.cfb_alloc.specs.Frame.{IsForeign, IsFixedHeaderByte, Spares, LieAmong, LieOutside, table_sectors}
 use Rattle.cfb_alloc.specs.InSector.{LiesIn}
 use Rattle.cfb_alloc.proofs.AllocLemmas.{others_written}
@@ -153,6 +153,9 @@ pub start_past : (v : Version) (sector offset : ℕ) → sector_len v ≤ sector
 start_past V3 sector offset = omega arith
 start_past V4 sector offset = omega arith
 
+pub lies_past : (v : Version) (sector at n : ℕ) → LiesIn v sector at n → sector_len v ≤ at
+lies_past v sector at n lies = let l = lies.0 in let p = start_past v sector 0 in omega (arith, l, p)
+
 -- what lies in one sector lies apart from every other
 pub apart_from : (v : Version) (sector i at n : ℕ) → LiesIn v sector at n → i ≢ sector → Apart (sector_start v i) (sector_len v) at n
 apart_from V3 sector i at n lies other = let l = lies.0 in let u = lies.1 in omega arith
@@ -165,6 +168,18 @@ pub in_sector_spares : (old new : AllocatorState) (sector at n : ℕ) → new.ta
     → ChangesOnlyBytes at n old.file.bytes new.file.bytes → Spares (sector ∷ []) old new
 in_sector_spares old new sector at n same lies change =
     let v = old.tables.version in
-    let l = lies.0 in
-    let p = start_past v sector 0 in
-    written_spares (sector ∷ []) old new at n same (omega (arith, l, p)) (lie_in_one v sector at n lies) change
+    written_spares (sector ∷ []) old new at n same (lies_past v sector at n lies) (lie_in_one v sector at n lies) change
+
+-- a call's state was `a`; it wrote bytes in sectors
+module _ {a : AllocatorState} {s0 : SectorFile} {t0 : TableState} (s2 : SectorFile) (sector offset n : ℕ) (view : record { file = s0; tables = t0 } ≡ a)
+    (p : IsPlaced s0 t0) where
+  pub stretch_past : sector_len t0.version ≤ place_in_sector s0 sector offset
+  stretch_past = subst (λ (v : Version). sector_len v ≤ place_in_sector s0 sector offset) p.same_version (start_past s0.version sector offset)
+
+  pub stretch_spares : (own : List ℕ) → LieAmong own a.tables.version (place_in_sector a.file sector offset) n
+      → ChangesOnlyBytes (place_in_sector s0 sector offset) n s0.bytes s2.bytes → Spares own a (record { file = s2; tables = t0 })
+  stretch_spares own lie change =
+      let at = place_in_sector s0 sector offset in
+      subst (λ (z : AllocatorState). Spares own z (record { file = s2; tables = t0 })) view
+      (written_spares own (record { file = s0; tables = t0 }) (record { file = s2; tables = t0 }) at n refl stretch_past
+      (subst (λ (z : AllocatorState). LieAmong own z.tables.version (place_in_sector z.file sector offset) n) (sym view) lie) change)

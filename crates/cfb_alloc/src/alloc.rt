@@ -9,7 +9,7 @@ ghost use Rattle.cfb_tables.specs.ReadFat.{AcceptsFat, AcceptsNoFat};
 ghost use Rattle.cfb_tables.specs.Changes.{IsNextOf, NoChain};
 ghost use Rattle.cfb_tables.specs.Refused.{TableRefused, NextRefused, NoLast, WalkRefused, ChangeRefused};
 ghost use Rattle.cfb_alloc.specs.Broken.{BreaksOff};
-ghost use Rattle.cfb_alloc.specs.Frame.{Spares};
+ghost use Rattle.cfb_alloc.specs.Frame.{Spares, LieAmong, LieOutside, table_sectors};
 ghost use Rattle.cfb_tables.specs.Tables.{HasTaken, TakesFor, Extended, ExtendsFrom, GivesBackChain, AreSizes, IsTooFew, ending, first_or_end, sizes_of, tables_of};
 ghost use Rattle.cfb_tables.specs.Clean.{IsUnnamed};
 ghost use Rattle.cfb_sectors.specs.Sectors.{IsMediumError, IsRaised, OtherSectorsStay, place_in_sector, sectors_end};
@@ -550,6 +550,11 @@ impl<F: Medium, A: Heap> Allocator<F, A> {
         ensures inside { place_in_sector self.old.file sector offset + length from.now ≤ sectors_end self.old.file → IfErr result IsMediumError × (self.new.file.begun ≡ true) }
         ensures others { IsTrue F.tells → ChangesOnlyBytes (place_in_sector self.old.file sector offset) (length from.now) self.old.file.bytes self.new.file.bytes }
         ensures sectors { IsTrue F.tells → OtherSectorsStay self.old.file.version (place_in_sector self.old.file sector offset) (length from.now) self.old.file.bytes self.new.file.bytes }
+        ensures spares { IsTrue F.tells → (own : List ℕ)
+            → LieAmong own self.old.tables.version (place_in_sector self.old.file sector offset) (length from.now) → Spares own self.old self.new }
+        ensures holds { IsTrue F.tells → (validation : Validation) → HoldsTables validation self.old
+            → LieOutside (table_sectors self.old.tables) self.old.tables.version (place_in_sector self.old.file sector offset) (length from.now)
+            → OnOk result (HoldsTables validation self.new) }
         ensures counts { IsTrue F.tells → CountsFailure F.write_faults result self.old.file.failures self.new.file.failures }
     {
         self.sectors.write_contiguous(sector, offset, from)
