@@ -19,3 +19,7 @@ pub mod StrictFat
 pub mod StrictLemmas
 pub mod ChainView
 pub mod EmptyChain
+pub mod Frames
+pub mod Spared
+pub mod HeldOrder
+pub mod FreshSlots

@@ -6,3 +6,4 @@ pub mod InSector
 pub mod LentSector
 pub mod Broken
 pub mod Frame
+pub mod Fresh
