@@ -10,7 +10,7 @@ use Rattle.cfb_format.specs.declared.medium.ReadMedium as medium
 use Rattle.cfb_format.specs.declared.version.Version.{Version}
 use Rattle.cfb_alloc.specs.Agreement.{HasSectors}
 use Rattle.cfb_alloc.specs.Alloc.{AllocatorState}
-use Rattle.cfb_chains.specs.ChainLists.{gained}
+use Rattle.cfb_tables.specs.Listed.{gained}
 use Rattle.cfb_chains.specs.declared.chain.Chain.{Chain}
 use Rattle.cfb_chains.specs.declared.chain.Numbers as numbers
 use Rattle.cfb_sectors.specs.declared.sector.SectorInit.{SectorInit}
