@@ -19,3 +19,5 @@ pub mod StrictFat
 pub mod StrictLemmas
 pub mod ChainView
 pub mod EmptyChain
+pub mod HeaderField
+pub mod ListedLemmas

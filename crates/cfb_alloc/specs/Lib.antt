@@ -5,4 +5,6 @@ pub mod Held
 pub mod InSector
 pub mod LentSector
 pub mod Broken
+pub mod ListedChain
+pub mod HeaderWords
 pub mod Frame

@@ -37,7 +37,7 @@ end_chain table = chain_of table end_of_chain [] refl
 pub ending_other : (last : ℕ) → last ≢ end_of_chain → ending last ≡ last ∷ []
 ending_other last ne = ap (λ (b : Bool). if b then [] else last ∷ []) (ne_eqb last end_of_chain ne)
 
-last_split : (xs : List ℕ) → 0 < length xs → xs ≡ take (length xs - 1) xs ++ last_or_end xs ∷ []
+pub last_split : (xs : List ℕ) → 0 < length xs → xs ≡ take (length xs - 1) xs ++ last_or_end xs ∷ []
 last_split xs some =
     let n : length xs ≡ length xs - 1 + 1 = omega (arith, some) in
     sym (take_all (length xs) xs (omega arith)) ∙ ap (λ (k : ℕ). take k xs) n ∙ take_more xs (length xs - 1) end_of_chain (omega (arith, some))
