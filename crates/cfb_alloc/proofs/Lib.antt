@@ -21,3 +21,7 @@ pub mod ChainView
 pub mod EmptyChain
 pub mod HeaderField
 pub mod ListedLemmas
+pub mod Frames
+pub mod Spared
+pub mod HeldOrder
+pub mod FreshSlots

@@ -1,11 +1,13 @@
 -- What a change leaves alone: the sectors in use that are none of its own.
-use Rattle.std.specs.Prelude.{ℕ, ◌≡◌, ◌≢◌, ◌<◌, ◌≤◌, ◌⊎◌, List, ◌++◌, length, slice_index, Contains}
+use Rattle.std.specs.Prelude.{ℕ, ◌≡◌, ◌≢◌, ◌<◌, ◌≤◌, ◌⊎◌, List, ◌++◌, Some, length, slice_index, Contains}
 use Rattle.cfb_format.specs.declared.version.Version.{Version}
-use Rattle.cfb_format.specs.Bytes.{sector_len, free_sector}
+use Rattle.cfb_format.specs.Bytes.{byte_at, sector_len, sector_start, free_sector}
 use Rattle.cfb_format.specs.Chain.{value, IsChain}
+use Rattle.cfb_format.specs.Content.{place_in_chain}
 use Rattle.cfb_tables.specs.Changes.{AreDisjoint}
 use Rattle.cfb_tables.specs.Tables.{TableState}
 use Rattle.cfb_sectors.specs.Sectors.{SectorStays}
+use Rattle.cfb_sectors.specs.Words.{Apart}
 use Rattle.cfb_alloc.specs.Agreement.{KeepsSectors}
 use Rattle.cfb_alloc.specs.Alloc.{AllocatorState}
 
@@ -23,14 +25,24 @@ pub record IsForeign (own : List ℕ) (t : TableState) (i : ℕ) : Type 0 where
 abbrev pub IsFixedHeaderByte : Version → ℕ → Type 0
 IsFixedHeaderByte version i = (i < 40) ⊎ ((48 ≤ i) × (i < 60)) ⊎ ((512 ≤ i) × (i < sector_len version))
 
--- a change of these sectors and of table sectors: every other sector in use keeps its value and its bytes, and becomes no table sector
+-- a change of these sectors and of table sectors: every other sector in use keeps its value, and if it is no table sector, its bytes
+-- too, and becomes none; the table sectors stay table sectors
 pub record Spares (own : List ℕ) (old new : AllocatorState) : Type 0 where
   pub same_version : new.tables.version ≡ old.tables.version
   pub no_shorter : length old.file.bytes ≤ length new.file.bytes
-  pub values : (i : ℕ) → IsForeign own old.tables i → value new.tables.fat i ≡ value old.tables.fat i
+  pub values : (i : ℕ) → value old.tables.fat i ≢ free_sector → (Contains own i → ⊥) → value new.tables.fat i ≡ value old.tables.fat i
+  pub kept : (i : ℕ) → Contains (table_sectors old.tables) i → Contains (table_sectors new.tables) i
   pub tables : (i : ℕ) → IsForeign own old.tables i → Contains (table_sectors new.tables) i → ⊥
   pub sectors : (i : ℕ) → IsForeign own old.tables i → SectorStays old.tables.version i old.file.bytes new.file.bytes
   pub header : (i : ℕ) → i < length old.file.bytes → IsFixedHeaderByte old.tables.version i → slice_index new.file.bytes i ≡ slice_index old.file.bytes i
+
+-- of the n bytes from a place on, no sector has any but these
+abbrev pub LieAmong : List ℕ → Version → ℕ → ℕ → Type 0
+LieAmong own version at n = (i : ℕ) → (Contains own i → ⊥) → Apart (sector_start version i) (sector_len version) at n
+
+-- none of these sectors has any
+abbrev pub LieOutside : List ℕ → Version → ℕ → ℕ → Type 0
+LieOutside list version at n = (i : ℕ) → Contains list i → Apart (sector_start version i) (sector_len version) at n
 
 -- ---- laws
 
@@ -43,13 +55,18 @@ NothingIsTouched = (own : List ℕ) (old new : AllocatorState) → new.tables.ve
 abbrev pub SparesLess : Type 0
 SparesLess = (own more : List ℕ) (old new : AllocatorState) → ((i : ℕ) → Contains own i → Contains more i) → Spares own old new → Spares more old new
 
--- a change, and then one that may also touch what was free before the first
+-- a change, and then one of the same sectors and of some that were free before the first
 abbrev pub SparesInTurn : Type 0
-SparesInTurn = (own more : List ℕ) (a b c : AllocatorState) → ((i : ℕ) → Contains more i → value a.tables.fat i ≡ free_sector)
-    → Spares own a b → Spares (own ++ more) b c → Spares own a c
+SparesInTurn = (own more : List ℕ) (a b c : AllocatorState) → ((i : ℕ) → Contains more i → (value a.tables.fat i ≡ free_sector) ⊎ Contains own i)
+    → Spares own a b → Spares more b c → Spares own a c
 
 -- a chain of other sectors stays, and so do its bytes
 abbrev pub OtherChainsAreSpared : Type 0
 OtherChainsAreSpared = (own : List ℕ) (old new : AllocatorState) (start : ℕ) (list : List ℕ) → Spares own old new → IsChain old.tables.fat start list
     → AreDisjoint list own → AreDisjoint list (table_sectors old.tables)
     → IsChain new.tables.fat start list × AreDisjoint list (table_sectors new.tables) × KeepsSectors old.tables.version list old.file.bytes new.file.bytes
+
+-- where sectors stay, a byte of a chain of them that stood at a place stands there with the same value
+abbrev pub BytesStayInPlace : Type 0
+BytesStayInPlace = (version : Version) (list old new : List ℕ) → KeepsSectors version list old new → (k at : ℕ)
+    → place_in_chain version old list k ≡ Some at → (place_in_chain version new list k ≡ Some at) × (byte_at new at ≡ byte_at old at)

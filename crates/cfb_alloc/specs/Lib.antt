@@ -8,3 +8,4 @@ pub mod Broken
 pub mod ListedChain
 pub mod HeaderWords
 pub mod Frame
+pub mod Fresh

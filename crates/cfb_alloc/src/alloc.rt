@@ -12,7 +12,7 @@ ghost use Rattle.cfb_alloc.specs.Broken.{BreaksOff};
 ghost use Rattle.cfb_tables.specs.Listed.{ends_of, gained};
 ghost use Rattle.cfb_tables.specs.Room.{IsTooFewAfter};
 ghost use Rattle.cfb_sectors.specs.Words.{with_word};
-ghost use Rattle.cfb_alloc.specs.Frame.{Spares};
+ghost use Rattle.cfb_alloc.specs.Frame.{Spares, LieAmong, LieOutside, table_sectors};
 ghost use Rattle.cfb_alloc.specs.HeaderWords.{header_word_place};
 ghost use Rattle.cfb_alloc.specs.ListedChain.{Lengthens, Shortens, ListBreaksOff};
 ghost use Rattle.cfb_tables.specs.Tables.{HasTaken, TakesFor, Extended, ExtendsFrom, GivesBackChain, TablesGiveBack, AreSizes, IsTooFew, ending, first_or_end, sizes_of, tables_of};
@@ -344,6 +344,7 @@ impl<F: Medium, A: Heap> Allocator<F, A> {
             → IfOk result (λ x. IsFilled self.new.tables.version init self.new.file.bytes x) }
         ensures holds { IsTrue F.tells → (validation : Validation) → HoldsTables validation self.old → OnOk result (HoldsTables validation self.new) }
         ensures others { IsTrue F.tells → OthersStay self.old self.new }
+        ensures spares { IsTrue F.tells → Spares [] self.old self.new }
         ensures enough { OnOk result (IsTooFew self.old.tables 1 → ⊥) }
         ensures begun { OnOk result (self.new.file.begun ≡ true) }
         ensures refused { IfErr result (BreaksOff (TakesFor []) self.old self.new) }
@@ -524,6 +525,7 @@ impl<F: Medium, A: Heap + Clone> Allocator<F, A> {
             → IfOk result (λ x. IsFilled self.new.tables.version init self.new.file.bytes x) }
         ensures holds { IsTrue F.tells → (validation : Validation) → HoldsTables validation self.old → OnOk result (HoldsTables validation self.new) }
         ensures others { IsTrue F.tells → OthersStay self.old self.new }
+        ensures spares { IsTrue F.tells → (list : List ℕ) → IsChain self.old.tables.fat start list → Spares list self.old self.new }
         ensures enough { OnOk result (IsTooFew self.old.tables 1 → ⊥) }
         ensures begun { OnOk result (self.new.file.begun ≡ true) }
         ensures refused { IfErr result (BreaksOff (ExtendsFrom start) self.old self.new) }
@@ -564,6 +566,7 @@ impl<F: Medium, A: Heap + Clone> Allocator<F, A> {
             → IfOk result (λ list. (i : ℕ) → Contains list.items i → IsFilled self.new.tables.version init self.new.file.bytes i) }
         ensures holds { IsTrue F.tells → (validation : Validation) → HoldsTables validation self.old → OnOk result (HoldsTables validation self.new) }
         ensures others { IsTrue F.tells → OthersStay self.old self.new }
+        ensures spares { IsTrue F.tells → Spares (ending last) self.old self.new }
         ensures enough { OnOk result (IsTooFew self.old.tables count → ⊥) }
         ensures begun { OnOk result (IsRaised (0 < count) self.old.file self.new.file) }
         ensures refused { IfErr result (BreaksOff (TakesFor (ending last)) self.old self.new) }
@@ -589,6 +592,7 @@ impl<F: Medium, A: Heap + Clone> Allocator<F, A> {
         ensures holds { IsTrue F.tells → (validation : Validation) → HoldsTables validation self.old → IsUnnamed self.old.tables.fat start
             → OnOk result (HoldsTables validation self.new) }
         ensures changes { IsTrue F.tells → ChangesSectors self.old.tables.fat_sectors self.old.tables.version self.old.file.bytes self.new.file.bytes }
+        ensures spares { IsTrue F.tells → (list : List ℕ) → IsChain self.old.tables.fat start list → Spares list self.old self.new }
         ensures begun { OnOk result (IsRaised (start ≢ end_of_chain) self.old.file self.new.file) }
         ensures refused { IfErr result (BreaksOff (GivesBackChain [] start) self.old self.new) }
         ensures err { IfErr result (ChangeRefused ((IsUsable self.old.tables → ⊥) ⊎ NoChain self.old.tables.fat start) Unit ⊥ Unit) }
@@ -610,6 +614,8 @@ impl<F: Medium, A: Heap + Clone> Allocator<F, A> {
         ensures cut { OnOk result (GivesBackChain (sector ∷ []) (value self.old.tables.fat sector) self.old.tables self.new.tables) }
         ensures holds { IsTrue F.tells → (validation : Validation) → HoldsTables validation self.old → OnOk result (HoldsTables validation self.new) }
         ensures changes { IsTrue F.tells → ChangesSectors self.old.tables.fat_sectors self.old.tables.version self.old.file.bytes self.new.file.bytes }
+        ensures spares { IsTrue F.tells → (list : List ℕ) → IsChain self.old.tables.fat (value self.old.tables.fat sector) list
+            → Spares (sector ∷ list) self.old self.new }
         ensures begun { OnOk result (self.new.file.begun ≡ true) }
         ensures refused { IfErr result (BreaksOff (GivesBackChain (sector ∷ []) (value self.old.tables.fat sector)) self.old self.new) }
         ensures err { IfErr result (ChangeRefused ((IsUsable self.old.tables → ⊥) ⊎ NoChain self.old.tables.fat (value self.old.tables.fat sector)) Unit ⊥ Unit) }
@@ -633,6 +639,7 @@ impl<F: Medium, A: Heap + Clone> Allocator<F, A> {
             → IfOk result (λ list. (i : ℕ) → Contains list.items i → IsFilled self.new.tables.version init self.new.file.bytes i) }
         ensures holds { IsTrue F.tells → (validation : Validation) → HoldsTables validation self.old → OnOk result (HoldsTables validation self.new) }
         ensures others { IsTrue F.tells → OthersStay self.old self.new }
+        ensures spares { IsTrue F.tells → Spares [] self.old self.new }
         ensures enough { OnOk result (IsTooFew self.old.tables count → ⊥) }
         ensures begun { OnOk result (IsRaised (0 < count) self.old.file self.new.file) }
         ensures refused { IfErr result (BreaksOff (TakesFor []) self.old self.new) }
@@ -661,6 +668,7 @@ impl<F: Medium, A: Heap + Clone> Allocator<F, A> {
             → IfOk result (λ list. (i : ℕ) → Contains list.items i → IsFilled self.new.tables.version init self.new.file.bytes i) }
         ensures holds { IsTrue F.tells → (validation : Validation) → HoldsTables validation self.old → OnOk result (HoldsTables validation self.new) }
         ensures others { IsTrue F.tells → OthersStay self.old self.new }
+        ensures spares { IsTrue F.tells → Spares (last ∷ []) self.old self.new }
         ensures enough { OnOk result (IsTooFew self.old.tables count → ⊥) }
         ensures begun { OnOk result (IsRaised (0 < count) self.old.file self.new.file) }
         ensures refused { IfErr result (BreaksOff (TakesFor (last ∷ [])) self.old self.new) }
@@ -749,6 +757,11 @@ impl<F: Medium, A: Heap> Allocator<F, A> {
         ensures inside { place_in_sector self.old.file sector offset + length from.now ≤ sectors_end self.old.file → IfErr result IsMediumError × (self.new.file.begun ≡ true) }
         ensures others { IsTrue F.tells → ChangesOnlyBytes (place_in_sector self.old.file sector offset) (length from.now) self.old.file.bytes self.new.file.bytes }
         ensures sectors { IsTrue F.tells → OtherSectorsStay self.old.file.version (place_in_sector self.old.file sector offset) (length from.now) self.old.file.bytes self.new.file.bytes }
+        ensures spares { IsTrue F.tells → (own : List ℕ)
+            → LieAmong own self.old.tables.version (place_in_sector self.old.file sector offset) (length from.now) → Spares own self.old self.new }
+        ensures holds { IsTrue F.tells → (validation : Validation) → HoldsTables validation self.old
+            → LieOutside (table_sectors self.old.tables) self.old.tables.version (place_in_sector self.old.file sector offset) (length from.now)
+            → OnOk result (HoldsTables validation self.new) }
         ensures counts { IsTrue F.tells → CountsFailure F.write_faults result self.old.file.failures self.new.file.failures }
     {
         self.sectors.write_contiguous(sector, offset, from)

@@ -1,6 +1,8 @@
 //! What the definitions promise about each other. None of these functions does anything: each has a law
 //! as its contract.
-ghost use Rattle.cfb_alloc.specs.Held.{SoundTablesAreHeld, StrictTablesAreHeld, HeldTablesAreStrict};
+ghost use Rattle.cfb_alloc.specs.Frame.{NothingIsTouched, SparesLess, SparesInTurn, OtherChainsAreSpared, BytesStayInPlace};
+ghost use Rattle.cfb_alloc.specs.Fresh.{FreshSlotsAreUnallocated};
+ghost use Rattle.cfb_alloc.specs.Held.{SoundTablesAreHeld, StrictTablesAreHeld, HeldTablesAreStrict, MembersAreNoTableSectors, HeldTablesAreUsable};
 
 /// The tables that opening reads from a sound file are those that its bytes hold: an allocator with
 /// these tables over these bytes may change them, and what it holds as strict opening wants it,
@@ -9,4 +11,25 @@ pub fn sound_tables_are_held()
     ensures sound { SoundTablesAreHeld }
     ensures strict { StrictTablesAreHeld }
     ensures taken { HeldTablesAreStrict }
+{}
+
+/// What changes spare, one after the other: where nothing is touched all is, and chains of sectors that are none of a change's own
+/// stay, with each of their bytes at its place.
+pub fn changes_spare_others()
+    ensures nothing { NothingIsTouched }
+    ensures less { SparesLess }
+    ensures in_turn { SparesInTurn }
+    ensures chains { OtherChainsAreSpared }
+    ensures bytes { BytesStayInPlace }
+{}
+
+/// Tables that the bytes hold can be changed, and no chain has a table sector among its members.
+pub fn held_tables_are_in_order()
+    ensures members { MembersAreNoTableSectors }
+    ensures usable { HeldTablesAreUsable }
+{}
+
+/// A fresh directory sector has unallocated slots alone (MS-CFB 2.6.3).
+pub fn fresh_slots_are_unallocated()
+    ensures { FreshSlotsAreUnallocated }
 {}

@@ -1,10 +1,11 @@
 //! Stretches of a file that are lent with its allocator: the header, a sector or a part of one (MS-CFB 2.1 and 2.2).
-ghost use Rattle.std.specs.Prelude.{◌≡◌, ℕ, ◌+◌, ◌-◌, ◌*◌, ◌^◌, ◌<◌, ◌≤◌, max, min, length, true, take, drop, IsTrue, IfOk, IfErr, OnOk, MatchResult, Ok};
+ghost use Rattle.std.specs.Prelude.{◌≡◌, ℕ, ◌+◌, ◌-◌, ◌*◌, ◌^◌, ◌<◌, ◌≤◌, max, min, [], ◌∷◌, length, true, take, drop, IsTrue, IfOk, IfErr, OnOk, MatchResult, Ok};
 ghost use Rattle.cfb_format.specs.declared.validate.Validation.{Validation};
 ghost use Rattle.cfb_format.specs.Bytes.{sector_len, sector_start};
 ghost use Rattle.cfb_format.specs.Medium.{ChangesOnlyBytes, part, written};
 ghost use Rattle.cfb_format.specs.Refused.{CountsFailure, IsInvalidData};
 ghost use Rattle.cfb_alloc.specs.Alloc.{HoldsTables};
+ghost use Rattle.cfb_alloc.specs.Frame.{Spares};
 ghost use Rattle.cfb_alloc.specs.InSector.{LiesIn, IsNoTableSector};
 ghost use Rattle.cfb_sectors.specs.Sectors.{IsMediumError, OtherSectorsStay, sectors_end};
 
@@ -257,6 +258,8 @@ impl<'a, F: Medium, A: Heap> AllocatedSector<'a, F, A> {
             → OnOk result (HoldsTables validation (allocator_of self.new).now) }
         ensures others { IsTrue F.tells → ChangesOnlyBytes (place_of self.old) (min (length from.now) (room_of self.old))
             (allocator_of self.old).now.file.bytes (allocator_of self.new).now.file.bytes }
+        ensures spares { IsTrue F.tells → (sector : ℕ) → LiesIn (version_of self.old) sector (start_of self.old) (len_of self.old)
+            → Spares (sector ∷ []) (allocator_of self.old).now (allocator_of self.new).now }
         ensures sectors { IsTrue F.tells → OtherSectorsStay (version_of self.old) (place_of self.old) (min (length from.now) (room_of self.old))
             (allocator_of self.old).now.file.bytes (allocator_of self.new).now.file.bytes }
         ensures counts { IsTrue F.tells → CountsFailure F.write_faults result (allocator_of self.old).now.file.failures (allocator_of self.new).now.file.failures }

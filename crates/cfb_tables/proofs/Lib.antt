@@ -17,3 +17,5 @@ pub mod FatLaws
 pub mod RoomLemmas
 pub mod ListedLemmas
 pub mod WordLemmas
+pub mod Counts
+pub mod ClosedLemmas

@@ -61,7 +61,7 @@ table-sectors-are-in-file bytes h list own d = (
   own_below h.version bytes h.first_difat_sector own d.sectors,
 )
 
-found_below : (n : ℕ) (xs : List ℕ) → ((i : ℕ) → Contains xs i → i < n) → (q : ℕ) → list_any (nat_eq q) xs ≡ true → q < n
+pub found_below : (n : ℕ) (xs : List ℕ) → ((i : ℕ) → Contains xs i → i < n) → (q : ℕ) → list_any (nat_eq q) xs ≡ true → q < n
 found_below n [] below q e = cc
 found_below n (x ∷ xs) below q e = go (nat_eq q x) refl (λ k. found_below n xs (λ i m. below i (later i m)) q k)
   where

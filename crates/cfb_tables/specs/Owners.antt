@@ -1,10 +1,11 @@
 -- Which numbers of a table are in use, and how that changes as chains grow and are freed.
-use Rattle.std.specs.Prelude.{ℕ, ◌≡◌, ◌≢◌, List, [], ◌∷◌, ◌++◌, nat_eq, Contains}
+use Rattle.std.specs.Prelude.{ℕ, suc, ◌≡◌, ◌≢◌, ◌+◌, ◌<◌, List, [], ◌∷◌, ◌++◌, length, nat_eq, Contains, IsTrue, if◌then◌else◌}
 use Rattle.std.specs.List.{IsDistinct}
-use Rattle.cfb_format.specs.Bytes.{free_sector}
-use Rattle.cfb_format.specs.Chain.{value}
+use Rattle.cfb_format.specs.Bytes.{free_sector, is_regular}
+use Rattle.cfb_format.specs.Chain.{value, IsChain}
 use Rattle.cfb_format.specs.Soundness.{KeepsLoose}
 use Rattle.cfb_tables.specs.Changes.{ChangesOnlyValues, GivesBack}
+use Rattle.cfb_tables.specs.Clean.{IsUnnamed}
 use Rattle.cfb_tables.specs.Tables.{TableState, HasTaken}
 
 -- nothing is used twice, what is used isn't free, and what is loose points to loose numbers alone
@@ -38,6 +39,15 @@ pub record Frees (old new xs gone : List ℕ) : Type 0 where
   pub free : (i : ℕ) → Contains gone i → value new i ≡ free_sector
   pub busy : (i : ℕ) → Contains xs i → value new i ≢ free_sector
 
+-- how often a number stands in a list
+abbrev pub tally : ℕ → List ℕ → ℕ
+tally k [] = 0
+tally k (n ∷ list) = if nat_eq k n then suc (tally k list) else tally k list
+
+-- what a member of the list points to is a member
+abbrev pub IsClosed : List ℕ → List ℕ → Type 0
+IsClosed table xs = (i : ℕ) → Contains xs i → IsTrue (is_regular (value table i)) → Contains xs (value table i)
+
 -- ---- laws
 
 abbrev pub UsesAreKept : Type 0
@@ -65,3 +75,35 @@ TakenIsTaking = (old new : TableState) (touched more : List ℕ) (taken : HasTak
 -- what is freed is given back
 abbrev pub GivenBackIsFreeing : Type 0
 GivenBackIsFreeing = (old new ends gone : List ℕ) → GivesBack ends gone old new → Frees old new ends gone
+
+-- ---- laws by counts: where the numbers stand among those in use is no matter
+
+abbrev pub TallyOfBoth : Type 0
+TallyOfBoth = (k : ℕ) (xs ys : List ℕ) → tally k (xs ++ ys) ≡ tally k xs + tally k ys
+
+abbrev pub TakingByCount : Type 0
+TakingByCount = (old new xs more used used' : List ℕ) → Takes old new xs more → ((i : ℕ) → Contains xs i → Contains used i)
+    → ((i : ℕ) → Contains used i → value old i ≢ free_sector) → ((k : ℕ) → tally k used' ≡ tally k used + tally k more)
+    → UseChanges old used new used'
+
+abbrev pub FreeingByCount : Type 0
+FreeingByCount = (old new xs gone used used' : List ℕ) → Frees old new xs gone → ((i : ℕ) → Contains xs i → Contains used' i)
+    → IsDistinct nat_eq used → ((k : ℕ) → tally k used ≡ tally k used' + tally k gone)
+    → UseChanges old used new used'
+
+-- ---- laws of closed lists
+
+abbrev pub ChainsAreClosed : Type 0
+ChainsAreClosed = (table : List ℕ) (start : ℕ) (list : List ℕ) → IsChain table start list → IsClosed table list
+
+-- marks point nowhere
+abbrev pub MarksAreClosed : Type 0
+MarksAreClosed = (table xs : List ℕ) → ((i : ℕ) → Contains xs i → IsTrue (is_regular (value table i)) → ⊥) → IsClosed table xs
+
+abbrev pub ClosedTogether : Type 0
+ClosedTogether = (table xs ys : List ℕ) → IsClosed table xs → IsClosed table ys → IsClosed table (xs ++ ys)
+
+-- nothing names the start of a chain in use
+abbrev pub OwnedStartIsUnnamed : Type 0
+OwnedStartIsUnnamed = (table front list back : List ℕ) (start : ℕ) → Uses table (front ++ list ++ back) → IsChain table start list → 0 < length list
+    → IsClosed table front → IsClosed table back → IsUnnamed table start

@@ -6,7 +6,7 @@ ghost use Rattle.cfb_tables.specs.Tables.{FullIsTooFew, TooFewIsNoRoom, EnoughIs
 ghost use Rattle.cfb_tables.specs.Room.{NothingGivenBack, TooFewIsNoRoomAfter, EnoughIsRoomAfter, MoreIsTooFew, RoomInTurn, AllTakenIsFull};
 ghost use Rattle.cfb_tables.specs.Listed.{WhatIsLeftIsChain, WhatIsLeftEnds};
 ghost use Rattle.cfb_tables.specs.ReadWords.{PaddingIsApart, TableSectorsAreInFile, DifatSectorsAreFew};
-ghost use Rattle.cfb_tables.specs.Owners.{UsesAreKept, NothingLooseIsKept, UseChangesFollow, TakingChanges, FreeingChanges, TakenIsTaking, GivenBackIsFreeing};
+ghost use Rattle.cfb_tables.specs.Owners.{UsesAreKept, NothingLooseIsKept, UseChangesFollow, TakingChanges, FreeingChanges, TakenIsTaking, GivenBackIsFreeing, TallyOfBoth, TakingByCount, FreeingByCount, ChainsAreClosed, MarksAreClosed, ClosedTogether, OwnedStartIsUnnamed};
 
 /// A chain stays while the table changes elsewhere, and turns where one member's value changes.
 pub fn chains_follow_changes()
@@ -42,6 +42,21 @@ pub fn uses_follow_changes()
     ensures freeing { FreeingChanges }
     ensures taken { TakenIsTaking }
     ensures given_back { GivenBackIsFreeing }
+{}
+
+/// What is used of a table changes by counts: what is taken stands once more among it, and what is freed once less.
+pub fn uses_follow_counts()
+    ensures both { TallyOfBoth }
+    ensures taking { TakingByCount }
+    ensures freeing { FreeingByCount }
+{}
+
+/// Whole chains and marks point to no others, so where they are all that is used, nothing names the start of one of them.
+pub fn owned_starts_are_unnamed()
+    ensures chains { ChainsAreClosed }
+    ensures marks { MarksAreClosed }
+    ensures both { ClosedTogether }
+    ensures unnamed { OwnedStartIsUnnamed }
 {}
 
 /// A table in which no number is named twice and no free one is named stays so while sectors are taken and freed, and its

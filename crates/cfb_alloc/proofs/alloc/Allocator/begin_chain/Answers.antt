@@ -4,6 +4,7 @@ use Rattle.cfb_alloc.specs.Alloc.{AllocatorState}
 use Rattle.cfb_tables.specs.Tables.{IsTooFew}
 use Rattle.cfb_alloc.proofs.AllocLemmas.{others_refl, others_unchanged, placed_reserved, placed_written, places_known, others_written, held_counted, fats_apart_shown, clean_taken, fats_known, difats_known, refused_changed}
 use Rattle.cfb_tables.proofs.Members.{Contains-here}
+use Rattle.cfb_alloc.proofs.Spared.{spares_refl, spares_unchanged, taken_written}
 use Rattle.cfb_alloc.proofs.alloc.Allocator.begin_chain.Goals as goal
 
 pub returns-in_err-before-clause-others : goal.returns-in_err-before-clause-others
@@ -67,4 +68,20 @@ returns-clause-holds g c told validation h =
 pub returns-clause-others : goal.returns-clause-others
 returns-clause-others g c told =
     others_written (c.in_ok-sector.sector ∷ []) refl c.self.view_is c.in_ok-sector.ensures.taken
+    c.reserve_sectors.new.self c.write_taken.new.sectors c.len.result c.reserve_sectors.ensures (c.write_taken.ensures.changes told)
+
+pub returns-in_err-before-clause-spares : goal.returns-in_err-before-clause-spares
+returns-in_err-before-clause-spares g c told = spares_refl [] c.args.self.now
+
+pub returns-in_err-sector-clause-spares : goal.returns-in_err-sector-clause-spares
+returns-in_err-sector-clause-spares g c told = spares_unchanged [] c.self.view_is c.take.new.self c.in_err-sector.ensures.unchanged
+
+pub returns-in_err-write_taken-clause-spares : goal.returns-in_err-write_taken-clause-spares
+returns-in_err-write_taken-clause-spares g c told =
+    taken_written (c.in_ok-sector.sector ∷ []) refl c.self.view_is c.in_ok-sector.ensures.taken
+    c.reserve_sectors.new.self c.write_taken.new.sectors c.len.result c.reserve_sectors.ensures (c.write_taken.ensures.changes told)
+
+pub returns-clause-spares : goal.returns-clause-spares
+returns-clause-spares g c told =
+    taken_written (c.in_ok-sector.sector ∷ []) refl c.self.view_is c.in_ok-sector.ensures.taken
     c.reserve_sectors.new.self c.write_taken.new.sectors c.len.result c.reserve_sectors.ensures (c.write_taken.ensures.changes told)

@@ -6,6 +6,7 @@ use Rattle.cfb_format.specs.Chain.{IsChain}
 use Rattle.cfb_tables.specs.Tables.{HasTaken, first_or_end}
 use Rattle.cfb_tables.proofs.ChainLemmas.{chain_of}
 use Rattle.cfb_tables.proofs.TakenLemmas.{taken-nothing}
+use Rattle.cfb_alloc.proofs.Spared.{spares_refl, spares_unchanged, taken_written}
 use Rattle.cfb_alloc.proofs.alloc.Allocator.begin_chain_by.Goals as goal
 
 pub returns-in_err-before-clause-others : goal.returns-in_err-before-clause-others
@@ -87,4 +88,29 @@ returns-clause-holds g c told validation h =
 pub returns-clause-others : goal.returns-clause-others
 returns-clause-others g c told =
     others_written c.deref.result.now c.deref.ensures.value c.self.view_is (taken_reserved c.reserve.ensures.unchanged c.in_ok-list.ensures.taken)
+    c.reserve_sectors.new.self c.write_taken.new.sectors c.len.result c.reserve_sectors.ensures (c.write_taken.ensures.changes told)
+
+pub returns-in_err-before-clause-spares : goal.returns-in_err-before-clause-spares
+returns-in_err-before-clause-spares g c told = spares_refl [] c.args.self.now
+
+pub returns-in_err-clone-clause-spares : goal.returns-in_err-clone-clause-spares
+returns-in_err-clone-clause-spares g c told = spares_refl [] c.args.self.now
+
+pub returns-then-count-eq0-clause-spares : goal.returns-then-count-eq0-clause-spares
+returns-then-count-eq0-clause-spares g c told = spares_refl [] c.args.self.now
+
+pub returns-in_err-clone-2-clause-spares : goal.returns-in_err-clone-2-clause-spares
+returns-in_err-clone-2-clause-spares g c told = spares_unchanged [] c.self.view_is c.self.inside.tables refl
+
+pub returns-in_err-list-clause-spares : goal.returns-in_err-list-clause-spares
+returns-in_err-list-clause-spares g c told = spares_unchanged [] c.self.view_is c.take_by.new.self c.in_err-list.ensures.unchanged
+
+pub returns-in_err-write_taken-clause-spares : goal.returns-in_err-write_taken-clause-spares
+returns-in_err-write_taken-clause-spares g c told =
+    taken_written c.deref.result.now c.deref.ensures.value c.self.view_is c.in_ok-list.ensures.taken
+    c.reserve_sectors.new.self c.write_taken.new.sectors c.len.result c.reserve_sectors.ensures (c.write_taken.ensures.changes told)
+
+pub returns-clause-spares : goal.returns-clause-spares
+returns-clause-spares g c told =
+    taken_written c.deref.result.now c.deref.ensures.value c.self.view_is c.in_ok-list.ensures.taken
     c.reserve_sectors.new.self c.write_taken.new.sectors c.len.result c.reserve_sectors.ensures (c.write_taken.ensures.changes told)

@@ -1,11 +1,13 @@
 use Rattle.std.proofs.Common.{arith, sym, subst, refl, [], ◌∷◌}
 use Rattle.std.proofs.lemmas.Result.{err_from_is_err_and}
+use Rattle.cfb_format.specs.Chain.{IsChain}
 use Rattle.cfb_alloc.specs.Alloc.{AllocatorState}
 use Rattle.cfb_tables.specs.Tables.{IsTooFew, Extended, ExtendsFrom}
 use Rattle.cfb_alloc.proofs.AllocLemmas.{others_refl, others_unchanged, placed_reserved, placed_written, others_written, held_counted, fats_apart_shown, clean_taken, fats_known, difats_known, refused_changed}
 use Rattle.cfb_alloc.proofs.FreeingLemmas.{breaks_by_medium}
 use Rattle.cfb_tables.proofs.AttachLemmas.{last-known, extended}
 use Rattle.cfb_tables.proofs.Members.{Contains-here}
+use Rattle.cfb_alloc.proofs.Spared.{last_among, spares_refl, spares_unchanged, taken_for_chain}
 use Rattle.cfb_alloc.proofs.alloc.Allocator.extend_chain.Goals as goal
 
 pub returns-in_err-before-clause-others : goal.returns-in_err-before-clause-others
@@ -98,3 +100,30 @@ returns-clause-others g c told =
 
 pub returns-clause-enough : goal.returns-clause-enough
 returns-clause-enough g c few = c.in_ok-sector.ensures.enough (subst (λ (a : AllocatorState). IsTooFew a.tables 1) (sym c.self.view_is) few)
+
+pub returns-in_err-before-clause-spares : goal.returns-in_err-before-clause-spares
+returns-in_err-before-clause-spares g c told list chain = spares_refl list c.args.self.now
+
+pub returns-in_err-last-clause-spares : goal.returns-in_err-last-clause-spares
+returns-in_err-last-clause-spares g c told list chain = spares_refl list c.args.self.now
+
+pub returns-in_err-sector-clause-spares : goal.returns-in_err-sector-clause-spares
+returns-in_err-sector-clause-spares g c told list chain = spares_unchanged list c.self.view_is c.attach.new.self c.in_err-sector.ensures.unchanged
+
+pub returns-in_err-write_taken-clause-spares : goal.returns-in_err-write_taken-clause-spares
+returns-in_err-write_taken-clause-spares g c told list chain =
+    let k = c.in_ok-last.ensures.ok in
+    taken_for_chain (c.in_ok-sector.sector ∷ []) refl c.self.view_is c.in_ok-sector.ensures.taken
+    list
+    (last_among c.self.inside.tables.fat c.args.start k.0 c.in_ok-last.last list k.1
+    (subst (λ (a : AllocatorState). IsChain a.tables.fat c.args.start list) (sym c.self.view_is) chain))
+    c.reserve_sectors.new.self c.write_taken.new.sectors c.len.result c.reserve_sectors.ensures (c.write_taken.ensures.changes told)
+
+pub returns-clause-spares : goal.returns-clause-spares
+returns-clause-spares g c told list chain =
+    let k = c.in_ok-last.ensures.ok in
+    taken_for_chain (c.in_ok-sector.sector ∷ []) refl c.self.view_is c.in_ok-sector.ensures.taken
+    list
+    (last_among c.self.inside.tables.fat c.args.start k.0 c.in_ok-last.last list k.1
+    (subst (λ (a : AllocatorState). IsChain a.tables.fat c.args.start list) (sym c.self.view_is) chain))
+    c.reserve_sectors.new.self c.write_taken.new.sectors c.len.result c.reserve_sectors.ensures (c.write_taken.ensures.changes told)

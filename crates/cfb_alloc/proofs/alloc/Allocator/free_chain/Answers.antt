@@ -1,5 +1,6 @@
 use Rattle.std.proofs.Common.{refl, arith, ap, sym, subst, [], ◌++◌, ℕ, List}
 use Rattle.std.specs.Prelude.{Contains}
+use Rattle.cfb_format.specs.Chain.{IsChain}
 use Rattle.cfb_alloc.specs.Alloc.{AllocatorState, HoldsTables, HoldsBut}
 use Rattle.cfb_tables.specs.Clean.{IsClean, IsUnnamed}
 use Rattle.cfb_sectors.specs.Sectors.{SectorFile}
@@ -9,7 +10,8 @@ use Rattle.cfb_alloc.proofs.EmptyChain.{none_freed}
 use Rattle.cfb_alloc.proofs.ChainView.{chain_found}
 use Rattle.cfb_tables.proofs.CleanLemmas.{freed-clean}
 use Rattle.cfb_alloc.proofs.FrameLemmas.{changes_refl}
-use Rattle.cfb_alloc.proofs.FreeingLemmas.{nothing_said, placed_changed, freed_holds}
+use Rattle.cfb_alloc.proofs.FreeingLemmas.{nothing_said, placed_changed, changes_said, freed_holds}
+use Rattle.cfb_alloc.proofs.Spared.{spares_refl, spares_unchanged, freed_written}
 use Rattle.cfb_alloc.proofs.alloc.Allocator.free_chain.Goals as goal
 
 pub returns-in_err-usable_sizes-clause-changes : goal.returns-in_err-usable_sizes-clause-changes
@@ -60,3 +62,27 @@ returns-then-start-eq-END_OF_CHAIN-clause-freed g c = none_freed c.args.self.now
 
 pub returns-then-start-eq-END_OF_CHAIN-clause-changes : goal.returns-then-start-eq-END_OF_CHAIN-clause-changes
 returns-then-start-eq-END_OF_CHAIN-clause-changes g c told = let a = c.args.self.now in changes_refl a.tables.fat_sectors a.tables.version a.file.bytes
+
+pub returns-in_err-usable_sizes-clause-spares : goal.returns-in_err-usable_sizes-clause-spares
+returns-in_err-usable_sizes-clause-spares g c told list chain = spares_refl list c.args.self.now
+
+pub returns-then-start-eq-END_OF_CHAIN-clause-spares : goal.returns-then-start-eq-END_OF_CHAIN-clause-spares
+returns-then-start-eq-END_OF_CHAIN-clause-spares g c told list chain = spares_refl list c.args.self.now
+
+pub returns-in_err-clone-clause-spares : goal.returns-in_err-clone-clause-spares
+returns-in_err-clone-clause-spares g c told list chain = spares_unchanged list c.self.view_is c.self.inside.tables refl
+
+pub returns-in_err-freed-clause-spares : goal.returns-in_err-freed-clause-spares
+returns-in_err-freed-clause-spares g c told list chain = spares_unchanged list c.self.view_is c.free.new.self c.in_err-freed.ensures.unchanged
+
+pub returns-clause-spares : goal.returns-clause-spares
+returns-clause-spares g c told list chain =
+    let s0 = c.self.inside.sectors in
+    let s2 = c.write_values.new.sectors in
+    let t0 = c.self.inside.tables in
+    let t = c.free.new.self in
+    let e = c.in_ok-freed.ensures in
+    freed_written [] c.in_ok-freed.freed.items list c.args.start s2 c.self.view_is e.ok
+    (subst (λ (a : AllocatorState). IsChain a.tables.fat c.args.start list) (sym c.self.view_is) chain)
+    (record { given = e.freed; rest = c.free.ensures.rest })
+    (changes_said t0 t c.free.ensures.rest c.args.self.now s0 s2.bytes c.self.view_is c.self.invariant (c.write_values.ensures.changes told))

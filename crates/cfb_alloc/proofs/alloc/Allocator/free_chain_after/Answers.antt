@@ -13,6 +13,7 @@ use Rattle.cfb_tables.proofs.ChainLemmas.{members-busy}
 use Rattle.cfb_tables.proofs.CleanLemmas.{cut-clean}
 use Rattle.cfb_alloc.proofs.FrameLemmas.{changes_refl, changes_trans}
 use Rattle.cfb_alloc.proofs.FreeingLemmas.{nothing_said, placed_changed, changes_said, cut_holds, no_next-no_chain, invalid_changed, breaks_back, breaks_by_medium}
+use Rattle.cfb_alloc.proofs.Spared.{spares_refl, spares_unchanged, freed_written}
 use Rattle.cfb_alloc.proofs.alloc.Allocator.free_chain_after.Goals as goal
 
 pub returns-in_err-usable_sizes-clause-changes : goal.returns-in_err-usable_sizes-clause-changes
@@ -117,3 +118,45 @@ returns-clause-refused g c =
     breaks_back c.write_values-2.result (GivesBackChain (c.args.sector ∷ []) (value c.args.self.now.tables.fat c.args.sector)) c.args.self.now
     (record { file = c.write_values-2.new.sectors; tables = c.free_after.new.self }) c.write_values-2.ensures.err c.write_values-2.ensures.begun
     (cuts c.args.sector c.args.self.now c.self.inside.sectors c.self.inside.tables c.free_after.new.self c.in_ok-freed.freed.items c.self.view_is e.ok e.cut c.free_after.ensures.rest)
+
+pub returns-in_err-usable_sizes-clause-spares : goal.returns-in_err-usable_sizes-clause-spares
+returns-in_err-usable_sizes-clause-spares g c told list chain = spares_refl (c.args.sector ∷ list) c.args.self.now
+
+pub returns-in_err-next-clause-spares : goal.returns-in_err-next-clause-spares
+returns-in_err-next-clause-spares g c told list chain = spares_refl (c.args.sector ∷ list) c.args.self.now
+
+pub returns-in_err-clone-clause-spares : goal.returns-in_err-clone-clause-spares
+returns-in_err-clone-clause-spares g c told list chain = spares_unchanged (c.args.sector ∷ list) c.self.view_is c.self.inside.tables refl
+
+pub returns-in_err-freed-clause-spares : goal.returns-in_err-freed-clause-spares
+returns-in_err-freed-clause-spares g c told list chain = spares_unchanged (c.args.sector ∷ list) c.self.view_is c.free_after.new.self c.in_err-freed.ensures.unchanged
+
+pub returns-in_err-write_values-clause-spares : goal.returns-in_err-write_values-clause-spares
+returns-in_err-write_values-clause-spares g c told list chain =
+    let x = c.args.sector in
+    let s0 = c.self.inside.sectors in
+    let s1 = c.write_values.new.sectors in
+    let t0 = c.self.inside.tables in
+    let t = c.free_after.new.self in
+    let e = c.in_ok-freed.ensures in
+    freed_written (x ∷ []) c.in_ok-freed.freed.items list (value t0.fat x) s1 c.self.view_is e.ok
+    (subst (λ (a : AllocatorState). IsChain a.tables.fat (value a.tables.fat x) list) (sym c.self.view_is) chain)
+    (record { given = e.cut; rest = c.free_after.ensures.rest })
+    (changes_said t0 t c.free_after.ensures.rest c.args.self.now s0 s1.bytes c.self.view_is c.self.invariant (c.write_values.ensures.changes told))
+
+pub returns-clause-spares : goal.returns-clause-spares
+returns-clause-spares g c told list chain =
+    let x = c.args.sector in
+    let s0 = c.self.inside.sectors in
+    let s1 = c.write_values.new.sectors in
+    let s2 = c.write_values-2.new.sectors in
+    let t0 = c.self.inside.tables in
+    let t = c.free_after.new.self in
+    let e = c.in_ok-freed.ensures in
+    let second = subst (λ (v : Version). ChangesSectors t.fat_sectors v s1.bytes s2.bytes) (ap (λ (f : SectorFile). f.version) c.write_values.ensures.kept)
+    (c.write_values-2.ensures.changes told) in
+    freed_written (x ∷ []) c.in_ok-freed.freed.items list (value t0.fat x) s2 c.self.view_is e.ok
+    (subst (λ (a : AllocatorState). IsChain a.tables.fat (value a.tables.fat x) list) (sym c.self.view_is) chain)
+    (record { given = e.cut; rest = c.free_after.ensures.rest })
+    (changes_said t0 t c.free_after.ensures.rest c.args.self.now s0 s2.bytes c.self.view_is c.self.invariant
+    (changes_trans t.fat_sectors s0.version s0.bytes s1.bytes s2.bytes (c.write_values.ensures.changes told) second))
