@@ -124,6 +124,10 @@ pub held_reserved : (validation : Validation) (late : List ℕ) (s0 s1 : SectorF
 held_reserved validation late s0 s1 t is h =
     subst (λ (f : SectorFile). HoldsBut validation late f t) (sym is) (record { measured = h.measured; listed = h.listed; agrees = h.agrees; strict = h.strict; apart = h.apart })
 
+-- memory was asked for before
+pub taken_reserved : {t0 t1 t : TableState} {touched more : List ℕ} → t1 ≡ t0 → HasTaken t1 t touched more → HasTaken t0 t touched more
+taken_reserved {t0} {t1} {t} {touched} {more} same taken = subst (λ (z : TableState). HasTaken z t touched more) same taken
+
 -- where the tables stayed, all sectors do
 pub others_unchanged : {a : AllocatorState} {s0 : SectorFile} {t0 : TableState} → record { file = s0; tables = t0 } ≡ a → (t : TableState) → t ≡ t0
     → OthersStay a (record { file = s0; tables = t })

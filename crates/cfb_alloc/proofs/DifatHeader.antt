@@ -13,7 +13,7 @@ use Rattle.cfb_format.specs.declared.header.Header.{Header}
 use Rattle.cfb_format.specs.declared.version.Version.{Version}
 use Rattle.cfb_format.specs.declared.validate.Validation.TheVariants.{Permissive}
 use Rattle.cfb_format.specs.Bytes.{unit_at, word_at, words, sector_len, sector_start, sector_words, is_regular, free_sector}
-use Rattle.cfb_format.specs.Header.{IsHeader, dir_sectors_of, first_difat_of, header_difat_len, padded_difat, stored_difat}
+use Rattle.cfb_format.specs.Header.{HasFixedFields, IsHeader, dir_sectors_of, first_difat_of, header_difat_len, padded_difat, stored_difat}
 use Rattle.cfb_format.proofs.ByteLemmas.{written_below}
 use Rattle.cfb_format.proofs.HeaderDifat.{word-there}
 use Rattle.cfb_format.proofs.HeaderStart.{u16-same, header_at_start}
@@ -93,10 +93,10 @@ then_changed first second = record {
 abbrev pub with_lists : Header → ℕ → ℕ → ℕ → List ℕ → Header
 with_lists h fats first difats entries = record h { num_fat_sectors = fats; first_difat_sector = first; num_difat_sectors = difats; initial_difat_entries = entries }
 
-units_stay : (a b : List ℕ) (at : ℕ) → at + 2 ≤ 40 → SameFields a b → unit_at b at ≡ unit_at a at
+units_stay : (a b : List ℕ) (at : ℕ) → at + 2 ≤ 40 → ((i : ℕ) → i < 40 → slice_index b i ≡ slice_index a i) → unit_at b at ≡ unit_at a at
 unfolding unit_at
-units_stay a b at low same =
-    u16-same (drop at b) (drop at a) (λ i small. get_or-drop at b i 0 ∙ same.start (at + i) (omega (arith, low, small)) ∙ sym (get_or-drop at a i 0))
+units_stay a b at low start =
+    u16-same (drop at b) (drop at a) (λ i small. get_or-drop at b i 0 ∙ start (at + i) (omega (arith, low, small)) ∙ sym (get_or-drop at a i 0))
 
 -- as much of the start is the same
 same_start : (n : ℕ) (a b : List ℕ) → n ≤ length a → length a ≤ length b → ((i : ℕ) → i < n → slice_index b i ≡ slice_index a i) → take n b ≡ take n a
@@ -106,18 +106,23 @@ same_start n a b there longer each =
     same_number_lists (take n b) (take n a) (omega (arith, la, lb, there, longer))
     (λ i low. let small : i < n = omega (arith, low, lb) in get_or-take n b i 0 small ∙ each i small ∙ sym (get_or-take n a i 0 small))
 
+-- the fields whose value a version fixes
+pub fixed_stays : (a b : List ℕ) (v : Version) → 512 ≤ length a → length a ≤ length b → ((i : ℕ) → i < 40 → slice_index b i ≡ slice_index a i)
+    → word_at b 56 ≡ word_at a 56 → HasFixedFields a v → HasFixedFields b v
+fixed_stays a b v long longer start cutoff fixed = record {
+  magic = same_start 8 a b (omega (arith, long)) longer (λ i low. start i (omega (arith, low))) ∙ fixed.magic;
+  major_version = units_stay a b 26 (lit≤ tt) start ∙ fixed.major_version;
+  byte_order = units_stay a b 28 (lit≤ tt) start ∙ fixed.byte_order;
+  shift = units_stay a b 30 (lit≤ tt) start ∙ fixed.shift;
+  mini_shift = units_stay a b 32 (lit≤ tt) start ∙ fixed.mini_shift;
+  mini_stream_cutoff = cutoff ∙ fixed.mini_stream_cutoff;
+}
+
 pub header_on : (a b : List ℕ) (h : Header) (fats first difats : ℕ) (entries : List ℕ) → IsHeader a h → 512 ≤ length a → SameFields a b
     → fats ≡ word_at b 44 → first ≡ first_difat_of (word_at b 68) → difats ≡ word_at b 72
     → entries ≡ padded_difat (stored_difat b) → list_all is_regular (stored_difat b) ≡ true → IsHeader b (with_lists h fats first difats entries)
 header_on a b h fats first difats entries is long same fats_is first_is difats_is entries_is regular = record {
-  fixed = record {
-    magic = same_start 8 a b (omega (arith, long)) same.longer (λ i low. same.start i (omega (arith, low))) ∙ is.fixed.magic;
-    major_version = units_stay a b 26 (lit≤ tt) same ∙ is.fixed.major_version;
-    byte_order = units_stay a b 28 (lit≤ tt) same ∙ is.fixed.byte_order;
-    shift = units_stay a b 30 (lit≤ tt) same ∙ is.fixed.shift;
-    mini_shift = units_stay a b 32 (lit≤ tt) same ∙ is.fixed.mini_shift;
-    mini_stream_cutoff = same.field 56 (inr (lit≤ tt, lit≤ tt)) ∙ is.fixed.mini_stream_cutoff;
-  };
+  fixed = fixed_stays a b h.version long same.longer same.start (same.field 56 (inr (lit≤ tt, lit≤ tt))) is.fixed;
   num_dir_sectors = is.num_dir_sectors ∙ ap (dir_sectors_of h.version) (sym (same.field 40 (inl refl)));
   num_fat_sectors = fats_is;
   first_dir_sector = is.first_dir_sector ∙ sym (same.field 48 (inr (lit≤ tt, lit≤ tt)));

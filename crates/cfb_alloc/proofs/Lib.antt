@@ -19,6 +19,8 @@ pub mod StrictFat
 pub mod StrictLemmas
 pub mod ChainView
 pub mod EmptyChain
+pub mod HeaderField
+pub mod ListedLemmas
 pub mod Frames
 pub mod Spared
 pub mod HeldOrder

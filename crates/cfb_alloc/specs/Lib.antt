@@ -5,5 +5,7 @@ pub mod Held
 pub mod InSector
 pub mod LentSector
 pub mod Broken
+pub mod ListedChain
+pub mod HeaderWords
 pub mod Frame
 pub mod Fresh

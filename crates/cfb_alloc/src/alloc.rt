@@ -1,5 +1,5 @@
 //! The allocator of sectors: chains are begun, extended, cut and freed (MS-CFB 2.3 and 2.5).
-ghost use Rattle.std.specs.Prelude.{◌≡◌, ◌≢◌, ℕ, List, [], ◌∷◌, max, min, length, true, false, IsTrue, IfOk, IfErr, OnOk, take, drop, ◌++◌, ◌⊎◌, ◌+◌, ◌-◌, ◌<◌, ◌≤◌, Contains, IsErrAnd, MatchResult, vec_len};
+ghost use Rattle.std.specs.Prelude.{◌≡◌, ◌≢◌, ◌↔◌, ℕ, List, [], ◌∷◌, max, min, length, true, false, IsTrue, IfOk, IfErr, OnOk, OnErr, take, drop, ◌++◌, ◌⊎◌, ◌+◌, ◌-◌, ◌<◌, ◌≤◌, Contains, IsErrAnd, MatchResult, vec_len};
 ghost use Rattle.cfb_format.specs.declared.validate.Validation.{Validation};
 ghost use Rattle.cfb_format.specs.Bytes.{sector_len, max_regular_sector, end_of_chain};
 ghost use Rattle.cfb_format.specs.Chain.{IsChain, value};
@@ -9,8 +9,13 @@ ghost use Rattle.cfb_tables.specs.ReadFat.{AcceptsFat, AcceptsNoFat};
 ghost use Rattle.cfb_tables.specs.Changes.{IsNextOf, NoChain};
 ghost use Rattle.cfb_tables.specs.Refused.{TableRefused, NextRefused, NoLast, WalkRefused, ChangeRefused};
 ghost use Rattle.cfb_alloc.specs.Broken.{BreaksOff};
+ghost use Rattle.cfb_tables.specs.Listed.{ends_of, gained};
+ghost use Rattle.cfb_tables.specs.Room.{IsTooFewAfter};
+ghost use Rattle.cfb_sectors.specs.Words.{with_word};
 ghost use Rattle.cfb_alloc.specs.Frame.{Spares, LieAmong, LieOutside, table_sectors};
-ghost use Rattle.cfb_tables.specs.Tables.{HasTaken, TakesFor, Extended, ExtendsFrom, GivesBackChain, AreSizes, IsTooFew, ending, first_or_end, sizes_of, tables_of};
+ghost use Rattle.cfb_alloc.specs.HeaderWords.{header_word_place};
+ghost use Rattle.cfb_alloc.specs.ListedChain.{Lengthens, Shortens, ListBreaksOff};
+ghost use Rattle.cfb_tables.specs.Tables.{HasTaken, TakesFor, Extended, ExtendsFrom, GivesBackChain, TablesGiveBack, AreSizes, IsTooFew, ending, first_or_end, sizes_of, tables_of};
 ghost use Rattle.cfb_tables.specs.Clean.{IsUnnamed};
 ghost use Rattle.cfb_sectors.specs.Sectors.{IsMediumError, IsRaised, OtherSectorsStay, place_in_sector, sectors_end};
 ghost use Rattle.cfb_format.specs.Medium.{ChangesOnlyBytes, part, written};
@@ -26,6 +31,30 @@ use cfb_tables::fat::read_fat;
 use cfb_tables::tables::Tables;
 use std::alloc::{Allocator as Heap, Global};
 use std::marker::Model;
+
+/// A word of the header that does not speak of the tables (MS-CFB 2.2).
+#[derive(Clone, Copy, Debug, PartialEq, Eq)]
+pub enum HeaderWord {
+    /// How many sectors the directory has; version 3 keeps no number there.
+    DirectorySectors,
+    /// The first sector of the MiniFAT, or END.
+    FirstMiniFat,
+    /// How many sectors the MiniFAT has.
+    MiniFatSectors,
+}
+
+impl HeaderWord {
+    /// Where the word stands in the header.
+    fn place(self) -> usize
+        ensures { result ≡ header_word_place self }
+    {
+        match self {
+            HeaderWord::DirectorySectors => 40,
+            HeaderWord::FirstMiniFat => 60,
+            HeaderWord::MiniFatSectors => 64,
+        }
+    }
+}
 
 /// The sectors of a file, and the tables that chain them.
 #[derive(Drop)]
@@ -181,11 +210,54 @@ impl<F: ReadMedium, A: Heap> Allocator<F, A> {
         self.sectors.begun()
     }
 
+    /// Says that a change begins, before its first byte is written.
+    pub fn begin_change(&mut self)
+        ensures { self.new ≡ record self.old { file = record self.old.file { begun = true } } }
+    {
+        self.sectors.begin_change();
+    }
+
     /// Says that the change that was begun, if one was, has ended well.
     pub fn end_change(&mut self)
         ensures { self.new ≡ record self.old { file = record self.old.file { begun = false } } }
     {
         self.sectors.end_change();
+    }
+
+    /// How many sectors the file may grow to.
+    pub fn max_sectors(&self) -> u32
+        ensures { result ≡ self.now.tables.max_sectors }
+    {
+        self.tables.max_sectors()
+    }
+
+    /// Whether so many sectors can be taken once `given_back` more are free.
+    pub fn can_take(&self, count: usize, given_back: usize) -> bool
+        ensures { IsTrue result ↔ (IsTooFewAfter self.now.tables given_back count → ⊥) }
+    {
+        self.tables.can_take(count, given_back)
+    }
+
+    /// How many of so many sectors can be taken.
+    pub fn takable(&self, wanted: usize) -> usize
+        ensures few { result ≤ wanted }
+        ensures fits { IsTooFew self.now.tables result → ⊥ }
+        ensures most { (result < wanted) → IsTooFew self.now.tables (result + 1) }
+    {
+        self.tables.takable(wanted)
+    }
+
+    /// Asks for the memory that taking so many sectors needs, so that taking them, at once or in parts, asks for none. It is refused
+    /// as the taking would be: `InvalidData` where the FAT sectors do not cover the file, `Full` where there are too few numbers,
+    /// and `Memory`. Nothing changes.
+    pub fn reserve(&mut self, count: usize) -> Result<(), Error>
+        ensures unchanged { self.new ≡ self.old }
+        ensures usable { OnOk result (IsUsable self.old.tables) }
+        ensures enough { OnOk result (IsTooFew self.old.tables count → ⊥) }
+        ensures err { IfErr result (ChangeRefused (IsUsable self.old.tables → ⊥) (IsTooFew self.old.tables count → ⊥) (IsTooFew self.old.tables count) ⊥) }
+    {
+        let _sizes = self.usable_sizes()?;
+        self.tables.reserve(count)
     }
 
     /// Lets the file grow to so many sectors, and to no more. No number above the greatest regular one is taken.
@@ -276,7 +348,7 @@ impl<F: Medium, A: Heap> Allocator<F, A> {
         ensures enough { OnOk result (IsTooFew self.old.tables 1 → ⊥) }
         ensures begun { OnOk result (self.new.file.begun ≡ true) }
         ensures refused { IfErr result (BreaksOff (TakesFor []) self.old self.new) }
-        ensures err { IfErr result (ChangeRefused (IsUsable self.old.tables → ⊥) Unit (IsTooFew self.old.tables 1) Unit) }
+        ensures err { IfErr result (ChangeRefused (IsUsable self.old.tables → ⊥) (IsTooFew self.old.tables 1 → ⊥) (IsTooFew self.old.tables 1) Unit) }
         ensures counts { IsTrue F.tells → CountsFailure F.write_faults result self.old.file.failures self.new.file.failures }
     {
         let before = self.usable_sizes()?;
@@ -291,6 +363,139 @@ impl<F: Medium, A: Heap> Allocator<F, A> {
             init,
         )?;
         Ok(sector)
+    }
+
+    /// Adds so many sectors, which hold what `init` says, behind the chain that has just the listed ones, or as a new chain where none
+    /// is listed, and appends their numbers to the list. Where none is to be added nothing changes. It asks for memory before
+    /// anything changes, and for none where `reserve` asked for it and the list has room.
+    ///
+    /// `InvalidData` where the FAT sectors do not cover the file, `Full` where there are too few numbers, and `Memory`: then nothing
+    /// has changed. After `Medium`, where the medium fails, the tables in memory have all of the sectors and so has the list, and of
+    /// the file's bytes no sector in use has changed but the table sectors.
+    pub fn extend_listed(
+        &mut self,
+        ids: &mut Vec<u32, A>,
+        count: usize,
+        init: SectorInit,
+    ) -> Result<(), Error>
+        requires chain { IsChain self.old.tables.fat (first_or_end ids.old.items) ids.old.items }
+        ensures chain { IsChain self.new.tables.fat (first_or_end ids.new.items) ids.new.items }
+        ensures lengthened { OnOk result (Lengthens count ids.old.items ids.new.items self.old.tables self.new.tables) }
+        ensures none { count ≡ 0 → (self.new ≡ self.old) × (ids.new.items ≡ ids.old.items) }
+        ensures filled { IsTrue F.tells → (validation : Validation) → HoldsTables validation self.old
+            → OnOk result ((i : ℕ) → Contains (gained ids.old.items ids.new.items) i → IsFilled self.new.tables.version init self.new.file.bytes i) }
+        ensures holds { IsTrue F.tells → (validation : Validation) → HoldsTables validation self.old → OnOk result (HoldsTables validation self.new) }
+        ensures others { IsTrue F.tells → OthersStay self.old self.new }
+        ensures enough { OnOk result (IsTooFew self.old.tables count → ⊥) }
+        ensures begun { OnOk result (IsRaised (0 < count) self.old.file self.new.file) }
+        ensures refused { IfErr result (ListBreaksOff (Lengthens count) ids.old.items ids.new.items self.old self.new) }
+        ensures err { IfErr result (ChangeRefused (IsUsable self.old.tables → ⊥) (IsTooFew self.old.tables count → ⊥) (IsTooFew self.old.tables count) Unit) }
+        ensures counts { IsTrue F.tells → CountsFailure F.write_faults result self.old.file.failures self.new.file.failures }
+    {
+        let before = self.usable_sizes()?;
+        if count == 0 {
+            return Ok(());
+        }
+        let len = ids.len();
+        self.tables.extend_listed(ids, count)?;
+        self.sectors.reserve_sectors(self.tables.len() as u32);
+        write_taken(
+            &mut self.sectors,
+            &self.tables,
+            before,
+            &ids[len.saturating_sub(1)..len],
+            &ids[len..],
+            init,
+        )
+    }
+
+    /// Leaves so many sectors of the chain that has just the listed ones, and frees the ones behind them, with no walk.
+    fn free_behind(&mut self, ids: &[u32], left: usize) -> Result<(), Error>
+        requires usable { IsUsable self.old.tables }
+        requires chain { IsChain self.old.tables.fat (first_or_end ids.now) ids.now }
+        requires fewer { left < length ids.now }
+        ensures given_back { TablesGiveBack (ends_of (take left ids.now)) (drop left ids.now) self.old.tables self.new.tables }
+        ensures holds { IsTrue F.tells → (validation : Validation) → HoldsTables validation self.old
+            → (left ≡ 0 → IsUnnamed self.old.tables.fat (first_or_end ids.now)) → OnOk result (HoldsTables validation self.new) }
+        ensures changes { IsTrue F.tells → ChangesSectors self.old.tables.fat_sectors self.old.tables.version self.old.file.bytes self.new.file.bytes }
+        ensures begun { self.new.file.begun ≡ true }
+        ensures err { IfErr result IsMediumError }
+        ensures counts { IsTrue F.tells → CountsFailure F.write_faults result self.old.file.failures self.new.file.failures }
+    {
+        self.tables.cut_listed(ids, left);
+        write_values(
+            &mut self.sectors,
+            &self.tables,
+            &ids[left.saturating_sub(1)..],
+        )
+    }
+
+    /// Leaves so many sectors of the chain that has just the listed ones, frees the ones behind them, and takes them off the list. It
+    /// asks for no memory and walks no chain. Where there are no more than so many nothing changes.
+    ///
+    /// `InvalidData` where the FAT sectors do not cover the file: then nothing has changed. After `Medium`, where the medium fails, the
+    /// chain is cut in memory and so is the list, and of the file's bytes the FAT sectors alone have changed.
+    pub fn cut_listed(&mut self, ids: &mut Vec<u32, A>, left: usize) -> Result<(), Error>
+        requires chain { IsChain self.old.tables.fat (first_or_end ids.old.items) ids.old.items }
+        ensures chain { IsChain self.new.tables.fat (first_or_end ids.new.items) ids.new.items }
+        ensures shortened { OnOk result (Shortens left ids.old.items ids.new.items self.old.tables self.new.tables) }
+        ensures none { length ids.old.items ≤ left → (self.new ≡ self.old) × (ids.new.items ≡ ids.old.items) × OnErr result ⊥ }
+        ensures holds { IsTrue F.tells → (validation : Validation) → HoldsTables validation self.old
+            → (left ≡ 0 → IsUnnamed self.old.tables.fat (first_or_end ids.old.items)) → OnOk result (HoldsTables validation self.new) }
+        ensures changes { IsTrue F.tells → ChangesSectors self.old.tables.fat_sectors self.old.tables.version self.old.file.bytes self.new.file.bytes }
+        ensures begun { OnOk result (IsRaised (left < length ids.old.items) self.old.file self.new.file) }
+        ensures refused { IfErr result (ListBreaksOff (Shortens left) ids.old.items ids.new.items self.old self.new) }
+        ensures err { IfErr result (ChangeRefused (IsUsable self.old.tables → ⊥) ⊥ ⊥ Unit) }
+        ensures counts { IsTrue F.tells → CountsFailure F.write_faults result self.old.file.failures self.new.file.failures }
+    {
+        if left >= ids.len() {
+            return Ok(());
+        }
+        self.usable_sizes()?;
+        let freed = self.free_behind(ids, left);
+        ids.truncate(left);
+        freed
+    }
+
+    /// Frees the chain that has just these sectors. It asks for no memory and walks no chain. Where there is none nothing changes.
+    ///
+    /// `InvalidData` and `Medium` as in `cut_listed`.
+    pub fn free_listed(&mut self, ids: &[u32]) -> Result<(), Error>
+        requires chain { IsChain self.old.tables.fat (first_or_end ids.now) ids.now }
+        ensures freed { OnOk result (TablesGiveBack [] ids.now self.old.tables self.new.tables) }
+        ensures none { length ids.now ≡ 0 → (self.new ≡ self.old) × OnErr result ⊥ }
+        ensures holds { IsTrue F.tells → (validation : Validation) → HoldsTables validation self.old
+            → IsUnnamed self.old.tables.fat (first_or_end ids.now) → OnOk result (HoldsTables validation self.new) }
+        ensures changes { IsTrue F.tells → ChangesSectors self.old.tables.fat_sectors self.old.tables.version self.old.file.bytes self.new.file.bytes }
+        ensures begun { OnOk result (IsRaised (0 < length ids.now) self.old.file self.new.file) }
+        ensures refused { IfErr result (BreaksOff (TablesGiveBack [] ids.now) self.old self.new) }
+        ensures err { IfErr result (ChangeRefused (IsUsable self.old.tables → ⊥) ⊥ ⊥ Unit) }
+        ensures counts { IsTrue F.tells → CountsFailure F.write_faults result self.old.file.failures self.new.file.failures }
+    {
+        if ids.is_empty() {
+            return Ok(());
+        }
+        self.usable_sizes()?;
+        self.free_behind(ids, 0)
+    }
+
+    /// Writes a word of the header that does not speak of the tables (MS-CFB 2.2). `Medium` where the medium fails: then no byte has
+    /// changed but that word's.
+    pub fn write_header_word(&mut self, word: HeaderWord, value: u32) -> Result<(), Error>
+        ensures tables { self.new.tables ≡ self.old.tables }
+        ensures kept { self.new.file ≡ record self.old.file { bytes = self.new.file.bytes; failures = self.new.file.failures; begun = true } }
+        ensures ok { IsTrue F.tells → OnOk result (self.new.file ≡ record self.old.file {
+          bytes = with_word self.old.file.bytes (header_word_place word) value;
+          begun = true;
+        }) }
+        ensures holds { IsTrue F.tells → (validation : Validation) → HoldsTables validation self.old → OnOk result (HoldsTables validation self.new) }
+        ensures others { IsTrue F.tells → ChangesOnlyBytes (header_word_place word) 4 self.old.file.bytes self.new.file.bytes }
+        ensures spares { IsTrue F.tells → Spares [] self.old self.new }
+        ensures err { IfErr result IsMediumError }
+        ensures counts { IsTrue F.tells → CountsFailure F.write_faults result self.old.file.failures self.new.file.failures }
+    {
+        let _count = self.sectors.num_sectors();
+        self.sectors.write_header_word(word.place(), value)
     }
 }
 
@@ -324,7 +529,7 @@ impl<F: Medium, A: Heap + Clone> Allocator<F, A> {
         ensures enough { OnOk result (IsTooFew self.old.tables 1 → ⊥) }
         ensures begun { OnOk result (self.new.file.begun ≡ true) }
         ensures refused { IfErr result (BreaksOff (ExtendsFrom start) self.old self.new) }
-        ensures err { IfErr result (ChangeRefused ((IsUsable self.old.tables → ⊥) ⊎ NoLast self.old.tables.fat start) Unit (IsTooFew self.old.tables 1) Unit) }
+        ensures err { IfErr result (ChangeRefused ((IsUsable self.old.tables → ⊥) ⊎ NoLast self.old.tables.fat start) (IsTooFew self.old.tables 1 → ⊥) (IsTooFew self.old.tables 1) Unit) }
         ensures counts { IsTrue F.tells → CountsFailure F.write_faults result self.old.file.failures self.new.file.failures }
     {
         let before = self.usable_sizes()?;
@@ -367,7 +572,7 @@ impl<F: Medium, A: Heap + Clone> Allocator<F, A> {
         ensures refused { IfErr result (BreaksOff (TakesFor (ending last)) self.old self.new) }
         ensures err { IfErr result (ChangeRefused
             ((IsUsable self.old.tables → ⊥) ⊎ ((last ≢ end_of_chain) × (value self.old.tables.fat last ≢ end_of_chain)))
-            Unit (IsTooFew self.old.tables count) Unit) }
+            (IsTooFew self.old.tables count → ⊥) (IsTooFew self.old.tables count) Unit) }
         ensures counts { IsTrue F.tells → CountsFailure F.write_faults result self.old.file.failures self.new.file.failures }
     {
         if last == END_OF_CHAIN {
@@ -438,13 +643,14 @@ impl<F: Medium, A: Heap + Clone> Allocator<F, A> {
         ensures enough { OnOk result (IsTooFew self.old.tables count → ⊥) }
         ensures begun { OnOk result (IsRaised (0 < count) self.old.file self.new.file) }
         ensures refused { IfErr result (BreaksOff (TakesFor []) self.old self.new) }
-        ensures err { IfErr result (ChangeRefused (IsUsable self.old.tables → ⊥) Unit (IsTooFew self.old.tables count) Unit) }
+        ensures err { IfErr result (ChangeRefused (IsUsable self.old.tables → ⊥) (IsTooFew self.old.tables count → ⊥) (IsTooFew self.old.tables count) Unit) }
         ensures counts { IsTrue F.tells → CountsFailure F.write_faults result self.old.file.failures self.new.file.failures }
     {
         let before = self.usable_sizes()?;
         if count == 0 {
             return Ok(Vec::new(self.heap.clone()?));
         }
+        self.tables.reserve(count)?;
         let list = self.tables.take_by(self.heap.clone()?, count)?;
         self.sectors.reserve_sectors(self.tables.len() as u32);
         write_taken(&mut self.sectors, &self.tables, before, &[], &list, init)?;
@@ -467,7 +673,7 @@ impl<F: Medium, A: Heap + Clone> Allocator<F, A> {
         ensures begun { OnOk result (IsRaised (0 < count) self.old.file self.new.file) }
         ensures refused { IfErr result (BreaksOff (TakesFor (last ∷ [])) self.old self.new) }
         ensures err { IfErr result (ChangeRefused ((IsUsable self.old.tables → ⊥) ⊎ (value self.old.tables.fat last ≢ end_of_chain))
-            Unit (IsTooFew self.old.tables count) Unit) }
+            (IsTooFew self.old.tables count → ⊥) (IsTooFew self.old.tables count) Unit) }
         ensures counts { IsTrue F.tells → CountsFailure F.write_faults result self.old.file.failures self.new.file.failures }
     {
         let before = self.usable_sizes()?;
@@ -477,6 +683,7 @@ impl<F: Medium, A: Heap + Clone> Allocator<F, A> {
         if count == 0 {
             return Ok(Vec::new(self.heap.clone()?));
         }
+        self.tables.reserve(count)?;
         let list = self.tables.attach_by(self.heap.clone()?, last, count)?;
         self.sectors.reserve_sectors(self.tables.len() as u32);
         write_taken(

@@ -10,7 +10,7 @@ use Rattle.cfb_format.specs.Bytes.{end_of_chain, max_regular_sector}
 use Rattle.cfb_format.specs.Chain.{value, IsChain, chain_from}
 use Rattle.cfb_format.proofs.Unique.{IsChain-unique}
 use Rattle.cfb_alloc.specs.Alloc.{AllocatorState}
-use Rattle.cfb_chains.specs.ChainLists.{StaysOrBecomes, gained}
+use Rattle.cfb_chains.specs.ChainLists.{StaysOrBecomes}
 use Rattle.cfb_tables.specs.Listed.{ends_of, last_or_end}
 use Rattle.cfb_tables.specs.Changes.{NoChain, GivesBack}
 use Rattle.cfb_alloc.specs.Broken.{BreaksOff}
@@ -21,7 +21,7 @@ use Rattle.cfb_tables.proofs.AttachLemmas.{extended, last-known}
 use Rattle.cfb_tables.proofs.ChainLemmas.{chain-turn, chain-rest, members-busy, regular-le}
 use Rattle.cfb_alloc.proofs.ChainView.{found_chain, chain_found}
 use Rattle.cfb_alloc.proofs.EmptyChain.{none_freed}
-use Rattle.cfb_tables.proofs.ListedLemmas.{what_is_left-is-chain}
+use Rattle.cfb_tables.proofs.ListedLemmas.{end_chain, grown_chain, last_is, last_pushed, what_is_left-is-chain}
 use Rattle.cfb_tables.proofs.Members.{Contains-nil, Contains-here, Contains-one, none_distinct, distinct-apart, value-below}
 
 pub on_err : {T E : Type 0} (P Q : E → Type 0) (r : Result T E) → ((e : E) → P e → Q e) → IfErr r P → IfErr r Q
@@ -43,36 +43,9 @@ breaks_map made made' old new f Unsupported b = b
 
 -- ---- where a list ends
 
-last_split : (xs : List ℕ) → 0 < length xs → xs ≡ take (length xs - 1) xs ++ last_or_end xs ∷ []
-last_split xs some =
-    let n : length xs ≡ length xs - 1 + 1 = omega arith in
-    sym (take_all (length xs) xs (omega arith)) ∙ ap (λ (k : ℕ). take k xs) n ∙ take_more xs (length xs - 1) end_of_chain (omega arith)
-
-last_pushed : (front : List ℕ) (y : ℕ) → last_or_end (front ++ y ∷ []) ≡ y
-last_pushed front y =
-    let len : length (front ++ y ∷ []) ≡ length front + 1 = length-append front (y ∷ []) in
-    get_or_push front y end_of_chain (length (front ++ y ∷ []) - 1) (omega (arith, len))
-
-end_chain : (table : List ℕ) → IsChain table end_of_chain []
-end_chain table = record { follows = refl; distinct = none_distinct }
-
--- the last sector of a chain ends it
-module _ (table : List ℕ) (s x : ℕ) (list : List ℕ) (c : IsChain table s (x ∷ list)) where
-  abbrev front : List ℕ
-  front = take (length (x ∷ list) - 1) (x ∷ list)
-
-  last_there : x ∷ list ≡ front ++ last_or_end (x ∷ list) ∷ []
-  last_there = last_split (x ∷ list) (omega arith)
-
-  last_is : (value table (last_or_end (x ∷ list)) ≡ end_of_chain) × (last_or_end (x ∷ list) ≤ max_regular_sector)
-  last_is = last-known table s front (last_or_end (x ∷ list)) (subst (IsChain table s) last_there c)
-
-  last_alone : ending (last_or_end (x ∷ list)) ≡ last_or_end (x ∷ list) ∷ []
-  last_alone = ending_other (last_or_end (x ∷ list)) (λ e. let le = last_is.1 in omega (arith, le, e))
-
 ends : (table : List ℕ) (s : ℕ) (ids : List ℕ) → IsChain table s ids → (last_or_end ids ≢ end_of_chain) → value table (last_or_end ids) ≡ end_of_chain
 ends table s [] c other = absurd (other refl)
-ends table s (x ∷ list) c other = (last_is table s x list c).0
+ends table s (x ∷ list) c other = (last_is table s (x ∷ list) c (omega arith)).0
 
 pub last_ends : (table : List ℕ) (s last : ℕ) (ids : List ℕ) → chain_from table s ≡ Some ids → last ≡ last_or_end ids
     → (last ≢ end_of_chain) × (value table last ≢ end_of_chain) → ⊥
@@ -81,19 +54,6 @@ last_ends table s last ids e is (other, goes) =
 
 -- ---- growth
 
-grown_chain : (t t' : TableState) (s : ℕ) (ids more : List ℕ) → IsChain t.fat s ids → HasTaken t t' (ending (last_or_end ids)) more
-    → IsChain t'.fat (first_or_end (ending (last_or_end ids) ++ more)) (ending (last_or_end ids) ++ more) → IsChain t'.fat (first_or_end (ids ++ more)) (ids ++ more)
-grown_chain t t' s [] more c taken chain = chain
-grown_chain t t' s (x ∷ list) more c taken chain =
-    let last = last_or_end (x ∷ list) in
-    let one = last_alone t.fat s x list c in
-    let goes : IsChain t'.fat last (last ∷ more) = subst (λ (e : List ℕ). IsChain t'.fat (first_or_end (e ++ more)) (e ++ more)) one chain in
-    let took : HasTaken t t' (last ∷ []) more = subst (λ (e : List ℕ). HasTaken t t' e more) one taken in
-    let ext = extended t t' s (front t.fat s x list c) last more (subst (IsChain t.fat s) (last_there t.fat s x list c) c) took goes in
-    let was : x ∷ list ≡ ext.front ++ ext.last ∷ [] = IsChain-unique t.fat s (x ∷ list) (ext.front ++ ext.last ∷ []) c ext.was in
-    let whole : ext.front ++ ext.last ∷ more ≡ x ∷ (list ++ more) = sym (append_assoc ext.front (ext.last ∷ []) more) ∙ ap (λ (z : List ℕ). z ++ more) (sym was) in
-    subst (λ k. IsChain t'.fat k (x ∷ (list ++ more))) c.follows.0 (subst (IsChain t'.fat s) whole ext.chain)
-
 pub grown_found : (t t' : TableState) (s s' last : ℕ) (ids ids' more : List ℕ) → chain_from t.fat s ≡ Some ids → last ≡ last_or_end ids
     → HasTaken t t' (ending last) more → IsChain t'.fat (first_or_end (ending last ++ more)) (ending last ++ more)
     → ids' ≡ ids ++ more → s' ≡ first_or_end ids' → chain_from t'.fat s' ≡ Some ids'
@@ -101,9 +61,6 @@ grown_found t t' s s' last ids ids' more e is taken chain listed first =
     let c = grown_chain t t' s ids more (found_chain t.fat s ids e) (subst (λ k. HasTaken t t' (ending k) more) is taken)
     (subst (λ k. IsChain t'.fat (first_or_end (ending k ++ more)) (ending k ++ more)) is chain) in
     chain_found t'.fat s' ids' (subst (λ k. IsChain t'.fat k ids') (sym first) (subst (λ (z : List ℕ). IsChain t'.fat (first_or_end z) z) (sym listed) c))
-
-pub gained_is : (ids ids' more : List ℕ) → ids' ≡ ids ++ more → gained ids ids' ≡ more
-gained_is ids ids' more e = drop-appended ids ids' more e
 
 -- ---- a change that broke off
 

@@ -1,11 +1,7 @@
 -- The list of a chain's sectors, as the chain grows, is cut, or breaks off (MS-CFB 2.3).
-use Rattle.std.specs.Prelude.{◌≡◌, ℕ, List, length, drop}
+use Rattle.std.specs.Prelude.{◌≡◌}
 use Rattle.cfb_format.specs.declared.error.Error.{Error}
 use Rattle.cfb_format.specs.Refused.{AfterMedium}
-
--- what the new list has behind the old one
-abbrev pub gained : List ℕ → List ℕ → List ℕ
-gained old new = drop (length old) new
 
 -- after the medium's error it is none; after any other it is as before
 abbrev pub StaysOrBecomes : {A : Type 0} → A → A → A → Error → Type 0

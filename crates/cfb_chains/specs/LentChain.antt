@@ -10,8 +10,8 @@ use Rattle.cfb_format.specs.declared.medium.ReadMedium as medium
 use Rattle.cfb_format.specs.declared.version.Version.{Version}
 use Rattle.cfb_alloc.specs.Agreement.{HasSectors}
 use Rattle.cfb_alloc.specs.Alloc.{AllocatorState}
-use Rattle.cfb_chains.specs.ChainLists.{gained}
 use Rattle.cfb_chains.specs.ChainPlaces.{place_along}
+use Rattle.cfb_tables.specs.Listed.{gained}
 use Rattle.cfb_chains.specs.declared.chain.Chain.{Chain}
 use Rattle.cfb_chains.specs.declared.chain.Numbers as numbers
 use Rattle.cfb_sectors.specs.Sectors.{init_bytes}

@@ -12,8 +12,8 @@ ghost use Rattle.cfb_sectors.specs.Sectors.{copies, init_bytes, IsMediumError, I
 ghost use Rattle.cfb_tables.specs.Refused.{WalkRefused, ChangeRefused};
 ghost use Rattle.cfb_alloc.specs.Broken.{BreaksOff};
 ghost use Rattle.cfb_tables.specs.Tables.{GivesBackChain, TablesGiveBack, HasTaken, TakesFor, IsTooFew, ending, first_or_end};
-ghost use Rattle.cfb_chains.specs.ChainLists.{StaysOrBecomes, gained};
-ghost use Rattle.cfb_tables.specs.Listed.{ends_of, last_or_end};
+ghost use Rattle.cfb_chains.specs.ChainLists.{StaysOrBecomes};
+ghost use Rattle.cfb_tables.specs.Listed.{ends_of, gained, last_or_end};
 
 use cfb_alloc::alloc::Allocator;
 use cfb_format::consts::END_OF_CHAIN;

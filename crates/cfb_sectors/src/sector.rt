@@ -132,6 +132,13 @@ impl<F: ReadMedium> Sectors<F> {
         self.begun
     }
 
+    /// Says that a change begins, before its first byte is written.
+    pub fn begin_change(&mut self)
+        ensures { self.new ≡ record self.old { begun = true } }
+    {
+        self.begun = true;
+    }
+
     /// Says that the change that was begun, if one was, has ended well.
     pub fn end_change(&mut self)
         ensures { self.new ≡ record self.old { begun = false } }

@@ -1,18 +1,20 @@
 -- Chains that are freed and cut by a list of their members.
 use Rattle.std.proofs.Common.{◌≡◌, ◌≢◌, ℕ, ◌+◌, ◌-◌, ◌<◌, ◌≤◌, Bool, List, [], ◌∷◌, ◌++◌, length, set, take, drop, refl, sym, ◌∙◌, ap, subst, arith, length-set, length-append, append_assoc, ne_eqb}
 use Rattle.std.specs.Prelude.{Contains, slice_index, if◌then◌else◌}
+use Rattle.std.proofs.Transfers.{drop-appended}
 use Rattle.std.proofs.lemmas.List.{take_more, take_all, take-append-drop, get_or_push, length-drop}
 use Rattle.std.proofs.lemmas.List.Elements.{Contains-append_right}
 use Rattle.cfb_format.specs.Bytes.{free_sector, end_of_chain, max_regular_sector}
 use Rattle.cfb_format.specs.Chain.{value, IsChain}
 use Rattle.cfb_tables.specs.Changes.{GivesBack}
-use Rattle.cfb_tables.specs.Tables.{TableState, IsKept, wiped, ending}
-use Rattle.cfb_tables.specs.Listed.{WhatIsLeftIsChain, WhatIsLeftEnds, last_or_end, ends_of}
-use Rattle.cfb_tables.proofs.Members.{Contains-nil, Contains-here, Contains-one, distinct-apart, value-below}
+use Rattle.cfb_format.proofs.Unique.{IsChain-unique}
+use Rattle.cfb_tables.specs.Tables.{TableState, IsKept, HasTaken, Added, wiped, ending, first_or_end}
+use Rattle.cfb_tables.specs.Listed.{WhatIsLeftIsChain, WhatIsLeftEnds, last_or_end, ends_of, gained}
+use Rattle.cfb_tables.proofs.Members.{Contains-here, distinct-apart, value-below}
 use Rattle.cfb_tables.proofs.ChainLemmas.{chain_of, chain-turn, chain-rest, members-busy, regular-le}
 use Rattle.cfb_tables.proofs.FreeLemmas.{lists-count, count-most}
 use Rattle.cfb_tables.proofs.KeptLemmas.{kept-push}
-use Rattle.cfb_tables.proofs.AttachLemmas.{wiped-freed}
+use Rattle.cfb_tables.proofs.AttachLemmas.{wiped-freed, extended, last-known}
 
 -- ---- room in the list of free numbers
 
@@ -29,18 +31,18 @@ fewer-free t free x k busy =
 
 -- ---- what is left of a chain
 
-end_chain : (table : List ℕ) → IsChain table end_of_chain []
+pub end_chain : (table : List ℕ) → IsChain table end_of_chain []
 end_chain table = chain_of table end_of_chain [] refl
 
-ending_other : (last : ℕ) → last ≢ end_of_chain → ending last ≡ last ∷ []
+pub ending_other : (last : ℕ) → last ≢ end_of_chain → ending last ≡ last ∷ []
 ending_other last ne = ap (λ (b : Bool). if b then [] else last ∷ []) (ne_eqb last end_of_chain ne)
 
-last_split : (xs : List ℕ) → 0 < length xs → xs ≡ take (length xs - 1) xs ++ last_or_end xs ∷ []
+pub last_split : (xs : List ℕ) → 0 < length xs → xs ≡ take (length xs - 1) xs ++ last_or_end xs ∷ []
 last_split xs some =
     let n : length xs ≡ length xs - 1 + 1 = omega (arith, some) in
     sym (take_all (length xs) xs (omega arith)) ∙ ap (λ (k : ℕ). take k xs) n ∙ take_more xs (length xs - 1) end_of_chain (omega (arith, some))
 
-last_pushed : (front : List ℕ) (y : ℕ) → last_or_end (front ++ y ∷ []) ≡ y
+pub last_pushed : (front : List ℕ) (y : ℕ) → last_or_end (front ++ y ∷ []) ≡ y
 last_pushed front y =
     let len : length (front ++ y ∷ []) ≡ length front + 1 = length-append front (y ∷ []) in
     get_or_push front y end_of_chain (length (front ++ y ∷ []) - 1) (omega (arith, len))
@@ -129,3 +131,56 @@ what_is_left-is-chain old new (x ∷ list) gone c cut = turned old x list gone c
 pub what_is_left-ends : WhatIsLeftEnds
 what_is_left-ends old [] gone some c = absurd (omega (arith, some))
 what_is_left-ends old (x ∷ list) gone some c = behind_tip old x list gone c
+
+-- ---- growth of a listed chain
+
+pub gained_is : (ids ids' more : List ℕ) → ids' ≡ ids ++ more → gained ids ids' ≡ more
+gained_is ids ids' more e = drop-appended ids ids' more e
+
+pub gained_listed : (ids ids' more : List ℕ) → ids' ≡ ids ++ more → ids' ≡ ids ++ gained ids ids'
+gained_listed ids ids' more e = e ∙ ap (λ (z : List ℕ). ids ++ z) (sym (gained_is ids ids' more e))
+
+-- the last one of a listed chain ends it
+module _ (table : List ℕ) (s : ℕ) (ids : List ℕ) (c : IsChain table s ids) (some : 0 < length ids) where
+  abbrev before_last : List ℕ
+  before_last = take (length ids - 1) ids
+
+  last_whole : IsChain table s (before_last ++ last_or_end ids ∷ [])
+  last_whole = subst (IsChain table s) (last_split ids some) c
+
+  pub last_is : (value table (last_or_end ids) ≡ end_of_chain) × (last_or_end ids ≤ max_regular_sector)
+  last_is = last-known table s before_last (last_or_end ids) last_whole
+
+  pub last_alone : ends_of ids ≡ last_or_end ids ∷ []
+  last_alone = ending_other (last_or_end ids) (λ e. let le = last_is.1 in omega (arith, le, e))
+
+pub grown_chain : (t t' : TableState) (s : ℕ) (ids more : List ℕ) → IsChain t.fat s ids → HasTaken t t' (ends_of ids) more
+    → IsChain t'.fat (first_or_end (ends_of ids ++ more)) (ends_of ids ++ more) → IsChain t'.fat (first_or_end (ids ++ more)) (ids ++ more)
+grown_chain t t' s [] more c taken chain = chain
+grown_chain t t' s (x ∷ list) more c taken chain =
+    let some : 0 < length (x ∷ list) = omega arith in
+    let last = last_or_end (x ∷ list) in
+    let one = last_alone t.fat s (x ∷ list) c some in
+    let goes : IsChain t'.fat last (last ∷ more) = subst (λ (e : List ℕ). IsChain t'.fat (first_or_end (e ++ more)) (e ++ more)) one chain in
+    let took : HasTaken t t' (last ∷ []) more = subst (λ (e : List ℕ). HasTaken t t' e more) one taken in
+    let ext = extended t t' s (before_last t.fat s (x ∷ list) c some) last more (last_whole t.fat s (x ∷ list) c some) took goes in
+    let was : x ∷ list ≡ ext.front ++ ext.last ∷ [] = IsChain-unique t.fat s (x ∷ list) (ext.front ++ ext.last ∷ []) c ext.was in
+    let whole : ext.front ++ ext.last ∷ more ≡ x ∷ (list ++ more) = sym (append_assoc ext.front (ext.last ∷ []) more) ∙ ap (λ (z : List ℕ). z ++ more) (sym was) in
+    subst (λ k. IsChain t'.fat k (x ∷ (list ++ more))) c.follows.0 (subst (IsChain t'.fat s) whole ext.chain)
+
+-- sectors were added behind the last one of a listed chain, and appended to the list
+module _ (t t' : TableState) (s last : ℕ) (ids ids' : List ℕ) (c : IsChain t.fat s ids) (some : 0 < length ids) (is : last ≡ last_or_end ids)
+    (added : Added t t' last ids ids') where
+  added_ends : ends_of ids ≡ last ∷ []
+  added_ends = last_alone t.fat s ids c some ∙ ap (λ k. k ∷ []) (sym is)
+
+  took_more : HasTaken t t' (ends_of ids) added.more
+  took_more = subst (λ (e : List ℕ). HasTaken t t' e added.more) (sym added_ends) added.taken
+
+  pub added_taken : HasTaken t t' (ends_of ids) (gained ids ids')
+  added_taken = subst (HasTaken t t' (ends_of ids)) (sym (gained_is ids ids' added.more added.listed)) took_more
+
+  pub added_chain : IsChain t'.fat (first_or_end ids') ids'
+  added_chain = subst (λ (z : List ℕ). IsChain t'.fat (first_or_end z) z) (sym added.listed)
+      (grown_chain t t' s ids added.more c took_more
+      (subst (λ (e : List ℕ). IsChain t'.fat (first_or_end (e ++ added.more)) (e ++ added.more)) (sym added_ends) added.chain))

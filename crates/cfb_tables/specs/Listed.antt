@@ -1,5 +1,5 @@
 -- Chains whose members the caller has listed.
-use Rattle.std.specs.Prelude.{ℕ, ◌≡◌, ◌-◌, ◌<◌, List, [], ◌∷◌, ◌++◌, length, slice_index_or}
+use Rattle.std.specs.Prelude.{ℕ, ◌≡◌, ◌-◌, ◌<◌, List, [], ◌∷◌, ◌++◌, length, drop, slice_index_or}
 use Rattle.cfb_format.specs.Bytes.{end_of_chain}
 use Rattle.cfb_format.specs.Chain.{value, IsChain}
 use Rattle.cfb_tables.specs.Changes.{GivesBack}
@@ -12,6 +12,10 @@ last_or_end list = slice_index_or list (length list - 1) end_of_chain
 -- where a chain ends of which these are left
 abbrev pub ends_of : List ℕ → List ℕ
 ends_of left = ending (last_or_end left)
+
+-- what the new list has behind the old one
+abbrev pub gained : List ℕ → List ℕ → List ℕ
+gained old new = drop (length old) new
 
 -- ---- laws
 

@@ -1,5 +1,5 @@
 -- Why a call on the tables was refused: what holds at each error, and which errors the call can give.
-use Rattle.std.specs.Prelude.{ℕ, ◌≡◌, ◌≢◌, List, []}
+use Rattle.std.specs.Prelude.{ℕ, ◌≢◌, List, []}
 use Rattle.cfb_format.specs.declared.error.Error.{Error}
 use Rattle.cfb_format.specs.Chain.{IsChain}
 use Rattle.cfb_format.specs.Refused.{HasReason, no_error}
@@ -21,7 +21,7 @@ abbrev pub LastRefused : List ℕ → ℕ → Error → Type 0
 LastRefused table start = TableRefused (NoLast table start) ⊥ ⊥
 
 abbrev pub ExtendRefused : TableState → ℕ → ℕ → Error → Type 0
-ExtendRefused t start count = TableRefused (NoLast t.fat start) Unit (IsTooFew t count)
+ExtendRefused t start count = TableRefused (NoLast t.fat start) (IsTooFew t count → ⊥) (IsTooFew t count)
 
 abbrev pub NextRefused : List ℕ → ℕ → Error → Type 0
 NextRefused table i = TableRefused ((next : ℕ) → IsNextOf table i next → ⊥) ⊥ ⊥

@@ -8,7 +8,7 @@ ghost use Rattle.std.specs.List.{IsDistinct};
 ghost use Rattle.cfb_tables.specs.Changes.{IsNextOf, ListsFree, GivesBack};
 ghost use Rattle.cfb_tables.specs.Tables.{TableState, Kept, IsKept, AreSizes, CanHold, TakesNext, IsPrepared, IsTooFew, PassesLimit, HasTaken, Added, Extended, first_or_end, wiped, tables_of, sizes_of, sizes_after, grown_sizes, numbers_needed, grown, grown_fats, grown_difats};
 ghost use Rattle.cfb_tables.specs.Room.{IsTooFewAfter};
-ghost use Rattle.cfb_tables.specs.Listed.{ends_of};
+ghost use Rattle.cfb_tables.specs.Listed.{ends_of, gained, last_or_end};
 ghost use Rattle.cfb_tables.specs.Refused.{TableRefused, WalkRefused, LastRefused, NextRefused, ExtendRefused};
 
 use crate::walk::{last_of, next_in, walk};
@@ -215,6 +215,13 @@ fn free_numbers<A: Allocator>(alloc: A, fat: &[u32]) -> Result<Vec<u32, A>, Erro
     Ok(free)
 }
 
+/// The last number of a list, or END.
+fn last_number(numbers: &[u32]) -> u32
+    ensures { result ≡ last_or_end numbers.now }
+{
+    numbers.last().copied().unwrap_or(END_OF_CHAIN)
+}
+
 /// The tables, and the numbers that are free, the one freed last at the end. Their list always has room for all numbers, so
 /// that freeing asks for no memory.
 #[derive(Drop)]
@@ -342,7 +349,7 @@ impl<A: Allocator> Lists<A> {
         ensures ok { OnOk result (IsPrepared self.new count) }
         ensures sizes { AreSizes self.old.state.version (sizes_of self.old.state) }
         ensures rest { self.new ≡ record self.old { fat_capacity = self.new.fat_capacity; fats_capacity = self.new.fats_capacity; difats_capacity = self.new.difats_capacity; free_capacity = self.new.free_capacity } }
-        ensures err { IfErr result (TableRefused ⊥ Unit (IsTooFew self.old.state count)) }
+        ensures err { IfErr result (TableRefused ⊥ (IsTooFew self.old.state count → ⊥) (IsTooFew self.old.state count)) }
         ensures enough { OnOk result (IsTooFew self.old.state count → ⊥) }
     {
         let missing = self.missing(count);
@@ -408,6 +415,7 @@ impl<A: Allocator> Lists<A> {
         requires room { vec_len list.old + count ≤ vec_capacity list.old }
         ensures added { Added self.old.state self.new.state last list.old.items list.new.items }
         ensures count { vec_len list.new ≡ vec_len list.old + count }
+        ensures none { count ≡ 0 → (self.new.state ≡ self.old.state) × (list.new.items ≡ list.old.items) }
     {
         let mut end = last;
         for turn in 0..count {
@@ -428,12 +436,33 @@ impl<A: Allocator> Lists<A> {
         ensures taken { HasTaken self.old.state self.new.state [] list.new.items }
         ensures chain { IsChain self.new.state.fat (first_or_end list.new.items) list.new.items }
         ensures count { vec_len list.new ≡ count }
+        ensures none { count ≡ 0 → (self.new.state ≡ self.old.state) × (list.new.items ≡ list.old.items) }
     {
         if count > 0 {
             let first = self.take_prepared();
             list.push_reserved(first);
             self.attach_prepared(first, count - 1, list);
         }
+    }
+
+    /// Adds so many sectors behind the chain that has just the listed ones, or as a new chain where none is listed, with the
+    /// memory that was prepared for them, and appends them to the list.
+    fn extend_prepared(&mut self, list: &mut Vec<u32, A>, count: usize)
+        requires prepared { IsPrepared self.old count }
+        requires sizes { AreSizes self.old.state.version (sizes_of self.old.state) }
+        requires chain { IsChain self.old.state.fat (first_or_end list.old.items) list.old.items }
+        requires room { vec_len list.old + count ≤ vec_capacity list.old }
+        ensures listed { list.new.items ≡ list.old.items ++ gained list.old.items list.new.items }
+        ensures count { length (gained list.old.items list.new.items) ≡ count }
+        ensures taken { HasTaken self.old.state self.new.state (ends_of list.old.items) (gained list.old.items list.new.items) }
+        ensures chain { IsChain self.new.state.fat (first_or_end list.new.items) list.new.items }
+        ensures none { count ≡ 0 → (self.new.state ≡ self.old.state) × (list.new.items ≡ list.old.items) }
+    {
+        if list.is_empty() {
+            return self.take_all_prepared(count, list);
+        }
+        let last = last_number(list);
+        self.attach_prepared(last, count, list);
     }
 
     /// Frees these sectors.
@@ -454,7 +483,7 @@ impl<A: Allocator> Lists<A> {
         ensures chain { IfOk result (λ x. IsChain self.new.state.fat x (x ∷ [])) }
         ensures enough { OnOk result (IsTooFew self.old.state 1 → ⊥) }
         ensures unchanged { OnErr result (self.new.state ≡ self.old.state) }
-        ensures err { IfErr result (TableRefused ⊥ Unit (IsTooFew self.old.state 1)) }
+        ensures err { IfErr result (TableRefused ⊥ (IsTooFew self.old.state 1 → ⊥) (IsTooFew self.old.state 1)) }
     {
         self.prepare(1)?;
         Ok(self.take_prepared())
@@ -468,7 +497,7 @@ impl<A: Allocator> Lists<A> {
         ensures chain { IfOk result (λ x. IsChain self.new.state.fat last (last ∷ x ∷ [])) }
         ensures enough { OnOk result (IsTooFew self.old.state 1 → ⊥) }
         ensures unchanged { OnErr result (self.new.state ≡ self.old.state) }
-        ensures err { IfErr result (TableRefused ⊥ Unit (IsTooFew self.old.state 1)) }
+        ensures err { IfErr result (TableRefused ⊥ (IsTooFew self.old.state 1 → ⊥) (IsTooFew self.old.state 1)) }
     {
         let sector = self.take()?;
         self.link(last, sector);
@@ -506,10 +535,10 @@ impl<A: Allocator> Lists<A> {
         ensures count { IfOk result (λ list. vec_len list ≡ count) }
         ensures enough { OnOk result (IsTooFew self.old.state count → ⊥) }
         ensures unchanged { OnErr result (self.new.state ≡ self.old.state) }
-        ensures err { IfErr result (TableRefused ⊥ Unit (IsTooFew self.old.state count)) }
+        ensures err { IfErr result (TableRefused ⊥ (IsTooFew self.old.state count → ⊥) (IsTooFew self.old.state count)) }
     {
-        let mut list = Vec::with_capacity(alloc, count)?;
         self.prepare(count)?;
+        let mut list = Vec::with_capacity(alloc, count)?;
         self.attach_prepared(last, count, &mut list);
         Ok(list)
     }
@@ -521,10 +550,10 @@ impl<A: Allocator> Lists<A> {
         ensures count { IfOk result (λ list. vec_len list ≡ count) }
         ensures enough { OnOk result (IsTooFew self.old.state count → ⊥) }
         ensures unchanged { OnErr result (self.new.state ≡ self.old.state) }
-        ensures err { IfErr result (TableRefused ⊥ Unit (IsTooFew self.old.state count)) }
+        ensures err { IfErr result (TableRefused ⊥ (IsTooFew self.old.state count → ⊥) (IsTooFew self.old.state count)) }
     {
-        let mut list = Vec::with_capacity(alloc, count)?;
         self.prepare(count)?;
+        let mut list = Vec::with_capacity(alloc, count)?;
         self.take_all_prepared(count, &mut list);
         Ok(list)
     }
@@ -597,6 +626,25 @@ impl<A: Allocator> Lists<A> {
         self.end(sector);
         self.free_all(&list);
         Ok(list)
+    }
+
+    /// Adds so many sectors behind the chain that has just the listed ones, or as a new chain where none is listed, and appends
+    /// them to the list. `Full` and `Memory`: then nothing has changed.
+    pub fn extend_listed(&mut self, list: &mut Vec<u32, A>, count: usize) -> Result<(), Error>
+        requires chain { IsChain self.old.state.fat (first_or_end list.old.items) list.old.items }
+        ensures listed { OnOk result (list.new.items ≡ list.old.items ++ gained list.old.items list.new.items) }
+        ensures count { OnOk result (length (gained list.old.items list.new.items) ≡ count) }
+        ensures taken { OnOk result (HasTaken self.old.state self.new.state (ends_of list.old.items) (gained list.old.items list.new.items)) }
+        ensures chain { IsChain self.new.state.fat (first_or_end list.new.items) list.new.items }
+        ensures none { count ≡ 0 → (self.new.state ≡ self.old.state) × (list.new.items ≡ list.old.items) }
+        ensures enough { OnOk result (IsTooFew self.old.state count → ⊥) }
+        ensures unchanged { OnErr result ((self.new.state ≡ self.old.state) × (list.new.items ≡ list.old.items)) }
+        ensures err { IfErr result (TableRefused ⊥ (IsTooFew self.old.state count → ⊥) (IsTooFew self.old.state count)) }
+    {
+        self.prepare(count)?;
+        list.reserve(count)?;
+        self.extend_prepared(list, count);
+        Ok(())
     }
 
     /// Frees the chain that has just these sectors. It asks for no memory.

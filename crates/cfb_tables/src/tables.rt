@@ -6,7 +6,7 @@ ghost use Rattle.cfb_format.specs.Chain.{IsChain, value};
 ghost use Rattle.cfb_tables.specs.Changes.{IsNextOf, GivesBack};
 ghost use Rattle.cfb_tables.specs.Tables.{AreSizes, HasTaken, Extended, IsTooFew, sizes_of, first_or_end, tables_of};
 ghost use Rattle.cfb_tables.specs.Room.{IsTooFewAfter};
-ghost use Rattle.cfb_tables.specs.Listed.{ends_of};
+ghost use Rattle.cfb_tables.specs.Listed.{ends_of, gained};
 ghost use Rattle.cfb_tables.specs.Refused.{TableRefused, WalkRefused, LastRefused, NextRefused, ExtendRefused};
 
 use crate::lists::Lists;
@@ -121,7 +121,7 @@ impl<A: Allocator> Tables<A> {
         ensures chain { IfOk result (λ x. IsChain self.new.fat x (x ∷ [])) }
         ensures enough { OnOk result (IsTooFew self.old 1 → ⊥) }
         ensures unchanged { OnErr result (self.new ≡ self.old) }
-        ensures err { IfErr result (TableRefused ⊥ Unit (IsTooFew self.old 1)) }
+        ensures err { IfErr result (TableRefused ⊥ (IsTooFew self.old 1 → ⊥) (IsTooFew self.old 1)) }
     {
         self.lists.take()
     }
@@ -134,7 +134,7 @@ impl<A: Allocator> Tables<A> {
         ensures count { IfOk result (λ list. vec_len list ≡ count) }
         ensures enough { OnOk result (IsTooFew self.old count → ⊥) }
         ensures unchanged { OnErr result (self.new ≡ self.old) }
-        ensures err { IfErr result (TableRefused ⊥ Unit (IsTooFew self.old count)) }
+        ensures err { IfErr result (TableRefused ⊥ (IsTooFew self.old count → ⊥) (IsTooFew self.old count)) }
     {
         self.lists.take_by(alloc, count)
     }
@@ -148,7 +148,7 @@ impl<A: Allocator> Tables<A> {
         ensures chain { IfOk result (λ x. IsChain self.new.fat last (last ∷ x ∷ [])) }
         ensures enough { OnOk result (IsTooFew self.old 1 → ⊥) }
         ensures unchanged { OnErr result (self.new ≡ self.old) }
-        ensures err { IfErr result (TableRefused ⊥ Unit (IsTooFew self.old 1)) }
+        ensures err { IfErr result (TableRefused ⊥ (IsTooFew self.old 1 → ⊥) (IsTooFew self.old 1)) }
     {
         self.lists.attach(last)
     }
@@ -183,7 +183,7 @@ impl<A: Allocator> Tables<A> {
         ensures count { IfOk result (λ list. vec_len list ≡ count) }
         ensures enough { OnOk result (IsTooFew self.old count → ⊥) }
         ensures unchanged { OnErr result (self.new ≡ self.old) }
-        ensures err { IfErr result (TableRefused ⊥ Unit (IsTooFew self.old count)) }
+        ensures err { IfErr result (TableRefused ⊥ (IsTooFew self.old count → ⊥) (IsTooFew self.old count)) }
     {
         self.lists.attach_by(alloc, last, count)
     }
@@ -247,9 +247,26 @@ impl<A: Allocator> Tables<A> {
     pub fn reserve(&mut self, count: usize) -> Result<(), Error>
         ensures enough { OnOk result (IsTooFew self.old count → ⊥) }
         ensures unchanged { self.new ≡ self.old }
-        ensures err { IfErr result (TableRefused ⊥ Unit (IsTooFew self.old count)) }
+        ensures err { IfErr result (TableRefused ⊥ (IsTooFew self.old count → ⊥) (IsTooFew self.old count)) }
     {
         self.lists.prepare(count)
+    }
+
+    /// Adds so many sectors behind the chain that has just the listed ones, or takes them as a new chain where none is listed, and
+    /// appends their numbers to the list. It asks for memory before anything changes, and for none where `reserve` asked for
+    /// it and the list has room. `Full` where there are too few numbers, and `Memory`; tables and list then stay as they were.
+    pub fn extend_listed(&mut self, list: &mut Vec<u32, A>, count: usize) -> Result<(), Error>
+        requires chain { IsChain self.old.fat (first_or_end list.old.items) list.old.items }
+        ensures listed { OnOk result (list.new.items ≡ list.old.items ++ gained list.old.items list.new.items) }
+        ensures count { OnOk result (length (gained list.old.items list.new.items) ≡ count) }
+        ensures taken { OnOk result (HasTaken self.old self.new (ends_of list.old.items) (gained list.old.items list.new.items)) }
+        ensures chain { IsChain self.new.fat (first_or_end list.new.items) list.new.items }
+        ensures none { count ≡ 0 → (self.new ≡ self.old) × (list.new.items ≡ list.old.items) }
+        ensures enough { OnOk result (IsTooFew self.old count → ⊥) }
+        ensures unchanged { OnErr result ((self.new ≡ self.old) × (list.new.items ≡ list.old.items)) }
+        ensures err { IfErr result (TableRefused ⊥ (IsTooFew self.old count → ⊥) (IsTooFew self.old count)) }
+    {
+        self.lists.extend_listed(list, count)
     }
 
     /// Frees the chain that has just these sectors. It asks for no memory.

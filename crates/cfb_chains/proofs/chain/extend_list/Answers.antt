@@ -4,7 +4,8 @@ use Rattle.cfb_tables.specs.Listed.{last_or_end}
 use Rattle.cfb_tables.specs.Tables.{TakesFor, ending, first_or_end}
 use Rattle.cfb_alloc.proofs.AllocLemmas.{others_refl}
 use Rattle.cfb_alloc.proofs.ChainView.{chain_few, only_first}
-use Rattle.cfb_chains.proofs.ChainLists.{gained_is, grown_found, last_ends, left_found}
+use Rattle.cfb_tables.proofs.ListedLemmas.{gained_is}
+use Rattle.cfb_chains.proofs.ChainLists.{grown_found, last_ends, left_found}
 use Rattle.cfb_chains.proofs.chain.extend_list.Goals as goal
 
 pub returns-in_err-reserve-clause-others : goal.returns-in_err-reserve-clause-others

@@ -1,7 +1,7 @@
-use Rattle.std.proofs.Common.{[], arith, sym, subst, refl, ℕ, List}
+use Rattle.std.proofs.Common.{◌∙◌, [], arith, sym, subst, refl, ℕ, List}
 use Rattle.std.specs.Prelude.{Contains}
 use Rattle.std.proofs.lemmas.Result.{err_from_is_err_and}
-use Rattle.cfb_alloc.proofs.AllocLemmas.{others_refl, others_unchanged, placed_reserved, placed_written, shown_below, shown_taken, others_written, held_counted, fats_apart_shown, clean_taken, fats_known, difats_known, refused_changed}
+use Rattle.cfb_alloc.proofs.AllocLemmas.{taken_reserved, others_refl, others_unchanged, placed_reserved, placed_written, shown_below, shown_taken, others_written, held_counted, fats_apart_shown, clean_taken, fats_known, difats_known, refused_changed}
 use Rattle.cfb_format.specs.Chain.{IsChain}
 use Rattle.cfb_tables.specs.Tables.{HasTaken, first_or_end}
 use Rattle.cfb_tables.proofs.ChainLemmas.{chain_of}
@@ -28,51 +28,54 @@ returns-then-count-eq0-clause-chain g c =
 pub returns-then-count-eq0-clause-others : goal.returns-then-count-eq0-clause-others
 returns-then-count-eq0-clause-others g c told = others_refl c.args.self.now
 
+pub returns-in_err-reserve-clause-others : goal.returns-in_err-reserve-clause-others
+returns-in_err-reserve-clause-others g c told = others_unchanged c.self.view_is c.reserve.new.self c.reserve.ensures.unchanged
+
 pub returns-in_err-clone-2-clause-others : goal.returns-in_err-clone-2-clause-others
-returns-in_err-clone-2-clause-others g c told = others_unchanged c.self.view_is c.self.inside.tables refl
+returns-in_err-clone-2-clause-others g c told = others_unchanged c.self.view_is c.reserve.new.self c.reserve.ensures.unchanged
 
 pub returns-in_err-list-clause-others : goal.returns-in_err-list-clause-others
-returns-in_err-list-clause-others g c told = others_unchanged c.self.view_is c.take_by.new.self c.in_err-list.ensures.unchanged
+returns-in_err-list-clause-others g c told = others_unchanged c.self.view_is c.take_by.new.self (c.in_err-list.ensures.unchanged ∙ c.reserve.ensures.unchanged)
 
 pub returns-in_err-list-clause-err : goal.returns-in_err-list-clause-err
 returns-in_err-list-clause-err g c =
     let p = err_from_is_err_and c.from_residual-in_err-list.result c.from_residual-in_err-list.ensures.1 in
-    rw (p.1, p.2) (refused_changed _ _ _ _ c.in_err-list.field-0.0 (rw (← c.self.view_is) c.in_err-list.ensures.err))
+    rw (p.1, p.2) (refused_changed _ _ _ _ c.in_err-list.field-0.0 (rw (← c.self.view_is, ← c.reserve.ensures.unchanged) c.in_err-list.ensures.err))
 
 pub write_taken-requires-clause-placed : goal.write_taken-requires-clause-placed
 write_taken-requires-clause-placed g c =
-    placed_reserved c.deref.result.now c.deref.ensures.value c.self.view_is c.in_ok-list.ensures.taken
+    placed_reserved c.deref.result.now c.deref.ensures.value c.self.view_is (taken_reserved c.reserve.ensures.unchanged c.in_ok-list.ensures.taken)
     c.reserve_sectors.new.self c.len.result c.reserve_sectors.ensures c.len.ensures.len c.self.invariant
 
 pub write_taken-requires-clause-more : goal.write_taken-requires-clause-more
-write_taken-requires-clause-more g c = shown_below c.deref.result.now c.deref.ensures.value c.self.view_is c.in_ok-list.ensures.taken
+write_taken-requires-clause-more g c = shown_below c.deref.result.now c.deref.ensures.value c.self.view_is (taken_reserved c.reserve.ensures.unchanged c.in_ok-list.ensures.taken)
 
 pub invariant_of-self-in_err-write_taken : goal.invariant_of-self-in_err-write_taken
 invariant_of-self-in_err-write_taken g c =
-    placed_written c.deref.result.now c.deref.ensures.value c.self.view_is c.in_ok-list.ensures.taken
+    placed_written c.deref.result.now c.deref.ensures.value c.self.view_is (taken_reserved c.reserve.ensures.unchanged c.in_ok-list.ensures.taken)
     c.reserve_sectors.new.self c.write_taken.new.sectors c.len.result c.reserve_sectors.ensures c.write_taken.ensures.kept c.len.ensures.len c.self.invariant
 
 pub returns-in_err-write_taken-clause-others : goal.returns-in_err-write_taken-clause-others
 returns-in_err-write_taken-clause-others g c told =
-    others_written c.deref.result.now c.deref.ensures.value c.self.view_is c.in_ok-list.ensures.taken
+    others_written c.deref.result.now c.deref.ensures.value c.self.view_is (taken_reserved c.reserve.ensures.unchanged c.in_ok-list.ensures.taken)
     c.reserve_sectors.new.self c.write_taken.new.sectors c.len.result c.reserve_sectors.ensures (c.write_taken.ensures.changes told)
 
 pub invariant_of-self-2 : goal.invariant_of-self-2
 invariant_of-self-2 g c =
-    placed_written c.deref.result.now c.deref.ensures.value c.self.view_is c.in_ok-list.ensures.taken
+    placed_written c.deref.result.now c.deref.ensures.value c.self.view_is (taken_reserved c.reserve.ensures.unchanged c.in_ok-list.ensures.taken)
     c.reserve_sectors.new.self c.write_taken.new.sectors c.len.result c.reserve_sectors.ensures c.write_taken.ensures.kept c.len.ensures.len c.self.invariant
 
 pub returns-clause-filled : goal.returns-clause-filled
 returns-clause-filled g c told validation h i m =
     c.in_ok-write_taken.ensures.filled told
-    (fats_apart_shown c.deref.result.now c.deref.ensures.value c.self.view_is c.in_ok-list.ensures.taken validation h) i
+    (fats_apart_shown c.deref.result.now c.deref.ensures.value c.self.view_is (taken_reserved c.reserve.ensures.unchanged c.in_ok-list.ensures.taken) validation h) i
     (subst (λ (xs : List ℕ). Contains xs i) (sym c.deref.ensures.value) m)
 
 pub returns-clause-holds : goal.returns-clause-holds
 returns-clause-holds g c told validation h =
     let now = c.deref.result.now in
     let same = c.deref.ensures.value in
-    let taken = c.in_ok-list.ensures.taken in
+    let taken = (taken_reserved c.reserve.ensures.unchanged c.in_ok-list.ensures.taken) in
     let clean = clean_taken now same c.self.view_is taken validation h (first_or_end c.in_ok-list.list.items) c.in_ok-list.ensures.chain (omega arith) in
     record {
       holds = c.in_ok-write_taken.ensures.holds told validation c.self.inside.tables (shown_taken now same c.self.view_is taken) clean
@@ -84,7 +87,7 @@ returns-clause-holds g c told validation h =
 
 pub returns-clause-others : goal.returns-clause-others
 returns-clause-others g c told =
-    others_written c.deref.result.now c.deref.ensures.value c.self.view_is c.in_ok-list.ensures.taken
+    others_written c.deref.result.now c.deref.ensures.value c.self.view_is (taken_reserved c.reserve.ensures.unchanged c.in_ok-list.ensures.taken)
     c.reserve_sectors.new.self c.write_taken.new.sectors c.len.result c.reserve_sectors.ensures (c.write_taken.ensures.changes told)
 
 pub returns-in_err-before-clause-spares : goal.returns-in_err-before-clause-spares

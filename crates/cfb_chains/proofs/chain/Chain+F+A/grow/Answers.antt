@@ -1,4 +1,4 @@
-use Rattle.cfb_chains.specs.ChainLists.{gained}
+use Rattle.cfb_tables.specs.Listed.{gained}
 use Rattle.cfb_chains.specs.LentChain.{allocator_of, start_sector_of, ids_of, init_of}
 use Rattle.cfb_alloc.proofs.Answering.{on_three}
 use Rattle.cfb_chains.proofs.LentContent.{content_grown}

@@ -5,8 +5,7 @@ use Rattle.cfb_format.specs.Medium.{written}
 use Rattle.cfb_format.specs.Refused.{CountsFailure}
 use Rattle.cfb_sectors.specs.Sectors.{copies, init_bytes}
 use Rattle.cfb_format.specs.Bytes.{sector_len, sector_start}
-use Rattle.cfb_chains.specs.ChainLists.{gained}
-use Rattle.cfb_tables.specs.Listed.{last_or_end}
+use Rattle.cfb_tables.specs.Listed.{gained, last_or_end}
 use Rattle.cfb_tables.specs.Tables.{TableState, ending}
 use Rattle.cfb_chains.specs.LentChain.{allocator_of, start_sector_of, ids_of, init_of, left_of, len_of, missing_of, place_of, position_of, version_of, content_of, HasBytes}
 use Rattle.cfb_alloc.proofs.Answering.{all_ok}

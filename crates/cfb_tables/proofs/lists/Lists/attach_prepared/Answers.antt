@@ -13,6 +13,7 @@ loop-turn-init g c =
       attached = ([], sym (append-nil c.args.list.now.items), attached-none k.state c.args.last c.requires.sizes.places c.requires.ended c.requires.regular);
       len = omega arith;
       room = refl;
+      none = λ z. (refl, refl);
     }
 
 pub take_prepared-next-requires-clause-held : goal.take_prepared-next-requires-clause-held
@@ -62,6 +63,7 @@ loop-turn-preserved g c =
       attached = (done ++ x ∷ [], listed, here);
       len = omega (arith, c.push_reserved.ensures.len, l.invariant.len);
       room = c.push_reserved.ensures.capacity ∙ l.invariant.room;
+      none = λ z. absurd (omega (arith, z));
     }
 
 pub returns-clause-added : goal.returns-clause-added

@@ -9,4 +9,5 @@ invariant-loop-turn g l = record {
   attached : (more : List ℕ) × (l.list.items ≡ l.initial.list.items ++ more) × Attached l.initial.self.state l.self.state l.fn.last l.end more;
   len : vec_len l.list ≡ vec_len l.initial.list + l.turn;
   room : vec_capacity l.list ≡ vec_capacity l.initial.list;
+  none : l.turn ≡ 0 → (l.self.state ≡ l.initial.self.state) × (l.list.items ≡ l.initial.list.items);
 }

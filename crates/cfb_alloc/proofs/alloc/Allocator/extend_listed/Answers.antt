@@ -1,0 +1,139 @@
+use Rattle.std.proofs.Common.{refl, sym, ◌∙◌, ap, subst, arith, ◌≡◌, ◌++◌, ◌-◌, ◌≤◌, ℕ, List, length, take, drop}
+use Rattle.std.specs.Prelude.{Contains}
+use Rattle.cfb_format.specs.Chain.{IsChain}
+use Rattle.cfb_format.specs.Refused.{CountsFailure}
+use Rattle.cfb_sectors.specs.Sectors.{SectorFile}
+use Rattle.cfb_alloc.specs.Alloc.{AllocatorState}
+use Rattle.cfb_tables.specs.Tables.{HasTaken, first_or_end}
+use Rattle.cfb_alloc.proofs.Answering.{on_ok}
+use Rattle.cfb_tables.specs.Listed.{ends_of, gained}
+use Rattle.cfb_alloc.specs.ListedChain.{Lengthens}
+use Rattle.cfb_alloc.proofs.AllocLemmas.{others_refl, others_unchanged, others_written, placed_reserved, placed_written, touched_below, shown_below, shown_taken, fats_apart_shown, clean_taken, fats_known, difats_known, held_counted}
+use Rattle.cfb_alloc.proofs.ListedLemmas.{lengthened_none, shown_ends, shown_gained, tail_chain, ends_few}
+use Rattle.cfb_alloc.proofs.alloc.Allocator.extend_listed.Goals as goal
+
+pub returns-in_err-before-clause-others : goal.returns-in_err-before-clause-others
+returns-in_err-before-clause-others g c told = others_refl c.args.self.now
+
+pub returns-then-count-eq0-clause-lengthened : goal.returns-then-count-eq0-clause-lengthened
+returns-then-count-eq0-clause-lengthened g c =
+    let t = c.args.self.now.tables in
+    let ids = c.args.ids.now.items in
+    subst (λ n. Lengthens n ids ids t t) (sym c.if-count-eq0.true) (lengthened_none t ids c.requires.chain c.in_ok-before.ensures.sizes)
+
+pub returns-then-count-eq0-clause-others : goal.returns-then-count-eq0-clause-others
+returns-then-count-eq0-clause-others g c told = others_refl c.args.self.now
+
+pub returns-in_err-extend_listed-clause-others : goal.returns-in_err-extend_listed-clause-others
+returns-in_err-extend_listed-clause-others g c told = others_unchanged c.self.view_is c.extend_listed.new.self c.in_err-extend_listed.ensures.unchanged.0
+
+pub write_taken-requires-clause-placed : goal.write_taken-requires-clause-placed
+write_taken-requires-clause-placed g c =
+    placed_reserved (gained c.args.ids.now.items c.extend_listed.new.list.items) refl c.self.view_is c.in_ok-extend_listed.ensures.taken
+    c.reserve_sectors.new.self c.len.result c.reserve_sectors.ensures c.len.ensures.len c.self.invariant
+
+pub invariant_of-self-2 : goal.invariant_of-self-2
+invariant_of-self-2 g c =
+    placed_written (gained c.args.ids.now.items c.extend_listed.new.list.items) refl c.self.view_is c.in_ok-extend_listed.ensures.taken
+    c.reserve_sectors.new.self c.write_taken.new.sectors c.len.result c.reserve_sectors.ensures c.write_taken.ensures.kept c.len.ensures.len c.self.invariant
+
+pub write_taken-requires-clause-touched : goal.write_taken-requires-clause-touched
+write_taken-requires-clause-touched g c =
+    let ids = c.args.ids.now.items in
+    let ids' = c.extend_listed.new.list.items in
+    let e = c.in_ok-extend_listed.ensures in
+    let t0 = c.self.inside.tables in
+    let t = c.extend_listed.new.self in
+    let chain = subst (λ (a : AllocatorState). IsChain a.tables.fat (first_or_end ids) ids) (sym c.self.view_is) c.requires.chain in
+    let n : c.len-len.result ≡ length ids = omega (arith, c.len-len.ensures, c.args.ids.now.ok.0) in
+    let m : c.saturating_sub.result ≡ length ids - 1 = omega (arith, c.saturating_sub.ensures, n) in
+    let ends : take (c.len-len.result - c.saturating_sub.result) (drop c.saturating_sub.result c.deref.result.now) ≡ ends_of ids =
+    shown_ends t0.fat (first_or_end ids) ids c.deref.result.now (gained ids ids') c.len-len.result c.saturating_sub.result chain (c.deref.ensures.value ∙ e.listed) n m in
+    let more : take (length c.deref-2.result.now - c.len-len.result) (drop c.len-len.result c.deref-2.result.now) ≡ gained ids ids' =
+    shown_gained ids c.deref-2.result.now c.len-len.result n ∙ ap (gained ids) c.deref-2.ensures.value in
+    let taken = subst (λ (z : List ℕ). HasTaken t0 t z (gained ids ids')) (sym ends) e.taken in
+    touched_below _ more c.self.view_is taken
+
+pub write_taken-requires-clause-more : goal.write_taken-requires-clause-more
+write_taken-requires-clause-more g c =
+    let ids = c.args.ids.now.items in
+    let ids' = c.extend_listed.new.list.items in
+    let e = c.in_ok-extend_listed.ensures in
+    let t0 = c.self.inside.tables in
+    let t = c.extend_listed.new.self in
+    let chain = subst (λ (a : AllocatorState). IsChain a.tables.fat (first_or_end ids) ids) (sym c.self.view_is) c.requires.chain in
+    let n : c.len-len.result ≡ length ids = omega (arith, c.len-len.ensures, c.args.ids.now.ok.0) in
+    let m : c.saturating_sub.result ≡ length ids - 1 = omega (arith, c.saturating_sub.ensures, n) in
+    let ends : take (c.len-len.result - c.saturating_sub.result) (drop c.saturating_sub.result c.deref.result.now) ≡ ends_of ids =
+    shown_ends t0.fat (first_or_end ids) ids c.deref.result.now (gained ids ids') c.len-len.result c.saturating_sub.result chain (c.deref.ensures.value ∙ e.listed) n m in
+    let more : take (length c.deref-2.result.now - c.len-len.result) (drop c.len-len.result c.deref-2.result.now) ≡ gained ids ids' =
+    shown_gained ids c.deref-2.result.now c.len-len.result n ∙ ap (gained ids) c.deref-2.ensures.value in
+    let taken = subst (λ (z : List ℕ). HasTaken t0 t z (gained ids ids')) (sym ends) e.taken in
+    shown_below _ more c.self.view_is taken
+
+pub returns-clause-filled : goal.returns-clause-filled
+returns-clause-filled g c told validation h =
+    let ids = c.args.ids.now.items in
+    let ids' = c.extend_listed.new.list.items in
+    let e = c.in_ok-extend_listed.ensures in
+    let t0 = c.self.inside.tables in
+    let t = c.extend_listed.new.self in
+    let chain = subst (λ (a : AllocatorState). IsChain a.tables.fat (first_or_end ids) ids) (sym c.self.view_is) c.requires.chain in
+    let n : c.len-len.result ≡ length ids = omega (arith, c.len-len.ensures, c.args.ids.now.ok.0) in
+    let m : c.saturating_sub.result ≡ length ids - 1 = omega (arith, c.saturating_sub.ensures, n) in
+    let ends : take (c.len-len.result - c.saturating_sub.result) (drop c.saturating_sub.result c.deref.result.now) ≡ ends_of ids =
+    shown_ends t0.fat (first_or_end ids) ids c.deref.result.now (gained ids ids') c.len-len.result c.saturating_sub.result chain (c.deref.ensures.value ∙ e.listed) n m in
+    let more : take (length c.deref-2.result.now - c.len-len.result) (drop c.len-len.result c.deref-2.result.now) ≡ gained ids ids' =
+    shown_gained ids c.deref-2.result.now c.len-len.result n ∙ ap (gained ids) c.deref-2.ensures.value in
+    let taken = subst (λ (z : List ℕ). HasTaken t0 t z (gained ids ids')) (sym ends) e.taken in
+    on_ok _ _ c.write_taken.result (λ filled i mine. filled i (subst (λ (z : List ℕ). Contains z i) (sym more) mine))
+    (c.write_taken.ensures.filled told (fats_apart_shown _ more c.self.view_is taken validation h))
+
+pub returns-clause-holds : goal.returns-clause-holds
+returns-clause-holds g c told validation h =
+    let ids = c.args.ids.now.items in
+    let ids' = c.extend_listed.new.list.items in
+    let e = c.in_ok-extend_listed.ensures in
+    let t0 = c.self.inside.tables in
+    let t = c.extend_listed.new.self in
+    let chain = subst (λ (a : AllocatorState). IsChain a.tables.fat (first_or_end ids) ids) (sym c.self.view_is) c.requires.chain in
+    let n : c.len-len.result ≡ length ids = omega (arith, c.len-len.ensures, c.args.ids.now.ok.0) in
+    let m : c.saturating_sub.result ≡ length ids - 1 = omega (arith, c.saturating_sub.ensures, n) in
+    let ends : take (c.len-len.result - c.saturating_sub.result) (drop c.saturating_sub.result c.deref.result.now) ≡ ends_of ids =
+    shown_ends t0.fat (first_or_end ids) ids c.deref.result.now (gained ids ids') c.len-len.result c.saturating_sub.result chain (c.deref.ensures.value ∙ e.listed) n m in
+    let more : take (length c.deref-2.result.now - c.len-len.result) (drop c.len-len.result c.deref-2.result.now) ≡ gained ids ids' =
+    shown_gained ids c.deref-2.result.now c.len-len.result n ∙ ap (gained ids) c.deref-2.ensures.value in
+    let taken = subst (λ (z : List ℕ). HasTaken t0 t z (gained ids ids')) (sym ends) e.taken in
+    let goes = tail_chain t0.fat t.fat ids ids' (gained ids ids') chain e.listed e.chain in
+    let few : length (ends_of ids) ≤ 1 = ends_few t0.fat ids chain in
+    let clean = clean_taken _ more c.self.view_is taken validation h goes.0
+    (subst (λ (z : List ℕ). IsChain t.fat goes.0 (z ++ gained ids ids')) (sym ends) goes.1)
+    (subst (λ (z : List ℕ). length z ≤ 1) (sym ends) few) in
+    on_ok _ _ c.write_taken.result (λ b. record { holds = b; clean = clean })
+    (c.write_taken.ensures.holds told validation t0 (shown_taken _ more c.self.view_is taken) clean
+    (fats_known _ more c.self.view_is taken c.in_ok-before.before.fats c.in_ok-before.ensures.ok.0)
+    (difats_known _ more c.self.view_is taken c.in_ok-before.before.difats c.in_ok-before.ensures.ok.1)
+    (held_counted _ more c.self.view_is taken validation h c.reserve_sectors.new.self c.len.result c.reserve_sectors.ensures))
+
+pub returns-clause-others : goal.returns-clause-others
+returns-clause-others g c told =
+    let ids = c.args.ids.now.items in
+    let ids' = c.extend_listed.new.list.items in
+    let e = c.in_ok-extend_listed.ensures in
+    let t0 = c.self.inside.tables in
+    let t = c.extend_listed.new.self in
+    let chain = subst (λ (a : AllocatorState). IsChain a.tables.fat (first_or_end ids) ids) (sym c.self.view_is) c.requires.chain in
+    let n : c.len-len.result ≡ length ids = omega (arith, c.len-len.ensures, c.args.ids.now.ok.0) in
+    let m : c.saturating_sub.result ≡ length ids - 1 = omega (arith, c.saturating_sub.ensures, n) in
+    let ends : take (c.len-len.result - c.saturating_sub.result) (drop c.saturating_sub.result c.deref.result.now) ≡ ends_of ids =
+    shown_ends t0.fat (first_or_end ids) ids c.deref.result.now (gained ids ids') c.len-len.result c.saturating_sub.result chain (c.deref.ensures.value ∙ e.listed) n m in
+    let more : take (length c.deref-2.result.now - c.len-len.result) (drop c.len-len.result c.deref-2.result.now) ≡ gained ids ids' =
+    shown_gained ids c.deref-2.result.now c.len-len.result n ∙ ap (gained ids) c.deref-2.ensures.value in
+    let taken = subst (λ (z : List ℕ). HasTaken t0 t z (gained ids ids')) (sym ends) e.taken in
+    others_written _ more c.self.view_is taken
+    c.reserve_sectors.new.self c.write_taken.new.sectors c.len.result c.reserve_sectors.ensures (c.write_taken.ensures.changes told)
+
+pub returns-clause-counts : goal.returns-clause-counts
+returns-clause-counts g c told =
+    let same = ap (λ (f : SectorFile). f.failures) c.reserve_sectors.ensures ∙ ap (λ (a : AllocatorState). a.file.failures) c.self.view_is in
+    subst (λ n. CountsFailure g.F.Medium.write_faults c.write_taken.result n c.write_taken.new.sectors.failures) same (c.write_taken.ensures.counts told)

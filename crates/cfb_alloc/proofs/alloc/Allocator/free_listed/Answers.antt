@@ -1,0 +1,8 @@
+use Rattle.cfb_alloc.proofs.FrameLemmas.{changes_refl}
+use Rattle.cfb_alloc.proofs.alloc.Allocator.free_listed.Goals as goal
+
+pub returns-then-is_empty-clause-changes : goal.returns-then-is_empty-clause-changes
+returns-then-is_empty-clause-changes g c told = let a = c.args.self.now in changes_refl a.tables.fat_sectors a.tables.version a.file.bytes
+
+pub returns-in_err-usable_sizes-clause-changes : goal.returns-in_err-usable_sizes-clause-changes
+returns-in_err-usable_sizes-clause-changes g c told = let a = c.args.self.now in changes_refl a.tables.fat_sectors a.tables.version a.file.bytes
