@@ -176,7 +176,8 @@ field_spares word old new same only =
     record {
       same_version = ap (λ (t : TableState). t.version) same;
       no_shorter = only.no_shorter;
-      values = λ i foreign. ap (λ (t : TableState). value t.fat i) same;
+      values = λ i busy out. ap (λ (t : TableState). value t.fat i) same;
+      kept = λ i m. subst (λ (t : TableState). Contains (table_sectors t) i) (sym same) m;
       tables = λ i foreign m. foreign.no_table (subst (λ (t : TableState). Contains (table_sectors t) i) same m);
       sectors = λ i foreign. after_header v i (header_word_place word) 4 old.file.bytes new.file.bytes only (let inside = (place_inside word).1 in omega (arith, inside));
       header = λ i lt fixed. elim (fixed_beside word v i fixed) [ inl low ↦ only.below i lt low | inr high ↦ only.above i lt high ];

@@ -11,15 +11,18 @@ use Rattle.cfb_sectors.specs.Sectors.{SectorFile}
 use Rattle.cfb_tables.specs.Changes.{GivesBack}
 use Rattle.cfb_tables.specs.Clean.{IsClean, IsUnnamed}
 use Rattle.cfb_tables.specs.Listed.{ends_of, gained, last_or_end}
-use Rattle.cfb_tables.specs.Tables.{TableState, HasTaken, AreSizes, first_or_end, sizes_of}
+use Rattle.cfb_tables.specs.Tables.{TableState, HasTaken, TablesGiveBack, AreSizes, first_or_end, sizes_of}
 use Rattle.cfb_tables.proofs.ChainLemmas.{chain_of, members-busy, follows-rest, follows-values}
 use Rattle.cfb_tables.proofs.CleanLemmas.{freed-clean, cut-clean}
 use Rattle.cfb_tables.proofs.ListedLemmas.{gained_is, last_is, last_alone, last_split, what_is_left-ends, what_is_left-is-chain}
 use Rattle.cfb_tables.proofs.Members.{Contains-nil, Contains-one}
 use Rattle.cfb_tables.proofs.TakenLemmas.{taken-none, taken-nothing}
-use Rattle.cfb_alloc.specs.Alloc.{HoldsBut}
+use Rattle.cfb_alloc.specs.Alloc.{AllocatorState, HoldsBut, ChangesSectors}
+use Rattle.cfb_alloc.specs.Frame.{Spares}
 use Rattle.cfb_alloc.specs.ListedChain.{Lengthens, Shortens}
 use Rattle.cfb_alloc.proofs.FreeingLemmas.{changed_holds}
+use Rattle.cfb_alloc.proofs.Frames.{spares-less}
+use Rattle.cfb_alloc.proofs.Spared.{freed_spares}
 
 -- ---- what slices of the list show
 
@@ -155,6 +158,14 @@ module _ (t0 t : TableState) (rest : t ≡ record t0 { fat = t.fat }) (ids : Lis
       validation (shown ++ []) file
       (λ i m. Contains-append_left shown [] i (subst (λ (z : List ℕ). Contains z i) (sym same) m))
       clean h
+
+  -- and every other sector in use stays
+  pub listed_cut_spares : {a : AllocatorState} {s0 : SectorFile} (s1 : SectorFile) → record { file = s0; tables = t0 } ≡ a
+      → ChangesSectors a.tables.fat_sectors a.tables.version a.file.bytes s1.bytes → Spares ids a (record { file = s1; tables = t })
+  listed_cut_spares {a} s1 view change =
+      let new : AllocatorState = record { file = s1; tables = t } in
+      let back = subst (λ (z : AllocatorState). TablesGiveBack (ends_of (take left ids)) (drop left ids) z.tables t) view (record { given = cut; rest = rest }) in
+      spares-less touched ids a new (λ i m. cut_members t0.fat ids left i c fewer m) (freed_spares a new (ends_of (take left ids)) (drop left ids) back change)
 
 -- where all are left nothing is given back
 pub shortened_none : (t : TableState) (ids : List ℕ) (left : ℕ) → IsChain t.fat (first_or_end ids) ids → length ids ≤ left → Shortens left ids ids t t

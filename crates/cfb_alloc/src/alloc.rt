@@ -386,6 +386,7 @@ impl<F: Medium, A: Heap> Allocator<F, A> {
             → OnOk result ((i : ℕ) → Contains (gained ids.old.items ids.new.items) i → IsFilled self.new.tables.version init self.new.file.bytes i) }
         ensures holds { IsTrue F.tells → (validation : Validation) → HoldsTables validation self.old → OnOk result (HoldsTables validation self.new) }
         ensures others { IsTrue F.tells → OthersStay self.old self.new }
+        ensures spares { IsTrue F.tells → Spares (ends_of ids.old.items) self.old self.new }
         ensures enough { OnOk result (IsTooFew self.old.tables count → ⊥) }
         ensures begun { OnOk result (IsRaised (0 < count) self.old.file self.new.file) }
         ensures refused { IfErr result (ListBreaksOff (Lengthens count) ids.old.items ids.new.items self.old self.new) }
@@ -418,6 +419,7 @@ impl<F: Medium, A: Heap> Allocator<F, A> {
         ensures holds { IsTrue F.tells → (validation : Validation) → HoldsTables validation self.old
             → (left ≡ 0 → IsUnnamed self.old.tables.fat (first_or_end ids.now)) → OnOk result (HoldsTables validation self.new) }
         ensures changes { IsTrue F.tells → ChangesSectors self.old.tables.fat_sectors self.old.tables.version self.old.file.bytes self.new.file.bytes }
+        ensures spares { IsTrue F.tells → Spares ids.now self.old self.new }
         ensures begun { self.new.file.begun ≡ true }
         ensures err { IfErr result IsMediumError }
         ensures counts { IsTrue F.tells → CountsFailure F.write_faults result self.old.file.failures self.new.file.failures }
@@ -443,6 +445,7 @@ impl<F: Medium, A: Heap> Allocator<F, A> {
         ensures holds { IsTrue F.tells → (validation : Validation) → HoldsTables validation self.old
             → (left ≡ 0 → IsUnnamed self.old.tables.fat (first_or_end ids.old.items)) → OnOk result (HoldsTables validation self.new) }
         ensures changes { IsTrue F.tells → ChangesSectors self.old.tables.fat_sectors self.old.tables.version self.old.file.bytes self.new.file.bytes }
+        ensures spares { IsTrue F.tells → Spares ids.old.items self.old self.new }
         ensures begun { OnOk result (IsRaised (left < length ids.old.items) self.old.file self.new.file) }
         ensures refused { IfErr result (ListBreaksOff (Shortens left) ids.old.items ids.new.items self.old self.new) }
         ensures err { IfErr result (ChangeRefused (IsUsable self.old.tables → ⊥) ⊥ ⊥ Unit) }
@@ -467,6 +470,7 @@ impl<F: Medium, A: Heap> Allocator<F, A> {
         ensures holds { IsTrue F.tells → (validation : Validation) → HoldsTables validation self.old
             → IsUnnamed self.old.tables.fat (first_or_end ids.now) → OnOk result (HoldsTables validation self.new) }
         ensures changes { IsTrue F.tells → ChangesSectors self.old.tables.fat_sectors self.old.tables.version self.old.file.bytes self.new.file.bytes }
+        ensures spares { IsTrue F.tells → Spares ids.now self.old self.new }
         ensures begun { OnOk result (IsRaised (0 < length ids.now) self.old.file self.new.file) }
         ensures refused { IfErr result (BreaksOff (TablesGiveBack [] ids.now) self.old self.new) }
         ensures err { IfErr result (ChangeRefused (IsUsable self.old.tables → ⊥) ⊥ ⊥ Unit) }

@@ -99,18 +99,21 @@ returns-in_err-clone-clause-spares g c told = spares_refl [] c.args.self.now
 pub returns-then-count-eq0-clause-spares : goal.returns-then-count-eq0-clause-spares
 returns-then-count-eq0-clause-spares g c told = spares_refl [] c.args.self.now
 
+pub returns-in_err-reserve-clause-spares : goal.returns-in_err-reserve-clause-spares
+returns-in_err-reserve-clause-spares g c told = spares_unchanged [] c.self.view_is c.reserve.new.self c.reserve.ensures.unchanged
+
 pub returns-in_err-clone-2-clause-spares : goal.returns-in_err-clone-2-clause-spares
-returns-in_err-clone-2-clause-spares g c told = spares_unchanged [] c.self.view_is c.self.inside.tables refl
+returns-in_err-clone-2-clause-spares g c told = spares_unchanged [] c.self.view_is c.reserve.new.self c.reserve.ensures.unchanged
 
 pub returns-in_err-list-clause-spares : goal.returns-in_err-list-clause-spares
-returns-in_err-list-clause-spares g c told = spares_unchanged [] c.self.view_is c.take_by.new.self c.in_err-list.ensures.unchanged
+returns-in_err-list-clause-spares g c told = spares_unchanged [] c.self.view_is c.take_by.new.self (c.in_err-list.ensures.unchanged ∙ c.reserve.ensures.unchanged)
 
 pub returns-in_err-write_taken-clause-spares : goal.returns-in_err-write_taken-clause-spares
 returns-in_err-write_taken-clause-spares g c told =
-    taken_written c.deref.result.now c.deref.ensures.value c.self.view_is c.in_ok-list.ensures.taken
+    taken_written c.deref.result.now c.deref.ensures.value c.self.view_is (taken_reserved c.reserve.ensures.unchanged c.in_ok-list.ensures.taken)
     c.reserve_sectors.new.self c.write_taken.new.sectors c.len.result c.reserve_sectors.ensures (c.write_taken.ensures.changes told)
 
 pub returns-clause-spares : goal.returns-clause-spares
 returns-clause-spares g c told =
-    taken_written c.deref.result.now c.deref.ensures.value c.self.view_is c.in_ok-list.ensures.taken
+    taken_written c.deref.result.now c.deref.ensures.value c.self.view_is (taken_reserved c.reserve.ensures.unchanged c.in_ok-list.ensures.taken)
     c.reserve_sectors.new.self c.write_taken.new.sectors c.len.result c.reserve_sectors.ensures (c.write_taken.ensures.changes told)

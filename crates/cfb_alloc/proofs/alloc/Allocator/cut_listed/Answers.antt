@@ -3,7 +3,9 @@ use Rattle.cfb_tables.specs.Changes.{GivesBack}
 use Rattle.cfb_tables.specs.Clean.{IsUnnamed}
 use Rattle.cfb_tables.specs.Listed.{ends_of}
 use Rattle.cfb_tables.specs.Tables.{first_or_end}
+use Rattle.cfb_alloc.specs.Frame.{Spares}
 use Rattle.cfb_alloc.proofs.FrameLemmas.{changes_refl}
+use Rattle.cfb_alloc.proofs.Spared.{spares_refl}
 use Rattle.cfb_alloc.proofs.ListedLemmas.{shortened_none, left_chain}
 use Rattle.cfb_alloc.proofs.alloc.Allocator.cut_listed.Goals as goal
 
@@ -31,3 +33,13 @@ pub returns-clause-holds : goal.returns-clause-holds
 returns-clause-holds g c told validation h unnamed =
     c.free_behind-freed.ensures.holds told validation h
     (λ none. subst (λ (z : List ℕ). IsUnnamed c.args.self.now.tables.fat (first_or_end z)) (sym c.deref.ensures.value) (unnamed none))
+
+pub returns-then-left-len-clause-spares : goal.returns-then-left-len-clause-spares
+returns-then-left-len-clause-spares g c told = spares_refl c.args.ids.now.items c.args.self.now
+
+pub returns-in_err-usable_sizes-clause-spares : goal.returns-in_err-usable_sizes-clause-spares
+returns-in_err-usable_sizes-clause-spares g c told = spares_refl c.args.ids.now.items c.args.self.now
+
+pub returns-clause-spares : goal.returns-clause-spares
+returns-clause-spares g c told =
+    subst (λ (z : List ℕ). Spares z c.args.self.now c.free_behind-freed.new.self) c.deref.ensures.value (c.free_behind-freed.ensures.spares told)

@@ -10,6 +10,7 @@ use Rattle.cfb_tables.specs.Listed.{ends_of, gained}
 use Rattle.cfb_alloc.specs.ListedChain.{Lengthens}
 use Rattle.cfb_alloc.proofs.AllocLemmas.{others_refl, others_unchanged, others_written, placed_reserved, placed_written, touched_below, shown_below, shown_taken, fats_apart_shown, clean_taken, fats_known, difats_known, held_counted}
 use Rattle.cfb_alloc.proofs.ListedLemmas.{lengthened_none, shown_ends, shown_gained, tail_chain, ends_few}
+use Rattle.cfb_alloc.proofs.Spared.{spares_refl, spares_unchanged, taken_written}
 use Rattle.cfb_alloc.proofs.alloc.Allocator.extend_listed.Goals as goal
 
 pub returns-in_err-before-clause-others : goal.returns-in_err-before-clause-others
@@ -137,3 +138,31 @@ pub returns-clause-counts : goal.returns-clause-counts
 returns-clause-counts g c told =
     let same = ap (λ (f : SectorFile). f.failures) c.reserve_sectors.ensures ∙ ap (λ (a : AllocatorState). a.file.failures) c.self.view_is in
     subst (λ n. CountsFailure g.F.Medium.write_faults c.write_taken.result n c.write_taken.new.sectors.failures) same (c.write_taken.ensures.counts told)
+
+pub returns-in_err-before-clause-spares : goal.returns-in_err-before-clause-spares
+returns-in_err-before-clause-spares g c told = spares_refl (ends_of c.args.ids.now.items) c.args.self.now
+
+pub returns-then-count-eq0-clause-spares : goal.returns-then-count-eq0-clause-spares
+returns-then-count-eq0-clause-spares g c told = spares_refl (ends_of c.args.ids.now.items) c.args.self.now
+
+pub returns-in_err-extend_listed-clause-spares : goal.returns-in_err-extend_listed-clause-spares
+returns-in_err-extend_listed-clause-spares g c told =
+    spares_unchanged (ends_of c.args.ids.now.items) c.self.view_is c.extend_listed.new.self c.in_err-extend_listed.ensures.unchanged.0
+
+pub returns-clause-spares : goal.returns-clause-spares
+returns-clause-spares g c told =
+    let ids = c.args.ids.now.items in
+    let ids' = c.extend_listed.new.list.items in
+    let e = c.in_ok-extend_listed.ensures in
+    let t0 = c.self.inside.tables in
+    let t = c.extend_listed.new.self in
+    let chain = subst (λ (a : AllocatorState). IsChain a.tables.fat (first_or_end ids) ids) (sym c.self.view_is) c.requires.chain in
+    let n : c.len-len.result ≡ length ids = omega (arith, c.len-len.ensures, c.args.ids.now.ok.0) in
+    let m : c.saturating_sub.result ≡ length ids - 1 = omega (arith, c.saturating_sub.ensures, n) in
+    let ends : take (c.len-len.result - c.saturating_sub.result) (drop c.saturating_sub.result c.deref.result.now) ≡ ends_of ids =
+    shown_ends t0.fat (first_or_end ids) ids c.deref.result.now (gained ids ids') c.len-len.result c.saturating_sub.result chain (c.deref.ensures.value ∙ e.listed) n m in
+    let more : take (length c.deref-2.result.now - c.len-len.result) (drop c.len-len.result c.deref-2.result.now) ≡ gained ids ids' =
+    shown_gained ids c.deref-2.result.now c.len-len.result n ∙ ap (gained ids) c.deref-2.ensures.value in
+    let taken = subst (λ (z : List ℕ). HasTaken t0 t z (gained ids ids')) (sym ends) e.taken in
+    taken_written _ more c.self.view_is e.taken
+    c.reserve_sectors.new.self c.write_taken.new.sectors c.len.result c.reserve_sectors.ensures (c.write_taken.ensures.changes told)

@@ -7,8 +7,8 @@ use Rattle.cfb_tables.specs.Listed.{ends_of}
 use Rattle.cfb_tables.specs.Tables.{first_or_end}
 use Rattle.cfb_sectors.specs.Sectors.{SectorFile}
 use Rattle.cfb_alloc.proofs.Answering.{on_ok}
-use Rattle.cfb_alloc.proofs.FreeingLemmas.{placed_changed}
-use Rattle.cfb_alloc.proofs.ListedLemmas.{shown_cut, cut_below, listed_cut_clean, listed_cut_holds}
+use Rattle.cfb_alloc.proofs.FreeingLemmas.{changes_said, placed_changed}
+use Rattle.cfb_alloc.proofs.ListedLemmas.{shown_cut, cut_below, listed_cut_clean, listed_cut_holds, listed_cut_spares}
 use Rattle.cfb_alloc.proofs.alloc.Allocator.free_behind.Goals as goal
 
 pub write_values-requires-clause-placed : goal.write_values-requires-clause-placed
@@ -49,3 +49,15 @@ returns-clause-holds g c told validation h unnamed =
     on_ok (HoldsBut validation [] c.write_values.new.sectors t) (HoldsTables validation (record { file = c.write_values.new.sectors; tables = t })) c.write_values.result
     (λ b. record { holds = b; clean = clean })
     (c.write_values.ensures.ok told validation [] late)
+
+pub returns-clause-spares : goal.returns-clause-spares
+returns-clause-spares g c told =
+    let ids = c.args.ids.now in
+    let s0 = c.self.inside.sectors in
+    let s1 = c.write_values.new.sectors in
+    let t0 = c.self.inside.tables in
+    let t = c.cut_listed.new.self in
+    let e = c.cut_listed.ensures in
+    let chain = subst (λ (a : AllocatorState). IsChain a.tables.fat (first_or_end ids) ids) (sym c.self.view_is) c.requires.chain in
+    listed_cut_spares t0 t e.rest ids c.args.left chain c.requires.fewer e.cut s1 c.self.view_is
+    (changes_said t0 t e.rest c.args.self.now s0 s1.bytes c.self.view_is c.self.invariant (c.write_values.ensures.changes told))

@@ -1,10 +1,11 @@
-use Rattle.std.proofs.Common.{refl, sym, ◌∙◌, ap, subst}
+use Rattle.std.proofs.Common.{refl, [], sym, ◌∙◌, ap, subst}
 use Rattle.cfb_format.specs.Medium.{ChangesOnlyBytes}
 use Rattle.cfb_sectors.specs.Sectors.{SectorFile}
 use Rattle.cfb_sectors.specs.Words.{with_word}
-use Rattle.cfb_alloc.specs.Alloc.{HoldsTables}
+use Rattle.cfb_alloc.specs.Alloc.{AllocatorState, HoldsTables}
+use Rattle.cfb_alloc.specs.Frame.{Spares}
 use Rattle.cfb_alloc.proofs.Answering.{on_ok}
-use Rattle.cfb_alloc.proofs.HeaderField.{held_field}
+use Rattle.cfb_alloc.proofs.HeaderField.{held_field, field_spares}
 use Rattle.cfb_alloc.proofs.alloc.Allocator.write_header_word.Goals as goal
 
 pub returns-clause-holds : goal.returns-clause-holds
@@ -20,3 +21,12 @@ returns-clause-holds g c told validation h =
     (subst (λ p. ChangesOnlyBytes p 4 s0.bytes s1.bytes) c.place.ensures (c.write_header_word.ensures.others told))
     (subst (HoldsTables validation) (sym c.self.view_is) h))
     (c.write_header_word.ensures.ok told)
+
+pub returns-clause-spares : goal.returns-clause-spares
+returns-clause-spares g c told =
+    let s0 = c.self.inside.sectors in
+    let s1 = c.write_header_word.new.self in
+    let t = c.self.inside.tables in
+    subst (λ (a : AllocatorState). Spares [] a (record { file = s1; tables = t })) c.self.view_is
+    (field_spares c.args.word (record { file = s0; tables = t }) (record { file = s1; tables = t }) refl
+    (subst (λ p. ChangesOnlyBytes p 4 s0.bytes s1.bytes) c.place.ensures (c.write_header_word.ensures.others told)))
