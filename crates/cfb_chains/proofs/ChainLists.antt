@@ -1,105 +1,91 @@
 -- The list of a chain's sectors, as the chain grows, is cut, or breaks off.
-use Rattle.std.proofs.Common.{◌≡◌, ◌≢◌, ◌<◌, ◌≤◌, ◌+◌, ◌-◌, ℕ, List, [], ◌∷◌, ◌++◌, refl, sym, ◌∙◌, ap, subst, length, take, drop, arith, append_assoc, length-append}
-use Rattle.std.specs.Prelude.{Some, Result, Ok, Err, OnOk, OnErr, IfErr, Contains, slice_index}
-use Rattle.std.proofs.Transfers.{drop-appended}
-use Rattle.std.proofs.lemmas.List.{take_more, take_all, take-append-drop, get_or_push}
+use Rattle.std.proofs.Common.{◌≡◌, ◌≢◌, ◌<◌, ◌≤◌, ◌+◌, ◌-◌, ◌⊎◌, inl, inr, ℕ, true, List, [], ◌∷◌, ◌++◌, sym, ◌∙◌, ap, subst, length, take, arith}
+use Rattle.std.specs.Prelude.{Some, Result, Ok, Err, OnOk, OnErr, IfErr, Contains}
+use Rattle.std.proofs.lemmas.Bool.{cases_eq}
+use Rattle.std.proofs.lemmas.List.{take_more, take_all}
 use Rattle.std.proofs.lemmas.List.Elements.{Contains-append_right}
 use Rattle.cfb_format.specs.declared.error.Error.{Error}
 use Rattle.cfb_format.specs.declared.error.Error.TheVariants.{NotFound, AlreadyExists, InvalidInput, InvalidData, Medium, Memory, Full, Unsound, Failed, Unsupported}
-use Rattle.cfb_format.specs.Bytes.{end_of_chain, max_regular_sector}
-use Rattle.cfb_format.specs.Chain.{value, IsChain, chain_from}
-use Rattle.cfb_format.proofs.Unique.{IsChain-unique}
+use Rattle.cfb_format.specs.Bytes.{end_of_chain}
+use Rattle.cfb_format.specs.Chain.{IsChain, chain_from}
+use Rattle.cfb_format.specs.Refused.{AfterMedium}
 use Rattle.cfb_alloc.specs.Alloc.{AllocatorState}
-use Rattle.cfb_chains.specs.ChainLists.{StaysOrBecomes}
+use Rattle.cfb_alloc.specs.ListedChain.{ListBreaksOff}
 use Rattle.cfb_tables.specs.Listed.{ends_of, last_or_end}
-use Rattle.cfb_tables.specs.Changes.{NoChain, GivesBack}
-use Rattle.cfb_alloc.specs.Broken.{BreaksOff}
-use Rattle.cfb_tables.specs.Tables.{TableState, HasTaken, GivesBackChain, TablesGiveBack, ending, first_or_end}
+use Rattle.cfb_tables.specs.Tables.{TableState, GivesBackChain, TablesGiveBack, ending, first_or_end}
 use Rattle.cfb_alloc.proofs.AllocLemmas.{ending_other}
 use Rattle.cfb_alloc.proofs.Answering.{on_ok, all_ok}
-use Rattle.cfb_tables.proofs.AttachLemmas.{extended, last-known}
-use Rattle.cfb_tables.proofs.ChainLemmas.{chain-turn, chain-rest, members-busy, regular-le}
 use Rattle.cfb_alloc.proofs.ChainView.{found_chain, chain_found}
 use Rattle.cfb_alloc.proofs.EmptyChain.{none_freed}
-use Rattle.cfb_tables.proofs.ListedLemmas.{end_chain, grown_chain, last_is, last_pushed, what_is_left-is-chain}
-use Rattle.cfb_tables.proofs.Members.{Contains-nil, Contains-here, Contains-one, none_distinct, distinct-apart, value-below}
+use Rattle.cfb_tables.proofs.Members.{Contains-nil, Contains-here, Contains-one}
 
 pub on_err : {T E : Type 0} (P Q : E → Type 0) (r : Result T E) → ((e : E) → P e → Q e) → IfErr r P → IfErr r Q
 on_err P Q (Ok x) f p = tt
 on_err P Q (Err e) f p = f e p
 
-pub breaks_map : (made made' : TableState → TableState → Type 0) (old new : AllocatorState) → (made old.tables new.tables → made' old.tables new.tables)
-    → (e : Error) → BreaksOff made old new e → BreaksOff made' old new e
-breaks_map made made' old new f (Medium m) b = (b.0, f b.1)
-breaks_map made made' old new f (InvalidData d) b = b
-breaks_map made made' old new f (NotFound d) b = b
-breaks_map made made' old new f (AlreadyExists d) b = b
-breaks_map made made' old new f (InvalidInput d) b = b
-breaks_map made made' old new f Memory b = b
-breaks_map made made' old new f Full b = b
-breaks_map made made' old new f Unsound b = b
-breaks_map made made' old new f Failed b = b
-breaks_map made made' old new f Unsupported b = b
+pub after_map : (broken kept broken' kept' : Type 0) → (broken → broken') → (kept → kept') → (e : Error) → AfterMedium broken kept e → AfterMedium broken' kept' e
+after_map broken kept broken' kept' f g (Medium m) r = f r
+after_map broken kept broken' kept' f g (InvalidData d) r = g r
+after_map broken kept broken' kept' f g (NotFound d) r = g r
+after_map broken kept broken' kept' f g (AlreadyExists d) r = g r
+after_map broken kept broken' kept' f g (InvalidInput d) r = g r
+after_map broken kept broken' kept' f g Memory r = g r
+after_map broken kept broken' kept' f g Full r = g r
+after_map broken kept broken' kept' f g Unsound r = g r
+after_map broken kept broken' kept' f g Failed r = g r
+after_map broken kept broken' kept' f g Unsupported r = g r
 
--- ---- where a list ends
+after_either : (broken kept : Type 0) (e : Error) → AfterMedium broken kept e → broken ⊎ kept
+after_either broken kept (Medium m) r = inl r
+after_either broken kept (InvalidData d) r = inr r
+after_either broken kept (NotFound d) r = inr r
+after_either broken kept (AlreadyExists d) r = inr r
+after_either broken kept (InvalidInput d) r = inr r
+after_either broken kept Memory r = inr r
+after_either broken kept Full r = inr r
+after_either broken kept Unsound r = inr r
+after_either broken kept Failed r = inr r
+after_either broken kept Unsupported r = inr r
 
-ends : (table : List ℕ) (s : ℕ) (ids : List ℕ) → IsChain table s ids → (last_or_end ids ≢ end_of_chain) → value table (last_or_end ids) ≡ end_of_chain
-ends table s [] c other = absurd (other refl)
-ends table s (x ∷ list) c other = (last_is table s (x ∷ list) c (omega arith)).0
+-- a change of a listed chain was made, or nothing has changed
+pub made_or_not : {T : Type 0} (r : Result T Error) (made : List ℕ → List ℕ → TableState → TableState → Type 0) (ids ids' : List ℕ) (old new : AllocatorState)
+    → OnOk r (made ids ids' old.tables new.tables) → IfErr r (ListBreaksOff made ids ids' old new)
+    → made ids ids' old.tables new.tables ⊎ ((new ≡ old) × (ids' ≡ ids))
+made_or_not (Ok x) made ids ids' old new ok err = inl ok
+made_or_not (Err e) made ids ids' old new ok err =
+    elim (after_either ((new.file.begun ≡ true) × made ids ids' old.tables new.tables) ((new ≡ old) × (ids' ≡ ids)) e err) [ inl b ↦ inl b.1 | inr k ↦ inr k ]
 
-pub last_ends : (table : List ℕ) (s last : ℕ) (ids : List ℕ) → chain_from table s ≡ Some ids → last ≡ last_or_end ids
-    → (last ≢ end_of_chain) × (value table last ≢ end_of_chain) → ⊥
-last_ends table s last ids e is (other, goes) =
-    goes (ap (value table) is ∙ ends table s ids (found_chain table s ids e) (λ same. other (is ∙ same)))
+-- ---- where a list starts and ends
 
--- ---- growth
+pub start_is : (table : List ℕ) (s : ℕ) (ids : List ℕ) → chain_from table s ≡ Some ids → s ≡ first_or_end ids
+start_is table s [] e = (found_chain table s [] e).follows
+start_is table s (x ∷ ids) e = (found_chain table s (x ∷ ids) e).follows.0
 
-pub grown_found : (t t' : TableState) (s s' last : ℕ) (ids ids' more : List ℕ) → chain_from t.fat s ≡ Some ids → last ≡ last_or_end ids
-    → HasTaken t t' (ending last) more → IsChain t'.fat (first_or_end (ending last ++ more)) (ending last ++ more)
-    → ids' ≡ ids ++ more → s' ≡ first_or_end ids' → chain_from t'.fat s' ≡ Some ids'
-grown_found t t' s s' last ids ids' more e is taken chain listed first =
-    let c = grown_chain t t' s ids more (found_chain t.fat s ids e) (subst (λ k. HasTaken t t' (ending k) more) is taken)
-    (subst (λ k. IsChain t'.fat (first_or_end (ending k ++ more)) (ending k ++ more)) is chain) in
-    chain_found t'.fat s' ids' (subst (λ k. IsChain t'.fat k ids') (sym first) (subst (λ (z : List ℕ). IsChain t'.fat (first_or_end z) z) (sym listed) c))
+pub listed_chain : (table : List ℕ) (s : ℕ) (ids : List ℕ) → chain_from table s ≡ Some ids → IsChain table (first_or_end ids) ids
+listed_chain table s ids e = subst (λ k. IsChain table k ids) (start_is table s ids e) (found_chain table s ids e)
 
--- ---- a change that broke off
+pub listed_found : (table : List ℕ) (s : ℕ) (ids : List ℕ) → s ≡ first_or_end ids → IsChain table (first_or_end ids) ids → chain_from table s ≡ Some ids
+listed_found table s ids first c = chain_found table s ids (subst (λ k. IsChain table k ids) (sym first) c)
 
-pub left_found : (made : TableState → TableState → Type 0) (old new : AllocatorState) (s s' : ℕ) (ids ids' : List ℕ) (e : Error) → chain_from old.tables.fat s ≡ Some ids
-    → BreaksOff made old new e → StaysOrBecomes [] ids ids' e → StaysOrBecomes end_of_chain s s' e → chain_from new.tables.fat s' ≡ Some ids'
-left_found made old new s s' ids ids' (Medium f) was b list start =
-    ap (chain_from new.tables.fat) start ∙ chain_found new.tables.fat end_of_chain [] (end_chain new.tables.fat) ∙ ap (λ (z : List ℕ). Some z) (sym list)
-left_found made old new s s' ids ids' (InvalidData d) was b list start = (λ j. chain_from (b j).tables.fat (start j)) ∙ was ∙ ap (λ (z : List ℕ). Some z) (sym list)
-left_found made old new s s' ids ids' (NotFound d) was b list start = (λ j. chain_from (b j).tables.fat (start j)) ∙ was ∙ ap (λ (z : List ℕ). Some z) (sym list)
-left_found made old new s s' ids ids' (AlreadyExists d) was b list start = (λ j. chain_from (b j).tables.fat (start j)) ∙ was ∙ ap (λ (z : List ℕ). Some z) (sym list)
-left_found made old new s s' ids ids' (InvalidInput d) was b list start = (λ j. chain_from (b j).tables.fat (start j)) ∙ was ∙ ap (λ (z : List ℕ). Some z) (sym list)
-left_found made old new s s' ids ids' Memory was b list start = (λ j. chain_from (b j).tables.fat (start j)) ∙ was ∙ ap (λ (z : List ℕ). Some z) (sym list)
-left_found made old new s s' ids ids' Full was b list start = (λ j. chain_from (b j).tables.fat (start j)) ∙ was ∙ ap (λ (z : List ℕ). Some z) (sym list)
-left_found made old new s s' ids ids' Unsound was b list start = (λ j. chain_from (b j).tables.fat (start j)) ∙ was ∙ ap (λ (z : List ℕ). Some z) (sym list)
-left_found made old new s s' ids ids' Failed was b list start = (λ j. chain_from (b j).tables.fat (start j)) ∙ was ∙ ap (λ (z : List ℕ). Some z) (sym list)
-left_found made old new s s' ids ids' Unsupported was b list start = (λ j. chain_from (b j).tables.fat (start j)) ∙ was ∙ ap (λ (z : List ℕ). Some z) (sym list)
+last_among : (xs : List ℕ) → 0 < length xs → Contains xs (last_or_end xs)
+last_among xs some =
+    let n : length xs ≡ length xs - 1 + 1 = omega (arith, some) in
+    let split : xs ≡ take (length xs - 1) xs ++ last_or_end xs ∷ []
+    = sym (take_all (length xs) xs (omega arith)) ∙ ap (λ (k : ℕ). take k xs) n ∙ take_more xs (length xs - 1) end_of_chain (omega (arith, some)) in
+    subst (λ (z : List ℕ). Contains z (last_or_end xs)) (sym split)
+    (Contains-append_right (take (length xs - 1) xs) (last_or_end xs ∷ []) (last_or_end xs) (Contains-here (last_or_end xs) []))
+
+-- where a chain ends is one of its members
+pub ends_among : (xs : List ℕ) (i : ℕ) → Contains (ends_of xs) i → Contains xs i
+ends_among [] i m = m
+ends_among (x ∷ xs) i m =
+    let last = last_or_end (x ∷ xs) in
+    elim (cases_eq last end_of_chain) [
+      | inl e ↦ absurd (Contains-nil i (subst (λ (k : ℕ). Contains (ending k) i) e m))
+      | inr ne ↦ subst (Contains (x ∷ xs)) (Contains-one last i (subst (λ (z : List ℕ). Contains z i) (ending_other last ne) m)) (last_among (x ∷ xs) (omega arith))
+    ]
 
 -- ---- cuts
-
-cut_chain : (old new : TableState) (s : ℕ) (left gone : List ℕ) → IsChain old.fat s (left ++ gone) → TablesGiveBack (ends_of left) gone old new → IsChain new.fat (first_or_end left) left
-cut_chain old new s [] gone c cut = end_chain new.fat
-cut_chain old new s (x ∷ list) gone c cut =
-    what_is_left-is-chain old.fat new.fat (x ∷ list) gone (subst (λ k. IsChain old.fat k (x ∷ list ++ gone)) c.follows.0 c) cut.given
-
-pub cut_found : (old new : TableState) (s s' count : ℕ) (ids ids' : List ℕ) → chain_from old.fat s ≡ Some ids → TablesGiveBack (ends_of (take count ids)) (drop count ids) old new
-    → ids' ≡ take count ids → s' ≡ first_or_end ids' → chain_from new.fat s' ≡ Some ids'
-cut_found old new s s' count ids ids' e cut listed first =
-    let whole : IsChain old.fat s (take count ids ++ drop count ids) = subst (IsChain old.fat s) (sym (take-append-drop count ids)) (found_chain old.fat s ids e) in
-    let c = cut_chain old new s (take count ids) (drop count ids) whole cut in
-    chain_found new.fat s' ids' (subst (λ k. IsChain new.fat k ids') (sym first) (subst (λ (z : List ℕ). IsChain new.fat (first_or_end z) z) (sym listed) c))
-
-freed_all : (old new : TableState) (s : ℕ) (ids : List ℕ) → chain_from old.fat s ≡ Some ids → GivesBackChain [] s old new → TablesGiveBack [] ids old new
-freed_all old new s ids e f =
-    let same : f.0 ≡ ids = IsChain-unique old.fat s f.0 ids f.1 (found_chain old.fat s ids e) in
-    subst (λ (z : List ℕ). TablesGiveBack [] z old new) same f.2
-
-pub freed_shortens : (old new : TableState) (s count : ℕ) (ids : List ℕ) → count ≡ 0 → chain_from old.fat s ≡ Some ids → GivesBackChain [] s old new
-    → TablesGiveBack (ends_of (take count ids)) (drop count ids) old new
-freed_shortens old new s count ids zero e f = subst (λ k. TablesGiveBack (ends_of (take k ids)) (drop k ids) old new) (sym zero) (freed_all old new s ids e f)
 
 -- a chain is freed as it is cut behind nothing
 pub shortened_frees : (old new : TableState) (s : ℕ) (ids : List ℕ) → chain_from old.fat s ≡ Some ids → TablesGiveBack [] ids old new → GivesBackChain [] s old new
@@ -111,39 +97,3 @@ freed_of r old new s [] e none some =
     all_ok r (subst (λ (a : AllocatorState). GivesBackChain [] s old.tables a.tables) (sym (none (omega arith)).1) (none_freed old.tables s e))
 freed_of r old new s (x ∷ list) e none some =
     on_ok (TablesGiveBack [] (x ∷ list) old.tables new.tables) (GivesBackChain [] s old.tables new.tables) r (shortened_frees old.tables new.tables s (x ∷ list) e) (some (omega arith))
-
--- the sector at a place, with those before it and behind it
-module _ (ids : List ℕ) (count sector : ℕ) (some : count ≡ 0 → ⊥) (fewer : count < length ids) (at : sector ≡ slice_index ids (count - 1)) where
-  left_is : take count ids ≡ take (count - 1) ids ++ sector ∷ []
-  left_is =
-      let n : count ≡ count - 1 + 1 = omega (arith, some) in
-      ap (λ (k : ℕ). take k ids) n ∙ take_more ids (count - 1) 0 (omega arith) ∙ ap (λ (y : ℕ). take (count - 1) ids ++ y ∷ []) (sym at)
-
-  whole_is : ids ≡ take (count - 1) ids ++ sector ∷ drop count ids
-  whole_is =
-      sym (take-append-drop count ids) ∙ ap (λ (z : List ℕ). z ++ drop count ids) left_is ∙ append_assoc (take (count - 1) ids) (sector ∷ []) (drop count ids)
-
-  module _ (table : List ℕ) (s : ℕ) (e : chain_from table s ≡ Some ids) where
-    goes_on : IsChain table s (take (count - 1) ids ++ sector ∷ drop count ids)
-    goes_on = subst (IsChain table s) whole_is (found_chain table s ids e)
-
-    pub behind_is : IsChain table (value table sector) (drop count ids)
-    behind_is = chain-rest table s (take (count - 1) ids) sector (drop count ids) goes_on
-
-    ending_is : ending (last_or_end (take count ids)) ≡ sector ∷ []
-    ending_is =
-        let low = regular-le sector (members-busy table s (take (count - 1) ids ++ sector ∷ drop count ids) goes_on sector
-        (Contains-append_right (take (count - 1) ids) (sector ∷ drop count ids) sector (Contains-here sector (drop count ids)))).2 in
-        ap ending (ap last_or_end left_is ∙ last_pushed (take (count - 1) ids) sector) ∙ ending_other sector (λ is. omega (arith, low, is))
-
-pub cut_shortens : (old new : TableState) (s count sector : ℕ) (ids : List ℕ) → (count ≡ 0 → ⊥) → count < length ids → sector ≡ slice_index ids (count - 1)
-    → chain_from old.fat s ≡ Some ids → GivesBackChain (sector ∷ []) (value old.fat sector) old new → TablesGiveBack (ends_of (take count ids)) (drop count ids) old new
-cut_shortens old new s count sector ids some fewer at e f =
-    let gone = drop count ids in
-    let same : f.0 ≡ gone = IsChain-unique old.fat (value old.fat sector) f.0 gone f.1 (behind_is ids count sector some fewer at old.fat s e) in
-    let one = ending_is ids count sector some fewer at old.fat s e in
-    subst (λ (z : List ℕ). TablesGiveBack z gone old new) (sym one) (subst (λ (z : List ℕ). TablesGiveBack (sector ∷ []) z old new) same f.2)
-
-pub behind_found : (table : List ℕ) (s count sector : ℕ) (ids : List ℕ) → (count ≡ 0 → ⊥) → count < length ids → sector ≡ slice_index ids (count - 1)
-    → chain_from table s ≡ Some ids → NoChain table (value table sector) → ⊥
-behind_found table s count sector ids some fewer at e none = none (drop count ids) (behind_is ids count sector some fewer at table s e)

@@ -131,10 +131,6 @@ module _ {F A : Type 0} {g : medium.Ghosts F} {n : numbers.Ghosts (Vec ℕ A)} w
     pub fresh : (k : ℕ) → len_of old ≤ k → k < len_of new
         → (place_at new k < length (file_bytes_of new)) × (byte_of new k ≡ slice_index (init_bytes (version_of old) (init_of old)) (k % sector_len (version_of old)))
 
-  -- it has no sectors
-  abbrev pub HasNoSectors : Chain F A (Vec ℕ A) g n → Type 0
-  HasNoSectors c = (ids_of c ≡ []) × (position_of c ≡ 0)
-
   -- it has so many sectors more, and the position stayed
   abbrev pub HasGained : ℕ → Chain F A (Vec ℕ A) g n → Chain F A (Vec ℕ A) g n → Type 0
   HasGained count old new = (ids_of new ≡ ids_of old ++ gained (ids_of old) (ids_of new)) × (length (gained (ids_of old) (ids_of new)) ≡ count) × (position_of new ≡ position_of old)
@@ -142,6 +138,11 @@ module _ {F A : Type 0} {g : medium.Ghosts F} {n : numbers.Ghosts (Vec ℕ A)} w
   -- it has so many of its sectors, and the position is the end where it was past it
   abbrev pub HasKept : ℕ → Chain F A (Vec ℕ A) g n → Chain F A (Vec ℕ A) g n → Type 0
   HasKept count old new = (ids_of new ≡ take count (ids_of old)) × (position_of new ≡ min (position_of old) (len_of new))
+
+  -- it has so many sectors, gained or kept
+  pub record HasTurned (count : ℕ) (old new : Chain F A (Vec ℕ A) g n) : Type 0 where
+    pub longer : length (ids_of old) < count → HasGained (count - length (ids_of old)) old new
+    pub shorter : count ≤ length (ids_of old) → HasKept count old new
 
   -- nothing has changed
   abbrev pub IsAsBefore : Chain F A (Vec ℕ A) g n → Chain F A (Vec ℕ A) g n → Type 0

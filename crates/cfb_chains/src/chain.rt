@@ -1,5 +1,5 @@
 //! A chain of sectors as one list of bytes with a position (MS-CFB 2.3).
-ghost use Rattle.std.specs.Prelude.{◌≡◌, ◌≢◌, ℕ, List, [], ◌++◌, ◌+◌, ◌-◌, ◌*◌, ◌/◌, ◌%◌, ◌<◌, ◌≤◌, max, min, length, replicate, true, take, drop, slice_index, ◌⊎◌, Contains, Some, IsTrue, IfOk, IfErr, IsErrAnd, OnOk, OnErr, MatchResult, vec_len, vec_capacity};
+ghost use Rattle.std.specs.Prelude.{◌≡◌, ◌≢◌, ℕ, List, [], ◌∷◌, ◌++◌, ◌+◌, ◌-◌, ◌*◌, ◌/◌, ◌%◌, ◌<◌, ◌≤◌, max, min, length, replicate, true, take, drop, slice_index, ◌⊎◌, Contains, Some, IsTrue, IfOk, IfErr, IsErrAnd, OnOk, OnErr, MatchResult, vec_len};
 ghost use Rattle.cfb_format.specs.declared.validate.Validation.{Validation};
 ghost use Rattle.cfb_format.specs.Bytes.{sector_len, sector_start, max_regular_sector, end_of_chain, free_sector};
 ghost use Rattle.cfb_format.specs.Chain.{IsChain, chain_from, value};
@@ -11,7 +11,9 @@ ghost use Rattle.cfb_tables.specs.Clean.{IsUnnamed};
 ghost use Rattle.cfb_sectors.specs.Sectors.{copies, init_bytes, IsMediumError, IsRaised, SectorStays};
 ghost use Rattle.cfb_tables.specs.Refused.{WalkRefused, ChangeRefused};
 ghost use Rattle.cfb_alloc.specs.Broken.{BreaksOff};
-ghost use Rattle.cfb_tables.specs.Tables.{GivesBackChain, TablesGiveBack, HasTaken, TakesFor, IsTooFew, ending, first_or_end};
+ghost use Rattle.cfb_alloc.specs.Frame.{Spares};
+ghost use Rattle.cfb_alloc.specs.ListedChain.{Lengthens, Shortens, ListBreaksOff};
+ghost use Rattle.cfb_tables.specs.Tables.{GivesBackChain, TablesGiveBack, HasTaken, IsTooFew, ending, first_or_end};
 ghost use Rattle.cfb_chains.specs.ChainLists.{StaysOrBecomes};
 ghost use Rattle.cfb_tables.specs.Listed.{ends_of, gained, last_or_end};
 
@@ -283,6 +285,7 @@ impl<'a, F: Medium, A: Heap> Chain<'a, F, A> {
         ensures sectors { IsTrue F.tells → (i : ℕ) → (HoldsWanted (length from.now) self.old i → ⊥)
             → SectorStays (version_of self.old) i (allocator_of self.old).now.file.bytes (allocator_of self.new).now.file.bytes }
         ensures others { IsTrue F.tells → ChangesOnlyWanted (length from.now) self.old self.new }
+        ensures spares { IsTrue F.tells → Spares (ids_of self.old) (allocator_of self.old).now (allocator_of self.new).now }
         ensures counts { IsTrue F.tells → CountsFailure F.write_faults result (allocator_of self.old).now.file.failures (allocator_of self.new).now.file.failures }
     {
         let room = from.len().min(self.room_here());
@@ -321,6 +324,7 @@ impl<'a, F: Medium, A: Heap> Chain<'a, F, A> {
             → SectorStays (version_of self.old) i (allocator_of self.old).now.file.bytes (allocator_of self.new).now.file.bytes }
         ensures others { IsTrue F.tells → ChangesOnlyBytes (place_of self.old) (length from.now)
             (allocator_of self.old).now.file.bytes (allocator_of self.new).now.file.bytes }
+        ensures spares { IsTrue F.tells → Spares (ids_of self.old) (allocator_of self.old).now (allocator_of self.new).now }
         ensures counts { IsTrue F.tells → CountsFailure F.write_faults result (allocator_of self.old).now.file.failures (allocator_of self.new).now.file.failures }
     {
         let sector = self.sector_at(self.position);
@@ -361,6 +365,7 @@ impl<'a, F: Medium, A: Heap> Chain<'a, F, A> {
             → SectorStays (version_of self.old) i (allocator_of self.old).now.file.bytes (allocator_of self.new).now.file.bytes }
         ensures others { IsTrue F.tells → ChangesOnlyBytes (place_at self.old offset) (tail_of self.old offset)
             (allocator_of self.old).now.file.bytes (allocator_of self.new).now.file.bytes }
+        ensures spares { IsTrue F.tells → Spares (ids_of self.old) (allocator_of self.old).now (allocator_of self.new).now }
         ensures counts { IsTrue F.tells → CountsFailure F.write_faults result (allocator_of self.old).now.file.failures (allocator_of self.new).now.file.failures }
     {
         let rest = (offset % self.allocator.sector_len() as u64) as usize;
@@ -373,13 +378,13 @@ impl<'a, F: Medium, A: Heap> Chain<'a, F, A> {
 }
 
 impl<'a, F: Medium, A: Heap + Clone> Chain<'a, F, A> {
-    ghost use Rattle.cfb_chains.specs.LentChain.{allocator_of, start_sector_of, ids_of, init_of, version_of, len_of, position_of, missing_of, wanted_of, HasNoSectors, HasGained, HasKept, IsAsBefore, IsWholeChain, content_of, HasBytes, HoldsWanted, HasWritten, HasResized};
+    ghost use Rattle.cfb_chains.specs.LentChain.{allocator_of, start_sector_of, ids_of, init_of, version_of, len_of, position_of, missing_of, wanted_of, HasGained, HasTurned, IsAsBefore, IsWholeChain, content_of, HasBytes, HoldsWanted, HasWritten, HasResized};
 
     /// Frees its sectors: then it has none. Where it had none nothing changes.
     ///
-    /// `InvalidData` where the FAT sectors do not cover the file; `Medium` where the medium fails, and `Memory`. Nothing has changed
-    /// where it is refused, but after `Medium`: then the sectors are free in memory, it has none, and of the file's bytes the FAT
-    /// sectors alone have changed.
+    /// It asks for no memory. `InvalidData` where the FAT sectors do not cover the file, and `Medium` where the medium fails. Nothing
+    /// has changed where it is refused, but after `Medium`: then the sectors are free in memory, it has none, and of the file's bytes
+    /// the FAT sectors alone have changed.
     pub fn free(&mut self) -> Result<(), Error>
         ensures same_allocator { (allocator_of self.new).ghost_name ≡ (allocator_of self.old).ghost_name }
         ensures init { init_of self.new ≡ init_of self.old }
@@ -390,10 +395,11 @@ impl<'a, F: Medium, A: Heap + Clone> Chain<'a, F, A> {
             → IsUnnamed (allocator_of self.old).now.tables.fat (start_sector_of self.old) → OnOk result (HoldsTables validation (allocator_of self.new).now) }
         ensures changes { IsTrue F.tells → ChangesSectors (allocator_of self.old).now.tables.fat_sectors (allocator_of self.old).now.tables.version
             (allocator_of self.old).now.file.bytes (allocator_of self.new).now.file.bytes }
+        ensures spares { IsTrue F.tells → Spares (ids_of self.old) (allocator_of self.old).now (allocator_of self.new).now }
         ensures refused { IfErr result (BreaksOff (GivesBackChain [] (start_sector_of self.old)) (allocator_of self.old).now (allocator_of self.new).now) }
         ensures view { IfErr result (StaysOrBecomes [] (ids_of self.old) (ids_of self.new)) }
         ensures place { IfErr result (StaysOrBecomes 0 (position_of self.old) (position_of self.new)) }
-        ensures err { IfErr result (ChangeRefused (IsUsable (allocator_of self.old).now.tables → ⊥) Unit ⊥ Unit) }
+        ensures err { IfErr result (ChangeRefused (IsUsable (allocator_of self.old).now.tables → ⊥) ⊥ ⊥ Unit) }
         ensures begun { 0 < length (ids_of self.old) → OnOk result ((allocator_of self.new).now.file.begun ≡ true) }
         ensures counts { IsTrue F.tells → CountsFailure F.write_faults result (allocator_of self.old).now.file.failures (allocator_of self.new).now.file.failures }
     {
@@ -407,8 +413,8 @@ impl<'a, F: Medium, A: Heap + Clone> Chain<'a, F, A> {
     ///
     /// Where sectors are missing: `InvalidData` where the FAT sectors do not cover the file, `Full` where fewer numbers are left than
     /// the missing sectors and the table sectors that they need, and `Memory`: nothing has changed then. `Medium` where the medium
-    /// fails: then it has gained the sectors or, where that broke off, has none, and no byte has changed but in the sectors where `from`
-    /// was to stand, in table sectors and in sectors that were free.
+    /// fails: then it has gained the sectors in memory, and no byte has changed but in the sectors where `from` was to stand, in table
+    /// sectors and in sectors that were free.
     pub fn write(&mut self, from: &[u8]) -> Result<usize, Error>
         ensures same_allocator { (allocator_of self.new).ghost_name ≡ (allocator_of self.old).ghost_name }
         ensures init { init_of self.new ≡ init_of self.old }
@@ -434,14 +440,16 @@ impl<'a, F: Medium, A: Heap + Clone> Chain<'a, F, A> {
             → (HoldsWanted (length from.now) self.old i → ⊥)
             → SectorStays (version_of self.old) i (allocator_of self.old).now.file.bytes (allocator_of self.new).now.file.bytes }
         ensures foreign { IsTrue F.tells → OthersStayBut (ids_of self.old) (allocator_of self.old).now (allocator_of self.new).now }
+        ensures spares { IsTrue F.tells → Spares (ids_of self.old) (allocator_of self.old).now (allocator_of self.new).now }
         ensures there { IsTrue F.tells → IfOk result (λ n. 0 < n → part (allocator_of self.new).now.file.bytes
             (sector_start (version_of self.old) (slice_index (ids_of self.new) (position_of self.old / sector_len (version_of self.old)))
             + position_of self.old % sector_len (version_of self.old)) n ≡ take n from.now) }
         ensures begun { 0 < length from.now → OnOk result ((allocator_of self.new).now.file.begun ≡ true) }
         ensures broken { IfErr result (AfterMedium
-            (((allocator_of self.new).now.file.begun ≡ true) × (HasNoSectors self.new ⊎ HasGained (missing_of self.old (length from.now)) self.old self.new))
+            (((allocator_of self.new).now.file.begun ≡ true) × HasGained (missing_of self.old (length from.now)) self.old self.new)
             (IsAsBefore self.old self.new)) }
-        ensures err { IfErr result (ChangeRefused (IsUsable (allocator_of self.old).now.tables → ⊥) Unit
+        ensures err { IfErr result (ChangeRefused (IsUsable (allocator_of self.old).now.tables → ⊥)
+            (IsTooFew (allocator_of self.old).now.tables (missing_of self.old (length from.now)) → ⊥)
             (IsTooFew (allocator_of self.old).now.tables (missing_of self.old (length from.now))) Unit) }
         ensures needed { missing_of self.old (length from.now) ≡ 0 → IfErr result IsMediumError }
         ensures counts { IsTrue F.tells → CountsFailure F.write_faults result (allocator_of self.old).now.file.failures (allocator_of self.new).now.file.failures }
@@ -458,8 +466,8 @@ impl<'a, F: Medium, A: Heap + Clone> Chain<'a, F, A> {
     /// gains none, the bytes of the last one behind this length become zeros. The position stays, or is the end where it was past it.
     /// The length that it has changes nothing.
     ///
-    /// `InvalidData`, `Full` and `Memory` as in `write`: nothing has changed then. `Medium` where the medium fails: it has no sectors
-    /// where a gain or a loss of sectors broke off.
+    /// `InvalidData`, `Full` and `Memory` as in `write`: nothing has changed then; a shorter length asks for no memory. `Medium` where
+    /// the medium fails: then it has its new sectors in memory.
     pub fn set_len(&mut self, len: u64) -> Result<(), Error>
         ensures same_allocator { (allocator_of self.new).ghost_name ≡ (allocator_of self.old).ghost_name }
         ensures init { init_of self.new ≡ init_of self.old }
@@ -498,10 +506,12 @@ impl<'a, F: Medium, A: Heap + Clone> Chain<'a, F, A> {
             → i ≢ slice_index (ids_of self.new) (len / sector_len (version_of self.old))
             → SectorStays (version_of self.old) i (allocator_of self.old).now.file.bytes (allocator_of self.new).now.file.bytes }
         ensures foreign { IsTrue F.tells → OthersStayBut (ids_of self.old) (allocator_of self.old).now (allocator_of self.new).now }
+        ensures spares { IsTrue F.tells → Spares (ids_of self.old) (allocator_of self.old).now (allocator_of self.new).now }
         ensures broken { IfErr result (AfterMedium
-            (((allocator_of self.new).now.file.begun ≡ true) × (HasNoSectors self.new ⊎ HasKept (wanted_of self.old len) self.old self.new))
+            (((allocator_of self.new).now.file.begun ≡ true) × HasTurned (wanted_of self.old len) self.old self.new)
             (IsAsBefore self.old self.new)) }
-        ensures err { IfErr result (ChangeRefused (IsUsable (allocator_of self.old).now.tables → ⊥) Unit
+        ensures err { IfErr result (ChangeRefused (IsUsable (allocator_of self.old).now.tables → ⊥)
+            ((length (ids_of self.old) < wanted_of self.old len) × (IsTooFew (allocator_of self.old).now.tables (wanted_of self.old len - length (ids_of self.old)) → ⊥))
             (IsTooFew (allocator_of self.old).now.tables (wanted_of self.old len - length (ids_of self.old))) Unit) }
         ensures needed { wanted_of self.old len ≡ length (ids_of self.old) → IfErr result IsMediumError }
         ensures begun { OnOk result (IsRaised (wanted_of self.old len ≢ length (ids_of self.old)) (allocator_of self.old).now.file (allocator_of self.new).now.file) }
@@ -516,15 +526,15 @@ impl<'a, F: Medium, A: Heap + Clone> Chain<'a, F, A> {
         self.zero_tail(len)
     }
 
-    /// Adds so many sectors at its end: all of them or none. After `Medium` it has no sectors: what was taken is not known to be in
-    /// the file. After any other error nothing has changed.
+    /// Adds so many sectors at its end: all of them or none. After `Medium` it has them in memory, and after any other error nothing has
+    /// changed.
     fn grow(&mut self, count: usize) -> Result<(), Error>
         ensures same_allocator { (allocator_of self.new).ghost_name ≡ (allocator_of self.old).ghost_name }
         ensures init { init_of self.new ≡ init_of self.old }
         ensures version { version_of self.new ≡ version_of self.old }
         ensures ids { OnOk result (ids_of self.new ≡ ids_of self.old ++ gained (ids_of self.old) (ids_of self.new)) }
         ensures count { OnOk result (length (gained (ids_of self.old) (ids_of self.new)) ≡ count) }
-        ensures position { OnOk result (position_of self.new ≡ position_of self.old) }
+        ensures position { position_of self.new ≡ position_of self.old }
         ensures taken { OnOk result (HasTaken (allocator_of self.old).now.tables (allocator_of self.new).now.tables (ending (last_or_end (ids_of self.old)))
             (gained (ids_of self.old) (ids_of self.new))) }
         ensures filled { IsTrue F.tells → (validation : Validation) → HoldsTables validation (allocator_of self.old).now
@@ -535,33 +545,30 @@ impl<'a, F: Medium, A: Heap + Clone> Chain<'a, F, A> {
             → OnOk result (HasBytes self.new (content_of self.old ++ copies count (init_bytes (version_of self.old) (init_of self.old)))) }
         ensures others { IsTrue F.tells → OthersStay (allocator_of self.old).now (allocator_of self.new).now }
         ensures enough { OnOk result (IsTooFew (allocator_of self.old).now.tables count → ⊥) }
-        ensures refused { IfErr result (BreaksOff (TakesFor (ending (last_or_end (ids_of self.old)))) (allocator_of self.old).now (allocator_of self.new).now) }
-        ensures view { IfErr result (StaysOrBecomes [] (ids_of self.old) (ids_of self.new)) }
-        ensures place { IfErr result (StaysOrBecomes 0 (position_of self.old) (position_of self.new)) }
-        ensures err { IfErr result (ChangeRefused (IsUsable (allocator_of self.old).now.tables → ⊥) Unit (IsTooFew (allocator_of self.old).now.tables count) Unit) }
+        ensures refused { IfErr result (ListBreaksOff (Lengthens count) (ids_of self.old) (ids_of self.new) (allocator_of self.old).now (allocator_of self.new).now) }
+        ensures spares { IsTrue F.tells → Spares (ids_of self.old) (allocator_of self.old).now (allocator_of self.new).now }
+        ensures err { IfErr result (ChangeRefused (IsUsable (allocator_of self.old).now.tables → ⊥)
+            (IsTooFew (allocator_of self.old).now.tables count → ⊥) (IsTooFew (allocator_of self.old).now.tables count) Unit) }
         ensures begun { OnOk result (IsRaised (0 < count) (allocator_of self.old).now.file (allocator_of self.new).now.file) }
         ensures counts { IsTrue F.tells → CountsFailure F.write_faults result (allocator_of self.old).now.file.failures (allocator_of self.new).now.file.failures }
     {
-        let grown = extend_list(
+        extend_list(
             self.allocator,
             &mut self.ids,
             &mut self.start,
             count,
             self.init,
-        );
-        let len = self.ids.len() as u64 * self.allocator.sector_len() as u64;
-        self.position = self.position.min(len);
-        grown
+        )
     }
 
     /// Keeps so many of its sectors and frees those behind them, and goes to its end where the position was past it. After `Medium`
-    /// it has no sectors, and after any other error nothing has changed.
+    /// it is cut in memory, and after any other error nothing has changed.
     fn cut(&mut self, count: usize) -> Result<(), Error>
         ensures same_allocator { (allocator_of self.new).ghost_name ≡ (allocator_of self.old).ghost_name }
         ensures init { init_of self.new ≡ init_of self.old }
         ensures version { version_of self.new ≡ version_of self.old }
         ensures ids { OnOk result (ids_of self.new ≡ take count (ids_of self.old)) }
-        ensures position { OnOk result (position_of self.new ≡ min (position_of self.old) (len_of self.new)) }
+        ensures position { position_of self.new ≡ min (position_of self.old) (len_of self.new) }
         ensures none { length (ids_of self.old) ≤ count → OnErr result ⊥ × IsAsBefore self.old self.new }
         ensures cut { count < length (ids_of self.old) → OnOk result (TablesGiveBack (ends_of (take count (ids_of self.old))) (drop count (ids_of self.old))
             (allocator_of self.old).now.tables (allocator_of self.new).now.tables) }
@@ -571,11 +578,9 @@ impl<'a, F: Medium, A: Heap + Clone> Chain<'a, F, A> {
             → OnOk result (HasBytes self.new (take (count * sector_len (version_of self.old)) (content_of self.old))) }
         ensures changes { IsTrue F.tells → ChangesSectors (allocator_of self.old).now.tables.fat_sectors (allocator_of self.old).now.tables.version
             (allocator_of self.old).now.file.bytes (allocator_of self.new).now.file.bytes }
-        ensures refused { IfErr result (BreaksOff (TablesGiveBack (ends_of (take count (ids_of self.old))) (drop count (ids_of self.old)))
-            (allocator_of self.old).now (allocator_of self.new).now) }
-        ensures view { IfErr result (StaysOrBecomes [] (ids_of self.old) (ids_of self.new)) }
-        ensures place { IfErr result (StaysOrBecomes 0 (position_of self.old) (position_of self.new)) }
-        ensures err { IfErr result (ChangeRefused (IsUsable (allocator_of self.old).now.tables → ⊥) Unit ⊥ Unit) }
+        ensures refused { IfErr result (ListBreaksOff (Shortens count) (ids_of self.old) (ids_of self.new) (allocator_of self.old).now (allocator_of self.new).now) }
+        ensures spares { IsTrue F.tells → Spares (ids_of self.old) (allocator_of self.old).now (allocator_of self.new).now }
+        ensures err { IfErr result (ChangeRefused (IsUsable (allocator_of self.old).now.tables → ⊥) ⊥ ⊥ Unit) }
         ensures begun { OnOk result (IsRaised (count < length (ids_of self.old)) (allocator_of self.old).now.file (allocator_of self.new).now.file) }
         ensures counts { IsTrue F.tells → CountsFailure F.write_faults result (allocator_of self.old).now.file.failures (allocator_of self.new).now.file.failures }
     {
@@ -597,13 +602,6 @@ impl<'a, F: Medium, A: Heap + Clone> Chain<'a, F, A> {
     }
 }
 
-/// The last number of a list, or END.
-fn last_number(numbers: &[u32]) -> u32
-    ensures { result ≡ last_or_end numbers.now }
-{
-    numbers.last().copied().unwrap_or(END_OF_CHAIN)
-}
-
 /// The first number of a list, or END.
 fn first_number(numbers: &[u32]) -> u32
     ensures { result ≡ first_or_end numbers.now }
@@ -611,28 +609,7 @@ fn first_number(numbers: &[u32]) -> u32
     numbers.first().copied().unwrap_or(END_OF_CHAIN)
 }
 
-/// Appends numbers to a list that has room for them.
-fn append_reserved<A: Heap>(list: &mut Vec<u32, A>, more: &[u32])
-    requires { vec_len list.old + length more.now ≤ vec_capacity list.old }
-    ensures { list.new.items ≡ list.old.items ++ more.now }
-{
-    for number in more {
-        list.push_reserved(*number);
-    }
-}
-
-/// Forgets the sectors of a chain where the medium failed.
-fn forget<A: Heap>(ids: &mut Vec<u32, A>, start: &mut u32, error: &Error)
-    ensures ids { StaysOrBecomes [] ids.old.items ids.new.items error.now }
-    ensures start { StaysOrBecomes end_of_chain start.old start.new error.now }
-{
-    if let Error::Medium(_) = error {
-        ids.clear();
-        *start = END_OF_CHAIN;
-    }
-}
-
-/// Adds so many sectors at the end of a chain, and appends them to its list: all of them or none. After `Medium` the list is empty.
+/// Adds so many sectors at the end of a chain, and appends them to its list: all of them or none.
 fn extend_list<F: Medium, A: Heap + Clone>(
     allocator: &mut Allocator<F, A>,
     ids: &mut Vec<u32, A>,
@@ -643,7 +620,9 @@ fn extend_list<F: Medium, A: Heap + Clone>(
     requires { chain_from allocator.old.tables.fat start.old ≡ Some ids.old.items }
     ensures chained { chain_from allocator.new.tables.fat start.new ≡ Some ids.new.items }
     ensures few { length ids.new.items ≤ max_regular_sector + 1 }
+    ensures longer { length ids.old.items ≤ length ids.new.items }
     ensures version { allocator.new.tables.version ≡ allocator.old.tables.version }
+    ensures lengthened { OnOk result (Lengthens count ids.old.items ids.new.items allocator.old.tables allocator.new.tables) }
     ensures ids { OnOk result (ids.new.items ≡ ids.old.items ++ gained ids.old.items ids.new.items) }
     ensures count { OnOk result (length (gained ids.old.items ids.new.items) ≡ count) }
     ensures taken { OnOk result (HasTaken allocator.old.tables allocator.new.tables (ending (last_or_end ids.old.items)) (gained ids.old.items ids.new.items)) }
@@ -651,29 +630,19 @@ fn extend_list<F: Medium, A: Heap + Clone>(
         → OnOk result ((i : ℕ) → Contains (gained ids.old.items ids.new.items) i → IsFilled allocator.new.tables.version init allocator.new.file.bytes i) }
     ensures holds { IsTrue F.tells → (validation : Validation) → HoldsTables validation allocator.old → OnOk result (HoldsTables validation allocator.new) }
     ensures others { IsTrue F.tells → OthersStay allocator.old allocator.new }
+    ensures spares { IsTrue F.tells → Spares ids.old.items allocator.old allocator.new }
     ensures enough { OnOk result (IsTooFew allocator.old.tables count → ⊥) }
-    ensures refused { IfErr result (BreaksOff (TakesFor (ending (last_or_end ids.old.items))) allocator.old allocator.new) }
-    ensures view { IfErr result (StaysOrBecomes [] ids.old.items ids.new.items) }
-    ensures err { IfErr result (ChangeRefused (IsUsable allocator.old.tables → ⊥) Unit (IsTooFew allocator.old.tables count) Unit) }
+    ensures refused { IfErr result (ListBreaksOff (Lengthens count) ids.old.items ids.new.items allocator.old allocator.new) }
+    ensures err { IfErr result (ChangeRefused (IsUsable allocator.old.tables → ⊥) (IsTooFew allocator.old.tables count → ⊥) (IsTooFew allocator.old.tables count) Unit) }
     ensures begun { OnOk result (IsRaised (0 < count) allocator.old.file allocator.new.file) }
     ensures counts { IsTrue F.tells → CountsFailure F.write_faults result allocator.old.file.failures allocator.new.file.failures }
 {
-    let last = last_number(ids);
-    ids.reserve(count)?;
-    match allocator.extend_chain_by(last, count, init) {
-        Ok(more) => {
-            append_reserved(ids, &more);
-            *start = first_number(ids);
-            Ok(())
-        }
-        Err(error) => {
-            forget(ids, start, &error);
-            Err(error)
-        }
-    }
+    let extended = allocator.extend_listed(ids, count, init);
+    *start = first_number(ids);
+    extended
 }
 
-/// Frees the sectors of a chain behind so many, and takes them off its list. After `Medium` the list is empty.
+/// Frees the sectors of a chain behind so many, and takes them off its list.
 fn shorten_list<F: Medium, A: Heap + Clone>(
     allocator: &mut Allocator<F, A>,
     ids: &mut Vec<u32, A>,
@@ -690,47 +659,15 @@ fn shorten_list<F: Medium, A: Heap + Clone>(
     ensures holds { IsTrue F.tells → (validation : Validation) → HoldsTables validation allocator.old
         → (count ≡ 0 → IsUnnamed allocator.old.tables.fat start.old) → OnOk result (HoldsTables validation allocator.new) }
     ensures changes { IsTrue F.tells → ChangesSectors allocator.old.tables.fat_sectors allocator.old.tables.version allocator.old.file.bytes allocator.new.file.bytes }
-    ensures refused { IfErr result (BreaksOff (TablesGiveBack (ends_of (take count ids.old.items)) (drop count ids.old.items)) allocator.old allocator.new) }
-    ensures view { IfErr result (StaysOrBecomes [] ids.old.items ids.new.items) }
-    ensures err { IfErr result (ChangeRefused (IsUsable allocator.old.tables → ⊥) Unit ⊥ Unit) }
+    ensures spares { IsTrue F.tells → Spares ids.old.items allocator.old allocator.new }
+    ensures refused { IfErr result (ListBreaksOff (Shortens count) ids.old.items ids.new.items allocator.old allocator.new) }
+    ensures err { IfErr result (ChangeRefused (IsUsable allocator.old.tables → ⊥) ⊥ ⊥ Unit) }
     ensures begun { OnOk result (allocator.new.file.begun ≡ true) }
     ensures counts { IsTrue F.tells → CountsFailure F.write_faults result allocator.old.file.failures allocator.new.file.failures }
 {
-    match free_behind(allocator, ids, *start, count) {
-        Ok(()) => {
-            ids.truncate(count);
-            *start = first_number(ids);
-            Ok(())
-        }
-        Err(error) => {
-            forget(ids, start, &error);
-            Err(error)
-        }
-    }
-}
-
-/// Frees the sectors of a chain behind so many.
-fn free_behind<F: Medium, A: Heap + Clone>(
-    allocator: &mut Allocator<F, A>,
-    ids: &[u32],
-    start: u32,
-    count: usize,
-) -> Result<(), Error>
-    requires chained { chain_from allocator.old.tables.fat start ≡ Some ids.now }
-    requires fewer { count < length ids.now }
-    ensures cut { OnOk result (TablesGiveBack (ends_of (take count ids.now)) (drop count ids.now) allocator.old.tables allocator.new.tables) }
-    ensures holds { IsTrue F.tells → (validation : Validation) → HoldsTables validation allocator.old
-        → (count ≡ 0 → IsUnnamed allocator.old.tables.fat start) → OnOk result (HoldsTables validation allocator.new) }
-    ensures changes { IsTrue F.tells → ChangesSectors allocator.old.tables.fat_sectors allocator.old.tables.version allocator.old.file.bytes allocator.new.file.bytes }
-    ensures refused { IfErr result (BreaksOff (TablesGiveBack (ends_of (take count ids.now)) (drop count ids.now)) allocator.old allocator.new) }
-    ensures err { IfErr result (ChangeRefused (IsUsable allocator.old.tables → ⊥) Unit ⊥ Unit) }
-    ensures begun { OnOk result (allocator.new.file.begun ≡ true) }
-    ensures counts { IsTrue F.tells → CountsFailure F.write_faults result allocator.old.file.failures allocator.new.file.failures }
-{
-    if count == 0 {
-        return allocator.free_chain(start);
-    }
-    allocator.free_chain_after(ids[count - 1])
+    let cut = allocator.cut_listed(ids, count);
+    *start = first_number(ids);
+    cut
 }
 
 /// Reads what is there of a sector from `offset` on, and answers how many bytes that is. `InvalidData` exactly where the file ends
@@ -789,6 +726,7 @@ fn write_sector<F: Medium, A: Heap>(
     ensures begun { allocator.new.file.begun ≡ true }
     ensures sectors { IsTrue F.tells → (i : ℕ) → i ≢ sector → SectorStays allocator.old.tables.version i allocator.old.file.bytes allocator.new.file.bytes }
     ensures others { IsTrue F.tells → ChangesOnlyBytes (sector_start allocator.old.tables.version sector + offset) (length from.now) allocator.old.file.bytes allocator.new.file.bytes }
+    ensures spares { IsTrue F.tells → Spares (sector ∷ []) allocator.old allocator.new }
     ensures counts { IsTrue F.tells → CountsFailure F.write_faults result allocator.old.file.failures allocator.new.file.failures }
 {
     let len = allocator.file_len();
@@ -821,6 +759,7 @@ fn zero_behind<F: Medium, A: Heap>(
     ensures sectors { IsTrue F.tells → (i : ℕ) → i ≢ sector → SectorStays allocator.old.tables.version i allocator.old.file.bytes allocator.new.file.bytes }
     ensures others { IsTrue F.tells → ChangesOnlyBytes (sector_start allocator.old.tables.version sector + offset) (sector_len allocator.old.tables.version - offset)
         allocator.old.file.bytes allocator.new.file.bytes }
+    ensures spares { IsTrue F.tells → Spares (sector ∷ []) allocator.old allocator.new }
     ensures counts { IsTrue F.tells → CountsFailure F.write_faults result allocator.old.file.failures allocator.new.file.failures }
 {
     let zeros = [0; 4096];

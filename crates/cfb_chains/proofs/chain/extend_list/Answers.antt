@@ -1,45 +1,56 @@
-use Rattle.std.proofs.Common.{◌≡◌, ℕ, List, ◌++◌, ap, sym, subst, ◌∙◌}
-use Rattle.std.specs.Prelude.{Some, Contains}
-use Rattle.cfb_tables.specs.Listed.{last_or_end}
-use Rattle.cfb_tables.specs.Tables.{TakesFor, ending, first_or_end}
-use Rattle.cfb_alloc.proofs.AllocLemmas.{others_refl}
-use Rattle.cfb_alloc.proofs.ChainView.{chain_few, only_first}
-use Rattle.cfb_tables.proofs.ListedLemmas.{gained_is}
-use Rattle.cfb_chains.proofs.ChainLists.{grown_found, last_ends, left_found}
+use Rattle.std.proofs.Common.{◌≡◌, ◌≤◌, ◌++◌, ◌∙◌, ℕ, List, length, length-append, inl, inr, ap, arith}
+use Rattle.std.specs.Prelude.{Contains}
+use Rattle.cfb_alloc.specs.Alloc.{AllocatorState}
+use Rattle.cfb_alloc.specs.ListedChain.{Lengthens}
+use Rattle.cfb_alloc.proofs.Answering.{on_ok}
+use Rattle.cfb_alloc.proofs.ChainView.{chain_few}
+use Rattle.cfb_alloc.proofs.Frames.{spares-less}
+use Rattle.cfb_tables.specs.Listed.{ends_of, gained}
+use Rattle.cfb_tables.specs.Tables.{first_or_end}
+use Rattle.cfb_chains.proofs.ChainLists.{ends_among, listed_chain, listed_found, made_or_not}
 use Rattle.cfb_chains.proofs.chain.extend_list.Goals as goal
 
-pub returns-in_err-reserve-clause-others : goal.returns-in_err-reserve-clause-others
-returns-in_err-reserve-clause-others g c told = others_refl c.args.allocator.now
+pub extend_listed-requires : goal.extend_listed-requires
+extend_listed-requires g c = record { chain = listed_chain c.args.allocator.now.tables.fat c.args.start.now c.args.ids.now.items c.requires }
 
-pub returns-in-Ok-clause-chained : goal.returns-in-Ok-clause-chained
-returns-in-Ok-clause-chained g c =
-    let last : c.last_number-last.result ≡ last_or_end c.args.ids.now.items = cc in
-    let listed : c.append_reserved.new.list.items ≡ c.args.ids.now.items ++ c.in-Ok.more.items = cc in
-    let first = c.first_number.ensures ∙ ap first_or_end c.deref-in-Ok-2.ensures.value in
-    grown_found c.args.allocator.now.tables c.extend_chain_by.new.self.tables c.args.start.now c.first_number.result c.last_number-last.result c.args.ids.now.items
-    c.append_reserved.new.list.items c.in-Ok.more.items c.requires last c.in-Ok.ensures.taken c.in-Ok.ensures.chain listed first
+pub returns-clause-chained : goal.returns-clause-chained
+returns-clause-chained g c =
+    listed_found c.extend_listed-extended.new.self.tables.fat c.first_number.result c.extend_listed-extended.new.ids.items
+    (c.first_number.ensures ∙ ap first_or_end c.deref.ensures.value) c.extend_listed-extended.ensures.chain
 
-pub returns-in-Ok-clause-filled : goal.returns-in-Ok-clause-filled
-returns-in-Ok-clause-filled g c told validation h i m =
-    let listed : c.append_reserved.new.list.items ≡ c.args.ids.now.items ++ c.in-Ok.more.items = cc in
-    c.in-Ok.ensures.filled told validation h i
-    (subst (λ (z : List ℕ). Contains z i) (gained_is c.args.ids.now.items c.append_reserved.new.list.items c.in-Ok.more.items listed) m)
+pub returns-clause-few : goal.returns-clause-few
+returns-clause-few g c = chain_few _ _ _ (returns-clause-chained g c)
 
-pub returns-in-Err-clause-chained : goal.returns-in-Err-clause-chained
-returns-in-Err-clause-chained g c =
-    left_found (TakesFor (ending c.last_number-last.result)) c.args.allocator.now c.extend_chain_by.new.self c.args.start.now c.forget.new.start c.reserve.new.self.items c.forget.new.ids.items c.in-Err.error
-    (c.requires ∙ ap (λ (z : List ℕ). Some z) (sym c.reserve.ensures.items)) c.in-Err.ensures.refused c.forget.ensures.ids c.forget.ensures.start
+pub returns-clause-longer : goal.returns-clause-longer
+returns-clause-longer g c =
+    let e = c.extend_listed-extended in
+    let ids = c.args.ids.now.items in
+    elim (made_or_not e.result (Lengthens c.args.count) ids e.new.ids.items c.args.allocator.now e.new.self e.ensures.lengthened e.ensures.refused) [
+      | inl made ↦
+          let listed = ap (λ (l : List ℕ). length l) made.listed in
+          let sum = length-append ids (gained ids e.new.ids.items) in
+          omega (arith, listed, sum)
+      | inr same ↦ (let len = ap (λ (l : List ℕ). length l) same.1 in omega (arith, len))
+    ]
 
-pub returns-in-Err-clause-err : goal.returns-in-Err-clause-err
-returns-in-Err-clause-err g c =
-    let last : c.last_number-last.result ≡ last_or_end c.args.ids.now.items = cc in
-    only_first _ _ _ _ _ (last_ends c.args.allocator.now.tables.fat c.args.start.now c.last_number-last.result c.args.ids.now.items c.requires last) c.in-Err.error c.in-Err.ensures.err
+pub returns-clause-version : goal.returns-clause-version
+returns-clause-version g c =
+    let e = c.extend_listed-extended in
+    elim (made_or_not e.result (Lengthens c.args.count) c.args.ids.now.items e.new.ids.items c.args.allocator.now e.new.self e.ensures.lengthened e.ensures.refused) [
+      | inl made ↦ made.taken.same_version
+      | inr same ↦ ap (λ (a : AllocatorState). a.tables.version) same.0
+    ]
 
-pub returns-in-Ok-clause-few : goal.returns-in-Ok-clause-few
-returns-in-Ok-clause-few g c = chain_few _ _ _ (returns-in-Ok-clause-chained g c)
+pub returns-clause-ids : goal.returns-clause-ids
+returns-clause-ids g c = let e = c.extend_listed-extended in on_ok _ _ e.result (λ made. made.listed) e.ensures.lengthened
 
-pub returns-in-Err-clause-few : goal.returns-in-Err-clause-few
-returns-in-Err-clause-few g c = chain_few _ _ _ (returns-in-Err-clause-chained g c)
+pub returns-clause-count : goal.returns-clause-count
+returns-clause-count g c = let e = c.extend_listed-extended in on_ok _ _ e.result (λ made. made.count) e.ensures.lengthened
 
-pub returns-in_err-reserve-clause-few : goal.returns-in_err-reserve-clause-few
-returns-in_err-reserve-clause-few g c = chain_few _ _ _ (c.requires ∙ ap (λ (z : List ℕ). Some z) (sym c.reserve.ensures.items))
+pub returns-clause-taken : goal.returns-clause-taken
+returns-clause-taken g c = let e = c.extend_listed-extended in on_ok _ _ e.result (λ made. made.taken) e.ensures.lengthened
+
+pub returns-clause-spares : goal.returns-clause-spares
+returns-clause-spares g c told =
+    let ids = c.args.ids.now.items in
+    spares-less (ends_of ids) ids c.args.allocator.now c.extend_listed-extended.new.self (ends_among ids) (c.extend_listed-extended.ensures.spares told)

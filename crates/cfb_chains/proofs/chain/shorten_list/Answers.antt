@@ -1,24 +1,43 @@
-use Rattle.std.proofs.Common.{ℕ, List, take, drop, ap, subst, ◌∙◌}
-use Rattle.cfb_tables.specs.Listed.{ends_of}
-use Rattle.cfb_tables.specs.Tables.{TablesGiveBack, first_or_end}
+use Rattle.std.proofs.Common.{◌≡◌, ◌∙◌, ℕ, List, inl, inr, ap, sym, subst, take, arith}
+use Rattle.cfb_alloc.specs.Alloc.{AllocatorState}
+use Rattle.cfb_alloc.specs.ListedChain.{Shortens}
+use Rattle.cfb_alloc.proofs.Answering.{on_ok}
 use Rattle.cfb_alloc.proofs.ChainView.{chain_few}
-use Rattle.cfb_chains.proofs.ChainLists.{cut_found, left_found}
+use Rattle.cfb_tables.specs.Clean.{IsUnnamed}
+use Rattle.cfb_tables.specs.Tables.{TableState, first_or_end}
+use Rattle.cfb_chains.proofs.ChainLists.{listed_chain, listed_found, made_or_not, start_is}
 use Rattle.cfb_chains.proofs.chain.shorten_list.Goals as goal
 
-pub returns-in-Ok-clause-chained : goal.returns-in-Ok-clause-chained
-returns-in-Ok-clause-chained g c =
-    let cut = subst (λ (z : List ℕ). TablesGiveBack (ends_of (take c.args.count z)) (drop c.args.count z) c.args.allocator.now.tables c.free_behind.new.allocator.tables) c.deref.ensures.value c.in-Ok.ensures.cut in
-    let first = c.first_number.ensures ∙ ap first_or_end c.deref-in-Ok.ensures.value in
-    cut_found c.args.allocator.now.tables c.free_behind.new.allocator.tables c.args.start.now c.first_number.result c.args.count c.args.ids.now.items c.truncate.new.self.items
-    c.requires.chained cut c.truncate.ensures.items first
+pub cut_listed-requires : goal.cut_listed-requires
+cut_listed-requires g c = record { chain = listed_chain c.args.allocator.now.tables.fat c.args.start.now c.args.ids.now.items c.requires.chained }
 
-pub returns-in-Err-clause-chained : goal.returns-in-Err-clause-chained
-returns-in-Err-clause-chained g c =
-    left_found (TablesGiveBack (ends_of (take c.args.count c.deref.result.now)) (drop c.args.count c.deref.result.now)) c.args.allocator.now c.free_behind.new.allocator c.args.start.now c.forget.new.start c.args.ids.now.items c.forget.new.ids.items c.in-Err.error
-    c.requires.chained c.in-Err.ensures.refused c.forget.ensures.ids c.forget.ensures.start
+pub returns-clause-chained : goal.returns-clause-chained
+returns-clause-chained g c =
+    listed_found c.cut_listed-cut.new.self.tables.fat c.first_number.result c.cut_listed-cut.new.ids.items
+    (c.first_number.ensures ∙ ap first_or_end c.deref.ensures.value) c.cut_listed-cut.ensures.chain
 
-pub returns-in-Ok-clause-few : goal.returns-in-Ok-clause-few
-returns-in-Ok-clause-few g c = chain_few _ _ _ (returns-in-Ok-clause-chained g c)
+pub returns-clause-few : goal.returns-clause-few
+returns-clause-few g c = chain_few _ _ _ (returns-clause-chained g c)
 
-pub returns-in-Err-clause-few : goal.returns-in-Err-clause-few
-returns-in-Err-clause-few g c = chain_few _ _ _ (returns-in-Err-clause-chained g c)
+pub returns-clause-version : goal.returns-clause-version
+returns-clause-version g c =
+    let e = c.cut_listed-cut in
+    elim (made_or_not e.result (Shortens c.args.count) c.args.ids.now.items e.new.ids.items c.args.allocator.now e.new.self e.ensures.shortened e.ensures.refused) [
+      | inl made ↦ ap (λ (t : TableState). t.version) made.given_back.rest
+      | inr same ↦ ap (λ (a : AllocatorState). a.tables.version) same.0
+    ]
+
+pub returns-clause-ids : goal.returns-clause-ids
+returns-clause-ids g c = let e = c.cut_listed-cut in on_ok _ _ e.result (λ made. made.listed) e.ensures.shortened
+
+pub returns-clause-cut : goal.returns-clause-cut
+returns-clause-cut g c = let e = c.cut_listed-cut in on_ok _ _ e.result (λ made. made.given_back) e.ensures.shortened
+
+pub returns-clause-holds : goal.returns-clause-holds
+returns-clause-holds g c told validation h unnamed =
+    let fat = c.args.allocator.now.tables.fat in
+    c.cut_listed-cut.ensures.holds told validation h
+    (λ none. subst (IsUnnamed fat) (start_is fat c.args.start.now c.args.ids.now.items c.requires.chained) (unnamed none))
+
+pub returns-clause-begun : goal.returns-clause-begun
+returns-clause-begun g c = let e = c.cut_listed-cut in on_ok _ _ e.result (λ raised. raised.1 c.requires.fewer) e.ensures.begun

@@ -12,7 +12,7 @@ use Rattle.cfb_alloc.specs.Alloc.{AllocatorState}
 use Rattle.cfb_tables.specs.Tables.{TableState}
 use Rattle.cfb_alloc.proofs.Answering.{on_three}
 use Rattle.cfb_alloc.proofs.ChainView.{found_chain}
-use Rattle.cfb_chains.specs.ChainLists.{gained}
+use Rattle.cfb_tables.specs.Listed.{gained}
 use Rattle.cfb_chains.proofs.PlacedChains.{cut_resized, grown_resized}
 use Rattle.cfb_chains.specs.LentChain.{allocator_of, start_sector_of, ids_of, init_of, version_of, tail_of, place_at, content_of, HasBytes}
 use Rattle.cfb_chains.proofs.ChainWrites.{none_wanted, on_if, same_rest, same_wanted, zeroed_of}
