@@ -21,5 +21,6 @@ pub mod ChainView
 pub mod EmptyChain
 pub mod Frames
 pub mod Spared
+pub mod BrokenSpared
 pub mod HeldOrder
 pub mod FreshSlots
