@@ -1,12 +1,13 @@
 -- The list of a chain's sectors, as the chain grows, is cut, or breaks off.
-use Rattle.std.proofs.Common.{◌≡◌, ◌≢◌, ◌<◌, ◌≤◌, ◌+◌, ◌-◌, ◌⊎◌, inl, inr, ℕ, true, List, [], ◌∷◌, ◌++◌, sym, ◌∙◌, ap, subst, length, take, arith}
+use Rattle.std.proofs.Common.{◌≡◌, ◌≢◌, ◌<◌, ◌≤◌, ◌+◌, ◌-◌, ◌*◌, ◌⊎◌, min, inl, inr, ℕ, true, List, [], ◌∷◌, ◌++◌, sym, ◌∙◌, ap, subst, length, take, arith}
 use Rattle.std.specs.Prelude.{Some, Result, Ok, Err, OnOk, OnErr, IfErr, Contains}
 use Rattle.std.proofs.lemmas.Bool.{cases_eq}
 use Rattle.std.proofs.lemmas.List.{take_more, take_all}
 use Rattle.std.proofs.lemmas.List.Elements.{Contains-append_right}
 use Rattle.cfb_format.specs.declared.error.Error.{Error}
 use Rattle.cfb_format.specs.declared.error.Error.TheVariants.{NotFound, AlreadyExists, InvalidInput, InvalidData, Medium, Memory, Full, Unsound, Failed, Unsupported}
-use Rattle.cfb_format.specs.Bytes.{end_of_chain}
+use Rattle.cfb_format.specs.declared.version.Version.{Version}
+use Rattle.cfb_format.specs.Bytes.{end_of_chain, sector_len}
 use Rattle.cfb_format.specs.Chain.{IsChain, chain_from}
 use Rattle.cfb_format.specs.Refused.{AfterMedium}
 use Rattle.cfb_alloc.specs.Alloc.{AllocatorState}
@@ -97,3 +98,16 @@ freed_of r old new s [] e none some =
     all_ok r (subst (λ (a : AllocatorState). GivesBackChain [] s old.tables a.tables) (sym (none (omega arith)).1) (none_freed old.tables s e))
 freed_of r old new s (x ∷ list) e none some =
     on_ok (TablesGiveBack [] (x ∷ list) old.tables new.tables) (GivesBackChain [] s old.tables new.tables) r (shortened_frees old.tables new.tables s (x ∷ list) e) (some (omega arith))
+
+-- ---- where the position is then
+
+pub placed_nowhere : (pos pos' l : ℕ) (ids : List ℕ) → pos' ≡ min pos (length ids * l) → ids ≡ [] → pos' ≡ 0
+placed_nowhere pos pos' l ids at none =
+    let start : min pos (0 * l) ≡ 0 = omega arith in
+    at ∙ ap (λ (xs : List ℕ). min pos (length xs * l)) none ∙ start
+
+pub placed_same : (v v' : Version) (pos pos' : ℕ) (ids ids' : List ℕ) → pos' ≡ min pos (length ids' * sector_len v') → ids' ≡ ids → v' ≡ v
+    → pos ≤ length ids * sector_len v → pos' ≡ pos
+placed_same v v' pos pos' ids ids' at same version within =
+    let all : min pos (length ids * sector_len v) ≡ pos = omega (arith, within) in
+    at ∙ (λ j. min pos (length (same j) * sector_len (version j))) ∙ all

@@ -3,8 +3,8 @@ pub mod ChainContent
 pub mod ChainHeld
 pub mod ChainLists
 pub mod ChainWrites
-pub mod FreedLemmas
 pub mod LentContent
 pub mod OwnWrites
 pub mod PlacedBytes
 pub mod PlacedChains
+pub mod Sparing

@@ -650,7 +650,7 @@ fn shorten_list<F: Medium, A: Heap + Clone>(
     count: usize,
 ) -> Result<(), Error>
     requires chained { chain_from allocator.old.tables.fat start.old ≡ Some ids.old.items }
-    requires fewer { count < vec_len ids.old }
+    requires fewer { count < length ids.old.items }
     ensures chained { chain_from allocator.new.tables.fat start.new ≡ Some ids.new.items }
     ensures few { length ids.new.items ≤ max_regular_sector + 1 }
     ensures version { allocator.new.tables.version ≡ allocator.old.tables.version }

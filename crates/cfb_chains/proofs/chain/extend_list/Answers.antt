@@ -10,8 +10,8 @@ use Rattle.cfb_tables.specs.Tables.{first_or_end}
 use Rattle.cfb_chains.proofs.ChainLists.{ends_among, listed_chain, listed_found, made_or_not}
 use Rattle.cfb_chains.proofs.chain.extend_list.Goals as goal
 
-pub extend_listed-requires : goal.extend_listed-requires
-extend_listed-requires g c = record { chain = listed_chain c.args.allocator.now.tables.fat c.args.start.now c.args.ids.now.items c.requires }
+pub extend_listed-extended-requires : goal.extend_listed-extended-requires
+extend_listed-extended-requires g c = record { chain = listed_chain c.args.allocator.now.tables.fat c.args.start.now c.args.ids.now.items c.requires }
 
 pub returns-clause-chained : goal.returns-clause-chained
 returns-clause-chained g c =

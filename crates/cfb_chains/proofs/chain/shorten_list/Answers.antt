@@ -8,8 +8,8 @@ use Rattle.cfb_tables.specs.Tables.{TableState, first_or_end}
 use Rattle.cfb_chains.proofs.ChainLists.{listed_chain, listed_found, made_or_not, start_is}
 use Rattle.cfb_chains.proofs.chain.shorten_list.Goals as goal
 
-pub cut_listed-requires : goal.cut_listed-requires
-cut_listed-requires g c = record { chain = listed_chain c.args.allocator.now.tables.fat c.args.start.now c.args.ids.now.items c.requires.chained }
+pub cut_listed-cut-requires : goal.cut_listed-cut-requires
+cut_listed-cut-requires g c = record { chain = listed_chain c.args.allocator.now.tables.fat c.args.start.now c.args.ids.now.items c.requires.chained }
 
 pub returns-clause-chained : goal.returns-clause-chained
 returns-clause-chained g c =

@@ -3,6 +3,7 @@ use Rattle.cfb_chains.specs.LentChain.{allocator_of, start_sector_of, ids_of, ve
 use Rattle.cfb_alloc.proofs.Answering.{on_ok}
 use Rattle.cfb_alloc.proofs.FrameLemmas.{changes_refl}
 use Rattle.cfb_chains.proofs.LentContent.{content_cut, content_uncut}
+use Rattle.cfb_alloc.proofs.Spared.{spares_refl}
 use Rattle.cfb_chains.proofs.chain.Chain+F+A.cut.Goals as goal
 
 pub returns-then-count-len-clause-changes : goal.returns-then-count-len-clause-changes
@@ -24,3 +25,6 @@ returns-clause-content g c told validation h whole =
     (λ is. content_cut validation (allocator_of now).now short.new.allocator (start_sector_of now) (ids_of now) short.new.ids.items now.chained h whole short.ensures.version
     c.args.count (omega (arith, fewer)) is (short.ensures.changes told))
     short.ensures.ids
+
+pub returns-then-count-len-clause-spares : goal.returns-then-count-len-clause-spares
+returns-then-count-len-clause-spares g c told = spares_refl (ids_of c.args.self.now) (allocator_of c.args.self.now).now

@@ -1,4 +1,4 @@
-use Rattle.std.proofs.Common.{◌≡◌, ◌+◌, ◌-◌, ◌*◌, ◌/◌, ◌%◌, ◌<◌, ◌++◌, ◌∙◌, ℕ, List, length, take, ap, sym, subst, arith}
+use Rattle.std.proofs.Common.{◌≡◌, ◌+◌, ◌-◌, ◌*◌, ◌/◌, ◌%◌, ◌<◌, ◌++◌, ◌∙◌, ℕ, List, length, take, drop, ap, sym, subst, arith}
 use Rattle.std.specs.Prelude.{slice_index}
 use Rattle.std.specs.Result.{OnOk}
 use Rattle.cfb_format.specs.Full.{rounded_up}
@@ -9,15 +9,17 @@ use Rattle.std.proofs.lemmas.List.Elements.{Contains-append_left}
 use Rattle.cfb_format.specs.Bytes.{sector_len, sector_start}
 use Rattle.cfb_format.specs.declared.version.Version.{Version}
 use Rattle.cfb_alloc.specs.Alloc.{AllocatorState}
-use Rattle.cfb_tables.specs.Tables.{TableState}
-use Rattle.cfb_alloc.proofs.Answering.{on_three}
+use Rattle.cfb_tables.specs.Tables.{TableState, TablesGiveBack}
+use Rattle.cfb_alloc.proofs.Answering.{all_ok, on_three}
+use Rattle.cfb_tables.proofs.Members.{Contains-nil}
 use Rattle.cfb_alloc.proofs.ChainView.{found_chain}
-use Rattle.cfb_tables.specs.Listed.{gained}
+use Rattle.cfb_tables.specs.Listed.{ends_of, gained}
 use Rattle.cfb_chains.proofs.PlacedChains.{cut_resized, grown_resized}
 use Rattle.cfb_chains.specs.LentChain.{allocator_of, start_sector_of, ids_of, init_of, version_of, tail_of, place_at, content_of, HasBytes}
 use Rattle.cfb_chains.proofs.ChainWrites.{none_wanted, on_if, same_rest, same_wanted, zeroed_of}
 use Rattle.cfb_chains.proofs.OwnWrites.{enough_kept, own_freed, own_kept, own_taken, own_zeroed}
 use Rattle.cfb_sectors.proofs.SectorLemmas.{SectorStays_next}
+use Rattle.cfb_chains.proofs.Sparing.{kept_spared}
 use Rattle.cfb_chains.proofs.chain.Chain+F+A.set_len.Goals as goal
 
 pub returns-then-sectors-have-clause-filled : goal.returns-then-sectors-have-clause-filled
@@ -163,3 +165,25 @@ returns-clause-places g c told validation h =
     (λ whole. ap (λ (a : AllocatorState). a.file.bytes) (e.none whole).1)
     (λ parted. ap (λ (f : SectorFile). f.bytes) (zeroed parted)))
     (e.ok told)
+
+pub returns-clause-spares : goal.returns-clause-spares
+returns-clause-spares g c told =
+    let now = c.args.self.now in
+    let cut = c.cut.new.self in
+    kept_spared (ids_of now) (ids_of cut) c.div_ceil-sectors.result (allocator_of now).now (allocator_of cut).now (allocator_of c.zero_tail.new.self).now c.in_ok-cut.ensures.ids
+    (c.cut.ensures.spares told) (c.zero_tail.ensures.spares told)
+
+pub returns-then-sectors-have-clause-others : goal.returns-then-sectors-have-clause-others
+returns-then-sectors-have-clause-others g c told i busy out other = (c.grow.ensures.others told).sectors i busy out (Contains-nil i)
+
+pub returns-clause-freed : goal.returns-clause-freed
+returns-clause-freed g c fewer =
+    let now = c.args.self.now in
+    let ids = ids_of now in
+    let old = (allocator_of now).now.tables in
+    let n = rounded_up c.args.len (sector_len (version_of now)) in
+    let wanted = wanted_is (version_of now) c.args.len c.div_ceil-sectors.result c.sector_len.result c.sector_len.ensures c.div_ceil-sectors.ensures in
+    all_ok c.zero_tail.result
+    (subst (λ (t : TableState). TablesGiveBack (ends_of (take n ids)) (drop n ids) old t) (sym c.zero_tail.ensures.tables)
+    (subst (λ (k : ℕ). TablesGiveBack (ends_of (take k ids)) (drop k ids) old (allocator_of c.cut.new.self).now.tables) wanted
+    (c.in_ok-cut.ensures.cut (omega (arith, fewer, wanted)))))

@@ -16,6 +16,7 @@ use Rattle.cfb_chains.proofs.PlacedChains.{grown_written, was_wanted}
 use Rattle.cfb_tables.proofs.Members.{first_of_three}
 use Rattle.cfb_sectors.proofs.SectorLemmas.{SectorStays_next}
 use Rattle.cfb_tables.proofs.Members.{Contains-nil}
+use Rattle.cfb_chains.proofs.Sparing.{gained_spared}
 use Rattle.cfb_chains.proofs.chain.Chain+F+A.write.Goals as goal
 
 pub returns-clause-some : goal.returns-clause-some
@@ -156,3 +157,11 @@ pub returns-clause-none : goal.returns-clause-none
 returns-clause-none g c zero =
     let now = c.args.self.now in
     absurd (c.if-missing-eq0.false (c.missing-missing.ensures ∙ none_needed (version_of now) (position_of now) (length (ids_of now)) (length c.args.from.now) zero now.within))
+
+pub returns-clause-spares : goal.returns-clause-spares
+returns-clause-spares g c told =
+    let now = c.args.self.now in
+    let grown = c.grow.new.self in
+    let e = c.in_ok-grow.ensures in
+    gained_spared (ids_of now) (ids_of grown) (gained (ids_of now) (ids_of grown)) (ending (last_or_end (ids_of now))) (allocator_of now).now (allocator_of grown).now
+    (allocator_of c.write_within-2.new.self).now e.ids e.taken (c.grow.ensures.spares told) (c.write_within-2.ensures.spares told)

@@ -8,6 +8,7 @@ use Rattle.cfb_chains.proofs.ChainBytes.{step_inside}
 use Rattle.cfb_chains.proofs.ChainHeld.{held_written}
 use Rattle.cfb_alloc.proofs.ChainView.{found_chain}
 use Rattle.cfb_chains.proofs.LentContent.{content_written}
+use Rattle.cfb_chains.proofs.Sparing.{member_spared}
 use Rattle.cfb_chains.proofs.chain.Chain+F+A.write_here.Goals as goal
 
 pub invariant_of-self-2-clause-within : goal.invariant_of-self-2-clause-within
@@ -34,3 +35,15 @@ returns-clause-content g c told whole =
     (position_of now) (sector_start (version_of now) at.result + offset.result) c.args.from.now (ap (λ (t : TableState). t.version) c.write_sector.ensures.tables) refl
     (found_chain (allocator_of now).now.tables.fat (start_sector_of now) (ids_of now) now.chained).distinct whole c.requires.inside c.requires.within place
     (ap (λ (f : SectorFile). f.bytes) (c.in_ok-write_sector.ensures.ok told))
+
+pub returns-in_err-write_sector-clause-spares : goal.returns-in_err-write_sector-clause-spares
+returns-in_err-write_sector-clause-spares g c told =
+    let now = c.args.self.now in
+    let at = c.sector_at-sector in
+    member_spared (ids_of now) at.result (allocator_of now).now c.write_sector.new.allocator (at.ensures.member c.requires.inside) (c.write_sector.ensures.spares told)
+
+pub returns-clause-spares : goal.returns-clause-spares
+returns-clause-spares g c told =
+    let now = c.args.self.now in
+    let at = c.sector_at-sector in
+    member_spared (ids_of now) at.result (allocator_of now).now c.write_sector.new.allocator (at.ensures.member c.requires.inside) (c.write_sector.ensures.spares told)

@@ -4,9 +4,10 @@ use Rattle.cfb_sectors.specs.Sectors.{SectorFile}
 use Rattle.cfb_tables.specs.Tables.{TableState}
 use Rattle.cfb_alloc.proofs.ChainView.{found_chain}
 use Rattle.cfb_sectors.proofs.SectorLemmas.{SectorStays_refl}
-use Rattle.cfb_chains.specs.LentChain.{ids_of, position_of, version_of}
+use Rattle.cfb_chains.specs.LentChain.{allocator_of, ids_of, position_of, version_of}
 use Rattle.cfb_chains.proofs.ChainBytes.{step_inside}
 use Rattle.cfb_chains.proofs.PlacedChains.{only_wanted, wrote_here}
+use Rattle.cfb_alloc.proofs.Spared.{spares_refl}
 use Rattle.cfb_chains.proofs.chain.Chain+F+A.write_within.Goals as goal
 
 pub returns-then-room-eq0-clause-sectors : goal.returns-then-room-eq0-clause-sectors
@@ -57,3 +58,6 @@ returns-clause-places g c told =
     let within = c.room_here.ensures.within (omega (arith, room, some)) in
     wrote_here now c.write_here.new.self c.min-room.result c.args.from.now (ap (λ (t : TableState). t.version) e.tables) e.chain.0
     (found_chain _ _ _ now.chained).distinct (ap (λ (f : SectorFile). f.bytes) (e.ok told)) inside (omega (arith, room, within)) (omega (arith, room))
+
+pub returns-then-room-eq0-clause-spares : goal.returns-then-room-eq0-clause-spares
+returns-then-room-eq0-clause-spares g c told = spares_refl (ids_of c.args.self.now) (allocator_of c.args.self.now).now

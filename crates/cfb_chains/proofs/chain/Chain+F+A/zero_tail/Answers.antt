@@ -12,6 +12,8 @@ use Rattle.cfb_alloc.proofs.ChainView.{found_chain}
 use Rattle.cfb_chains.proofs.ChainWrites.{not_end, rest_fits}
 use Rattle.cfb_chains.proofs.LentContent.{content_written}
 use Rattle.cfb_sectors.proofs.SectorLemmas.{SectorStays_refl}
+use Rattle.cfb_alloc.proofs.Spared.{spares_refl}
+use Rattle.cfb_chains.proofs.Sparing.{member_spared}
 use Rattle.cfb_chains.proofs.chain.Chain+F+A.zero_tail.Goals as goal
 
 pub returns-then-rest-eq0-clause-sectors : goal.returns-then-rest-eq0-clause-sectors
@@ -50,3 +52,13 @@ returns-clause-content g c told whole some =
     (ap (λ (x : SectorFile). x.bytes) f
     ∙ ap (λ n. written (allocator_of now).now.file.bytes (sector_start v at.result + c.args.offset % c.sector_len.result) (replicate (l - n) 0)) same)).1)
     (c.zero_behind.ensures.ok told)
+
+pub returns-then-rest-eq0-clause-spares : goal.returns-then-rest-eq0-clause-spares
+returns-then-rest-eq0-clause-spares g c told = spares_refl (ids_of c.args.self.now) (allocator_of c.args.self.now).now
+
+pub returns-clause-spares : goal.returns-clause-spares
+returns-clause-spares g c told =
+    let now = c.args.self.now in
+    let member = c.sector_at-sector.ensures.member
+    (not_end (version_of now) c.args.offset (length (ids_of now)) c.requires (λ zero. c.if-rest-eq0.false (ap (λ (k : ℕ). c.args.offset % k) c.sector_len.ensures ∙ zero))) in
+    member_spared (ids_of now) c.sector_at-sector.result (allocator_of now).now c.zero_behind.new.allocator member (c.zero_behind.ensures.spares told)
