@@ -13,6 +13,7 @@ use Rattle.cfb_alloc.specs.Alloc.{AllocatorState}
 use Rattle.cfb_chains.specs.ChainLists.{StaysOrBecomes}
 use Rattle.cfb_tables.specs.Listed.{ends_of, last_or_end}
 use Rattle.cfb_tables.specs.Changes.{NoChain, GivesBack}
+use Rattle.cfb_tables.specs.Refused.{ChangeRefused}
 use Rattle.cfb_alloc.specs.Broken.{BreaksOff}
 use Rattle.cfb_tables.specs.Tables.{TableState, HasTaken, GivesBackChain, TablesGiveBack, ending, first_or_end}
 use Rattle.cfb_alloc.proofs.AllocLemmas.{ending_other}
@@ -40,6 +41,19 @@ breaks_map made made' old new f Full b = b
 breaks_map made made' old new f Unsound b = b
 breaks_map made made' old new f Failed b = b
 breaks_map made made' old new f Unsupported b = b
+
+-- memory may also be refused where there are enough numbers
+pub any_memory : (invalid memory full medium : Type 0) (e : Error) → ChangeRefused invalid memory full medium e → ChangeRefused invalid Unit full medium e
+any_memory invalid memory full medium (InvalidData d) r = r
+any_memory invalid memory full medium Memory r = tt
+any_memory invalid memory full medium Full r = r
+any_memory invalid memory full medium (Medium f) r = r
+any_memory invalid memory full medium (NotFound d) r = absurd r
+any_memory invalid memory full medium (AlreadyExists d) r = absurd r
+any_memory invalid memory full medium (InvalidInput d) r = absurd r
+any_memory invalid memory full medium Unsound r = absurd r
+any_memory invalid memory full medium Failed r = absurd r
+any_memory invalid memory full medium Unsupported r = absurd r
 
 -- ---- where a list ends
 

@@ -5,7 +5,7 @@ use Rattle.cfb_tables.specs.Tables.{TakesFor, ending, first_or_end}
 use Rattle.cfb_alloc.proofs.AllocLemmas.{others_refl}
 use Rattle.cfb_alloc.proofs.ChainView.{chain_few, only_first}
 use Rattle.cfb_tables.proofs.ListedLemmas.{gained_is}
-use Rattle.cfb_chains.proofs.ChainLists.{grown_found, last_ends, left_found}
+use Rattle.cfb_chains.proofs.ChainLists.{any_memory, grown_found, last_ends, left_found}
 use Rattle.cfb_chains.proofs.chain.extend_list.Goals as goal
 
 pub returns-in_err-reserve-clause-others : goal.returns-in_err-reserve-clause-others
@@ -33,7 +33,8 @@ returns-in-Err-clause-chained g c =
 pub returns-in-Err-clause-err : goal.returns-in-Err-clause-err
 returns-in-Err-clause-err g c =
     let last : c.last_number-last.result ≡ last_or_end c.args.ids.now.items = cc in
-    only_first _ _ _ _ _ (last_ends c.args.allocator.now.tables.fat c.args.start.now c.last_number-last.result c.args.ids.now.items c.requires last) c.in-Err.error c.in-Err.ensures.err
+    any_memory _ _ _ _ c.in-Err.error
+    (only_first _ _ _ _ _ (last_ends c.args.allocator.now.tables.fat c.args.start.now c.last_number-last.result c.args.ids.now.items c.requires last) c.in-Err.error c.in-Err.ensures.err)
 
 pub returns-in-Ok-clause-few : goal.returns-in-Ok-clause-few
 returns-in-Ok-clause-few g c = chain_few _ _ _ (returns-in-Ok-clause-chained g c)
