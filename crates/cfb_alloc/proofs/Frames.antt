@@ -1,5 +1,5 @@
 -- What is spared by changes, and what that keeps: chains of other sectors, and their bytes.
-use Rattle.std.proofs.Common.{◌≡◌, ◌≢◌, ◌<◌, ◌≤◌, ◌+◌, ◌/◌, ◌%◌, ◌⊎◌, inl, inr, ℕ, List, ◌++◌, Bool, true, false, Option, Some, None, nat_lt, slice_get, option_and_then, if◌then◌else◌, refl, sym, ◌∙◌, ap, subst, length, arith, lt-ltb, ltb-true}
+use Rattle.std.proofs.Common.{◌≡◌, ◌≢◌, ◌<◌, ◌+◌, ◌/◌, ◌%◌, inl, inr, ℕ, List, Bool, true, false, Option, Some, None, nat_lt, slice_get, option_and_then, if◌then◌else◌, refl, sym, ◌∙◌, ap, subst, length, arith, lt-ltb, ltb-true}
 use Rattle.std.specs.Prelude.{Contains}
 use Rattle.std.proofs.lemmas.Option.{none-some, same_Some, slice_get_within, get_or_from_slice_get}
 use Rattle.cfb_format.specs.declared.version.Version.{Version}
@@ -7,12 +7,10 @@ use Rattle.cfb_format.specs.declared.version.Version.TheVariants.{V3, V4}
 use Rattle.cfb_format.specs.Bytes.{byte_at, sector_len, sector_start, free_sector}
 use Rattle.cfb_format.specs.Chain.{value}
 use Rattle.cfb_format.specs.Content.{in_file, place_in_chain}
-use Rattle.cfb_tables.specs.Tables.{TableState}
 use Rattle.cfb_tables.proofs.ChainLemmas.{chain-stays, members-busy}
 use Rattle.cfb_sectors.specs.Sectors.{SectorStays}
 use Rattle.cfb_sectors.proofs.SectorLemmas.{SectorStays_refl, SectorStays_trans}
-use Rattle.cfb_alloc.specs.Alloc.{AllocatorState}
-use Rattle.cfb_alloc.specs.Frame.{IsForeign, IsFixedHeaderByte, Spares, NothingIsTouched, SparesLess, SparesInTurn, OtherChainsAreSpared, BytesStayInPlace, table_sectors}
+use Rattle.cfb_alloc.specs.Frame.{IsForeign, IsFixedHeaderByte, NothingIsTouched, SparesLess, SparesInTurn, OtherChainsAreSpared, ForeignStays, BytesStayInPlace}
 
 pub nothing-touched : NothingIsTouched
 nothing-touched own old new version fat tables bytes = record {
@@ -68,6 +66,13 @@ other-chains-spared own old new start list s chain apart no_tables =
       (λ i m. s.tables i (foreign i m)),
       (λ i m. s.sectors i (foreign i m)),
     )
+
+pub foreign-stays : ForeignStays
+foreign-stays own old new s i f = record {
+  busy = λ e. f.busy (sym (s.values i f.busy f.other) ∙ e);
+  other = f.other;
+  no_table = s.tables i f;
+}
 
 -- ---- bytes by place
 

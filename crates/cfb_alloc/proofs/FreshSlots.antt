@@ -1,5 +1,5 @@
 -- The slots of a fresh directory sector.
-use Rattle.std.proofs.Common.{◌≡◌, ◌<◌, ◌≤◌, ◌+◌, ◌-◌, ◌*◌, min, ℕ, zero, suc, List, ◌++◌, refl, sym, ◌∙◌, ap, length, take, drop, slice_index, arith, take_all, drop-drop}
+use Rattle.std.proofs.Common.{◌≡◌, ◌<◌, ◌+◌, ◌*◌, ℕ, zero, suc, List, ◌++◌, refl, sym, ◌∙◌, ap, length, take, drop, slice_index, arith, take_all, drop-drop}
 use Rattle.std.proofs.Math.Seq.{drop-append_seam}
 use Rattle.std.proofs.lemmas.List.{take-append-le}
 use Rattle.std.proofs.lemmas.Grind.{same_number_lists}

@@ -23,5 +23,6 @@ pub mod HeaderField
 pub mod ListedLemmas
 pub mod Frames
 pub mod Spared
+pub mod BrokenSpared
 pub mod HeldOrder
 pub mod FreshSlots

@@ -1,8 +1,7 @@
 -- What each kind of change spares: taking, freeing, and writing in sectors.
-use Rattle.std.proofs.Common.{◌≡◌, ◌≢◌, ◌<◌, ◌≤◌, ◌+◌, ◌⊎◌, inl, inr, ℕ, List, [], ◌∷◌, ◌++◌, refl, sym, ◌∙◌, ap, subst, length, arith}
+use Rattle.std.proofs.Common.{◌≡◌, ◌≢◌, ◌<◌, ◌≤◌, ◌+◌, inl, inr, ℕ, List, [], ◌∷◌, ◌++◌, refl, sym, ap, subst, arith}
 use Rattle.std.specs.Prelude.{Contains}
 use Rattle.std.proofs.lemmas.List.Elements.{Contains-append_cases, Contains-append_left, Contains-append_right}
-use Rattle.cfb_format.specs.declared.error.Error.{Error}
 use Rattle.cfb_format.specs.declared.version.Version.{Version}
 use Rattle.cfb_format.specs.declared.version.Version.TheVariants.{V3, V4}
 use Rattle.cfb_format.specs.Bytes.{sector_len, sector_start}
@@ -11,10 +10,10 @@ use Rattle.cfb_format.specs.Medium.{ChangesOnlyBytes}
 use Rattle.cfb_format.proofs.Unique.{IsChain-unique}
 use Rattle.cfb_tables.specs.Tables.{TableState, HasTaken, TablesGiveBack}
 use Rattle.cfb_sectors.specs.Words.{Apart}
-use Rattle.cfb_sectors.specs.Sectors.{SectorFile, SectorStays, place_in_sector}
-use Rattle.cfb_sectors.proofs.SectorLemmas.{SectorStays_refl, sector_apart}
-use Rattle.cfb_alloc.specs.Alloc.{AllocatorState, ChangesSectors, IsOtherHeaderByte, IsPlaced, OthersStay}
-use Rattle.cfb_alloc.specs.Frame.{IsForeign, IsFixedHeaderByte, Spares, LieAmong, LieOutside, table_sectors}
+use Rattle.cfb_sectors.specs.Sectors.{SectorFile, place_in_sector}
+use Rattle.cfb_sectors.proofs.SectorLemmas.{sector_apart}
+use Rattle.cfb_alloc.specs.Alloc.{AllocatorState, ChangesSectors, IsOtherHeaderByte, IsPlaced}
+use Rattle.cfb_alloc.specs.Frame.{IsFixedHeaderByte, Spares, LieAmong, TakingSpares, FreeingSpares, WritingSpares, table_sectors}
 use Rattle.cfb_alloc.specs.InSector.{LiesIn}
 use Rattle.cfb_alloc.proofs.AllocLemmas.{others_written}
 use Rattle.cfb_alloc.proofs.Listed.{not_in_nil}
@@ -52,7 +51,7 @@ fixed_before V4 i at (inr (inr high)) past = let u = high.1 in omega (arith, u, 
 -- ---- taking
 
 -- sectors were taken: all stays but the last sectors so far
-pub taken_spares : (old new : AllocatorState) (touched more : List ℕ) → HasTaken old.tables new.tables touched more → OthersStay old new → Spares touched old new
+pub taken_spares : TakingSpares
 taken_spares old new touched more h o =
     let late_fat = λ (i : ℕ) (m : Contains h.fats i). Contains-append_left (more ++ h.fats) h.difats i (Contains-append_right more h.fats i m) in
     let late_difat = λ (i : ℕ) (m : Contains h.difats i). Contains-append_right (more ++ h.fats) h.difats i m in
@@ -111,8 +110,7 @@ last_among table start front last list chain other i m =
 -- ---- freeing
 
 -- sectors were given back: all stays but them and where the chain ends now
-pub freed_spares : (old new : AllocatorState) (ends gone : List ℕ) → TablesGiveBack ends gone old.tables new.tables
-    → ChangesSectors old.tables.fat_sectors old.tables.version old.file.bytes new.file.bytes → Spares (ends ++ gone) old new
+pub freed_spares : FreeingSpares
 freed_spares old new ends gone back change =
     let same : table_sectors new.tables ≡ table_sectors old.tables = ap table_sectors back.rest in
     record {
@@ -136,8 +134,7 @@ freed_written ends gone list start {a} {s0} {t0} {t} s2 view chain other back ch
 -- ---- writing in sectors
 
 -- bytes were written that lie in these sectors alone
-pub written_spares : (own : List ℕ) (old new : AllocatorState) (at n : ℕ) → new.tables ≡ old.tables → sector_len old.tables.version ≤ at
-    → LieAmong own old.tables.version at n → ChangesOnlyBytes at n old.file.bytes new.file.bytes → Spares own old new
+pub written_spares : WritingSpares
 written_spares own old new at n same past lie change = record {
   same_version = ap (λ (t : TableState). t.version) same;
   no_shorter = change.no_shorter;

@@ -1,15 +1,18 @@
 -- What a change leaves alone: the sectors in use that are none of its own.
 use Rattle.std.specs.Prelude.{ℕ, ◌≡◌, ◌≢◌, ◌<◌, ◌≤◌, ◌⊎◌, List, ◌++◌, Some, length, slice_index, Contains}
+use Rattle.cfb_format.specs.declared.error.Error.{Error}
 use Rattle.cfb_format.specs.declared.version.Version.{Version}
 use Rattle.cfb_format.specs.Bytes.{byte_at, sector_len, sector_start, free_sector}
 use Rattle.cfb_format.specs.Chain.{value, IsChain}
 use Rattle.cfb_format.specs.Content.{place_in_chain}
+use Rattle.cfb_format.specs.Medium.{ChangesOnlyBytes}
 use Rattle.cfb_tables.specs.Changes.{AreDisjoint}
-use Rattle.cfb_tables.specs.Tables.{TableState}
+use Rattle.cfb_tables.specs.Tables.{TableState, HasTaken, TakesFor, TablesGiveBack, GivesBackChain}
 use Rattle.cfb_sectors.specs.Sectors.{SectorStays}
 use Rattle.cfb_sectors.specs.Words.{Apart}
 use Rattle.cfb_alloc.specs.Agreement.{KeepsSectors}
-use Rattle.cfb_alloc.specs.Alloc.{AllocatorState}
+use Rattle.cfb_alloc.specs.Alloc.{AllocatorState, ChangesSectors, OthersStay}
+use Rattle.cfb_alloc.specs.Broken.{BreaksOff}
 
 -- the sectors that hold the tables
 abbrev pub table_sectors : TableState → List ℕ
@@ -66,7 +69,32 @@ OtherChainsAreSpared = (own : List ℕ) (old new : AllocatorState) (start : ℕ)
     → AreDisjoint list own → AreDisjoint list (table_sectors old.tables)
     → IsChain new.tables.fat start list × AreDisjoint list (table_sectors new.tables) × KeepsSectors old.tables.version list old.file.bytes new.file.bytes
 
+-- what is foreign stays foreign
+abbrev pub ForeignStays : Type 0
+ForeignStays = (own : List ℕ) (old new : AllocatorState) → Spares own old new → (i : ℕ) → IsForeign own old.tables i → IsForeign own new.tables i
+
 -- where sectors stay, a byte of a chain of them that stood at a place stands there with the same value
 abbrev pub BytesStayInPlace : Type 0
 BytesStayInPlace = (version : Version) (list old new : List ℕ) → KeepsSectors version list old new → (k at : ℕ)
     → place_in_chain version old list k ≡ Some at → (place_in_chain version new list k ≡ Some at) × (byte_at new at ≡ byte_at old at)
+
+-- ---- laws of what each kind of change spares
+
+abbrev pub TakingSpares : Type 0
+TakingSpares = (old new : AllocatorState) (touched more : List ℕ) → HasTaken old.tables new.tables touched more → OthersStay old new → Spares touched old new
+
+abbrev pub BrokenTakingSpares : Type 0
+BrokenTakingSpares = (old new : AllocatorState) (touched : List ℕ) (e : Error) → BreaksOff (TakesFor touched) old new e → OthersStay old new → Spares touched old new
+
+abbrev pub FreeingSpares : Type 0
+FreeingSpares = (old new : AllocatorState) (ends gone : List ℕ) → TablesGiveBack ends gone old.tables new.tables
+    → ChangesSectors old.tables.fat_sectors old.tables.version old.file.bytes new.file.bytes → Spares (ends ++ gone) old new
+
+abbrev pub BrokenFreeingSpares : Type 0
+BrokenFreeingSpares = (old new : AllocatorState) (ends list : List ℕ) (start : ℕ) (e : Error) → BreaksOff (GivesBackChain ends start) old new e
+    → ChangesSectors old.tables.fat_sectors old.tables.version old.file.bytes new.file.bytes → IsChain old.tables.fat start list
+    → Spares (ends ++ list) old new
+
+abbrev pub WritingSpares : Type 0
+WritingSpares = (own : List ℕ) (old new : AllocatorState) (at n : ℕ) → new.tables ≡ old.tables → sector_len old.tables.version ≤ at
+    → LieAmong own old.tables.version at n → ChangesOnlyBytes at n old.file.bytes new.file.bytes → Spares own old new

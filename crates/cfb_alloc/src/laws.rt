@@ -1,6 +1,6 @@
 //! What the definitions promise about each other. None of these functions does anything: each has a law
 //! as its contract.
-ghost use Rattle.cfb_alloc.specs.Frame.{NothingIsTouched, SparesLess, SparesInTurn, OtherChainsAreSpared, BytesStayInPlace};
+ghost use Rattle.cfb_alloc.specs.Frame.{NothingIsTouched, SparesLess, SparesInTurn, ForeignStays, OtherChainsAreSpared, BytesStayInPlace, TakingSpares, BrokenTakingSpares, FreeingSpares, BrokenFreeingSpares, WritingSpares};
 ghost use Rattle.cfb_alloc.specs.Fresh.{FreshSlotsAreUnallocated};
 ghost use Rattle.cfb_alloc.specs.Held.{SoundTablesAreHeld, StrictTablesAreHeld, HeldTablesAreStrict, MembersAreNoTableSectors, HeldTablesAreUsable};
 
@@ -19,8 +19,18 @@ pub fn changes_spare_others()
     ensures nothing { NothingIsTouched }
     ensures less { SparesLess }
     ensures in_turn { SparesInTurn }
+    ensures foreign { ForeignStays }
     ensures chains { OtherChainsAreSpared }
     ensures bytes { BytesStayInPlace }
+{}
+
+/// What was said of taking, freeing and writing spares all others, also where the change broke off.
+pub fn each_change_spares_others()
+    ensures taking { TakingSpares }
+    ensures broken_taking { BrokenTakingSpares }
+    ensures freeing { FreeingSpares }
+    ensures broken_freeing { BrokenFreeingSpares }
+    ensures writing { WritingSpares }
 {}
 
 /// Tables that the bytes hold can be changed, and no chain has a table sector among its members.

@@ -1,13 +1,13 @@
 -- Lists that point to no others, and starts that nothing names.
-use Rattle.std.proofs.Common.{◌≡◌, ◌≢◌, ◌<◌, inl, inr, ◌+◌, ℕ, suc, List, [], ◌∷◌, ◌++◌, refl, sym, ◌∙◌, ap, subst, length, arith, length-append}
+use Rattle.std.proofs.Common.{◌≡◌, ◌≢◌, ◌<◌, inl, inr, ℕ, List, [], ◌∷◌, ◌++◌, sym, ap, subst, length, arith, length-append}
 use Rattle.std.specs.Prelude.{Contains, IsTrue}
 use Rattle.std.proofs.lemmas.List.Elements.{Contains-append_left, Contains-append_right, Contains-append_cases}
 use Rattle.cfb_format.specs.Bytes.{free_sector, is_regular}
 use Rattle.cfb_format.specs.Chain.{value, IsChain}
 use Rattle.cfb_format.proofs.Unique.{IsChain-unique}
-use Rattle.cfb_tables.specs.Owners.{IsClosed, ChainsAreClosed, MarksAreClosed, ClosedTogether, OwnedStartIsUnnamed}
+use Rattle.cfb_tables.specs.Owners.{ChainsAreClosed, MarksAreClosed, ClosedTogether, OwnedStartIsUnnamed}
 use Rattle.cfb_tables.proofs.ChainLemmas.{regular-le, chain-rest}
-use Rattle.cfb_tables.proofs.Members.{Contains-here, Contains-there, Contains-nil, Contains-or, Contains-split, in_three, second_of_three, distinct-left, distinct-apart}
+use Rattle.cfb_tables.proofs.Members.{Contains-here, Contains-there, Contains-or, Contains-split, in_three, second_of_three, distinct-left, distinct-apart}
 
 -- a chain that doesn't end at once has its start as a member
 start_in : (table : List ℕ) (s : ℕ) (list : List ℕ) → IsChain table s list → 0 < length list → Contains list s

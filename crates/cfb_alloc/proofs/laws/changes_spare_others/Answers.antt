@@ -1,4 +1,4 @@
-use Rattle.cfb_alloc.proofs.Frames.{nothing-touched, spares-less, spares-then, other-chains-spared, bytes-stay-in-place}
+use Rattle.cfb_alloc.proofs.Frames.{nothing-touched, spares-less, spares-then, foreign-stays, other-chains-spared, bytes-stay-in-place}
 use Rattle.cfb_alloc.proofs.laws.changes_spare_others.Goals as goal
 
 pub returns-clause-nothing : goal.returns-clause-nothing
@@ -15,3 +15,6 @@ returns-clause-chains c = other-chains-spared
 
 pub returns-clause-bytes : goal.returns-clause-bytes
 returns-clause-bytes c = bytes-stay-in-place
+
+pub returns-clause-foreign : goal.returns-clause-foreign
+returns-clause-foreign c = foreign-stays
