@@ -1,18 +1,17 @@
 -- The header and the tables after a word of the header is written that does not speak of the tables (MS-CFB 2.2).
 use Rattle.std.proofs.Common.{◌≡◌, ◌⊎◌, inl, inr, ℕ, ◌+◌, ◌-◌, ◌<◌, ◌≤◌, ◌/◌, List, [], ◌++◌, length, refl, sym, ◌∙◌, ap, subst, arith}
-use Rattle.std.specs.Prelude.{Contains, slice_index, not, ◌==◌, true, flat_map}
+use Rattle.std.specs.Prelude.{Contains, slice_index, not, ◌==◌, flat_map}
 use Rattle.std.specs.List.{list_all}
 use Rattle.cfb_format.specs.declared.header.Header.{Header}
 use Rattle.cfb_format.specs.declared.version.Version.{Version}
-use Rattle.cfb_format.specs.declared.version.Version.TheVariants.{V3, V4}
 use Rattle.cfb_format.specs.declared.validate.Validation.{Validation}
-use Rattle.cfb_format.specs.Bytes.{word_at, sector_len, sector_count, sector_start, sector_words, is_regular, free_sector}
-use Rattle.cfb_format.specs.Header.{IsHeader, IfStrict, dir_sectors_of, first_difat_of, header_difat_len, padded_difat, stored_difat}
+use Rattle.cfb_format.specs.Bytes.{word_at, sector_len, sector_count, sector_words, is_regular, free_sector}
+use Rattle.cfb_format.specs.Header.{IsHeader, IfStrict, dir_sectors_of, first_difat_of, padded_difat, stored_difat}
 use Rattle.cfb_format.specs.Fat.{IsDifat, IsStrictDifat, difat_entries, next_difat, without_end, without_padding}
 use Rattle.cfb_format.specs.Chain.{value}
 use Rattle.cfb_format.specs.Medium.{ChangesOnlyBytes}
 use Rattle.cfb_tables.specs.Tables.{TableState}
-use Rattle.cfb_sectors.specs.Sectors.{SectorFile, SectorStays}
+use Rattle.cfb_sectors.specs.Sectors.{SectorStays}
 use Rattle.cfb_sectors.specs.Words.{with_word}
 use Rattle.cfb_sectors.proofs.SectorLemmas.{after_header}
 use Rattle.cfb_sectors.proofs.WordLemmas.{length-with_word}

@@ -1,6 +1,6 @@
 -- Fresh sectors: the same bytes again and again.
 use Rattle.std.proofs.Common.{refl, zero, suc, ◌≡◌, ℕ, ◌+◌, ◌-◌, ◌*◌, ◌/◌, ◌<◌, ◌≤◌, List, [], ◌∷◌, ◌++◌, length, take, drop, replicate, sym, ◌∙◌, ap, ap₂, arith, append_assoc, append-nil, add-one}
-use Rattle.std.proofs.lemmas.List.{take_all, take-append-drop}
+use Rattle.std.proofs.lemmas.List.{take_all, take-append-drop, take-replicate}
 use Rattle.std.specs.Int.{to_le_bytes, w32}
 use Rattle.cfb_format.specs.Bytes.{word_bytes, unit_bytes, sector_len, words_per_sector, entries_per_sector, free_sector, end_of_chain}
 use Rattle.cfb_format.specs.DirectoryEntry.{entry_bytes, unallocated_entry}
@@ -88,6 +88,15 @@ copies-replicate (suc k) v = ap (λ (xs : List ℕ). v ∷ xs) (copies-replicate
 pub zero_filled : (v : Version) (k n : ℕ) (new : List ℕ) → k ≡ sector_len v → n ≡ k * 1 → length new ≡ sector_len v → take n new ≡ copies k (0 ∷ []) → new ≡ init_bytes v Zero
 unfolding init_bytes
 zero_filled v k n new count end len put = whole n new _ (omega (arith, count, end, len)) put ∙ copies-replicate k 0 ∙ ap (λ m. replicate {A = ℕ} m 0) count
+
+-- zeros need no filling
+sector_short : (v : Version) → sector_len v ≤ 4096
+sector_short V3 = omega arith
+sector_short V4 = omega arith
+
+pub zeros_fresh : (v : Version) (zeros : List ℕ) → zeros ≡ replicate 4096 0 → take (sector_len v) zeros ≡ init_bytes v Zero
+unfolding init_bytes
+zeros_fresh v zeros is = ap (take (sector_len v)) is ∙ take-replicate (sector_len v) 4096 0 (sector_short v)
 
 -- the slot of an entry that is not used
 pub unallocated : (n : ℕ) (new : List ℕ) → n ≡ 80 → take n new ≡ take {A = ℕ} 68 (replicate 128 0) ++ replicate 12 255 → drop n new ≡ drop {A = ℕ} n (replicate 128 0)

@@ -469,8 +469,11 @@ pub enum SectorInit {
 fn fresh_sector(version: Version, init: SectorInit) -> [u8; 4096]
     ensures { take (sector_len version) result ≡ init_bytes version init }
 {
-    let mut bytes = [0; 4096];
-    fill(&mut bytes[..version.sector_len()], version, init);
+    let mut bytes = zeros();
+    match init {
+        SectorInit::Zero => {}
+        _ => fill(&mut bytes[..version.sector_len()], version, init),
+    }
     bytes
 }
 

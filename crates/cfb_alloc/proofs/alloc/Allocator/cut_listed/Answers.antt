@@ -1,4 +1,4 @@
-use Rattle.std.proofs.Common.{ℕ, List, sym, ◌∙◌, ap, subst, take, drop, arith}
+use Rattle.std.proofs.Common.{ℕ, List, sym, subst, take, drop, arith}
 use Rattle.cfb_tables.specs.Changes.{GivesBack}
 use Rattle.cfb_tables.specs.Clean.{IsUnnamed}
 use Rattle.cfb_tables.specs.Listed.{ends_of}

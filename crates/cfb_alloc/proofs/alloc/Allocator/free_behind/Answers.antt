@@ -1,9 +1,7 @@
-use Rattle.std.proofs.Common.{◌≡◌, refl, ap, sym, subst, [], ◌++◌, length, take, drop, ◌-◌, ℕ, List}
-use Rattle.std.specs.Prelude.{Contains}
+use Rattle.std.proofs.Common.{refl, ap, sym, subst, []}
 use Rattle.cfb_format.specs.Chain.{IsChain}
 use Rattle.cfb_alloc.specs.Alloc.{AllocatorState, HoldsBut, HoldsTables}
 use Rattle.cfb_tables.specs.Clean.{IsClean, IsUnnamed}
-use Rattle.cfb_tables.specs.Listed.{ends_of}
 use Rattle.cfb_tables.specs.Tables.{first_or_end}
 use Rattle.cfb_sectors.specs.Sectors.{SectorFile}
 use Rattle.cfb_alloc.proofs.Answering.{on_ok}
