@@ -37,9 +37,6 @@ pub tally-append : (k : ℕ) (xs ys : List ℕ) → tally k (xs ++ ys) ≡ tally
 tally-append k [] ys = omega arith
 tally-append k (x ∷ xs) ys = omega (arith, tally-append k xs ys)
 
-pub tally-one : (k x : ℕ) → tally k (x ∷ []) ≡ hit k x
-tally-one k x = omega arith
-
 pub tally-reverse : (k : ℕ) (xs : List ℕ) → tally k (reverse xs) ≡ tally k xs
 tally-reverse k [] = refl
 tally-reverse k (x ∷ xs) =

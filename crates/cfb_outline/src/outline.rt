@@ -19,6 +19,13 @@ use cfb_format::error::{Detail, Error};
 use cfb_format::validate::Validation;
 use std::alloc::Allocator;
 
+/// The refusal of what stands at the entry of this number.
+fn malformed(text: &'static str, number: u32) -> Error
+    ensures { (detail : _) × (result ≡ Error.InvalidData detail) }
+{
+    Error::InvalidData(Detail::number(text, u64::from(number)))
+}
+
 /// Appends the siblings that hang at a number, the greatest name first, and marks them.
 ///
 /// `InvalidData` exactly where they are not storages and streams in range, each of them reached
@@ -44,16 +51,10 @@ fn walk_siblings<A: Allocator>(
     loop {
         if current != NO_STREAM {
             if current as usize >= entries.len() {
-                return Err(Error::InvalidData(Detail::number(
-                    "link to no entry",
-                    u64::from(current),
-                )));
+                return Err(malformed("link to no entry", current));
             }
             if seen[current as usize] {
-                return Err(Error::InvalidData(Detail::number(
-                    "entry reached twice",
-                    u64::from(current),
-                )));
+                return Err(malformed("entry reached twice", current));
             }
             stack.push(current)?;
             seen[current as usize] = true;
@@ -64,13 +65,10 @@ fn walk_siblings<A: Allocator>(
             return Ok(());
         };
         if !is_object(entries, number) {
-            return Err(Error::InvalidData(Detail::number(
-                "entry in a storage is no object",
-                u64::from(number),
-            )));
+            return Err(malformed("entry in a storage is no object", number));
         }
         if !precedes(cases, entries, number, last) {
-            return Err(Error::InvalidData(Detail::number("names do not rise", u64::from(number))));
+            return Err(malformed("names do not rise", number));
         }
         pending.push(number)?;
         last = Some(number);

@@ -8,16 +8,16 @@ use Rattle.cfb_outline.proofs.outline.walk_siblings.Goals as goal
 use Rattle.cfb_outline.proofs.outline.walk_siblings.Goals.{In-Some}
 
 pub returns-then-current-entries-clause-refused : goal.returns-then-current-entries-clause-refused
-returns-then-current-entries-clause-refused g c = λ list f.
+returns-then-current-entries-clause-refused g c = rw c.malformed.ensures.1 (λ list f.
     let inv = c.loop-current.invariant in
     walk-out c.args.cases.now (entries_of c.args.entries.now) c.args.top c.args.seen.now.items c.loop-current.current (reverse c.loop-current.stack.items) inv.done c.loop-current.seen.items list
-    inv.walk c.if-current.true (omega (arith, c.if-current-entries.true, length-map c.args.entries.now entry_of)) f
+    inv.walk c.if-current.true (omega (arith, c.if-current-entries.true, length-map c.args.entries.now entry_of)) f)
 
 pub returns-then-index-clause-refused : goal.returns-then-index-clause-refused
-returns-then-index-clause-refused g c = λ list f.
+returns-then-index-clause-refused g c = rw c.malformed-then-index.ensures.1 (λ list f.
     let inv = c.loop-current.invariant in
     walk-seen c.args.cases.now (entries_of c.args.entries.now) c.args.top c.args.seen.now.items c.loop-current.current (reverse c.loop-current.stack.items) inv.done c.loop-current.seen.items list
-    inv.walk c.if-current.true (mark-read c.loop-current.seen.items c.loop-current.current c.index.result.now true (omega (arith, inv.walk.size, c.if-current-entries.false, length-map c.args.entries.now entry_of)) c.index.ensures c.if-index.true) f
+    inv.walk c.if-current.true (mark-read c.loop-current.seen.items c.loop-current.current c.index.result.now true (omega (arith, inv.walk.size, c.if-current-entries.false, length-map c.args.entries.now entry_of)) c.index.ensures c.if-index.true) f)
 
 entered : (g : _) (c : goal.After-right_link-current g) → Walk c.args.cases.now (entries_of c.args.entries.now) c.args.top c.args.seen.now.items c.right_link-current.result
     (reverse c.push.new.self.items) c.loop-current.invariant.done (set c.loop-current.seen.items c.loop-current.current true)
@@ -73,10 +73,10 @@ is_object-requires g c =
     omega (arith, l, length-map c.args.entries.now entry_of)
 
 pub returns-then-not-is_object-clause-refused : goal.returns-then-not-is_object-clause-refused
-returns-then-not-is_object-clause-refused g c = λ list f.
+returns-then-not-is_object-clause-refused g c = rw c.malformed-then-not-is_object.ensures.1 (λ list f.
     walk-other c.args.cases.now (entries_of c.args.entries.now) c.args.top c.args.seen.now.items c.loop-current.current c.in-Some.number (reverse c.pop.new.self.items)
     c.loop-current.invariant.done c.loop-current.seen.items list (popped-walk g (goal.at.returns-then-not-is_object-clause-refused g c).In-Some)
-    c.if-current.false (sym c.is_object.ensures ∙ c.if-not-is_object.true) f
+    c.if-current.false (sym c.is_object.ensures ∙ c.if-not-is_object.true) f)
 
 pub precedes-requires-clause-last_in : goal.precedes-requires-clause-last_in
 precedes-requires-clause-last_in g c =
@@ -85,10 +85,10 @@ precedes-requires-clause-last_in g c =
     c.loop-current.invariant.done c.loop-current.seen.items c.loop-current.invariant.walk c.loop-current.invariant.last)
 
 pub returns-then-not-precedes-clause-refused : goal.returns-then-not-precedes-clause-refused
-returns-then-not-precedes-clause-refused g c = λ list f.
+returns-then-not-precedes-clause-refused g c = rw c.malformed-then-not-precedes.ensures.1 (λ list f.
     walk-unpreceded c.args.cases.now (entries_of c.args.entries.now) c.args.top c.args.seen.now.items c.loop-current.current c.in-Some.number c.loop-current.last (reverse c.pop.new.self.items)
     c.loop-current.invariant.done c.loop-current.seen.items list (popped-walk g (goal.at.returns-then-not-precedes-clause-refused g c).In-Some)
-    c.if-current.false c.loop-current.invariant.last (sym c.precedes.ensures ∙ c.if-not-precedes.true) f
+    c.if-current.false c.loop-current.invariant.last (sym c.precedes.ensures ∙ c.if-not-precedes.true) f)
 
 pub loop-current-smaller : goal.loop-current-smaller
 loop-current-smaller g c =
