@@ -4,5 +4,4 @@
 
 mod links;
 pub mod listing;
-mod marks;
 pub mod outline;

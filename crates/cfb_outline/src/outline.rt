@@ -1,17 +1,16 @@
 //! Which entries are reached from the root (MS-CFB 2.6.2 to 2.6.4).
-ghost use Rattle.std.specs.Prelude.{◌≡◌, ◌++◌, ◌||◌, ℕ, List, [], length, nat_eq, reverse, OnOk, IfOk, IfErr};
+ghost use Rattle.std.specs.Prelude.{◌≡◌, ◌++◌, ◌||◌, ℕ, List, [], length, nat_eq, replicate, reverse, false, OnOk, IfOk, IfErr};
 ghost use Rattle.std.specs.List.{list_all, list_any};
 ghost use Rattle.cfb_codecs.specs.EntryModel.{entries_of};
 ghost use Rattle.cfb_format.specs.Siblings.{is_red_apart};
 ghost use Rattle.cfb_format.specs.Reading.{Outline, IsOutline, numbers};
-ghost use Rattle.cfb_format.specs.Refused.{IsInvalidOrMemory};
+ghost use Rattle.cfb_format.specs.Refused.{IsInvalidOrMemory, IsMemory};
 ghost use Rattle.cfb_outline.specs.Families.{Family, is_marked};
 ghost use Rattle.cfb_outline.specs.Outlines.{AcceptsOutline};
 
 use crate::links::{
     child_link, has_root, is_object, is_storage, keeps_red_apart, left_link, precedes, right_link,
 };
-use crate::marks::no_marks;
 use cfb_codecs::direntry::DirEntry;
 use cfb_codecs::path::CaseMapper;
 use cfb_format::consts::NO_STREAM;
@@ -24,6 +23,16 @@ fn malformed(text: &'static str, number: u32) -> Error
     ensures { (detail : _) × (result ≡ Error.InvalidData detail) }
 {
     Error::InvalidData(Detail::number(text, u64::from(number)))
+}
+
+/// As many marks, none of them set.
+fn no_marks<A: Allocator>(alloc: A, count: usize) -> Result<Vec<bool, A>, Error>
+    ensures marks { IfOk result (λ marks. marks.items ≡ replicate count false) }
+    ensures refused { IfErr result IsMemory }
+{
+    let mut marks = Vec::new(alloc);
+    marks.resize(count, false)?;
+    Ok(marks)
 }
 
 /// Appends the siblings that hang at a number, the greatest name first, and marks them.
