@@ -1,0 +1,5 @@
+pub mod Counts
+pub mod Walking
+pub mod Reaching
+pub mod Insides
+pub mod Filling

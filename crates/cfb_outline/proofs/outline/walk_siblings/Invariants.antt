@@ -1,0 +1,15 @@
+use Rattle.std.proofs.Common.{◌≡◌, ◌++◌, ◌-◌, ◌+◌, ◌*◌, ℕ, List, length, reverse}
+use Rattle.cfb_codecs.specs.EntryModel.{entries_of}
+use Rattle.cfb_outline.proofs.Walking.{Walk, IsLast}
+use Rattle.cfb_outline.proofs.outline.walk_siblings.Given as goal
+
+abbrev pub invariant-loop-current : goal.invariant-loop-current
+invariant-loop-current g l = record {
+  done : List ℕ;
+  found : l.pending.items ≡ l.fn.pending.items ++ done;
+  walk : Walk l.cases (entries_of l.entries) l.top l.fn.seen.items l.current (reverse l.stack.items) done l.seen.items;
+  last : IsLast done l.last;
+}
+
+abbrev pub decreases-loop-current : goal.decreases-loop-current
+decreases-loop-current g l = 2 * length l.entries - (2 * (length l.pending.items - length l.fn.pending.items) + length l.stack.items)
