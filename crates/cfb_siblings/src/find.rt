@@ -7,7 +7,7 @@ ghost use Rattle.cfb_format.specs.declared.objtype.ObjType.TheVariants.{Stream};
 ghost use Rattle.cfb_format.specs.Reading.{IsOutline, Outline};
 ghost use Rattle.cfb_format.specs.Siblings.{entry_at};
 
-use crate::links::{child_of, links};
+use crate::links::{child_link, links};
 use cfb_codecs::direntry::DirEntry;
 use cfb_codecs::path::{CaseMapper, compare_names, next_name, stays_below_root};
 use cfb_format::consts::NO_STREAM;
@@ -27,7 +27,7 @@ pub fn find_child<A: Allocator>(
     ensures { (list : List ℕ) → HasChildren cases.now (entries_of entries.now) parent list
         → MatchOption result (IsAbsent cases.now (entries_of entries.now) (chars name.now) list) (λ k. IsChildNamed cases.now (entries_of entries.now) (chars name.now) list k) }
 {
-    let mut link = child_of(entries, parent);
+    let mut link = child_link(entries, parent);
     while link != NO_STREAM {
         let (left, right) = links(entries, link);
         link = match compare_names(cases, name, &entries[link as usize].name) {

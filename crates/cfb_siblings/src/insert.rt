@@ -3,7 +3,7 @@
 ghost use Rattle.std.specs.Prelude.{◌≡◌, ◌≢◌, ℕ, ◌+◌, ◌*◌, ◌<◌, ◌≤◌, length, chars, string_bytes, IfOk, OnOk, OnErr, MatchOption, List, vec_len, vec_capacity, true, slice_set};
 ghost use Rattle.cfb_codecs.specs.EntryModel.{entry_of};
 ghost use Rattle.cfb_format.specs.Siblings.{entry_at};
-ghost use Rattle.cfb_siblings.specs.Order.{Added, Joins, KeptBeside, MayJoin};
+ghost use Rattle.cfb_siblings.specs.Order.{Attached, Joins, KeptBeside, MayJoin};
 ghost use Rattle.cfb_format.specs.declared.objtype.ObjType.TheVariants.{Unallocated};
 ghost use Rattle.cfb_format.specs.Names.{Cases};
 ghost use Rattle.cfb_siblings.specs.Painted.{Painted, entries_of, tally};
@@ -12,7 +12,7 @@ ghost use Rattle.cfb_siblings.specs.Writes.{turned_at};
 ghost use Rattle.cfb_siblings.specs.Touched.{Tells, Touches};
 ghost use Rattle.cfb_siblings.specs.Children.{HasChildren, HasRedApart, Inserts, IsAbsent, IsParent, KeepsBalance};
 
-use crate::links::{Step, far_side, is_red, join, last_step, links, paint, relink};
+use crate::links::{PathStep, far_side, is_red, join, last_step, links, paint, relink};
 use crate::touched::{link_slot, make_room, note};
 use crate::way::way_to;
 use cfb_codecs::direntry::DirEntry;
@@ -21,7 +21,7 @@ use cfb_format::consts::NO_STREAM;
 use std::alloc::{AllocError, Allocator};
 
 /// One or two rotations at a red node under a red `p` under `g`.
-fn turn<A: Allocator>(entries: &mut [DirEntry<A>], p: Step, g: Step, x: u32) -> u32
+fn turn<A: Allocator>(entries: &mut [DirEntry<A>], p: PathStep, g: PathStep, x: u32) -> u32
     requires p_in { p.number < length entries.old }
     requires g_in { g.number < length entries.old }
     requires x_in { x < length entries.old }
@@ -56,7 +56,7 @@ fn turn<A: Allocator>(entries: &mut [DirEntry<A>], p: Step, g: Step, x: u32) -> 
 fn lift<A: Allocator>(
     entries: &mut [DirEntry<A>],
     parent: u32,
-    path: &mut Vec<Step, A>,
+    path: &mut Vec<PathStep, A>,
     x: u32,
     touched: &mut Vec<u32, A>,
 ) -> Option<u32>
@@ -106,7 +106,7 @@ fn lift<A: Allocator>(
 fn rebalance<A: Allocator>(
     entries: &mut [DirEntry<A>],
     parent: u32,
-    path: &mut Vec<Step, A>,
+    path: &mut Vec<PathStep, A>,
     x: u32,
     touched: &mut Vec<u32, A>,
 )
@@ -126,7 +126,7 @@ fn rebalance<A: Allocator>(
 fn attach<A: Allocator>(
     entries: &mut [DirEntry<A>],
     parent: u32,
-    path: &mut Vec<Step, A>,
+    path: &mut Vec<PathStep, A>,
     slot: u32,
     touched: &mut Vec<u32, A>,
 )
@@ -135,7 +135,7 @@ fn attach<A: Allocator>(
     requires beside { slot ≢ parent }
     requires place { MayJoin (entries_of entries.old) parent slot path.old.items }
     requires room { vec_len touched.old + (8 * vec_len path.old + 10) ≤ vec_capacity touched.old }
-    ensures added { (cases : Cases) (t : Painted) (fs : List Frame) → Joins cases (entries_of entries.old) parent slot path.old.items t fs → Added cases (entries_of entries.old) (entries_of entries.new) parent slot t }
+    ensures added { (cases : Cases) (t : Painted) (fs : List Frame) → Joins cases (entries_of entries.old) parent slot path.old.items t fs → Attached cases (entries_of entries.old) (entries_of entries.new) parent slot t }
     ensures kept { (cases : Cases) (t : Painted) (fs : List Frame) → Joins cases (entries_of entries.old) parent slot path.old.items t fs → KeptBeside (entries_of entries.old) (entries_of entries.new) parent slot t }
     ensures told { Tells (entries_of entries.old) (entries_of entries.new) touched.old.items touched.new.items }
 {

@@ -4,7 +4,6 @@ ghost use Rattle.cfb_format.specs.DirectoryEntry.{unallocated_entry};
 ghost use Rattle.cfb_codecs.specs.EntryModel.{entry_of};
 ghost use Rattle.cfb_format.specs.Siblings.{entry_at, is_red_color};
 ghost use Rattle.cfb_siblings.specs.Painted.{entries_of, color_if_red};
-ghost use Rattle.cfb_siblings.specs.Short.{near_link};
 ghost use Rattle.cfb_siblings.specs.Taking.{vacated};
 ghost use Rattle.cfb_siblings.specs.Calm.{above_red};
 ghost use Rattle.cfb_siblings.specs.Way.{Frame, above, way};
@@ -20,7 +19,7 @@ use uuid::Uuid;
 
 /// One step on a way down: the node, and whether the way goes on to its left.
 #[derive(Clone, Copy)]
-pub(crate) struct Step {
+pub(crate) struct PathStep {
     pub(crate) number: u32,
     pub(crate) left: bool,
 }
@@ -65,7 +64,7 @@ pub(crate) fn links<A: Allocator>(entries: &[DirEntry<A>], n: u32) -> (u32, u32)
 }
 
 /// The link to the part before the entry.
-pub(crate) fn left_of<A: Allocator>(entries: &[DirEntry<A>], n: u32) -> u32
+pub(crate) fn left_link<A: Allocator>(entries: &[DirEntry<A>], n: u32) -> u32
     requires { n < length entries.now }
     ensures { result ≡ (entry_at (entries_of entries.now) n).left_sibling }
 {
@@ -73,7 +72,7 @@ pub(crate) fn left_of<A: Allocator>(entries: &[DirEntry<A>], n: u32) -> u32
 }
 
 /// The link to the part behind the entry.
-pub(crate) fn right_of<A: Allocator>(entries: &[DirEntry<A>], n: u32) -> u32
+pub(crate) fn right_link<A: Allocator>(entries: &[DirEntry<A>], n: u32) -> u32
     requires { n < length entries.now }
     ensures { result ≡ (entry_at (entries_of entries.now) n).right_sibling }
 {
@@ -81,21 +80,12 @@ pub(crate) fn right_of<A: Allocator>(entries: &[DirEntry<A>], n: u32) -> u32
 }
 
 /// The link to the part below the entry that a step does not go to.
-pub(crate) fn far_side<A: Allocator>(entries: &[DirEntry<A>], step: Step) -> u32
+pub(crate) fn far_side<A: Allocator>(entries: &[DirEntry<A>], step: PathStep) -> u32
     requires { step.number < length entries.now }
     ensures { result ≡ far_link (entries_of entries.now) step }
 {
     let (left, right) = links(entries, step.number);
     if step.left { right } else { left }
-}
-
-/// The link to the child of `s` that is nearer to where the step `p` leads.
-pub(crate) fn near_side<A: Allocator>(entries: &[DirEntry<A>], p: Step, s: u32) -> u32
-    requires { s < length entries.now }
-    ensures { result ≡ near_link (entries_of entries.now) p s }
-{
-    let (left, right) = links(entries, s);
-    if p.left { left } else { right }
 }
 
 /// The link to the part that takes the place of an entry with a missing part.
@@ -108,7 +98,7 @@ pub(crate) fn only_part<A: Allocator>(entries: &[DirEntry<A>], n: u32) -> u32
 }
 
 /// The link to the children of a storage.
-pub(crate) fn child_of<A: Allocator>(entries: &[DirEntry<A>], n: u32) -> u32
+pub(crate) fn child_link<A: Allocator>(entries: &[DirEntry<A>], n: u32) -> u32
     requires { n < length entries.now }
     ensures { result ≡ (entry_at (entries_of entries.now) n).child }
 {
@@ -116,7 +106,7 @@ pub(crate) fn child_of<A: Allocator>(entries: &[DirEntry<A>], n: u32) -> u32
 }
 
 /// Whether a red entry may not hang below the step, nor at the top.
-pub(crate) fn is_red_above<A: Allocator>(entries: &[DirEntry<A>], above: Option<Step>) -> bool
+pub(crate) fn is_red_above<A: Allocator>(entries: &[DirEntry<A>], above: Option<PathStep>) -> bool
     ensures { result ≡ above_red (entries_of entries.now) above }
 {
     match above {
@@ -154,7 +144,7 @@ pub(crate) fn join<A: Allocator>(
 pub(crate) fn relink<A: Allocator>(
     entries: &mut [DirEntry<A>],
     parent: u32,
-    above: Option<Step>,
+    above: Option<PathStep>,
     link: u32,
 )
     requires parent_in { parent < length entries.old }
@@ -229,7 +219,7 @@ fn clear<A: Allocator>(entry: &mut DirEntry<A>)
 }
 
 /// The last step of a way.
-pub(crate) fn last_step(path: &[Step]) -> Option<Step>
+pub(crate) fn last_step(path: &[PathStep]) -> Option<PathStep>
     ensures { (fs : List Frame) → path.now ≡ way fs → result ≡ above fs }
 {
     path.last().copied()

@@ -3,10 +3,10 @@ ghost use Rattle.std.specs.Prelude.{◌≡◌, ℕ, ◌++◌, ◌<◌, ◌≤◌
 ghost use Rattle.cfb_format.specs.Names.{Cases};
 ghost use Rattle.cfb_format.specs.Siblings.{entry_at};
 ghost use Rattle.cfb_siblings.specs.Children.{HasChildren, IsParent};
-ghost use Rattle.cfb_siblings.specs.Painted.{Painted, Shape, entries_of, numbers, size};
+ghost use Rattle.cfb_siblings.specs.Painted.{Painted, Shape, entries_of, tree_numbers, size};
 ghost use Rattle.cfb_siblings.specs.Waiting.{Waits, HasShort};
 
-use crate::links::{child_of, left_of, right_of};
+use crate::links::{child_link, left_link, right_link};
 use cfb_codecs::direntry::DirEntry;
 use cfb_format::consts::NO_STREAM;
 use std::alloc::{AllocError, Allocator};
@@ -20,12 +20,12 @@ fn sink<A: Allocator>(
     requires few { length (entries_of entries.now) ≤ NO_STREAM }
     requires small { HasShort (entries_of entries.now) link }
     ensures { OnOk result ((t : Painted) (rest : List ℕ) → Shape (entries_of entries.now) link t → size t ≤ length (entries_of entries.now)
-        → Waits (entries_of entries.now) stack.old.items rest → Waits (entries_of entries.now) stack.new.items (numbers t ++ rest)) }
+        → Waits (entries_of entries.now) stack.old.items rest → Waits (entries_of entries.now) stack.new.items (tree_numbers t ++ rest)) }
 {
     let mut next = link;
     while next != NO_STREAM {
         stack.push(next)?;
-        next = left_of(entries, next);
+        next = left_link(entries, next);
     }
     Ok(())
 }
@@ -42,10 +42,10 @@ pub fn children<A: Allocator + Clone>(
 {
     let mut stack = Vec::new(alloc.clone()?);
     let mut numbers = Vec::new(alloc);
-    sink(entries, &mut stack, child_of(entries, parent))?;
+    sink(entries, &mut stack, child_link(entries, parent))?;
     while let Some(n) = stack.pop() {
         numbers.push(n)?;
-        sink(entries, &mut stack, right_of(entries, n))?;
+        sink(entries, &mut stack, right_link(entries, n))?;
     }
     Ok(numbers)
 }

@@ -2,18 +2,17 @@
 //! is replaced by that, and in place of one with two its predecessor goes, whose entry then moves
 //! into the freed slot.
 ghost use Rattle.std.specs.Prelude.{◌≡◌, ◌≢◌, ℕ, ◌+◌, ◌*◌, ◌<◌, ◌≤◌, length, chars, IfOk, OnErr, OnOk, List, [], vec_len, vec_capacity, true};
-ghost use Rattle.cfb_siblings.specs.Children.{HasChildren, HasRedApart, IsAbsent, IsParent, KeepsBalance, Removes};
+ghost use Rattle.cfb_siblings.specs.Children.{HasChildren, HasRedApart, IsAbsent, IsParent, Removes};
 ghost use Rattle.cfb_siblings.specs.Order.{Absent, Dir, HasDir};
-ghost use Rattle.cfb_siblings.specs.Painted.{Painted, entries_of, numbers, occurs};
-ghost use Rattle.cfb_siblings.specs.Short.{HasSpot, Spot};
+ghost use Rattle.cfb_siblings.specs.Painted.{Painted, entries_of, tree_numbers, occurs};
+ghost use Rattle.cfb_siblings.specs.Taking.{HasSpot, Spot};
 ghost use Rattle.cfb_siblings.specs.Taking.{Soothed, SpareAt, StandsAt, TakenOut};
 ghost use Rattle.cfb_siblings.specs.Touched.{Tells, Touches};
-ghost use Rattle.cfb_siblings.specs.Way.{Frame, Kept, plug};
+ghost use Rattle.cfb_siblings.specs.Way.{Frame, KeptOutside, plug};
 
-use crate::balance::restore;
 use crate::links::{
-    Step, is_red, is_red_above, is_red_entry, last_step, links, only_part, paint, relink, right_of,
-    vacate,
+    PathStep, is_red, is_red_above, is_red_entry, last_step, links, only_part, paint, relink,
+    right_link, vacate,
 };
 use crate::touched::{link_slot, make_room, note};
 use crate::way::way_to;
@@ -30,14 +29,14 @@ struct Gap<A: Allocator> {
     /// Whether the node that went was red.
     red: bool,
     /// The way to the place where it stood, and the link to what stands there now.
-    path: Vec<Step, A>,
+    path: Vec<PathStep, A>,
     link: u32,
 }
 
 /// The node whose slot can be freed in place of that of `n`: `n` itself, or the one right before it.
 fn spare<A: Allocator>(
     entries: &[DirEntry<A>],
-    path: &mut Vec<Step, A>,
+    path: &mut Vec<PathStep, A>,
     n: u32,
 ) -> Result<u32, AllocError>
     requires few { length (entries_of entries.now) ≤ NO_STREAM }
@@ -51,19 +50,19 @@ fn spare<A: Allocator>(
     if right == NO_STREAM {
         return Ok(n);
     }
-    path.push(Step {
+    path.push(PathStep {
         number: n,
         left: true,
     })?;
     let mut m = left;
-    let mut next = right_of(entries, left);
+    let mut next = right_link(entries, left);
     while next != NO_STREAM {
-        path.push(Step {
+        path.push(PathStep {
             number: m,
             left: false,
         })?;
         m = next;
-        next = right_of(entries, m);
+        next = right_link(entries, m);
     }
     Ok(m)
 }
@@ -79,7 +78,7 @@ fn take_out<A: Allocator>(
 ) -> Result<Gap<A>, AllocError>
     requires few { length (entries_of entries.old) ≤ NO_STREAM }
     requires stands { HasDir cases.now (entries_of entries.old) parent }
-    requires there { (t : Painted) → Dir cases.now (entries_of entries.old) parent t → Absent cases.now (entries_of entries.old) (chars name.now) (numbers t) → ⊥ }
+    requires there { (t : Painted) → Dir cases.now (entries_of entries.old) parent t → Absent cases.now (entries_of entries.old) (chars name.now) (tree_numbers t) → ⊥ }
     ensures taken { IfOk result (λ gap. (t : Painted) → Dir cases.now (entries_of entries.old) parent t → TakenOut cases.now (entries_of entries.old) (entries_of entries.new) parent (chars name.now) t gap.freed gap.path.items gap.link gap.red) }
     ensures told { OnOk result (Tells (entries_of entries.old) (entries_of entries.new) [] touched.new.items) }
     ensures room { IfOk result (λ gap. vec_len touched.new + (8 * vec_len gap.path + 8) ≤ vec_capacity touched.new) }
@@ -108,14 +107,14 @@ fn take_out<A: Allocator>(
 fn soothe<A: Allocator>(
     entries: &mut [DirEntry<A>],
     parent: u32,
-    path: &[Step],
+    path: &[PathStep],
     x: u32,
     touched: &mut Vec<u32, A>,
 )
     requires few { length (entries_of entries.old) ≤ NO_STREAM }
     requires stands { HasSpot (entries_of entries.old) parent path.now x }
     requires room { vec_len touched.old < vec_capacity touched.old }
-    ensures soothed { (fs : List Frame) (t : Painted) → Spot (entries_of entries.old) parent path.now x fs t → Kept (entries_of entries.old) (entries_of entries.new) parent (plug fs t) × Soothed (entries_of entries.new) parent fs t }
+    ensures soothed { (fs : List Frame) (t : Painted) → Spot (entries_of entries.old) parent path.now x fs t → KeptOutside (entries_of entries.old) (entries_of entries.new) parent (plug fs t) × Soothed (entries_of entries.new) parent fs t }
     ensures told { Tells (entries_of entries.old) (entries_of entries.new) touched.old.items touched.new.items }
 {
     if !is_red(entries, x) {
@@ -160,34 +159,5 @@ pub fn remove<A: Allocator>(
         return Ok(freed);
     }
     soothe(entries, parent, &gap.path, gap.link, touched);
-    Ok(freed)
-}
-
-/// The same as `remove`, and a tree that was in balance stays so.
-pub fn remove_balanced<A: Allocator>(
-    alloc: A,
-    cases: &CaseMapper<A>,
-    entries: &mut [DirEntry<A>],
-    parent: u32,
-    name: &str,
-    touched: &mut Vec<u32, A>,
-) -> Result<u32, AllocError>
-    requires few { length (entries_of entries.old) ≤ NO_STREAM }
-    requires stands { IsParent cases.now (entries_of entries.old) parent }
-    requires there { (list : List ℕ) → HasChildren cases.now (entries_of entries.old) parent list → IsAbsent cases.now (entries_of entries.old) (chars name.now) list → ⊥ }
-
-    ensures removed { IfOk result (λ freed. (list : List ℕ) → HasChildren cases.now (entries_of entries.old) parent list
-        → (after : List ℕ) × Removes cases.now (entries_of entries.old) (entries_of entries.new) parent (chars name.now) freed list after) }
-    ensures balanced { OnOk result (KeepsBalance (entries_of entries.old) (entries_of entries.new) parent) }
-    ensures touches { OnOk result (Touches (entries_of entries.old) (entries_of entries.new) touched.new.items) }
-    ensures refused { OnErr result (entries.new ≡ entries.old) }
-{
-    let mut gap = take_out(alloc, cases, entries, parent, name, touched)?;
-    let freed = gap.freed;
-    let link = gap.link;
-    if gap.red {
-        return Ok(freed);
-    }
-    restore(entries, parent, &mut gap.path, link, touched);
     Ok(freed)
 }

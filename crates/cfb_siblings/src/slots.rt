@@ -17,7 +17,7 @@ pub fn first_unallocated<A: Allocator>(entries: &[DirEntry<A>]) -> Option<u32>
 {
     let mut slot: u32 = 0;
     while (slot as usize) < entries.len() {
-        if is_unallocated(entries, slot) {
+        if is_unused(entries, slot) {
             return Some(slot);
         }
         slot += 1;
@@ -25,7 +25,7 @@ pub fn first_unallocated<A: Allocator>(entries: &[DirEntry<A>]) -> Option<u32>
     None
 }
 
-fn is_unallocated<A: Allocator>(entries: &[DirEntry<A>], n: u32) -> bool
+fn is_unused<A: Allocator>(entries: &[DirEntry<A>], n: u32) -> bool
     requires { n < length entries.now }
     ensures { IsTrue result ↔ ((entry_at (entries_of entries.now) n).obj_type ≡ Unallocated) }
 {

@@ -5,7 +5,7 @@ ghost use Rattle.cfb_siblings.specs.Order.{Dir, HasDir, Placed};
 ghost use Rattle.cfb_siblings.specs.Painted.{Painted, entries_of};
 ghost use Rattle.cfb_siblings.specs.Way.{name_at};
 
-use crate::links::{Step, child_of, links};
+use crate::links::{PathStep, child_link, links};
 use cfb_codecs::direntry::DirEntry;
 use cfb_codecs::path::{CaseMapper, compare_names};
 use cfb_format::consts::NO_STREAM;
@@ -20,27 +20,27 @@ pub(crate) fn way_to<A: Allocator>(
     entries: &[DirEntry<A>],
     parent: u32,
     name: &str,
-) -> Result<(u32, Vec<Step, A>), AllocError>
+) -> Result<(u32, Vec<PathStep, A>), AllocError>
     requires few { length (entries_of entries.now) ≤ NO_STREAM }
     requires stands { HasDir cases.now (entries_of entries.now) parent }
     ensures placed { IfOk result (λ r. (t : Painted) → Dir cases.now (entries_of entries.now) parent t → Placed cases.now (entries_of entries.now) (chars name.now) r.1.items r.0 t) }
     ensures found { IfOk result (λ r. r.0 ≢ NO_STREAM → is_same_name cases.now (chars name.now) (name_at (entries_of entries.now) r.0) ≡ true) }
 {
     let mut path = Vec::new(alloc);
-    let mut link = child_of(entries, parent);
+    let mut link = child_link(entries, parent);
     while link != NO_STREAM {
         let (left, right) = links(entries, link);
         match compare_names(cases, name, &entries[link as usize].name) {
             Ordering::Equal => return Ok((link, path)),
             Ordering::Less => {
-                path.push(Step {
+                path.push(PathStep {
                     number: link,
                     left: true,
                 })?;
                 link = left;
             }
             Ordering::Greater => {
-                path.push(Step {
+                path.push(PathStep {
                     number: link,
                     left: false,
                 })?;

@@ -2,9 +2,9 @@ use Rattle.std.proofs.Common.{sym, ◌∙◌, ap, ◌≡◌, subst}
 use Rattle.std.specs.Prelude.{chars, string_bytes}
 use Rattle.cfb_format.specs.Tree.{is_same_name}
 use Rattle.cfb_codecs.specs.EntryModel.{entry_of}
-use Rattle.cfb_siblings.specs.Painted.{entries_of, numbers, occurs}
+use Rattle.cfb_siblings.specs.Painted.{entries_of, tree_numbers, occurs}
 use Rattle.cfb_siblings.specs.Way.{name_at}
-use Rattle.cfb_siblings.specs.Order.{Placed, Joins, Added, KeptBeside}
+use Rattle.cfb_siblings.specs.Order.{Placed, Joins, Attached, KeptBeside}
 use Rattle.cfb_siblings.specs.Children.{Inserts, HasRedApart}
 use Rattle.cfb_siblings.proofs.Held.{entries-in, entry-write}
 use Rattle.cfb_siblings.proofs.Ordered.{tally-numbers}
@@ -22,11 +22,11 @@ pub attach-requires-clause-place : goal.attach-requires-clause-place
 attach-requires-clause-place g c =
     let (t, dir, e) = dir-of c.args.cases.now (entries_of c.args.entries.now) c.args.parent c.requires.stands.0 c.requires.stands.1 in
     let listed = children-of c.args.cases.now (entries_of c.args.entries.now) c.args.parent t c.requires.few dir in
-    let fresh : occurs c.args.slot t ≡ 0 = sym (tally-numbers c.args.slot t) ∙ c.requires.vacant (numbers t) listed in
+    let fresh : occurs c.args.slot t ≡ 0 = sym (tally-numbers c.args.slot t) ∙ c.requires.vacant (tree_numbers t) listed in
     let lt = entries-in c.args.entries.now c.args.slot c.requires.slot_in in
     let name : chars c.deref.result.now ≡ (chars (string_bytes c.args.entry.name)) = ap chars c.deref.ensures in
     let (fs, place) = at-the-hole c.args.cases.now (entries_of c.args.entries.now) (chars (string_bytes c.args.entry.name)) c.in_ok-path.path.items c.in_ok-path.field-0-0 t c.requires.few
-    (subst (λ n. Placed c.args.cases.now (entries_of c.args.entries.now) n c.in_ok-path.path.items c.in_ok-path.field-0-0 t) name (c.in_ok-path.ensures.placed t dir)) (c.requires.absent (numbers t) listed)
+    (subst (λ n. Placed c.args.cases.now (entries_of c.args.entries.now) n c.in_ok-path.path.items c.in_ok-path.field-0-0 t) name (c.in_ok-path.ensures.placed t dir)) (c.requires.absent (tree_numbers t) listed)
     (λ ne. ap (λ n. is_same_name c.args.cases.now n (name_at (entries_of c.args.entries.now) c.in_ok-path.field-0-0)) (sym name) ∙ c.in_ok-path.ensures.found ne) in
     let j0 = put-joins c.args.cases.now (entries_of c.args.entries.now) c.args.parent c.args.slot (entry_of c.args.entry) t c.requires.few lt c.requires.beside dir fresh c.in_ok-path.path.items fs place in
     let j = subst (λ es. Joins c.args.cases.now es c.args.parent c.args.slot c.in_ok-path.path.items t fs) (sym (entry-write c.args.entries.now c.args.slot c.args.entry)) j0 in
@@ -36,15 +36,15 @@ pub returns-clause-inserted : goal.returns-clause-inserted
 returns-clause-inserted g c list h =
     let (t, dir, e) = dir-of c.args.cases.now (entries_of c.args.entries.now) c.args.parent list h in
     let listed = children-of c.args.cases.now (entries_of c.args.entries.now) c.args.parent t c.requires.few dir in
-    let fresh : occurs c.args.slot t ≡ 0 = sym (tally-numbers c.args.slot t) ∙ c.requires.vacant (numbers t) listed in
+    let fresh : occurs c.args.slot t ≡ 0 = sym (tally-numbers c.args.slot t) ∙ c.requires.vacant (tree_numbers t) listed in
     let lt = entries-in c.args.entries.now c.args.slot c.requires.slot_in in
     let name : chars c.deref.result.now ≡ (chars (string_bytes c.args.entry.name)) = ap chars c.deref.ensures in
     let (fs, place) = at-the-hole c.args.cases.now (entries_of c.args.entries.now) (chars (string_bytes c.args.entry.name)) c.in_ok-path.path.items c.in_ok-path.field-0-0 t c.requires.few
-    (subst (λ n. Placed c.args.cases.now (entries_of c.args.entries.now) n c.in_ok-path.path.items c.in_ok-path.field-0-0 t) name (c.in_ok-path.ensures.placed t dir)) (c.requires.absent (numbers t) listed)
+    (subst (λ n. Placed c.args.cases.now (entries_of c.args.entries.now) n c.in_ok-path.path.items c.in_ok-path.field-0-0 t) name (c.in_ok-path.ensures.placed t dir)) (c.requires.absent (tree_numbers t) listed)
     (λ ne. ap (λ n. is_same_name c.args.cases.now n (name_at (entries_of c.args.entries.now) c.in_ok-path.field-0-0)) (sym name) ∙ c.in_ok-path.ensures.found ne) in
     let j0 = put-joins c.args.cases.now (entries_of c.args.entries.now) c.args.parent c.args.slot (entry_of c.args.entry) t c.requires.few lt c.requires.beside dir fresh c.in_ok-path.path.items fs place in
     let j = subst (λ es. Joins c.args.cases.now es c.args.parent c.args.slot c.in_ok-path.path.items t fs) (sym (entry-write c.args.entries.now c.args.slot c.args.entry)) j0 in
-    let added = subst (λ es. Added c.args.cases.now es (entries_of c.attach.new.entries) c.args.parent c.args.slot t) (entry-write c.args.entries.now c.args.slot c.args.entry) (c.attach.ensures.added c.args.cases.now t fs j) in
+    let added = subst (λ es. Attached c.args.cases.now es (entries_of c.attach.new.entries) c.args.parent c.args.slot t) (entry-write c.args.entries.now c.args.slot c.args.entry) (c.attach.ensures.added c.args.cases.now t fs j) in
     let kept = subst (λ es. KeptBeside es (entries_of c.attach.new.entries) c.args.parent c.args.slot t) (entry-write c.args.entries.now c.args.slot c.args.entry) (c.attach.ensures.kept c.args.cases.now t fs j) in
     subst (Inserts c.args.cases.now (entries_of c.args.entries.now) (entries_of c.attach.new.entries) c.args.parent c.args.slot (entry_of c.args.entry)) e (inserts c.args.cases.now (entries_of c.args.entries.now) c.args.parent c.args.slot (entry_of c.args.entry) t c.requires.few lt c.requires.beside dir fresh (entries_of c.attach.new.entries) added kept)
 
@@ -52,15 +52,15 @@ pub returns-clause-balanced : goal.returns-clause-balanced
 returns-clause-balanced g c =
     let (t, dir, e) = dir-of c.args.cases.now (entries_of c.args.entries.now) c.args.parent c.requires.stands.0 c.requires.stands.1 in
     let listed = children-of c.args.cases.now (entries_of c.args.entries.now) c.args.parent t c.requires.few dir in
-    let fresh : occurs c.args.slot t ≡ 0 = sym (tally-numbers c.args.slot t) ∙ c.requires.vacant (numbers t) listed in
+    let fresh : occurs c.args.slot t ≡ 0 = sym (tally-numbers c.args.slot t) ∙ c.requires.vacant (tree_numbers t) listed in
     let lt = entries-in c.args.entries.now c.args.slot c.requires.slot_in in
     let name : chars c.deref.result.now ≡ (chars (string_bytes c.args.entry.name)) = ap chars c.deref.ensures in
     let (fs, place) = at-the-hole c.args.cases.now (entries_of c.args.entries.now) (chars (string_bytes c.args.entry.name)) c.in_ok-path.path.items c.in_ok-path.field-0-0 t c.requires.few
-    (subst (λ n. Placed c.args.cases.now (entries_of c.args.entries.now) n c.in_ok-path.path.items c.in_ok-path.field-0-0 t) name (c.in_ok-path.ensures.placed t dir)) (c.requires.absent (numbers t) listed)
+    (subst (λ n. Placed c.args.cases.now (entries_of c.args.entries.now) n c.in_ok-path.path.items c.in_ok-path.field-0-0 t) name (c.in_ok-path.ensures.placed t dir)) (c.requires.absent (tree_numbers t) listed)
     (λ ne. ap (λ n. is_same_name c.args.cases.now n (name_at (entries_of c.args.entries.now) c.in_ok-path.field-0-0)) (sym name) ∙ c.in_ok-path.ensures.found ne) in
     let j0 = put-joins c.args.cases.now (entries_of c.args.entries.now) c.args.parent c.args.slot (entry_of c.args.entry) t c.requires.few lt c.requires.beside dir fresh c.in_ok-path.path.items fs place in
     let j = subst (λ es. Joins c.args.cases.now es c.args.parent c.args.slot c.in_ok-path.path.items t fs) (sym (entry-write c.args.entries.now c.args.slot c.args.entry)) j0 in
-    let added = subst (λ es. Added c.args.cases.now es (entries_of c.attach.new.entries) c.args.parent c.args.slot t) (entry-write c.args.entries.now c.args.slot c.args.entry) (c.attach.ensures.added c.args.cases.now t fs j) in
+    let added = subst (λ es. Attached c.args.cases.now es (entries_of c.attach.new.entries) c.args.parent c.args.slot t) (entry-write c.args.entries.now c.args.slot c.args.entry) (c.attach.ensures.added c.args.cases.now t fs j) in
     let kept = subst (λ es. KeptBeside es (entries_of c.attach.new.entries) c.args.parent c.args.slot t) (entry-write c.args.entries.now c.args.slot c.args.entry) (c.attach.ensures.kept c.args.cases.now t fs j) in
     keeps-balance c.args.cases.now (entries_of c.args.entries.now) c.args.parent c.args.slot (entry_of c.args.entry) t c.requires.few lt c.requires.beside dir fresh (entries_of c.attach.new.entries) added kept
 
@@ -68,15 +68,15 @@ pub returns-clause-red_apart : goal.returns-clause-red_apart
 returns-clause-red_apart g c list h apart =
     let (t, dir, e) = dir-of c.args.cases.now (entries_of c.args.entries.now) c.args.parent list h in
     let listed = children-of c.args.cases.now (entries_of c.args.entries.now) c.args.parent t c.requires.few dir in
-    let fresh : occurs c.args.slot t ≡ 0 = sym (tally-numbers c.args.slot t) ∙ c.requires.vacant (numbers t) listed in
+    let fresh : occurs c.args.slot t ≡ 0 = sym (tally-numbers c.args.slot t) ∙ c.requires.vacant (tree_numbers t) listed in
     let lt = entries-in c.args.entries.now c.args.slot c.requires.slot_in in
     let name : chars c.deref.result.now ≡ (chars (string_bytes c.args.entry.name)) = ap chars c.deref.ensures in
     let (fs, place) = at-the-hole c.args.cases.now (entries_of c.args.entries.now) (chars (string_bytes c.args.entry.name)) c.in_ok-path.path.items c.in_ok-path.field-0-0 t c.requires.few
-    (subst (λ n. Placed c.args.cases.now (entries_of c.args.entries.now) n c.in_ok-path.path.items c.in_ok-path.field-0-0 t) name (c.in_ok-path.ensures.placed t dir)) (c.requires.absent (numbers t) listed)
+    (subst (λ n. Placed c.args.cases.now (entries_of c.args.entries.now) n c.in_ok-path.path.items c.in_ok-path.field-0-0 t) name (c.in_ok-path.ensures.placed t dir)) (c.requires.absent (tree_numbers t) listed)
     (λ ne. ap (λ n. is_same_name c.args.cases.now n (name_at (entries_of c.args.entries.now) c.in_ok-path.field-0-0)) (sym name) ∙ c.in_ok-path.ensures.found ne) in
     let j0 = put-joins c.args.cases.now (entries_of c.args.entries.now) c.args.parent c.args.slot (entry_of c.args.entry) t c.requires.few lt c.requires.beside dir fresh c.in_ok-path.path.items fs place in
     let j = subst (λ es. Joins c.args.cases.now es c.args.parent c.args.slot c.in_ok-path.path.items t fs) (sym (entry-write c.args.entries.now c.args.slot c.args.entry)) j0 in
-    let added = subst (λ es. Added c.args.cases.now es (entries_of c.attach.new.entries) c.args.parent c.args.slot t) (entry-write c.args.entries.now c.args.slot c.args.entry) (c.attach.ensures.added c.args.cases.now t fs j) in
+    let added = subst (λ es. Attached c.args.cases.now es (entries_of c.attach.new.entries) c.args.parent c.args.slot t) (entry-write c.args.entries.now c.args.slot c.args.entry) (c.attach.ensures.added c.args.cases.now t fs j) in
     let kept = subst (λ es. KeptBeside es (entries_of c.attach.new.entries) c.args.parent c.args.slot t) (entry-write c.args.entries.now c.args.slot c.args.entry) (c.attach.ensures.kept c.args.cases.now t fs j) in
     keeps-apart c.args.cases.now (entries_of c.args.entries.now) c.args.parent c.args.slot (entry_of c.args.entry) t c.requires.few lt c.requires.beside dir fresh (entries_of c.attach.new.entries) added kept (subst (HasRedApart (entries_of c.args.entries.now) c.args.parent) (sym e) apart)
 
