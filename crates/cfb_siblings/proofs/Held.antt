@@ -19,12 +19,6 @@ use Rattle.cfb_siblings.specs.Painted.{entries_of}
 pub entries-length : {A : Type 0} (xs : List (DirEntry A)) → length (entries_of xs) ≡ length xs
 entries-length xs = length-map xs entry_of
 
-pub same-length : {A : Type 0} (xs ys : List (DirEntry A)) → length xs ≡ length ys → length (entries_of xs) ≡ length (entries_of ys)
-same-length xs ys e = entries-length xs ∙ (e ∙ sym (entries-length ys))
-
-pub entry-read : {A : Type 0} (xs : List (DirEntry A)) (n : ℕ) (e : DirEntry A) → n < length xs → e ≡ get_or xs n e → entry_at (entries_of xs) n ≡ entry_of e
-entry-read xs n e lt is = get_or-map entry_of xs n e unallocated_entry lt ∙ sym (ap entry_of is)
-
 pub entry-write : {A : Type 0} (xs : List (DirEntry A)) (n : ℕ) (e : DirEntry A) → entries_of (set xs n e) ≡ set (entries_of xs) n (entry_of e)
 entry-write xs n e = map-set entry_of xs n e
 
