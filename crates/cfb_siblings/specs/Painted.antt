@@ -17,7 +17,7 @@ abbrev pub color_if_red : Bool → Color
 color_if_red true = Red
 color_if_red false = Black
 
--- a binary tree of entry tree_numbers: red or not, left part, number, right part
+-- a binary tree of entry numbers: red or not, left part, number, right part
 pub data Painted : Type 0 where
   Leaf : Painted
   Node : Bool → Painted → ℕ → Painted → Painted
@@ -37,12 +37,12 @@ abbrev pub bare : Painted → SiblingTree
 bare Leaf = leaf
 bare (Node c a n b) = node (bare a) n (bare b)
 
--- the tree_numbers in order
+-- the numbers in order
 abbrev pub tree_numbers : Painted → List ℕ
 tree_numbers Leaf = []
 tree_numbers (Node c a n b) = tree_numbers a ++ n ∷ tree_numbers b
 
--- 1 if the tree_numbers are the same
+-- 1 if the numbers are the same
 unfoldable pub hit : ℕ → ℕ → ℕ
 hit n m = cond (eqb n m) 1 0
 

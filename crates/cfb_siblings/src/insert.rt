@@ -1,12 +1,12 @@
 //! A new entry among the children of a storage: it joins red, as a leaf, and recolourings and
 //! rotations settle the rest (MS-CFB 2.6.4).
-ghost use Rattle.std.specs.Prelude.{◌≡◌, ◌≢◌, ℕ, ◌+◌, ◌*◌, ◌<◌, ◌≤◌, length, chars, string_bytes, IfOk, OnOk, OnErr, MatchOption, List, vec_len, vec_capacity, true, slice_set};
+ghost use Rattle.std.specs.Prelude.{◌≡◌, ◌≢◌, ℕ, ◌+◌, ◌*◌, ◌<◌, ◌≤◌, length, chars, string_bytes, IfOk, OnOk, OnErr, MatchOption, List, vec_len, vec_capacity, Contains, true, slice_set};
 ghost use Rattle.cfb_codecs.specs.EntryModel.{entry_of};
 ghost use Rattle.cfb_format.specs.Siblings.{entry_at};
 ghost use Rattle.cfb_siblings.specs.Order.{Attached, Joins, KeptBeside, MayJoin};
 ghost use Rattle.cfb_format.specs.declared.objtype.ObjType.TheVariants.{Unallocated};
 ghost use Rattle.cfb_format.specs.Names.{Cases};
-ghost use Rattle.cfb_siblings.specs.Painted.{Painted, entries_of, tally};
+ghost use Rattle.cfb_siblings.specs.Painted.{Painted, entries_of};
 ghost use Rattle.cfb_siblings.specs.Way.{At, Frame, Going, Lifted, Repaired, Somewhere, name_at, way};
 ghost use Rattle.cfb_siblings.specs.Writes.{turned_at};
 ghost use Rattle.cfb_siblings.specs.Touched.{Tells, Touches};
@@ -163,7 +163,7 @@ pub fn insert<A: Allocator>(
     requires stands { IsParent cases.now (entries_of entries.old) parent }
     requires slot_in { slot < length entries.old }
     requires beside { slot ≢ parent }
-    requires vacant { (list : List ℕ) → HasChildren cases.now (entries_of entries.old) parent list → tally slot list ≡ 0 }
+    requires vacant { (list : List ℕ) → HasChildren cases.now (entries_of entries.old) parent list → Contains list slot → ⊥ }
     requires absent { (list : List ℕ) → HasChildren cases.now (entries_of entries.old) parent list → IsAbsent cases.now (entries_of entries.old) (chars (string_bytes entry.name)) list }
 
     ensures inserted { OnOk result ((list : List ℕ) → HasChildren cases.now (entries_of entries.old) parent list → Inserts cases.now (entries_of entries.old) (entries_of entries.new) parent slot (entry_of entry) list) }

@@ -13,6 +13,7 @@ use Rattle.cfb_siblings.proofs.Joined.{has-dir, at-the-hole, put-joins, inserts,
 use Rattle.std.proofs.Common.{refl, set, []}
 use Rattle.cfb_siblings.specs.Touched.{Tells}
 use Rattle.cfb_siblings.proofs.Touching.{told-set, tells-trans, touches}
+use Rattle.cfb_siblings.proofs.Tallies.{uncounted}
 use Rattle.cfb_siblings.proofs.insert.insert.Goals as goal
 
 pub way_to-requires-clause-stands : goal.way_to-requires-clause-stands
@@ -22,7 +23,7 @@ pub attach-requires-clause-place : goal.attach-requires-clause-place
 attach-requires-clause-place g c =
     let (t, dir, e) = dir-of c.args.cases.now (entries_of c.args.entries.now) c.args.parent c.requires.stands.0 c.requires.stands.1 in
     let listed = children-of c.args.cases.now (entries_of c.args.entries.now) c.args.parent t c.requires.few dir in
-    let fresh : occurs c.args.slot t ≡ 0 = sym (tally-numbers c.args.slot t) ∙ c.requires.vacant (tree_numbers t) listed in
+    let fresh : occurs c.args.slot t ≡ 0 = sym (tally-numbers c.args.slot t) ∙ uncounted c.args.slot (tree_numbers t) (c.requires.vacant (tree_numbers t) listed) in
     let lt = entries-in c.args.entries.now c.args.slot c.requires.slot_in in
     let name : chars c.deref.result.now ≡ (chars (string_bytes c.args.entry.name)) = ap chars c.deref.ensures in
     let (fs, place) = at-the-hole c.args.cases.now (entries_of c.args.entries.now) (chars (string_bytes c.args.entry.name)) c.in_ok-path.path.items c.in_ok-path.field-0-0 t c.requires.few
@@ -36,7 +37,7 @@ pub returns-clause-inserted : goal.returns-clause-inserted
 returns-clause-inserted g c list h =
     let (t, dir, e) = dir-of c.args.cases.now (entries_of c.args.entries.now) c.args.parent list h in
     let listed = children-of c.args.cases.now (entries_of c.args.entries.now) c.args.parent t c.requires.few dir in
-    let fresh : occurs c.args.slot t ≡ 0 = sym (tally-numbers c.args.slot t) ∙ c.requires.vacant (tree_numbers t) listed in
+    let fresh : occurs c.args.slot t ≡ 0 = sym (tally-numbers c.args.slot t) ∙ uncounted c.args.slot (tree_numbers t) (c.requires.vacant (tree_numbers t) listed) in
     let lt = entries-in c.args.entries.now c.args.slot c.requires.slot_in in
     let name : chars c.deref.result.now ≡ (chars (string_bytes c.args.entry.name)) = ap chars c.deref.ensures in
     let (fs, place) = at-the-hole c.args.cases.now (entries_of c.args.entries.now) (chars (string_bytes c.args.entry.name)) c.in_ok-path.path.items c.in_ok-path.field-0-0 t c.requires.few
@@ -52,7 +53,7 @@ pub returns-clause-balanced : goal.returns-clause-balanced
 returns-clause-balanced g c =
     let (t, dir, e) = dir-of c.args.cases.now (entries_of c.args.entries.now) c.args.parent c.requires.stands.0 c.requires.stands.1 in
     let listed = children-of c.args.cases.now (entries_of c.args.entries.now) c.args.parent t c.requires.few dir in
-    let fresh : occurs c.args.slot t ≡ 0 = sym (tally-numbers c.args.slot t) ∙ c.requires.vacant (tree_numbers t) listed in
+    let fresh : occurs c.args.slot t ≡ 0 = sym (tally-numbers c.args.slot t) ∙ uncounted c.args.slot (tree_numbers t) (c.requires.vacant (tree_numbers t) listed) in
     let lt = entries-in c.args.entries.now c.args.slot c.requires.slot_in in
     let name : chars c.deref.result.now ≡ (chars (string_bytes c.args.entry.name)) = ap chars c.deref.ensures in
     let (fs, place) = at-the-hole c.args.cases.now (entries_of c.args.entries.now) (chars (string_bytes c.args.entry.name)) c.in_ok-path.path.items c.in_ok-path.field-0-0 t c.requires.few
@@ -68,7 +69,7 @@ pub returns-clause-red_apart : goal.returns-clause-red_apart
 returns-clause-red_apart g c list h apart =
     let (t, dir, e) = dir-of c.args.cases.now (entries_of c.args.entries.now) c.args.parent list h in
     let listed = children-of c.args.cases.now (entries_of c.args.entries.now) c.args.parent t c.requires.few dir in
-    let fresh : occurs c.args.slot t ≡ 0 = sym (tally-numbers c.args.slot t) ∙ c.requires.vacant (tree_numbers t) listed in
+    let fresh : occurs c.args.slot t ≡ 0 = sym (tally-numbers c.args.slot t) ∙ uncounted c.args.slot (tree_numbers t) (c.requires.vacant (tree_numbers t) listed) in
     let lt = entries-in c.args.entries.now c.args.slot c.requires.slot_in in
     let name : chars c.deref.result.now ≡ (chars (string_bytes c.args.entry.name)) = ap chars c.deref.ensures in
     let (fs, place) = at-the-hole c.args.cases.now (entries_of c.args.entries.now) (chars (string_bytes c.args.entry.name)) c.in_ok-path.path.items c.in_ok-path.field-0-0 t c.requires.few
