@@ -8,7 +8,7 @@ use Rattle.cfb_siblings.specs.Order.{Placed, Joins, Attached, KeptBeside}
 use Rattle.cfb_siblings.specs.Children.{Inserts, HasRedApart}
 use Rattle.cfb_siblings.proofs.Held.{entries-in, entry-write}
 use Rattle.cfb_siblings.proofs.Ordered.{tally-numbers}
-use Rattle.cfb_siblings.proofs.Landed.{dir-of, children-of}
+use Rattle.cfb_siblings.proofs.PaintedTrees.{dir-of, children-of}
 use Rattle.cfb_siblings.proofs.Joined.{has-dir, at-the-hole, put-joins, inserts, keeps-balance, keeps-apart}
 use Rattle.std.proofs.Common.{refl, set, []}
 use Rattle.cfb_siblings.specs.Touched.{Tells}
