@@ -15,7 +15,8 @@ use cfb_format::objtype::ObjType;
 use std::alloc::Allocator;
 use std::cmp::Ordering;
 
-/// The child of that name in the storage `parent`.
+/// The child of that name in the storage `parent`, or `None` where it has none (MS-CFB 2.6.4). It
+/// takes no memory.
 pub fn find_child<A: Allocator>(
     cases: &CaseMapper<A>,
     entries: &[DirEntry<A>],
@@ -39,8 +40,8 @@ pub fn find_child<A: Allocator>(
     None
 }
 
-/// The entry at a path from the root, which is entry 0: `None` where the path leaves the root, and
-/// where nothing is there.
+/// The entry at a path from the root, which is entry 0: `None` where a `..` leaves the root, and
+/// where nothing is there. There is nothing in a stream (MS-CFB 2.6.2). It takes no memory.
 pub fn find_path<A: Allocator>(
     cases: &CaseMapper<A>,
     entries: &[DirEntry<A>],

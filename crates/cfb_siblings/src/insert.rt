@@ -20,7 +20,8 @@ use cfb_codecs::path::CaseMapper;
 use cfb_format::consts::NO_STREAM;
 use std::alloc::{AllocError, Allocator};
 
-/// One or two rotations at a red node under a red `p` under `g`.
+/// One rotation, or two, at the red node `x` under a red `p` under `g`, and the node that is above
+/// the other two then.
 fn turn<A: Allocator>(entries: &mut [DirEntry<A>], p: PathStep, g: PathStep, x: u32) -> u32
     requires p_in { p.number < length entries.old }
     requires g_in { g.number < length entries.old }
@@ -148,8 +149,12 @@ fn attach<A: Allocator>(
 }
 
 /// Puts the entry into the slot, which is free, and among the children of the storage `parent`,
-/// none of which has its name. Memory is asked for before the first change. `touched` becomes the
-/// list of the slots whose entries changed, each of them once.
+/// none of which has its name (MS-CFB 2.6.4). Links and colour are those that it gets here; all
+/// else of it stays. `touched` becomes the list of the slots whose entries changed, each of them
+/// once.
+///
+/// It answers `AllocError` where memory for the way down or for `touched` is refused, and no entry
+/// has changed then.
 pub fn insert<A: Allocator>(
     alloc: A,
     cases: &CaseMapper<A>,

@@ -30,7 +30,9 @@ fn sink<A: Allocator>(
     Ok(())
 }
 
-/// The numbers of the children of the storage `parent`, in name order.
+/// The numbers of the children of the storage `parent`, in name order (MS-CFB 2.6.4).
+///
+/// It answers `AllocError` where memory for them, or for the way down to the next, is refused.
 pub fn children<A: Allocator + Clone>(
     alloc: A,
     entries: &[DirEntry<A>],

@@ -81,6 +81,7 @@ fn take_out<A: Allocator>(
     requires there { (t : Painted) → Dir cases.now (entries_of entries.old) parent t → Absent cases.now (entries_of entries.old) (chars name.now) (tree_numbers t) → ⊥ }
     ensures taken { IfOk result (λ gap. (t : Painted) → Dir cases.now (entries_of entries.old) parent t → TakenOut cases.now (entries_of entries.old) (entries_of entries.new) parent (chars name.now) t gap.freed gap.path.items gap.link gap.red) }
     ensures told { OnOk result (Tells (entries_of entries.old) (entries_of entries.new) [] touched.new.items) }
+    ensures len { OnOk result (vec_len touched.new ≤ 3) }
     ensures room { IfOk result (λ gap. vec_len touched.new + (8 * vec_len gap.path + 8) ≤ vec_capacity touched.new) }
     ensures refused { OnErr result (entries.new ≡ entries.old) }
 {
@@ -116,6 +117,7 @@ fn soothe<A: Allocator>(
     requires room { vec_len touched.old < vec_capacity touched.old }
     ensures soothed { (fs : List Frame) (t : Painted) → Spot (entries_of entries.old) parent path.now x fs t → KeptOutside (entries_of entries.old) (entries_of entries.new) parent (plug fs t) × Soothed (entries_of entries.new) parent fs t }
     ensures told { Tells (entries_of entries.old) (entries_of entries.new) touched.old.items touched.new.items }
+    ensures len { vec_len touched.new ≤ vec_len touched.old + 1 }
 {
     if !is_red(entries, x) {
         return;
@@ -127,13 +129,16 @@ fn soothe<A: Allocator>(
     }
 }
 
-/// Takes the child of that name, which is there, out of the storage `parent`, and answers the slot
-/// that is free now: the child's own, or that of its predecessor, whose entry then stands in the
-/// child's. Memory is asked for before the first change. `touched` becomes the list of the slots
-/// whose entries changed, each of them once.
+/// Takes the child of that name, which is there, out of the storage `parent` (MS-CFB 2.6.4), and
+/// answers the slot that is free now: the child's own, or that of its predecessor, whose entry then
+/// stands in the child's. `touched` becomes the list of the slots whose entries changed, each of
+/// them once.
 ///
 /// No red child comes to stand under a red one. The black ones on the ways down may differ in
 /// number afterwards.
+///
+/// It answers `AllocError` where memory for the way down or for `touched` is refused, and no entry
+/// has changed then.
 pub fn remove<A: Allocator>(
     alloc: A,
     cases: &CaseMapper<A>,
@@ -151,6 +156,7 @@ pub fn remove<A: Allocator>(
     ensures red_apart { OnOk result ((list : List ℕ) → HasChildren cases.now (entries_of entries.old) parent list → HasRedApart (entries_of entries.old) parent list
         → (after : List ℕ) × HasChildren cases.now (entries_of entries.new) parent after × HasRedApart (entries_of entries.new) parent after) }
     ensures touches { OnOk result (Touches (entries_of entries.old) (entries_of entries.new) touched.new.items) }
+    ensures few_touched { OnOk result (vec_len touched.new ≤ 4) }
     ensures refused { OnErr result (entries.new ≡ entries.old) }
 {
     let gap = take_out(alloc, cases, entries, parent, name, touched)?;
@@ -158,6 +164,8 @@ pub fn remove<A: Allocator>(
     if gap.red {
         return Ok(freed);
     }
+    // The ways down through `gap.link` are short of a black entry: what makes up for it along
+    // `gap.path` takes the place of this.
     soothe(entries, parent, &gap.path, gap.link, touched);
     Ok(freed)
 }

@@ -10,7 +10,7 @@ use cfb_format::consts::NO_STREAM;
 use cfb_format::objtype::ObjType;
 use std::alloc::Allocator;
 
-/// The lowest slot that no entry uses, if there is one.
+/// The lowest slot that no entry uses, or `None` where each is used (MS-CFB 2.6.1).
 pub fn first_unallocated<A: Allocator>(entries: &[DirEntry<A>]) -> Option<u32>
     requires { length (entries_of entries.now) ≤ NO_STREAM }
     ensures { MatchOption result (IsFullBelow (entries_of entries.now) (length (entries_of entries.now))) (IsFirstFree (entries_of entries.now)) }
