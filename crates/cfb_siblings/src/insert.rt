@@ -1,15 +1,15 @@
 //! A new entry among the children of a storage: it joins red, as a leaf, and recolourings and
 //! rotations settle the rest (MS-CFB 2.6.4).
-ghost use Rattle.std.specs.Prelude.{◌≡◌, ◌≢◌, ℕ, ◌+◌, ◌*◌, ◌<◌, ◌≤◌, length, chars, string_bytes, IfOk, OnOk, OnErr, MatchOption, List, vec_len, vec_capacity, Contains, true, slice_set};
+ghost use Rattle.std.specs.Prelude.{◌≡◌, ◌≢◌, ℕ, ◌+◌, ◌*◌, ◌<◌, ◌≤◌, length, chars, string_bytes, IfOk, OnOk, OnErr, MatchOption, List, vec_len, vec_capacity, Contains, ◌∷◌, false, true, slice_set};
 ghost use Rattle.cfb_codecs.specs.EntryModel.{entry_of};
 ghost use Rattle.cfb_format.specs.Siblings.{entry_at};
 ghost use Rattle.cfb_siblings.specs.Order.{Attached, Joins, KeptBeside, MayJoin};
 ghost use Rattle.cfb_format.specs.declared.objtype.ObjType.TheVariants.{Unallocated};
 ghost use Rattle.cfb_format.specs.Names.{Cases};
-ghost use Rattle.cfb_siblings.specs.Painted.{Painted, entries_of};
-ghost use Rattle.cfb_siblings.specs.Way.{At, Frame, Going, Lifted, Repaired, Somewhere, name_at, way};
+ghost use Rattle.cfb_siblings.specs.Painted.{Leaf, Node, Painted, entries_of};
+ghost use Rattle.cfb_siblings.specs.Way.{At, Frame, Going, Lifted, Repaired, Somewhere, plug};
 ghost use Rattle.cfb_siblings.specs.Writes.{turned_at};
-ghost use Rattle.cfb_siblings.specs.Touched.{Tells, Touches};
+ghost use Rattle.cfb_siblings.specs.Touched.{IsNear, Tells, Touches, TouchesOnly};
 ghost use Rattle.cfb_siblings.specs.Children.{HasChildren, HasRedApart, Inserts, IsAbsent, IsParent, KeepsBalance};
 
 use crate::links::{PathStep, far_side, is_red, join, last_step, links, paint, relink};
@@ -66,7 +66,7 @@ fn lift<A: Allocator>(
     requires room { vec_len touched.old + 8 ≤ vec_capacity touched.old }
     ensures lifted { (fs : List Frame) (t : Painted) → At (entries_of entries.old) parent path.old.items x fs t → Lifted (entries_of entries.old) (entries_of entries.new) parent path.new.items result fs t }
     ensures shorter { MatchOption result (Unit {0}) (λ _. vec_len path.new < vec_len path.old) }
-    ensures told { Tells (entries_of entries.old) (entries_of entries.new) touched.old.items touched.new.items }
+    ensures told { (fs : List Frame) (t : Painted) → At (entries_of entries.old) parent path.old.items x fs t → Tells (IsNear parent (plug fs t)) (entries_of entries.old) (entries_of entries.new) touched.old.items touched.new.items }
     ensures len { vec_len touched.new ≤ vec_len touched.old + 5 }
     ensures capacity { vec_capacity touched.old ≤ vec_capacity touched.new }
 {
@@ -115,7 +115,7 @@ fn rebalance<A: Allocator>(
     requires stands { Somewhere (entries_of entries.old) parent path.old.items x }
     requires room { vec_len touched.old + (8 * vec_len path.old + 8) ≤ vec_capacity touched.old }
     ensures repaired { (fs : List Frame) (t : Painted) → At (entries_of entries.old) parent path.old.items x fs t → Repaired (entries_of entries.old) (entries_of entries.new) parent fs t }
-    ensures told { Tells (entries_of entries.old) (entries_of entries.new) touched.old.items touched.new.items }
+    ensures told { (fs : List Frame) (t : Painted) → At (entries_of entries.old) parent path.old.items x fs t → Tells (IsNear parent (plug fs t)) (entries_of entries.old) (entries_of entries.new) touched.old.items touched.new.items }
 {
     let mut node = x;
     while let Some(next) = lift(entries, parent, path, node, touched) {
@@ -138,7 +138,7 @@ fn attach<A: Allocator>(
     requires room { vec_len touched.old + (8 * vec_len path.old + 10) ≤ vec_capacity touched.old }
     ensures added { (cases : Cases) (t : Painted) (fs : List Frame) → Joins cases (entries_of entries.old) parent slot path.old.items t fs → Attached cases (entries_of entries.old) (entries_of entries.new) parent slot t }
     ensures kept { (cases : Cases) (t : Painted) (fs : List Frame) → Joins cases (entries_of entries.old) parent slot path.old.items t fs → KeptBeside (entries_of entries.old) (entries_of entries.new) parent slot t }
-    ensures told { Tells (entries_of entries.old) (entries_of entries.new) touched.old.items touched.new.items }
+    ensures told { (cases : Cases) (t : Painted) (fs : List Frame) → Joins cases (entries_of entries.old) parent slot path.old.items t fs → Tells (IsNear parent (Node false Leaf slot t)) (entries_of entries.old) (entries_of entries.new) touched.old.items touched.new.items }
 {
     let above = last_step(path);
     join(entries, slot, NO_STREAM, NO_STREAM, true);
@@ -176,6 +176,7 @@ pub fn insert<A: Allocator>(
     ensures red_apart { OnOk result ((list : List ℕ) → HasChildren cases.now (entries_of entries.old) parent list → HasRedApart (entries_of entries.old) parent list
         → (after : List ℕ) × HasChildren cases.now (entries_of entries.new) parent after × HasRedApart (entries_of entries.new) parent after) }
     ensures touches { OnOk result (Touches (entries_of entries.old) (entries_of entries.new) touched.new.items) }
+    ensures touches_only { OnOk result ((list : List ℕ) → HasChildren cases.now (entries_of entries.old) parent list → TouchesOnly parent (slot ∷ list) touched.new.items) }
     ensures refused { OnErr result (entries.new ≡ entries.old) }
 {
     let (_, mut path) = way_to(alloc, cases, entries, parent, &entry.name)?;

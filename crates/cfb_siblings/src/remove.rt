@@ -7,7 +7,7 @@ ghost use Rattle.cfb_siblings.specs.Order.{Absent, Dir, HasDir};
 ghost use Rattle.cfb_siblings.specs.Painted.{Painted, entries_of, tree_numbers, occurs};
 ghost use Rattle.cfb_siblings.specs.Taking.{HasSpot, Spot};
 ghost use Rattle.cfb_siblings.specs.Taking.{Soothed, SpareAt, StandsAt, TakenOut};
-ghost use Rattle.cfb_siblings.specs.Touched.{Tells, Touches};
+ghost use Rattle.cfb_siblings.specs.Touched.{IsNear, Tells, Touches, TouchesOnly};
 ghost use Rattle.cfb_siblings.specs.Way.{Frame, KeptOutside, plug};
 
 use crate::links::{
@@ -80,7 +80,7 @@ fn take_out<A: Allocator>(
     requires stands { HasDir cases.now (entries_of entries.old) parent }
     requires there { (t : Painted) → Dir cases.now (entries_of entries.old) parent t → Absent cases.now (entries_of entries.old) (chars name.now) (tree_numbers t) → ⊥ }
     ensures taken { IfOk result (λ gap. (t : Painted) → Dir cases.now (entries_of entries.old) parent t → TakenOut cases.now (entries_of entries.old) (entries_of entries.new) parent (chars name.now) t gap.freed gap.path.items gap.link gap.red) }
-    ensures told { OnOk result (Tells (entries_of entries.old) (entries_of entries.new) [] touched.new.items) }
+    ensures told { OnOk result ((t : Painted) → Dir cases.now (entries_of entries.old) parent t → Tells (IsNear parent t) (entries_of entries.old) (entries_of entries.new) [] touched.new.items) }
     ensures len { OnOk result (vec_len touched.new ≤ 3) }
     ensures room { IfOk result (λ gap. vec_len touched.new + (8 * vec_len gap.path + 8) ≤ vec_capacity touched.new) }
     ensures refused { OnErr result (entries.new ≡ entries.old) }
@@ -116,7 +116,7 @@ fn soothe<A: Allocator>(
     requires stands { HasSpot (entries_of entries.old) parent path.now x }
     requires room { vec_len touched.old < vec_capacity touched.old }
     ensures soothed { (fs : List Frame) (t : Painted) → Spot (entries_of entries.old) parent path.now x fs t → KeptOutside (entries_of entries.old) (entries_of entries.new) parent (plug fs t) × Soothed (entries_of entries.new) parent fs t }
-    ensures told { Tells (entries_of entries.old) (entries_of entries.new) touched.old.items touched.new.items }
+    ensures told { (fs : List Frame) (t : Painted) → Spot (entries_of entries.old) parent path.now x fs t → Tells (IsNear parent (plug fs t)) (entries_of entries.old) (entries_of entries.new) touched.old.items touched.new.items }
     ensures len { vec_len touched.new ≤ vec_len touched.old + 1 }
 {
     if !is_red(entries, x) {
@@ -156,6 +156,7 @@ pub fn remove<A: Allocator>(
     ensures red_apart { OnOk result ((list : List ℕ) → HasChildren cases.now (entries_of entries.old) parent list → HasRedApart (entries_of entries.old) parent list
         → (after : List ℕ) × HasChildren cases.now (entries_of entries.new) parent after × HasRedApart (entries_of entries.new) parent after) }
     ensures touches { OnOk result (Touches (entries_of entries.old) (entries_of entries.new) touched.new.items) }
+    ensures touches_only { OnOk result ((list : List ℕ) → HasChildren cases.now (entries_of entries.old) parent list → TouchesOnly parent list touched.new.items) }
     ensures few_touched { OnOk result (vec_len touched.new ≤ 4) }
     ensures refused { OnErr result (entries.new ≡ entries.old) }
 {
