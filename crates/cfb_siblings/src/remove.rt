@@ -1,8 +1,10 @@
 //! An entry out of the children of a storage (MS-CFB 2.6.4): a node with at most one part below it
 //! is replaced by that, and in place of one with two its predecessor goes, whose entry then moves
 //! into the freed slot.
-ghost use Rattle.std.specs.Prelude.{◌≡◌, ◌≢◌, ℕ, ◌+◌, ◌*◌, ◌<◌, ◌≤◌, length, chars, IfOk, OnErr, OnOk, List, [], vec_len, vec_capacity, true};
-ghost use Rattle.cfb_siblings.specs.Children.{HasChildren, HasRedApart, IsAbsent, IsParent, Removes};
+ghost use Rattle.std.specs.Prelude.{◌≡◌, ◌≢◌, ◌⊎◌, ℕ, ◌+◌, ◌*◌, ◌<◌, ◌≤◌, length, chars, IfOk, OnErr, OnOk, List, [], vec_len, vec_capacity, true};
+ghost use Rattle.cfb_siblings.specs.Children.{HasChildren, HasRedApart, IsAbsent, IsParent, KeepsColors, Removes};
+ghost use Rattle.cfb_format.specs.Siblings.{entry_at};
+ghost use Rattle.cfb_format.specs.declared.color.Color.TheVariants.{Black};
 ghost use Rattle.cfb_siblings.specs.Order.{Absent, Dir, HasDir};
 ghost use Rattle.cfb_siblings.specs.Painted.{Painted, entries_of, tree_numbers, occurs};
 ghost use Rattle.cfb_siblings.specs.Taking.{HasSpot, Spot};
@@ -81,6 +83,7 @@ fn take_out<A: Allocator>(
     requires there { (t : Painted) → Dir cases.now (entries_of entries.old) parent t → Absent cases.now (entries_of entries.old) (chars name.now) (tree_numbers t) → ⊥ }
     ensures taken { IfOk result (λ gap. (t : Painted) → Dir cases.now (entries_of entries.old) parent t → TakenOut cases.now (entries_of entries.old) (entries_of entries.new) parent (chars name.now) t gap.freed gap.path.items gap.link gap.red) }
     ensures told { OnOk result ((t : Painted) → Dir cases.now (entries_of entries.old) parent t → Tells (IsNear parent t) (entries_of entries.old) (entries_of entries.new) [] touched.new.items) }
+    ensures colors { IfOk result (λ gap. (k : ℕ) → k ≢ gap.freed → (entry_at (entries_of entries.new) k).color ≡ (entry_at (entries_of entries.old) k).color) }
     ensures len { OnOk result (vec_len touched.new ≤ 3) }
     ensures room { IfOk result (λ gap. vec_len touched.new + (8 * vec_len gap.path + 8) ≤ vec_capacity touched.new) }
     ensures refused { OnErr result (entries.new ≡ entries.old) }
@@ -117,6 +120,7 @@ fn soothe<A: Allocator>(
     requires room { vec_len touched.old < vec_capacity touched.old }
     ensures soothed { (fs : List Frame) (t : Painted) → Spot (entries_of entries.old) parent path.now x fs t → KeptOutside (entries_of entries.old) (entries_of entries.new) parent (plug fs t) × Soothed (entries_of entries.new) parent fs t }
     ensures told { (fs : List Frame) (t : Painted) → Spot (entries_of entries.old) parent path.now x fs t → Tells (IsNear parent (plug fs t)) (entries_of entries.old) (entries_of entries.new) touched.old.items touched.new.items }
+    ensures colors { (k : ℕ) → ((entry_at (entries_of entries.new) k).color ≡ (entry_at (entries_of entries.old) k).color) ⊎ ((k ≡ x) × ((entry_at (entries_of entries.new) k).color ≡ Black)) }
     ensures len { vec_len touched.new ≤ vec_len touched.old + 1 }
 {
     if !is_red(entries, x) {
@@ -155,6 +159,7 @@ pub fn remove<A: Allocator>(
         → (after : List ℕ) × Removes cases.now (entries_of entries.old) (entries_of entries.new) parent (chars name.now) freed list after) }
     ensures red_apart { OnOk result ((list : List ℕ) → HasChildren cases.now (entries_of entries.old) parent list → HasRedApart (entries_of entries.old) parent list
         → (after : List ℕ) × HasChildren cases.now (entries_of entries.new) parent after × HasRedApart (entries_of entries.new) parent after) }
+    ensures colors { IfOk result (KeepsColors (entries_of entries.old) (entries_of entries.new)) }
     ensures touches { OnOk result (Touches (entries_of entries.old) (entries_of entries.new) touched.new.items) }
     ensures touches_only { OnOk result ((list : List ℕ) → HasChildren cases.now (entries_of entries.old) parent list → TouchesOnly parent list touched.new.items) }
     ensures few_touched { OnOk result (vec_len touched.new ≤ 4) }
