@@ -45,20 +45,20 @@ apart-each entries top (node l i r) (e, ne, lt, hl, hr) =
 
 -- ---- all elements of a list
 
-left_of : {X : Type 0} (P : X → Type 0) (xs ys : List X) → AllByRecursion P (xs ++ ys) → AllByRecursion P xs
+pub left_of : {X : Type 0} (P : X → Type 0) (xs ys : List X) → AllByRecursion P (xs ++ ys) → AllByRecursion P xs
 left_of P [] ys h = tt
 left_of P (x ∷ xs) ys h = (h.0, left_of P xs ys h.1)
 
-right_of : {X : Type 0} (P : X → Type 0) (xs ys : List X) → AllByRecursion P (xs ++ ys) → AllByRecursion P ys
+pub right_of : {X : Type 0} (P : X → Type 0) (xs ys : List X) → AllByRecursion P (xs ++ ys) → AllByRecursion P ys
 right_of P [] ys h = h
 right_of P (x ∷ xs) ys h = right_of P xs ys h.1
 
-under_map : {X Y : Type 0} (P : Y → Type 0) (Q : X → Type 0) (f : X → Y) → ((x : X) → P (f x) → Q x) → (xs : List X) → AllByRecursion P (map f xs) → AllByRecursion Q xs
+pub under_map : {X Y : Type 0} (P : Y → Type 0) (Q : X → Type 0) (f : X → Y) → ((x : X) → P (f x) → Q x) → (xs : List X) → AllByRecursion P (map f xs) → AllByRecursion Q xs
 under_map P Q f g [] h = tt
 under_map P Q f g (x ∷ xs) h = (g x h.0, under_map P Q f g xs h.1)
 
 -- each tree has a way down
-some_way : (entries : List Entry) (t : SiblingTree) (P : ℕ → Type 0) → AllByRecursion P (black_counts entries t) → (n : ℕ) × P n
+pub some_way : (entries : List Entry) (t : SiblingTree) (P : ℕ → Type 0) → AllByRecursion P (black_counts entries t) → (n : ℕ) × P n
 some_way entries leaf P h = (0, h.0)
 some_way entries (node l i r) P h =
     let f : ℕ → ℕ = λ n. if is_red_color (entry_at entries i).color then n else n + 1 in

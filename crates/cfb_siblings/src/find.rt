@@ -1,0 +1,77 @@
+//! Look-ups in the children of a storage, along the sibling tree. They take no memory.
+ghost use Rattle.std.specs.Prelude.{◌≡◌, ℕ, ◌<◌, ◌≤◌, ◌↔◌, IsTrue, length, chars, List, MatchOption};
+ghost use Rattle.cfb_siblings.specs.Children.{HasChildren, IsAbsent, IsChildNamed, IsParent};
+ghost use Rattle.cfb_siblings.specs.Painted.{entries_of};
+ghost use Rattle.cfb_siblings.specs.Paths.{HasOutline, number_at_path};
+ghost use Rattle.cfb_format.specs.declared.objtype.ObjType.TheVariants.{Stream};
+ghost use Rattle.cfb_format.specs.Reading.{IsOutline, Outline};
+ghost use Rattle.cfb_format.specs.Siblings.{entry_at};
+
+use crate::links::{child_link, links};
+use cfb_codecs::direntry::DirEntry;
+use cfb_codecs::path::{CaseMapper, compare_names, next_name, stays_below_root};
+use cfb_format::consts::NO_STREAM;
+use cfb_format::objtype::ObjType;
+use std::alloc::Allocator;
+use std::cmp::Ordering;
+
+/// The child of that name in the storage `parent`, or `None` where it has none (MS-CFB 2.6.4). It
+/// takes no memory.
+pub fn find_child<A: Allocator>(
+    cases: &CaseMapper<A>,
+    entries: &[DirEntry<A>],
+    parent: u32,
+    name: &str,
+) -> Option<u32>
+    requires few { length (entries_of entries.now) ≤ NO_STREAM }
+    requires stands { IsParent cases.now (entries_of entries.now) parent }
+    ensures { (list : List ℕ) → HasChildren cases.now (entries_of entries.now) parent list
+        → MatchOption result (IsAbsent cases.now (entries_of entries.now) (chars name.now) list) (λ k. IsChildNamed cases.now (entries_of entries.now) (chars name.now) list k) }
+{
+    let mut link = child_link(entries, parent);
+    while link != NO_STREAM {
+        let (left, right) = links(entries, link);
+        link = match compare_names(cases, name, &entries[link as usize].name) {
+            Ordering::Equal => return Some(link),
+            Ordering::Less => left,
+            Ordering::Greater => right,
+        };
+    }
+    None
+}
+
+/// The entry at a path from the root, which is entry 0: `None` where a `..` leaves the root, and
+/// where nothing is there. There is nothing in a stream (MS-CFB 2.6.2). It takes no memory.
+pub fn find_path<A: Allocator>(
+    cases: &CaseMapper<A>,
+    entries: &[DirEntry<A>],
+    path: &str,
+) -> Option<u32>
+    requires few { length (entries_of entries.now) ≤ NO_STREAM }
+    requires stands { HasOutline cases.now (entries_of entries.now) }
+    ensures { (outline : Outline) → IsOutline cases.now (entries_of entries.now) outline → result ≡ number_at_path cases.now (entries_of entries.now) outline (chars path.now) }
+{
+    if !stays_below_root(path) {
+        return None;
+    }
+    let mut node: u32 = 0;
+    let mut left = path;
+    while let Some((name, rest)) = next_name(left) {
+        if is_stream(entries, node) {
+            return None;
+        }
+        match find_child(cases, entries, node, name) {
+            Some(found) => node = found,
+            None => return None,
+        }
+        left = rest;
+    }
+    Some(node)
+}
+
+fn is_stream<A: Allocator>(entries: &[DirEntry<A>], n: u32) -> bool
+    requires { n < length entries.now }
+    ensures { IsTrue result ↔ ((entry_at (entries_of entries.now) n).obj_type ≡ Stream) }
+{
+    entries[n as usize].obj_type == ObjType::Stream
+}

@@ -1,0 +1,177 @@
+//! An entry out of the children of a storage (MS-CFB 2.6.4): a node with at most one part below it
+//! is replaced by that, and in place of one with two its predecessor goes, whose entry then moves
+//! into the freed slot.
+ghost use Rattle.std.specs.Prelude.{◌≡◌, ◌≢◌, ◌⊎◌, ℕ, ◌+◌, ◌*◌, ◌<◌, ◌≤◌, length, chars, IfOk, OnErr, OnOk, List, [], vec_len, vec_capacity, true};
+ghost use Rattle.cfb_siblings.specs.Children.{HasChildren, HasRedApart, IsAbsent, IsParent, KeepsColors, Removes};
+ghost use Rattle.cfb_format.specs.Siblings.{entry_at};
+ghost use Rattle.cfb_format.specs.declared.color.Color.TheVariants.{Black};
+ghost use Rattle.cfb_siblings.specs.Order.{Absent, Dir, HasDir};
+ghost use Rattle.cfb_siblings.specs.Painted.{Painted, entries_of, tree_numbers, occurs};
+ghost use Rattle.cfb_siblings.specs.Taking.{HasSpot, Spot};
+ghost use Rattle.cfb_siblings.specs.Taking.{Soothed, SpareAt, StandsAt, TakenOut};
+ghost use Rattle.cfb_siblings.specs.Touched.{IsNear, Tells, Touches, TouchesOnly};
+ghost use Rattle.cfb_siblings.specs.Way.{Frame, KeptOutside, plug};
+
+use crate::links::{
+    PathStep, is_red, is_red_above, is_red_entry, last_step, links, only_part, paint, relink,
+    right_link, vacate,
+};
+use crate::touched::{link_slot, make_room, note};
+use crate::way::way_to;
+use cfb_codecs::direntry::DirEntry;
+use cfb_codecs::path::CaseMapper;
+use cfb_format::consts::NO_STREAM;
+use std::alloc::{AllocError, Allocator};
+
+/// What is left to settle after an entry was taken out.
+#[derive(Drop)]
+struct Gap<A: Allocator> {
+    /// The slot that is free now.
+    freed: u32,
+    /// Whether the node that went was red.
+    red: bool,
+    /// The way to the place where it stood, and the link to what stands there now.
+    path: Vec<PathStep, A>,
+    link: u32,
+}
+
+/// The node whose slot can be freed in place of that of `n`: `n` itself, or the one right before it.
+fn spare<A: Allocator>(
+    entries: &[DirEntry<A>],
+    path: &mut Vec<PathStep, A>,
+    n: u32,
+) -> Result<u32, AllocError>
+    requires few { length (entries_of entries.now) ≤ NO_STREAM }
+    requires small { (t : Painted) × StandsAt (entries_of entries.now) path.old.items t n × ((k : ℕ) → occurs k t ≤ 1) }
+    ensures { IfOk result (λ m. (t : Painted) → ((k : ℕ) → occurs k t ≤ 1) → StandsAt (entries_of entries.now) path.old.items t n → SpareAt (entries_of entries.now) path.new.items t n m) }
+{
+    let (left, right) = links(entries, n);
+    if left == NO_STREAM {
+        return Ok(n);
+    }
+    if right == NO_STREAM {
+        return Ok(n);
+    }
+    path.push(PathStep {
+        number: n,
+        left: true,
+    })?;
+    let mut m = left;
+    let mut next = right_link(entries, left);
+    while next != NO_STREAM {
+        path.push(PathStep {
+            number: m,
+            left: false,
+        })?;
+        m = next;
+        next = right_link(entries, m);
+    }
+    Ok(m)
+}
+
+/// Takes the entry of that name out of the storage.
+fn take_out<A: Allocator>(
+    alloc: A,
+    cases: &CaseMapper<A>,
+    entries: &mut [DirEntry<A>],
+    parent: u32,
+    name: &str,
+    touched: &mut Vec<u32, A>,
+) -> Result<Gap<A>, AllocError>
+    requires few { length (entries_of entries.old) ≤ NO_STREAM }
+    requires stands { HasDir cases.now (entries_of entries.old) parent }
+    requires there { (t : Painted) → Dir cases.now (entries_of entries.old) parent t → Absent cases.now (entries_of entries.old) (chars name.now) (tree_numbers t) → ⊥ }
+    ensures taken { IfOk result (λ gap. (t : Painted) → Dir cases.now (entries_of entries.old) parent t → TakenOut cases.now (entries_of entries.old) (entries_of entries.new) parent (chars name.now) t gap.freed gap.path.items gap.link gap.red) }
+    ensures told { OnOk result ((t : Painted) → Dir cases.now (entries_of entries.old) parent t → Tells (IsNear parent t) (entries_of entries.old) (entries_of entries.new) [] touched.new.items) }
+    ensures colors { IfOk result (λ gap. (k : ℕ) → k ≢ gap.freed → (entry_at (entries_of entries.new) k).color ≡ (entry_at (entries_of entries.old) k).color) }
+    ensures len { OnOk result (vec_len touched.new ≤ 3) }
+    ensures room { IfOk result (λ gap. vec_len touched.new + (8 * vec_len gap.path + 8) ≤ vec_capacity touched.new) }
+    ensures refused { OnErr result (entries.new ≡ entries.old) }
+{
+    let (n, mut path) = way_to(alloc, cases, entries, parent, name)?;
+    let m = spare(entries, &mut path, n)?;
+    make_room(touched, path.len())?;
+    let up = only_part(entries, m);
+    let above = last_step(&path);
+    let red = is_red_entry(entries, m);
+    relink(entries, parent, above, up);
+    vacate(entries, n, m);
+    note(touched, link_slot(parent, above));
+    note(touched, n);
+    note(touched, m);
+    Ok(Gap {
+        freed: m,
+        red,
+        path,
+        link: up,
+    })
+}
+
+/// Makes a red node black that came to stand under a red one, or at the top.
+fn soothe<A: Allocator>(
+    entries: &mut [DirEntry<A>],
+    parent: u32,
+    path: &[PathStep],
+    x: u32,
+    touched: &mut Vec<u32, A>,
+)
+    requires few { length (entries_of entries.old) ≤ NO_STREAM }
+    requires stands { HasSpot (entries_of entries.old) parent path.now x }
+    requires room { vec_len touched.old < vec_capacity touched.old }
+    ensures soothed { (fs : List Frame) (t : Painted) → Spot (entries_of entries.old) parent path.now x fs t → KeptOutside (entries_of entries.old) (entries_of entries.new) parent (plug fs t) × Soothed (entries_of entries.new) parent fs t }
+    ensures told { (fs : List Frame) (t : Painted) → Spot (entries_of entries.old) parent path.now x fs t → Tells (IsNear parent (plug fs t)) (entries_of entries.old) (entries_of entries.new) touched.old.items touched.new.items }
+    ensures colors { (k : ℕ) → ((entry_at (entries_of entries.new) k).color ≡ (entry_at (entries_of entries.old) k).color) ⊎ ((k ≡ x) × ((entry_at (entries_of entries.new) k).color ≡ Black)) }
+    ensures len { vec_len touched.new ≤ vec_len touched.old + 1 }
+{
+    if !is_red(entries, x) {
+        return;
+    }
+    let above = last_step(path);
+    if is_red_above(entries, above) {
+        paint(entries, x, false);
+        note(touched, x);
+    }
+}
+
+/// Takes the child of that name, which is there, out of the storage `parent` (MS-CFB 2.6.4), and
+/// answers the slot that is free now: the child's own, or that of its predecessor, whose entry then
+/// stands in the child's. `touched` becomes the list of the slots whose entries changed, each of
+/// them once.
+///
+/// No red child comes to stand under a red one. The black ones on the ways down may differ in
+/// number afterwards.
+///
+/// It answers `AllocError` where memory for the way down or for `touched` is refused, and no entry
+/// has changed then.
+pub fn remove<A: Allocator>(
+    alloc: A,
+    cases: &CaseMapper<A>,
+    entries: &mut [DirEntry<A>],
+    parent: u32,
+    name: &str,
+    touched: &mut Vec<u32, A>,
+) -> Result<u32, AllocError>
+    requires few { length (entries_of entries.old) ≤ NO_STREAM }
+    requires stands { IsParent cases.now (entries_of entries.old) parent }
+    requires there { (list : List ℕ) → HasChildren cases.now (entries_of entries.old) parent list → IsAbsent cases.now (entries_of entries.old) (chars name.now) list → ⊥ }
+
+    ensures removed { IfOk result (λ freed. (list : List ℕ) → HasChildren cases.now (entries_of entries.old) parent list
+        → (after : List ℕ) × Removes cases.now (entries_of entries.old) (entries_of entries.new) parent (chars name.now) freed list after) }
+    ensures red_apart { OnOk result ((list : List ℕ) → HasChildren cases.now (entries_of entries.old) parent list → HasRedApart (entries_of entries.old) parent list
+        → (after : List ℕ) × HasChildren cases.now (entries_of entries.new) parent after × HasRedApart (entries_of entries.new) parent after) }
+    ensures colors { IfOk result (KeepsColors (entries_of entries.old) (entries_of entries.new)) }
+    ensures touches { OnOk result (Touches (entries_of entries.old) (entries_of entries.new) touched.new.items) }
+    ensures touches_only { OnOk result ((list : List ℕ) → HasChildren cases.now (entries_of entries.old) parent list → TouchesOnly parent list touched.new.items) }
+    ensures few_touched { OnOk result (vec_len touched.new ≤ 4) }
+    ensures refused { OnErr result (entries.new ≡ entries.old) }
+{
+    let gap = take_out(alloc, cases, entries, parent, name, touched)?;
+    let freed = gap.freed;
+    if gap.red {
+        return Ok(freed);
+    }
+    // The ways down through `gap.link` are short of a black entry: what makes up for it along
+    // `gap.path` takes the place of this.
+    soothe(entries, parent, &gap.path, gap.link, touched);
+    Ok(freed)
+}
