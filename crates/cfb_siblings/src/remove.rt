@@ -5,7 +5,7 @@ ghost use Rattle.std.specs.Prelude.{◌≡◌, ◌≢◌, ◌⊎◌, ℕ, ◌+�
 ghost use Rattle.cfb_siblings.specs.Children.{HasChildren, HasRedApart, IsAbsent, IsParent, KeepsColors, Removes};
 ghost use Rattle.cfb_format.specs.Siblings.{entry_at};
 ghost use Rattle.cfb_format.specs.declared.color.Color.TheVariants.{Black};
-ghost use Rattle.cfb_siblings.specs.Order.{Absent, Dir, HasDir};
+ghost use Rattle.cfb_siblings.specs.Order.{Dir, HasDir};
 ghost use Rattle.cfb_siblings.specs.Painted.{Painted, entries_of, tree_numbers, occurs};
 ghost use Rattle.cfb_siblings.specs.Taking.{HasSpot, Spot};
 ghost use Rattle.cfb_siblings.specs.Taking.{Soothed, SpareAt, StandsAt, TakenOut};
@@ -80,7 +80,7 @@ fn take_out<A: Allocator>(
 ) -> Result<Gap<A>, AllocError>
     requires few { length (entries_of entries.old) ≤ NO_STREAM }
     requires stands { HasDir cases.now (entries_of entries.old) parent }
-    requires there { (t : Painted) → Dir cases.now (entries_of entries.old) parent t → Absent cases.now (entries_of entries.old) (chars name.now) (tree_numbers t) → ⊥ }
+    requires there { (t : Painted) → Dir cases.now (entries_of entries.old) parent t → IsAbsent cases.now (entries_of entries.old) (chars name.now) (tree_numbers t) → ⊥ }
     ensures taken { IfOk result (λ gap. (t : Painted) → Dir cases.now (entries_of entries.old) parent t → TakenOut cases.now (entries_of entries.old) (entries_of entries.new) parent (chars name.now) t gap.freed gap.path.items gap.link gap.red) }
     ensures told { OnOk result ((t : Painted) → Dir cases.now (entries_of entries.old) parent t → Tells (IsNear parent t) (entries_of entries.old) (entries_of entries.new) [] touched.new.items) }
     ensures colors { IfOk result (λ gap. (k : ℕ) → k ≢ gap.freed → (entry_at (entries_of entries.new) k).color ≡ (entry_at (entries_of entries.old) k).color) }
