@@ -7,4 +7,6 @@ mod changes;
 #[cfg(test)]
 mod files;
 #[cfg(test)]
+mod listed;
+#[cfg(test)]
 mod pieces;

@@ -14,7 +14,7 @@ use Rattle.cfb_codecs.specs.declared.direntry.DirEntry.{DirEntry}
 use Rattle.cfb_format.specs.DirectoryEntry.{Entry, unallocated_entry}
 use Rattle.cfb_codecs.specs.EntryModel.{entry_of}
 use Rattle.cfb_format.specs.Siblings.{entry_at}
-use Rattle.cfb_siblings.specs.Painted.{entries_of}
+use Rattle.cfb_codecs.specs.EntryModel.{entries_of}
 
 pub entries-length : {A : Type 0} (xs : List (DirEntry A)) → length (entries_of xs) ≡ length xs
 entries-length xs = length-map xs entry_of

@@ -1,16 +1,10 @@
 -- The sibling tree of a storage with its colours, as the numbered entries make it.
-use Rattle.std.specs.Prelude.{◌≡◌, ℕ, ◌+◌, ◌<◌, Bool, true, false, cond, List, [], ◌∷◌, ◌++◌, length, map, eqb, suc}
+use Rattle.std.specs.Prelude.{◌≡◌, ℕ, ◌+◌, ◌<◌, Bool, true, false, cond, List, [], ◌∷◌, ◌++◌, length, eqb, suc}
 use Rattle.cfb_format.specs.declared.color.Color.{Color}
 use Rattle.cfb_format.specs.declared.color.Color.TheVariants.{Red, Black}
-use Rattle.cfb_codecs.specs.declared.direntry.DirEntry.{DirEntry}
 use Rattle.cfb_format.specs.Bytes.{no_stream}
 use Rattle.cfb_format.specs.DirectoryEntry.{Entry}
-use Rattle.cfb_codecs.specs.EntryModel.{entry_of}
 use Rattle.cfb_format.specs.Siblings.{SiblingTree, leaf, node, entry_at, is_red_color}
-
--- what the code's entries mean
-abbrev pub entries_of : {A : Type 0} → List (DirEntry A) → List Entry
-entries_of entries = map entry_of entries
 
 -- the colour of a node that is red or not
 abbrev pub color_if_red : Bool → Color

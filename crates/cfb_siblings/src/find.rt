@@ -1,7 +1,7 @@
 //! Look-ups in the children of a storage, along the sibling tree. They take no memory.
 ghost use Rattle.std.specs.Prelude.{◌≡◌, ℕ, ◌<◌, ◌≤◌, ◌↔◌, IsTrue, length, chars, List, MatchOption};
 ghost use Rattle.cfb_siblings.specs.Children.{HasChildren, IsAbsent, IsChildNamed, IsParent};
-ghost use Rattle.cfb_siblings.specs.Painted.{entries_of};
+ghost use Rattle.cfb_codecs.specs.EntryModel.{entries_of};
 ghost use Rattle.cfb_siblings.specs.Paths.{HasOutline, number_at_path};
 ghost use Rattle.cfb_format.specs.declared.objtype.ObjType.TheVariants.{Stream};
 ghost use Rattle.cfb_format.specs.Reading.{IsOutline, Outline};

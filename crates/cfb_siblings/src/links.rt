@@ -3,7 +3,8 @@ ghost use Rattle.std.specs.Prelude.{slice_set, ◌≡◌, ℕ, ◌<◌, ◌≤�
 ghost use Rattle.cfb_format.specs.DirectoryEntry.{unallocated_entry};
 ghost use Rattle.cfb_codecs.specs.EntryModel.{entry_of};
 ghost use Rattle.cfb_format.specs.Siblings.{entry_at, is_red_color};
-ghost use Rattle.cfb_siblings.specs.Painted.{entries_of, color_if_red};
+ghost use Rattle.cfb_siblings.specs.Painted.{color_if_red};
+ghost use Rattle.cfb_codecs.specs.EntryModel.{entries_of};
 ghost use Rattle.cfb_siblings.specs.Taking.{vacated};
 ghost use Rattle.cfb_siblings.specs.Calm.{above_red};
 ghost use Rattle.cfb_siblings.specs.Way.{Frame, above, way};

@@ -3,7 +3,8 @@ ghost use Rattle.std.specs.Prelude.{◌≡◌, ℕ, ◌++◌, ◌<◌, ◌≤◌
 ghost use Rattle.cfb_format.specs.Names.{Cases};
 ghost use Rattle.cfb_format.specs.Siblings.{entry_at};
 ghost use Rattle.cfb_siblings.specs.Children.{HasChildren, IsParent};
-ghost use Rattle.cfb_siblings.specs.Painted.{Painted, Shape, entries_of, tree_numbers, size};
+ghost use Rattle.cfb_siblings.specs.Painted.{Painted, Shape, tree_numbers, size};
+ghost use Rattle.cfb_codecs.specs.EntryModel.{entries_of};
 ghost use Rattle.cfb_siblings.specs.Waiting.{Waits, HasShort};
 
 use crate::links::{child_link, left_link, right_link};

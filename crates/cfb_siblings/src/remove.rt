@@ -6,7 +6,8 @@ ghost use Rattle.cfb_siblings.specs.Children.{HasChildren, HasRedApart, IsAbsent
 ghost use Rattle.cfb_format.specs.Siblings.{entry_at};
 ghost use Rattle.cfb_format.specs.declared.color.Color.TheVariants.{Black};
 ghost use Rattle.cfb_siblings.specs.Order.{Dir, HasDir};
-ghost use Rattle.cfb_siblings.specs.Painted.{Painted, entries_of, tree_numbers, occurs};
+ghost use Rattle.cfb_siblings.specs.Painted.{Painted, tree_numbers, occurs};
+ghost use Rattle.cfb_codecs.specs.EntryModel.{entries_of};
 ghost use Rattle.cfb_siblings.specs.Taking.{HasSpot, Spot};
 ghost use Rattle.cfb_siblings.specs.Taking.{Soothed, SpareAt, StandsAt, TakenOut};
 ghost use Rattle.cfb_siblings.specs.Touched.{IsNear, Tells, Touches, TouchesOnly};

@@ -3,7 +3,7 @@ ghost use Rattle.std.specs.Prelude.{◌≡◌, ℕ, ◌<◌, ◌≤◌, ◌↔�
 ghost use Rattle.cfb_format.specs.declared.objtype.ObjType.TheVariants.{Unallocated};
 ghost use Rattle.cfb_format.specs.Siblings.{entry_at};
 ghost use Rattle.cfb_siblings.specs.Children.{IsFirstFree, IsFullBelow};
-ghost use Rattle.cfb_siblings.specs.Painted.{entries_of};
+ghost use Rattle.cfb_codecs.specs.EntryModel.{entries_of};
 
 use cfb_codecs::direntry::DirEntry;
 use cfb_format::consts::NO_STREAM;

@@ -2,7 +2,8 @@
 ghost use Rattle.std.specs.Prelude.{◌≡◌, ◌≢◌, ℕ, ◌<◌, ◌≤◌, length, chars, IfOk, true};
 ghost use Rattle.cfb_format.specs.Tree.{is_same_name};
 ghost use Rattle.cfb_siblings.specs.Order.{Dir, HasDir, Placed};
-ghost use Rattle.cfb_siblings.specs.Painted.{Painted, entries_of};
+ghost use Rattle.cfb_siblings.specs.Painted.{Painted};
+ghost use Rattle.cfb_codecs.specs.EntryModel.{entries_of};
 ghost use Rattle.cfb_siblings.specs.Way.{name_at};
 
 use crate::links::{PathStep, child_link, links};

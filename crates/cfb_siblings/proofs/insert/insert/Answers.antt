@@ -2,7 +2,8 @@ use Rattle.std.proofs.Common.{sym, ◌∙◌, ap, ◌≡◌, subst}
 use Rattle.std.specs.Prelude.{chars, string_bytes}
 use Rattle.cfb_format.specs.Tree.{is_same_name}
 use Rattle.cfb_codecs.specs.EntryModel.{entry_of}
-use Rattle.cfb_siblings.specs.Painted.{Node, Leaf, entries_of, tree_numbers, occurs}
+use Rattle.cfb_siblings.specs.Painted.{Node, Leaf, tree_numbers, occurs}
+use Rattle.cfb_codecs.specs.EntryModel.{entries_of}
 use Rattle.cfb_siblings.specs.Way.{name_at}
 use Rattle.cfb_siblings.specs.Order.{Placed, Joins, Attached, KeptBeside}
 use Rattle.cfb_siblings.specs.Children.{Inserts, HasRedApart}

@@ -4,7 +4,7 @@ use Rattle.cfb_format.specs.DirectoryEntry.{Entry, unallocated_entry}
 use Rattle.cfb_codecs.specs.EntryModel.{entry_of}
 use Rattle.cfb_format.specs.Siblings.{entry_at}
 use Rattle.cfb_siblings.proofs.Held.{moved-entry}
-use Rattle.cfb_siblings.specs.Painted.{entries_of}
+use Rattle.cfb_codecs.specs.EntryModel.{entries_of}
 use Rattle.cfb_siblings.proofs.links.vacate.Goals as goal
 
 pub returns : goal.returns

@@ -1,0 +1,10 @@
+use Rattle.std.proofs.Common.{sym, subst, refl, ℕ, List}
+use Rattle.cfb_format.specs.Chain.{IsChain}
+use Rattle.cfb_tables.specs.Tables.{first_or_end}
+use Rattle.cfb_tables.proofs.ChainLemmas.{chain_of}
+use Rattle.cfb_alloc_bench.proofs.listed.refusals.Goals as goal
+
+pub extend_listed-requires : goal.extend_listed-requires
+extend_listed-requires g =
+    let fat = g.reserve.new.self.tables.fat in
+    record { chain = subst (λ (z : List ℕ). IsChain fat (first_or_end z) z) (sym g.new-ids.ensures.items) (chain_of fat _ _ refl) }
