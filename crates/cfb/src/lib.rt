@@ -10,7 +10,7 @@ pub use cfb_format::version::Version;
 
 /// The layers that compound files are made of.
 pub mod internal {
-    pub use cfb_alloc::alloc::Allocator;
+    pub use cfb_alloc::alloc::{Allocator, HeaderWord};
     pub use cfb_alloc::seeking::AllocatedSector;
     pub use cfb_chains::chain::Chain;
     pub use cfb_codecs::direntry::DirEntry;
