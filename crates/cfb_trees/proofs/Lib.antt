@@ -1,0 +1,10 @@
+mod Members
+mod Kept
+mod Standing
+mod Replaced
+mod Parents
+mod Joined
+mod Counts
+mod Taken
+mod Streams
+mod Same
