@@ -1,0 +1,3 @@
+pub mod PathDown
+pub mod PathOwners
+pub mod PathReached

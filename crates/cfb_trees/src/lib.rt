@@ -1,0 +1,4 @@
+//! What changes of entries make of the tree of a directory.
+#![tactic(auto)]
+
+pub mod paths;

@@ -1,0 +1,9 @@
+//! Laws: a directory is a finite map from chains of names to entries, through all storages. None of
+//! these functions does anything: each has a law as its contract.
+ghost use Rattle.cfb_trees.specs.Paths.{FoundIsReached, ReachedIsFound};
+
+/// What names find is reached, and what is reached is found by its stored names.
+pub fn found_is_reached()
+    ensures found { FoundIsReached }
+    ensures reached { ReachedIsFound }
+{}
