@@ -1,3 +1,4 @@
 pub mod PathDown
 pub mod PathOwners
 pub mod PathReached
+pub mod PathInserted

@@ -1,7 +1,7 @@
 -- A directory is a finite map from chains of names to entries, through all storages: what changes of entries make of that map.
-use Rattle.std.specs.Prelude.{ℕ, ◌≡◌, ◌≢◌, ◌⊎◌, List, [], ◌∷◌, ◌++◌, true, Option, Some, None, option_and_then, if◌then◌else◌, ◌==◌, slice_set, replicate, Contains}
+use Rattle.std.specs.Prelude.{ℕ, ◌≡◌, ◌≢◌, List, [], ◌∷◌, ◌++◌, true, Option, Some, None, option_and_then, if◌then◌else◌, ◌==◌, slice_set, replicate, Contains}
 use Rattle.std.specs.List.{AllByRecursion}
-use Rattle.cfb_format.specs.declared.objtype.ObjType.TheVariants.{Unallocated, Storage, Stream}
+use Rattle.cfb_format.specs.declared.objtype.ObjType.TheVariants.{Unallocated, Stream}
 use Rattle.cfb_format.specs.Bytes.{no_stream}
 use Rattle.cfb_format.specs.Names.{Cases}
 use Rattle.cfb_format.specs.Tree.{is_same_name}
@@ -44,7 +44,6 @@ abbrev pub InsertionAddsAName : Type 0
 InsertionAddsAName = (cases : Cases) (old new : List Entry) (o o' : Outline) (parent n : ℕ) (entry : Entry) (xs ys : List ℕ) (before : List (List ℕ))
     → IsOutline cases old o → IsOutline cases new o' → HasInserted cases old new parent n entry xs ys
     → (entry_at old n).obj_type ≡ Unallocated → (entry_at old parent).obj_type ≢ Stream → entry.child ≡ no_stream
-    → (entry.obj_type ≡ Storage) ⊎ (entry.obj_type ≡ Stream)
     → number_from cases old 0 o before ≡ Some parent
     → FindsAlso cases old new o o' parent n entry before
 

@@ -1,9 +1,14 @@
 //! Laws: a directory is a finite map from chains of names to entries, through all storages. None of
 //! these functions does anything: each has a law as its contract.
-ghost use Rattle.cfb_trees.specs.Paths.{FoundIsReached, ReachedIsFound};
+ghost use Rattle.cfb_trees.specs.Paths.{FoundIsReached, InsertionAddsAName, ReachedIsFound};
 
 /// What names find is reached, and what is reached is found by its stored names.
 pub fn found_is_reached()
     ensures found { FoundIsReached }
     ensures reached { ReachedIsFound }
+{}
+
+/// An insertion adds one entry to the map, under its name in its storage. All else is found as before.
+pub fn insertion_adds_a_name()
+    ensures { InsertionAddsAName }
 {}
