@@ -2,3 +2,4 @@ pub mod PathDown
 pub mod PathOwners
 pub mod PathReached
 pub mod PathInserted
+pub mod PathRemoved
