@@ -3,3 +3,4 @@ pub mod PathOwners
 pub mod PathReached
 pub mod PathInserted
 pub mod PathRemoved
+pub mod PathNames

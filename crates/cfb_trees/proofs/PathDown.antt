@@ -78,14 +78,16 @@ module _ (cases : Cases) (es : List Entry) (o : Outline) (is : IsOutline cases e
     where
       goal : Type 0
       goal = Down cases es n (name ∷ names) k
+
       found : ((j : ℕ) → Walks cases es whole j names → Down cases es j names k) → (entry_at es n).obj_type ≢ Stream → (list : List ℕ) → HasChildren cases es n list
           → IsAbsent cases es name list ⊎ ((j : ℕ) × (1 ≤ tally j list) × (is_same_name cases name (entry_at es j).name ≡ true)) → goal
       found deeper ne list h (inl a) =
           none-some k (sym (walks-none cases es whole (name ∷ names) n name names refl ne
-            (λ l g. subst (λ (l : List ℕ). IsAbsent cases es name l) (Below-unique cases es (entry_at es n).child list l h.below g.below) a) w o is) ∙ e)
+          (λ l g. subst (λ (l : List ℕ). IsAbsent cases es name l) (Below-unique cases es (entry_at es n).child list l h.below g.below) a) w o is) ∙ e)
       found deeper ne list h (inr (j, m, s)) =
           let step : Step cases es n name j = record { storage = ne; list = list; below = h.below; among = m; named = s } in
           (j, step, deeper j (walks-on cases es whole (name ∷ names) n j name names refl ne (child-is n name j step) w))
+
       go : ((entry_at es n).obj_type ≡ Stream) ⊎ ((entry_at es n).obj_type ≢ Stream) → ((j : ℕ) → Walks cases es whole j names → Down cases es j names k) → goal
       go (inl s) deeper = none-some k (sym (walks-stuck cases es whole (name ∷ names) n name names refl s w o is) ∙ e)
       go (inr ne) deeper = let (list, h) = walks-parent cases es whole (name ∷ names) n (o, is) w ne in found deeper ne list h (look cases es name list)

@@ -82,7 +82,7 @@ module _ (cases : Cases) (old new : List Entry) (o : Outline) (is : IsOutline ca
       right = ap (λ (x : Entry). x.right_sibling) ins.parent_kept;
     })
     | inr kp ↦ same-links old new k (ins.others_kept k kp (not-new k (reached-child cases old o m k w mem))
-      (λ c. ne (one-owner cases old o is m parent k w owner mem (subst (λ (l : List ℕ). 1 ≤ tally k l) listed (counted k (xs ++ ys) c)))))
+        (λ c. ne (one-owner cases old o is m parent k w owner mem (subst (λ (l : List ℕ). 1 ≤ tally k l) listed (counted k (xs ++ ys) c)))))
   ]
 
   elsewhere : (m : ℕ) (r : Reached cases old o m) (w : Within cases old (whole cases old o) m) → m ≢ parent → Below cases new (entry_at new m).child (siblings w.inside)
@@ -103,20 +103,20 @@ module _ (cases : Cases) (old new : List Entry) (o : Outline) (is : IsOutline ca
       list = xs ++ n ∷ ys;
       below = subst (λ (q : ℕ). Below cases new (entry_at new q).child (xs ++ n ∷ ys)) (sym e) ins.now.below;
       among =
-      let w = r.within s.storage in
-      let l : xs ++ ys ≡ s.list = Below-unique cases old (entry_at old m).child (xs ++ ys) s.list (subst (λ (q : ℕ). Below cases old (entry_at old q).child (xs ++ ys)) (sym e) ins.was.below) s.below in
-      one-more j (subst (λ (l : List ℕ). 1 ≤ tally j l) (sym l) s.among);
+          let w = r.within s.storage in
+          let l : xs ++ ys ≡ s.list = Below-unique cases old (entry_at old m).child (xs ++ ys) s.list (subst (λ (q : ℕ). Below cases old (entry_at old q).child (xs ++ ys)) (sym e) ins.was.below) s.below in
+          one-more j (subst (λ (l : List ℕ). 1 ≤ tally j l) (sym l) s.among);
       named = ap (is_same_name cases name) (same-name j rj) ∙ s.named;
     }
     | inr ne ↦
-      let w = r.within s.storage in
-      record {
-        storage = λ k. s.storage (sym (same-kind m r) ∙ k);
-        list = siblings w.inside;
-        below = elsewhere m r w ne;
-        among = among-inside cases old o m j name w s;
-        named = ap (is_same_name cases name) (same-name j rj) ∙ s.named;
-      }
+        let w = r.within s.storage in
+        record {
+          storage = λ k. s.storage (sym (same-kind m r) ∙ k);
+          list = siblings w.inside;
+          below = elsewhere m r w ne;
+          among = among-inside cases old o m j name w s;
+          named = ap (is_same_name cases name) (same-name j rj) ∙ s.named;
+        }
   ]
 
   down-kept : (path : List (List ℕ)) (m k : ℕ) → Reached cases old o m → Down cases old m path k → Down cases new m path k
@@ -147,12 +147,15 @@ module _ (cases : Cases) (old new : List Entry) (o : Outline) (is : IsOutline ca
     where
       ne : (entry_at old m).obj_type ≢ Stream
       ne k = s.storage (same-kind m r ∙ k)
+
       w : Within cases old (whole cases old o) m
       w = r.within ne
+
       inside : 1 ≤ tally j (siblings w.inside) → Step cases old m name j × Reached cases old o j
       inside mem =
           let rj = reached-child cases old o m j w mem in
           (record { storage = ne; list = siblings w.inside; below = w.below; among = mem; named = sym (ap (is_same_name cases name) (same-name j rj)) ∙ s.named }, rj)
+
       go : (m ≡ parent) ⊎ (m ≢ parent) → (Step cases old m name j × Reached cases old o j) ⊎ ((j ≡ n) × (m ≡ parent))
       go (inl e) = elim (hit-cases j n) [
         | inl f ↦ inr (f, e)

@@ -80,9 +80,9 @@ unfolding tally
 first-level cases es no_more j h m = absurd (omega (arith, m))
 first-level cases es (storage_at i x rest) j h m = elim (hit-cases j i) [
   | inl e ↦ inr (
-      ap (λ (k : ℕ). (entry_at es k).obj_type) e ∙ h.0,
-      record { inside = x; stands = inl (e, refl); below = subst (λ (k : ℕ). Below cases es (entry_at es k).child (siblings x)) (sym e) h.1; contents = h.2 },
-    )
+    ap (λ (k : ℕ). (entry_at es k).obj_type) e ∙ h.0,
+    record { inside = x; stands = inl (e, refl); below = subst (λ (k : ℕ). Below cases es (entry_at es k).child (siblings x)) (sym e) h.1; contents = h.2 },
+  )
   | inr z ↦ elim (first-level cases es rest j h.3 (omega (arith, m, z))) [
     | inl s ↦ inl s
     | inr r ↦ inr (r.0, record { inside = r.1.inside; stands = inr (inr r.1.stands); below = r.1.below; contents = r.1.contents })

@@ -247,24 +247,24 @@ module _ (cases : Cases) (old new : List Entry) (o : Outline) (is : IsOutline ca
   step-moved : (m : ℕ) (name : List ℕ) (j : ℕ) → Reached cases old o m → m ≢ n → Step cases old m name j → j ≢ n → Step cases new (to m) name (to j)
   step-moved m name j r mn s jn = elim (cases_eq m parent) [
     | inl e ↦
-      let l : s.list ≡ xs ++ n ∷ ys = Below-unique cases old (entry_at old m).child s.list (xs ++ n ∷ ys) s.below (subst (λ (q : ℕ). Below cases old (entry_at old q).child (xs ++ n ∷ ys)) (sym e) rem.was.below) in
-      record {
-        storage = λ k. s.storage (sym (same-kind m mn) ∙ k);
-        list = list;
-        below = below-now m e;
-        among = (left-child j (omega (arith, s.among, ap (tally j) l, others j, missed j jn))).0;
-        named = ap (is_same_name cases name) (same-name j jn) ∙ s.named;
-      }
+        let l : s.list ≡ xs ++ n ∷ ys = Below-unique cases old (entry_at old m).child s.list (xs ++ n ∷ ys) s.below (subst (λ (q : ℕ). Below cases old (entry_at old q).child (xs ++ n ∷ ys)) (sym e) rem.was.below) in
+        record {
+          storage = λ k. s.storage (sym (same-kind m mn) ∙ k);
+          list = list;
+          below = below-now m e;
+          among = (left-child j (omega (arith, s.among, ap (tally j) l, others j, missed j jn))).0;
+          named = ap (is_same_name cases name) (same-name j jn) ∙ s.named;
+        }
     | inr ne ↦
-      let w = r.within s.storage in
-      let mem = among-inside cases old o m j name w s in
-      record {
-        storage = λ k. s.storage (sym (same-kind m mn) ∙ k);
-        list = siblings w.inside;
-        below = elsewhere m w ne mn;
-        among = subst (λ (i : ℕ). 1 ≤ tally i (siblings w.inside)) (sym (stays-outside j (away m w ne j mem))) mem;
-        named = ap (is_same_name cases name) (same-name j jn) ∙ s.named;
-      }
+        let w = r.within s.storage in
+        let mem = among-inside cases old o m j name w s in
+        record {
+          storage = λ k. s.storage (sym (same-kind m mn) ∙ k);
+          list = siblings w.inside;
+          below = elsewhere m w ne mn;
+          among = subst (λ (i : ℕ). 1 ≤ tally i (siblings w.inside)) (sym (stays-outside j (away m w ne j mem))) mem;
+          named = ap (is_same_name cases name) (same-name j jn) ∙ s.named;
+        }
   ]
 
   down-moved : (path : List (List ℕ)) (m k : ℕ) → Reached cases old o m → m ≢ n → Down cases old m path k → k ≢ n → Down cases new (to m) path (to k)
@@ -289,17 +289,25 @@ module _ (cases : Cases) (old new : List Entry) (o : Outline) (is : IsOutline ca
     where
       ne : (entry_at old m).obj_type ≢ Stream
       ne k = s.storage (same-kind m mn ∙ k)
+
       w : Within cases old (whole cases old o) m
       w = r.within ne
+
       back : (j : ℕ) → 1 ≤ tally j (siblings w.inside) → j ≢ n → j' ≡ to j → Back m name j'
       back j mem jn e = record {
         number = j;
-        step = record { storage = ne; list = siblings w.inside; below = w.below; among = mem;
-          named = sym (ap (is_same_name cases name) (ap (λ (i : ℕ). (entry_at new i).name) e ∙ same-name j jn)) ∙ s.named };
+        step = record {
+          storage = ne;
+          list = siblings w.inside;
+          below = w.below;
+          among = mem;
+          named = sym (ap (is_same_name cases name) (ap (λ (i : ℕ). (entry_at new i).name) e ∙ same-name j jn)) ∙ s.named;
+        };
         reached = reached-child cases old o m j w mem;
         left = jn;
         is_now = e;
       }
+
       go : (m ≡ parent) ⊎ (m ≢ parent) → Back m name j'
       go (inl e) =
           let now : s.list ≡ list = Below-unique cases new (entry_at new (to m)).child s.list list s.below (below-now m e) in
@@ -323,8 +331,16 @@ module _ (cases : Cases) (old new : List Entry) (o : Outline) (is : IsOutline ca
   not-root : (k : ℕ) → 1 ≤ tally k (xs ++ n ∷ ys) → 0 ≢ k
   unfolding tally
   not-root k m e =
-      absurd (omega (arith, owned k m, siblings-numbers k owner.inside, below-first (whole cases old o) parent owner.inside owner.stands k,
-        tally-append k (numbers o) [], distinct-once (0 ∷ numbers o) is.distinct k, hit-same k, ap (hit k) e))
+      absurd (omega (
+        arith,
+        owned k m,
+        siblings-numbers k owner.inside,
+        below-first (whole cases old o) parent owner.inside owner.stands k,
+        tally-append k (numbers o) [],
+        distinct-once (0 ∷ numbers o) is.distinct k,
+        hit-same k,
+        ap (hit k) e,
+      ))
 
   module _ (o' : Outline) (is' : IsOutline cases new o') (path : List (List ℕ)) where
     root : Reached cases old o 0
