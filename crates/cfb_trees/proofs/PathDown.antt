@@ -12,7 +12,7 @@ use Rattle.cfb_format.proofs.Unique.{Below-unique}
 use Rattle.cfb_siblings.specs.Painted.{tally}
 use Rattle.cfb_siblings.specs.Children.{HasChildren, IsAbsent, IsChildNamed}
 use Rattle.cfb_siblings.specs.Paths.{number_from}
-use Rattle.cfb_siblings.proofs.Tallies.{hit-same, counted, present}
+use Rattle.cfb_siblings.proofs.Tallies.{hit-same, present}
 use Rattle.cfb_siblings.proofs.PathWalk.{Walks, walks-start, walks-parent, walks-on, walks-none, walks-stuck, walks-end}
 
 -- j is a child of the storage n, of that name

@@ -1,6 +1,5 @@
 -- What names find where an entry was put into a storage.
-use Rattle.std.proofs.Common.{◌≡◌, ◌≢◌, ◌⊎◌, inl, inr, ◌+◌, ◌≤◌, ℕ, List, [], ◌∷◌, ◌++◌, true, refl, sym, ◌∙◌, ap, subst, length, arith}
-use Rattle.std.specs.Prelude.{Some, Contains}
+use Rattle.std.proofs.Common.{◌≡◌, ◌≢◌, ◌⊎◌, inl, inr, ◌≤◌, ℕ, List, [], ◌∷◌, ◌++◌, true, refl, sym, ◌∙◌, ap, subst, arith}
 use Rattle.std.proofs.lemmas.Bool.{cases_eq}
 use Rattle.cfb_format.specs.declared.objtype.ObjType.TheVariants.{Unallocated, Stream}
 use Rattle.cfb_format.specs.Bytes.{no_stream}
@@ -10,11 +9,10 @@ use Rattle.cfb_format.specs.DirectoryEntry.{Entry}
 use Rattle.cfb_format.specs.Siblings.{entry_at, Below, SiblingTree, leaf, node, HangsAt, in_order}
 use Rattle.cfb_format.specs.Reading.{Outline, siblings, IsOutline}
 use Rattle.cfb_format.proofs.Unique.{Below-unique}
-use Rattle.cfb_siblings.specs.Painted.{hit, tally}
+use Rattle.cfb_siblings.specs.Painted.{tally}
 use Rattle.cfb_siblings.specs.Way.{unlinked}
 use Rattle.cfb_siblings.specs.Laws.{SameLinks}
 use Rattle.cfb_siblings.specs.Children.{ButLinks, HasInserted}
-use Rattle.cfb_siblings.specs.Paths.{number_from}
 use Rattle.cfb_siblings.proofs.Tallies.{hit-same, hit-cases, tally-append, counted, present, outside}
 use Rattle.cfb_siblings.proofs.Kept.{below-kept}
 use Rattle.cfb_trees.specs.Paths.{FindsAlso, InsertionAddsAName}

@@ -1,12 +1,12 @@
 -- The storage in which an entry stands is the only one.
-use Rattle.std.proofs.Common.{◌≡◌, ◌⊎◌, inl, inr, ◌+◌, ◌≤◌, ℕ, List, [], ◌∷◌, ◌++◌, refl, sym, ◌∙◌, ap, subst, arith}
+use Rattle.std.proofs.Common.{◌≡◌, ◌⊎◌, inl, inr, ◌+◌, ◌≤◌, ℕ, List, refl, sym, ◌∙◌, ap, subst, arith}
 use Rattle.cfb_format.specs.declared.objtype.ObjType.TheVariants.{Storage, Stream}
 use Rattle.cfb_format.specs.Names.{Cases}
 use Rattle.cfb_format.specs.DirectoryEntry.{Entry}
 use Rattle.cfb_format.specs.Siblings.{entry_at, Below}
 use Rattle.cfb_format.specs.Reading.{Outline, no_more, storage_at, stream_at, siblings, numbers, HasContents}
 use Rattle.cfb_siblings.specs.Painted.{hit, tally}
-use Rattle.cfb_siblings.proofs.Tallies.{hit-same, hit-cases, tally-append}
+use Rattle.cfb_siblings.proofs.Tallies.{hit-cases, tally-append}
 use Rattle.cfb_siblings.proofs.Outlines.{siblings-numbers}
 
 -- the storage i stands somewhere in the outline, with x inside it

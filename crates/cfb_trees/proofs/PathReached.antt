@@ -1,6 +1,6 @@
 -- The entries that are reached from the root, and the names that lead to them.
-use Rattle.std.proofs.Common.{◌≡◌, ◌≢◌, ◌⊎◌, inl, inr, ◌+◌, ◌≤◌, ℕ, List, [], ◌∷◌, ◌++◌, true, refl, sym, ◌∙◌, ap, subst, arith}
-use Rattle.std.specs.Prelude.{Some, Contains}
+use Rattle.std.proofs.Common.{◌≡◌, ◌≢◌, ◌⊎◌, inl, inr, ◌+◌, ◌≤◌, ℕ, List, [], ◌∷◌, ◌++◌, refl, sym, ◌∙◌, subst, arith}
+use Rattle.std.specs.Prelude.{Contains}
 use Rattle.std.proofs.lemmas.Bool.{cases_eq}
 use Rattle.cfb_format.specs.declared.objtype.ObjType.TheVariants.{Unallocated, Storage, Stream, Root}
 use Rattle.cfb_format.specs.Names.{Cases}
@@ -8,13 +8,13 @@ use Rattle.cfb_format.specs.DirectoryEntry.{Entry}
 use Rattle.cfb_format.specs.Siblings.{entry_at, Below}
 use Rattle.cfb_format.specs.Reading.{Outline, no_more, storage_at, stream_at, siblings, numbers, HasContents, IsOutline}
 use Rattle.cfb_format.proofs.Unique.{Below-unique}
-use Rattle.cfb_siblings.specs.Painted.{hit, tally}
+use Rattle.cfb_siblings.specs.Painted.{tally}
 use Rattle.cfb_siblings.proofs.Tallies.{hit-same, hit-cases, tally-append, distinct-once, present, counted}
 use Rattle.cfb_siblings.proofs.Outlines.{siblings-numbers}
 use Rattle.cfb_siblings.proofs.NameFacts.{same-itself}
 use Rattle.cfb_trees.specs.Paths.{FoundIsReached, ReachedIsFound, AreStored}
 use Rattle.cfb_trees.proofs.PathDown.{Step, Down, number-down, down-number}
-use Rattle.cfb_trees.proofs.PathOwners.{Stands, stands-in, whole-in, one-storage, Within, first-level}
+use Rattle.cfb_trees.proofs.PathOwners.{stands-in, whole-in, one-storage, Within, first-level}
 
 either-counts : (u v : ℕ) → 1 ≤ u + v → (1 ≤ u) ⊎ (1 ≤ v)
 either-counts u v h = elim (cases_eq u 0) [ inl e ↦ inr (omega (arith, h, e)) | inr ne ↦ inl (omega (arith, ne)) ]

@@ -1,5 +1,5 @@
 -- What names find where an entry was taken from a storage.
-use Rattle.std.proofs.Common.{◌≡◌, ◌≢◌, ◌⊎◌, inl, inr, ◌+◌, ◌≤◌, ℕ, List, [], ◌∷◌, ◌++◌, Bool, true, false, refl, sym, ◌∙◌, ap, subst, length, arith, eq-eqb}
+use Rattle.std.proofs.Common.{◌≡◌, ◌≢◌, ◌⊎◌, inl, inr, ◌+◌, ◌≤◌, ℕ, List, [], ◌∷◌, ◌++◌, true, false, refl, sym, ◌∙◌, ap, subst, arith, eq-eqb}
 use Rattle.std.specs.Prelude.{Option, Some, None, Contains, option_and_then, if◌then◌else◌, ◌==◌}
 use Rattle.std.specs.List.{AllZip, AllByRecursion}
 use Rattle.std.specs.declared.cmp.Ordering.TheVariants.{Less}
@@ -18,7 +18,7 @@ use Rattle.cfb_siblings.specs.Laws.{SameLinks}
 use Rattle.cfb_siblings.specs.Children.{ButLinks, HasRemoved}
 use Rattle.cfb_siblings.specs.Paths.{number_from}
 use Rattle.cfb_siblings.proofs.Tallies.{hit-same, hit-cases, tally-append, counted, present, outside, uncounted, all-at, distinct-once}
-use Rattle.cfb_siblings.proofs.NameFacts.{same-itself, earlier-not-same, later-not-same}
+use Rattle.cfb_siblings.proofs.NameFacts.{same-itself, earlier-not-same}
 use Rattle.cfb_siblings.proofs.Outlines.{siblings-numbers, if-true, if-false}
 use Rattle.cfb_siblings.proofs.Kept.{below-kept}
 use Rattle.cfb_trees.specs.Paths.{number_after, RemovalTakesAName}
