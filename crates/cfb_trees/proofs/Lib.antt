@@ -8,3 +8,9 @@ mod Counts
 mod Taken
 mod Streams
 mod Same
+pub mod PathDown
+pub mod PathOwners
+pub mod PathReached
+pub mod PathInserted
+pub mod PathRemoved
+pub mod PathNames
