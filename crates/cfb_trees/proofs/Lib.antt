@@ -8,3 +8,5 @@ mod Counts
 mod Taken
 mod Streams
 mod Same
+mod Colored
+mod Recolored
