@@ -16,7 +16,7 @@ pub record AreColored (entries : List Entry) (o : Outline) : Type 0 where
   pub tops : (k : ℕ) → IsReached o k → (entry_at entries k).obj_type ≢ Stream → is_red_at entries (entry_at entries k).child ≡ false
   pub apart : list_all (is_red_apart entries) (numbers o) ≡ true
 
--- the children of one storage are colored so after a change, if they were before
+-- the children of one storage are coloured so after a change, if they were before
 abbrev pub KeepsRedApart : Cases → List Entry → List Entry → ℕ → Type 0
 KeepsRedApart cases old new parent = (list : List ℕ) → HasChildren cases old parent list → HasRedApart old parent list
     → (after : List ℕ) × HasChildren cases new parent after × HasRedApart new parent after
