@@ -1,16 +1,18 @@
-mod Members
-mod Kept
-mod Standing
-mod Replaced
-mod Parents
-mod Joined
-mod Counts
-mod Taken
-mod Streams
-mod Same
 pub mod PathDown
 pub mod PathOwners
 pub mod PathReached
 pub mod PathInserted
 pub mod PathRemoved
 pub mod PathNames
+pub mod Members
+pub mod Kept
+pub mod Standing
+pub mod Replaced
+pub mod Parents
+pub mod Joined
+pub mod Counts
+pub mod Taken
+pub mod Streams
+pub mod Same
+pub mod Colored
+pub mod Recolored

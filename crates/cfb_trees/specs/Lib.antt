@@ -1,3 +1,4 @@
 pub mod Reached
 pub mod Changes
 pub mod Paths
+pub mod Colors
