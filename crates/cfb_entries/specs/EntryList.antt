@@ -1,5 +1,5 @@
 -- The entries of a directory in memory, and which slots of them are free (MS-CFB 2.6).
-use Rattle.std.specs.Prelude.{ℕ, ◌≡◌, ◌<◌, ◌≤◌, ◌×◌, List, ◌++◌, Bool, true, false, length, replicate, nat_eq, Contains}
+use Rattle.std.specs.Prelude.{ℕ, ◌≡◌, ◌<◌, ◌≤◌, List, ◌++◌, Bool, true, false, length, replicate, nat_eq, Contains}
 use Rattle.std.specs.List.{IsDistinct, list_any}
 use Rattle.cfb_format.specs.declared.objtype.ObjType.{ObjType}
 use Rattle.cfb_format.specs.declared.objtype.ObjType.TheVariants.{Unallocated, Storage, Stream, Root}
