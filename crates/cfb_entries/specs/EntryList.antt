@@ -1,10 +1,10 @@
 -- The entries of a directory in memory, and which slots of them are free (MS-CFB 2.6).
-use Rattle.std.specs.Prelude.{ℕ, ◌≡◌, ◌<◌, ◌≤◌, List, ◌++◌, Bool, true, false, length, replicate, nat_eq, Contains}
+use Rattle.std.specs.Prelude.{ℕ, ◌≡◌, ◌<◌, ◌≤◌, List, Bool, true, false, length, nat_eq, Contains}
 use Rattle.std.specs.List.{IsDistinct, list_any}
 use Rattle.cfb_format.specs.declared.objtype.ObjType.{ObjType}
 use Rattle.cfb_format.specs.declared.objtype.ObjType.TheVariants.{Unallocated, Storage, Stream, Root}
 use Rattle.cfb_format.specs.Names.{Cases, utf16_units, max_name_len}
-use Rattle.cfb_format.specs.DirectoryEntry.{Entry, unallocated_entry}
+use Rattle.cfb_format.specs.DirectoryEntry.{Entry}
 use Rattle.cfb_format.specs.Siblings.{entry_at}
 use Rattle.cfb_format.specs.Reading.{Outline, IsOutline}
 use Rattle.cfb_siblings.specs.Children.{HasChildren, IsChildNamed, HasInserted, HasRemoved}
@@ -50,10 +50,6 @@ pub record ListsFree (entries : List Entry) (free : List ℕ) : Type 0 where
   pub within : (k : ℕ) → Contains free k → k < length entries
   pub unused : (k : ℕ) → Contains free k → (entry_at entries k).obj_type ≡ Unallocated
   pub all : (k : ℕ) → k < length entries → (entry_at entries k).obj_type ≡ Unallocated → Contains free k
-
--- the entries, and behind them so many that are not used
-abbrev pub grown_by : ℕ → List Entry → List Entry
-grown_by more entries = entries ++ replicate more unallocated_entry
 
 -- ---- changes
 

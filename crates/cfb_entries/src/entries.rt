@@ -9,9 +9,10 @@ ghost use Rattle.cfb_format.specs.Refused.{IsInvalidOrMemory};
 ghost use Rattle.cfb_codecs.specs.EntryModel.{entries_of, new_entry};
 ghost use Rattle.cfb_outline.specs.Outlines.{AcceptsOutline, IsReachedStorage};
 ghost use Rattle.cfb_siblings.specs.Children.{HasChildren, HasRedApart, IsAbsent, IsChildNamed, KeepsBalance, KeepsColors};
+ghost use Rattle.cfb_siblings.specs.Laws.{grown_by};
 ghost use Rattle.cfb_siblings.specs.Paths.{number_from};
 ghost use Rattle.cfb_siblings.specs.Touched.{Touches, TouchesOnly};
-ghost use Rattle.cfb_entries.specs.EntryList.{AreInOrder, HaveShortNames, InsertsEntry, IsChildless, RemovesEntry, grown_by, has_free, max_entries};
+ghost use Rattle.cfb_entries.specs.EntryList.{AreInOrder, HaveShortNames, InsertsEntry, IsChildless, RemovesEntry, has_free, max_entries};
 ghost use Rattle.cfb_entries.specs.Fields.{fields_in, with_fields_at};
 ghost use Rattle.cfb_entries.specs.Insertions.{IsInsertionOf, name_in};
 
@@ -20,7 +21,7 @@ use crate::fields::{Fields, change_fields};
 use crate::free::{free_slots, list_numbers, take_slot};
 use crate::fresh::append_fresh;
 use crate::insertion::{Insertion, insertion_of};
-use crate::names::{find_names, have_short_names};
+use crate::names::have_short_names;
 use cfb_codecs::direntry::DirEntry;
 use cfb_codecs::path::CaseMapper;
 use cfb_codecs::timestamp::Timestamp;
@@ -28,7 +29,7 @@ use cfb_format::error::{Detail, Error};
 use cfb_format::objtype::ObjType;
 use cfb_format::validate::Validation;
 use cfb_outline::outline::reached_entries;
-use cfb_siblings::find::find_child;
+use cfb_siblings::find::{find_child, find_names};
 use cfb_siblings::insert::insert;
 use std::alloc::{AllocError, Allocator, Global};
 use std::marker::Model;
@@ -139,7 +140,7 @@ impl<A: Allocator> Entries<A> {
     /// stream (MS-CFB 2.6.2). It takes no memory.
     pub fn find(&self, names: &[&str]) -> Option<u32>
         ensures found { (o : Outline) → IsOutline self.now.cases self.now.entries o → result ≡ number_from self.now.cases self.now.entries 0 o (map (λ name. chars name.now) names.now) }
-        ensures reached { IfSome result (λ k. (o : Outline) → IsOutline self.now.cases self.now.entries o → Contains (0 ∷ numbers o) k) }
+        ensures reached { (o : Outline) → IsOutline self.now.cases self.now.entries o → IfSome result (λ k. Contains (0 ∷ numbers o) k) }
     {
         find_names(&self.letters, &self.list, names)
     }
@@ -149,7 +150,7 @@ impl<A: Allocator> Entries<A> {
         requires parent { IsReachedStorage self.now.cases self.now.entries parent }
         ensures found { (list : List ℕ) → HasChildren self.now.cases self.now.entries parent list
             → MatchOption result (IsAbsent self.now.cases self.now.entries (chars name.now) list) (λ k. IsChildNamed self.now.cases self.now.entries (chars name.now) list k) }
-        ensures reached { IfSome result (λ k. (o : Outline) → IsOutline self.now.cases self.now.entries o → Contains (numbers o) k) }
+        ensures reached { (o : Outline) → IsOutline self.now.cases self.now.entries o → IfSome result (λ k. Contains (numbers o) k) }
     {
         find_child(&self.letters, &self.list, parent, name)
     }
@@ -176,7 +177,7 @@ impl<A: Allocator> Entries<A> {
         requires room { vec_len fresh ≤ self.old.room }
         requires few { length self.old.entries + vec_len fresh ≤ max_entries }
         ensures cases { self.new.cases ≡ self.old.cases }
-        ensures grown { self.new.entries ≡ grown_by (vec_len fresh) self.old.entries }
+        ensures grown { self.new.entries ≡ grown_by self.old.entries (vec_len fresh) }
     {
         let mut fresh = fresh;
         list_numbers(&mut self.free, self.list.len(), fresh.len());

@@ -3,7 +3,7 @@ ghost use Rattle.std.specs.Prelude.{◌≡◌, ℕ, ◌+◌, ◌≤◌, List, le
 ghost use Rattle.cfb_format.specs.DirectoryEntry.{unallocated_entry};
 ghost use Rattle.cfb_codecs.specs.EntryModel.{entries_of};
 ghost use Rattle.cfb_format.specs.Refused.{IsMemory};
-ghost use Rattle.cfb_entries.specs.EntryList.{grown_by};
+ghost use Rattle.cfb_siblings.specs.Laws.{grown_by};
 
 use cfb_codecs::direntry::DirEntry;
 use cfb_format::error::Error;
@@ -31,7 +31,7 @@ pub(crate) fn append_fresh<A: Allocator>(
 )
     requires room { vec_len list.old + vec_len fresh.old ≤ vec_capacity list.old }
     requires unused { entries_of fresh.old.items ≡ replicate (vec_len fresh.old) unallocated_entry }
-    ensures { entries_of list.new.items ≡ grown_by (vec_len fresh.old) (entries_of list.old.items) }
+    ensures { entries_of list.new.items ≡ grown_by (entries_of list.old.items) (vec_len fresh.old) }
 {
     while let Some(entry) = fresh.pop() {
         list.push_reserved(entry);
