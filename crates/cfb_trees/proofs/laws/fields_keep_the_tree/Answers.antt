@@ -1,0 +1,5 @@
+use Rattle.cfb_trees.proofs.Same.{fields-keep-outline}
+use Rattle.cfb_trees.proofs.laws.fields_keep_the_tree.Goals as goal
+
+pub returns : goal.returns
+returns c = record { outline = fields-keep-outline }
