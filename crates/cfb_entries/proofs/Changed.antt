@@ -1,6 +1,6 @@
 -- What an insertion and a removal make of the entries and of the list of free slots.
 use Rattle.std.proofs.Common.{◌≡◌, inl, inr, ℕ, ◌<◌, ◌≤◌, Bool, true, false, List, [], ◌∷◌, ◌++◌, length, ap, sym, subst, ◌∙◌, arith, refl}
-use Rattle.std.specs.Prelude.{Contains, ◌⊎◌, ◌&&◌, IsTrue, not, nat_le}
+use Rattle.std.specs.Prelude.{Contains, ◌⊎◌, ◌&&◌, IsTrue, not, nat_le, Result, Ok, Err, OnOk, OnErr}
 use Rattle.std.specs.List.{list_any}
 use Rattle.std.proofs.lemmas.Bool.Decides.{nat_tests}
 use Rattle.cfb_format.specs.declared.objtype.ObjType.{ObjType}
@@ -58,7 +58,8 @@ IsRemoval cases old new parent name freed = (r : RemovesEntry cases old new pare
 pub is-removal : (cases : Cases) (old new : List Entry) (parent : ℕ) (name : List ℕ) (freed : ℕ) → IsChildless cases old parent name
     → ((list : List ℕ) → HasChildren cases old parent list → (after : List ℕ) × Removes cases old new parent name freed list after) → KeepsColors old new freed → IsRemoval cases old new parent name freed
 is-removal cases old new parent name freed (n, list, h, named, childless) f colors =
-    let (after, m, xs, ys, e, same, has) = f list h in
+    let (after, taken) = f list h in
+    let (m, xs, ys, e, same, has) = taken in
     let there : Contains list m = subst (λ (l : List ℕ). Contains l m) (sym e) (present m (xs ++ m ∷ ys) (in-middle m xs ys)) in
     let one : n ≡ m = one-named cases old name list n m h.below.rises named.0 there named.1 same in
     (record { number = m; freed = freed; before = xs; behind = ys; after = after; removed = has; named = same; childless = ap (λ (k : ℕ). (entry_at old k).child) (sym one) ∙ childless },
@@ -70,3 +71,18 @@ removal-in-order cases old new parent name reached a r = left-in-order cases old
 
 pub removal-free : (cases : Cases) (old new : List Entry) (parent : ℕ) (name free : List ℕ) → IsReachedStorage cases old parent → ListsFree old free → (r : RemovesEntry cases old new parent name) → ListsFree new (free ++ r.freed ∷ [])
 removal-free cases old new parent name free reached l r = left-free cases old new parent r.number r.freed r.before r.behind r.after r.removed free reached l
+
+-- ---- answers that may be refusals
+
+pub on-ok : {T E P Q : Type 0} (r : Result T E) → (P → Q) → OnOk r P → OnOk r Q
+on-ok (Ok x) f h = f h
+on-ok (Err e) f h = h
+
+pub on-err : {T E P : Type 0} (r : Result T E) → P → OnErr r P
+on-err (Ok x) h = tt
+on-err (Err e) h = h
+
+-- what holds after each answer
+pub either-way : {T E P Q R : Type 0} (r : Result T E) → OnOk r P → OnErr r Q → (P → R) → (Q → R) → R
+either-way (Ok x) p q f g = f p
+either-way (Err e) p q f g = g q

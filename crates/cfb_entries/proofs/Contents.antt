@@ -125,7 +125,7 @@ module _ (cases : Cases) (old new : List Entry) (parent n : ℕ) (entry : Entry)
 
 -- ---- an entry was taken out
 
-in-middle : (n : ℕ) (xs ys : List ℕ) → 1 ≤ tally n (xs ++ n ∷ ys)
+pub in-middle : (n : ℕ) (xs ys : List ℕ) → 1 ≤ tally n (xs ++ n ∷ ys)
 unfolding tally
 in-middle n xs ys = omega (arith, tally-append n xs (n ∷ ys), hit-same n)
 

@@ -1,5 +1,5 @@
 use Rattle.std.proofs.Common.{◌≡◌, ◌∙◌, ap, sym, subst}
-use Rattle.std.specs.Prelude.{slice_set}
+use Rattle.std.specs.Prelude.{slice_set, slice_index_or}
 use Rattle.std.proofs.lemmas.List.{map-set}
 use Rattle.cfb_format.specs.DirectoryEntry.{Entry}
 use Rattle.cfb_codecs.specs.EntryModel.{entry_of, entries_of}
@@ -11,7 +11,7 @@ use Rattle.cfb_entries.proofs.fields.change_fields.Goals as goal
 
 pub returns : goal.returns
 returns g c =
-    let entry : entry_at (entries_of c.args.list.now) c.args.number ≡ entry_of c.index-list-number.result = read-entry c.args.list.now c.args.number c.index-list-number.result c.requires.inside ∙ ap entry_of (sym c.index-list-number.is) in
+    let entry : entry_at (entries_of c.args.list.now) c.args.number ≡ entry_of (slice_index_or c.args.list.now c.args.number c.index-list-number.result) = read-entry c.args.list.now c.args.number c.index-list-number.result c.requires.inside in
     let same : c.fields_of.result ≡ fields_in (entry_at (entries_of c.args.list.now) c.args.number) = c.fields_of.ensures ∙ ap fields_in (sym entry) in
     (c.change-changed.result,
      subst (λ (f : Fields). g.W.FnOnce.post c.args.change (f, tt) c.change-changed.result) same c.change-changed.ensures,
