@@ -86,3 +86,20 @@ on-err (Err e) h = h
 pub either-way : {T E P Q R : Type 0} (r : Result T E) → OnOk r P → OnErr r Q → (P → R) → (Q → R) → R
 either-way (Ok x) p q f g = f p
 either-way (Err e) p q f g = g q
+
+-- one more number is listed
+pub listed-more : (free old new : List ℕ) (x y : ℕ) → new ≡ old ++ x ∷ [] → old ≡ free → y ≡ x → new ≡ free ++ y ∷ []
+listed-more free old new x y a b e = a ∙ (ap (λ (l : List ℕ). l ++ x ∷ []) b ∙ ap (λ (z : ℕ). free ++ z ∷ []) (sym e))
+
+-- the removal that a call through a lent list made
+pub removal-through : (cases : Cases) (old lent new back : List Entry) (parent : ℕ) (name : List ℕ) (freed : ℕ) (free reserved pushed : List ℕ) → lent ≡ old → back ≡ new → IsChildless cases old parent name
+    → ((list : List ℕ) → HasChildren cases lent parent list → (after : List ℕ) × Removes cases lent new parent name freed list after) → KeepsColors lent new freed
+    → pushed ≡ reserved ++ freed ∷ [] → reserved ≡ free
+    → (r : RemovesEntry cases old back parent name) × (pushed ≡ free ++ r.freed ∷ []) × KeepsColors old back r.freed
+removal-through cases old lent new back parent name freed free reserved pushed e b there removes colors p q =
+    let removes-old : (list : List ℕ) → HasChildren cases old parent list → (after : List ℕ) × Removes cases old new parent name freed list after =
+        subst (λ (es : List Entry). (list : List ℕ) → HasChildren cases es parent list → (after : List ℕ) × Removes cases es new parent name freed list after) e removes in
+    let colors-old : KeepsColors old new freed = subst (λ (es : List Entry). KeepsColors es new freed) e colors in
+    let (r, f, k) = is-removal cases old new parent name freed there removes-old colors-old in
+    subst (λ (es : List Entry). (r : RemovesEntry cases old es parent name) × (pushed ≡ free ++ r.freed ∷ []) × KeepsColors old es r.freed) (sym b)
+    (r, listed-more free reserved pushed freed r.freed p q f, k)

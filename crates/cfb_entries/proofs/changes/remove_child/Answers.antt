@@ -1,8 +1,8 @@
-use Rattle.std.proofs.Common.{◌≡◌, ℕ, List, [], ◌∷◌, ◌++◌, ◌∙◌, ap, sym, length, drop, take}
+use Rattle.std.proofs.Common.{◌≡◌, ◌++◌, ◌∙◌, ap, length, drop, take}
 use Rattle.std.specs.Prelude.{chars}
 use Rattle.cfb_codecs.specs.EntryModel.{entries_of}
 use Rattle.cfb_entries.proofs.Lent.{written-back}
-use Rattle.cfb_entries.proofs.Changed.{not-absent, IsRemoval, is-removal, on-err}
+use Rattle.cfb_entries.proofs.Changed.{not-absent, removal-through, on-err}
 use Rattle.cfb_entries.proofs.changes.remove_child.Goals as goal
 
 pub remove-requires-clause-there : goal.remove-requires-clause-there
@@ -17,14 +17,11 @@ returns-in_err-freed-clause-refused g c =
 pub returns-clause-removed : goal.returns-clause-removed
 returns-clause-removed g c =
     let new = c.remove.new.entries in
-    let back : take c.args.list.now.len (new ++ drop (length new) c.args.list.now.items) ≡ new = written-back c.args.list.now.len new (drop (length new) c.args.list.now.items) (c.remove.auto.entries ∙ c.deref_mut.ensures.len) in
-    let removal : IsRemoval c.args.letters.now (entries_of c.args.list.now.items) (entries_of new) c.args.parent (chars c.args.name.now) c.in_ok-freed.freed =
-        is-removal c.args.letters.now (entries_of c.args.list.now.items) (entries_of new) c.args.parent (chars c.args.name.now) c.in_ok-freed.freed c.requires.there
-        (rw c.deref_mut.ensures.value at c.in_ok-freed.ensures.removed) (rw c.deref_mut.ensures.value at c.in_ok-freed.ensures.colors) in
-    let (r, e, colors) = removal in
-    let listed : c.push_reserved.new.self.items ≡ c.args.free.now.items ++ r.freed ∷ [] =
-        c.push_reserved.ensures.items ∙ (ap (λ (l : List ℕ). l ++ c.in_ok-freed.freed ∷ []) c.reserve.ensures.items ∙ ap (λ (x : ℕ). c.args.free.now.items ++ x ∷ []) (sym e)) in
-    rw back (r, listed, colors)
+    removal-through c.args.letters.now (entries_of c.args.list.now.items) (entries_of c.deref_mut.result.now) (entries_of new) (entries_of (take c.args.list.now.len (new ++ drop (length new) c.args.list.now.items)))
+    c.args.parent (chars c.args.name.now) c.in_ok-freed.freed c.args.free.now.items c.reserve.new.self.items c.push_reserved.new.self.items
+    (ap entries_of c.deref_mut.ensures.value)
+    (ap entries_of (written-back c.args.list.now.len new (drop (length new) c.args.list.now.items) (c.remove.auto.entries ∙ c.deref_mut.ensures.len)))
+    c.requires.there c.in_ok-freed.ensures.removed c.in_ok-freed.ensures.colors c.push_reserved.ensures.items c.reserve.ensures.items
 
 pub returns-clause-red_apart : goal.returns-clause-red_apart
 returns-clause-red_apart g c =
