@@ -1,9 +1,9 @@
 -- Lists of which one has all numbers of the other.
-use Rattle.std.proofs.Common.{◌≡◌, ◌⊎◌, inl, inr, ℕ, suc, ◌+◌, ◌≤◌, List, [], ◌∷◌, ◌++◌, length, refl, ap, sym, ◌∙◌, subst, arith}
+use Rattle.std.proofs.Common.{◌≡◌, inl, inr, ℕ, suc, ◌+◌, ◌≤◌, List, [], ◌∷◌, ◌++◌, length, refl, ap, sym, ◌∙◌, subst, arith}
 use Rattle.std.specs.List.{AllZip}
 use Rattle.std.proofs.lemmas.List.{length-append}
 use Rattle.cfb_siblings.specs.Painted.{hit, tally}
-use Rattle.cfb_siblings.proofs.Tallies.{hit-same, hit-cases, hit-small, tally-append}
+use Rattle.cfb_siblings.proofs.Tallies.{hit-same, hit-cases, tally-append}
 
 -- a list around one of its numbers
 pub Around : ℕ → List ℕ → Type 0

@@ -1,27 +1,27 @@
 -- An object that joins the children of what is reached.
-use Rattle.std.proofs.Common.{◌≡◌, ◌≢◌, ◌⊎◌, inl, inr, ℕ, ◌+◌, ◌≤◌, List, [], ◌∷◌, ◌++◌, length, refl, ap, sym, ◌∙◌, subst, arith}
+use Rattle.std.proofs.Common.{◌≡◌, ◌≢◌, ◌⊎◌, inl, inr, ℕ, ◌+◌, ◌≤◌, List, ◌∷◌, ◌++◌, refl, ap, sym, ◌∙◌, subst, arith}
 use Rattle.std.specs.Prelude.{Contains, ◌↔◌}
 use Rattle.std.specs.List.{IsDistinct}
 use Rattle.std.proofs.lemmas.Bool.{cases_lt}
-use Rattle.cfb_format.specs.declared.objtype.ObjType.TheVariants.{Unallocated, Storage, Stream}
+use Rattle.cfb_format.specs.declared.objtype.ObjType.TheVariants.{Unallocated, Stream}
 use Rattle.cfb_format.specs.Bytes.{no_stream}
 use Rattle.cfb_format.specs.Names.{Cases}
 use Rattle.cfb_format.specs.DirectoryEntry.{Entry}
 use Rattle.cfb_format.specs.Siblings.{entry_at, leaf, Below}
-use Rattle.cfb_format.specs.Reading.{Outline, no_more, storage_at, stream_at, siblings, numbers, stream_numbers, HasContents, IsOutline}
+use Rattle.cfb_format.specs.Reading.{Outline, no_more, storage_at, stream_at, siblings, numbers, HasContents, IsOutline}
 use Rattle.cfb_format.specs.Tree.{Objects, nothing, storage, stream}
 use Rattle.cfb_format.specs.Meaning.{storage_info, stream_info, objects_from}
 use Rattle.cfb_format.proofs.Unique.{Below-unique, IsOutline-unique}
 use Rattle.cfb_siblings.specs.Painted.{hit, tally}
 use Rattle.cfb_siblings.specs.Way.{unlinked}
 use Rattle.cfb_siblings.specs.Children.{ButLinks, HasInserted}
-use Rattle.cfb_siblings.proofs.Tallies.{hit-same, hit-cases, hit-none, hit-small, tally-append, counted, present, outside}
-use Rattle.cfb_siblings.proofs.Outlines.{siblings-numbers, SameContents}
+use Rattle.cfb_siblings.proofs.Tallies.{hit-same, hit-cases, hit-none, hit-small, counted, present, outside}
+use Rattle.cfb_siblings.proofs.Outlines.{SameContents}
 use Rattle.cfb_siblings.proofs.Put.{relabel, relabeled, Relabeled, Adds, put, put_after}
 use Rattle.cfb_trees.specs.Reached.{IsObject, IsReached}
-use Rattle.cfb_trees.specs.Changes.{HasMore, InsertionKeepsOutline, InsertionKeepsStreams}
-use Rattle.cfb_trees.proofs.Members.{free-is-apart, reached-once, streams-are-by-kind}
-use Rattle.cfb_trees.proofs.Kept.{SameNode, same-node}
+use Rattle.cfb_trees.specs.Changes.{InsertionKeepsOutline}
+use Rattle.cfb_trees.proofs.Members.{free-is-apart, reached-once}
+use Rattle.cfb_trees.proofs.Kept.{same-node}
 use Rattle.cfb_trees.proofs.Standing.{StandsAt, at-inner, at-within, at-held, stands-at}
 use Rattle.cfb_trees.proofs.Replaced.{Becomes, becomes}
 use Rattle.cfb_trees.proofs.Parents.{none, links-kind, links-child, same-entry, same-list, parent-kind, parent-links, root-len}

@@ -1,10 +1,10 @@
 -- What is reached stays where its names, links, children and kinds do.
-use Rattle.std.proofs.Common.{◌≡◌, ℕ, ◌+◌, ◌≤◌, List, [], ◌∷◌, ◌++◌, length, ap, sym, ◌∙◌, subst, arith}
+use Rattle.std.proofs.Common.{◌≡◌, ℕ, ◌+◌, ◌≤◌, List, ◌++◌, length, ap, sym, ◌∙◌, subst, arith}
 use Rattle.cfb_format.specs.Names.{Cases}
 use Rattle.cfb_format.specs.DirectoryEntry.{Entry}
 use Rattle.cfb_format.specs.Siblings.{entry_at, Below}
 use Rattle.cfb_format.specs.Reading.{Outline, no_more, storage_at, stream_at, siblings, numbers, HasContents}
-use Rattle.cfb_siblings.specs.Painted.{hit, tally}
+use Rattle.cfb_siblings.specs.Painted.{tally}
 use Rattle.cfb_siblings.specs.Laws.{SameLinks}
 use Rattle.cfb_siblings.proofs.Tallies.{hit-same, tally-append}
 use Rattle.cfb_siblings.proofs.Outlines.{siblings-numbers}

@@ -8,3 +8,5 @@ pub mod Counts
 pub mod Taken
 pub mod Streams
 pub mod Same
+pub mod Colored
+pub mod Recolored

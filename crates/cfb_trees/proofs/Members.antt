@@ -1,6 +1,5 @@
 -- Which entries an outline reaches, and what kinds they are of.
-use Rattle.std.proofs.Common.{◌≡◌, ◌≢◌, ◌⊎◌, inl, inr, ℕ, ◌+◌, ◌<◌, ◌≤◌, List, [], ◌∷◌, ◌++◌, length, refl, ap, sym, ◌∙◌, arith}
-use Rattle.std.specs.Prelude.{Contains, ◌↔◌}
+use Rattle.std.proofs.Common.{◌≡◌, ◌≢◌, inl, inr, ℕ, ◌<◌, ◌≤◌, List, ◌∷◌, length, ap, sym, ◌∙◌, arith}
 use Rattle.std.proofs.lemmas.Bool.{cases_lt}
 use Rattle.std.proofs.lemmas.List.{get_or_past}
 use Rattle.cfb_format.specs.declared.objtype.ObjType.{ObjType}
@@ -8,7 +7,7 @@ use Rattle.cfb_format.specs.declared.objtype.ObjType.TheVariants.{Unallocated, S
 use Rattle.cfb_format.specs.Names.{Cases}
 use Rattle.cfb_format.specs.DirectoryEntry.{Entry, unallocated_entry}
 use Rattle.cfb_format.specs.Siblings.{entry_at}
-use Rattle.cfb_format.specs.Reading.{Outline, no_more, storage_at, stream_at, siblings, numbers, stream_numbers, HasContents, IsOutline}
+use Rattle.cfb_format.specs.Reading.{Outline, no_more, storage_at, stream_at, numbers, stream_numbers, HasContents, IsOutline}
 use Rattle.cfb_siblings.specs.Painted.{hit, tally}
 use Rattle.cfb_siblings.proofs.Tallies.{hit-same, hit-cases, tally-append, counted, present, distinct-once}
 use Rattle.cfb_trees.specs.Reached.{IsObject, ReachedIsWithin, ReachedIsUsed, ReachedIsObject, StreamsAreByKind}

@@ -1,20 +1,20 @@
 -- Entries that differ in links alone, and the storage whose children change.
-use Rattle.std.proofs.Common.{◌≡◌, ◌≢◌, ◌⊎◌, inl, inr, ℕ, ◌+◌, ◌≤◌, List, [], ◌∷◌, ap, sym, ◌∙◌, arith}
-use Rattle.std.specs.Prelude.{◌%◌, Contains}
+use Rattle.std.proofs.Common.{◌≡◌, ◌≢◌, inl, inr, ℕ, ◌≤◌, List, [], ◌∷◌, ap, sym, ◌∙◌, arith}
+use Rattle.std.specs.Prelude.{◌%◌}
 use Rattle.std.specs.List.{AllZip}
 use Rattle.cfb_format.specs.Names.{Cases}
 use Rattle.cfb_format.specs.Meaning.{storage_info, stream_info}
 use Rattle.cfb_format.specs.DirectoryEntry.{Entry}
 use Rattle.cfb_format.specs.Siblings.{entry_at}
-use Rattle.cfb_format.specs.Reading.{Outline, siblings, numbers, IsOutline}
-use Rattle.cfb_siblings.specs.Painted.{hit, tally}
+use Rattle.cfb_format.specs.Reading.{Outline, siblings, IsOutline}
+use Rattle.cfb_siblings.specs.Painted.{tally}
 use Rattle.cfb_siblings.specs.Way.{unlinked}
 use Rattle.cfb_siblings.specs.Children.{ButChild, ButLinks}
 use Rattle.cfb_siblings.specs.Laws.{SameObject, SameLinks, SameEntry}
 use Rattle.cfb_siblings.proofs.Outlines.{SameContents, siblings-numbers}
 use Rattle.cfb_siblings.proofs.Tallies.{hit-same, hit-cases, hit-none}
 use Rattle.cfb_trees.proofs.Members.{reached-once}
-use Rattle.cfb_trees.proofs.Standing.{StandsAt, at-inner, at-within}
+use Rattle.cfb_trees.proofs.Standing.{StandsAt, at-within}
 
 -- nothing in any stream
 abbrev pub none : Entry → List ℕ

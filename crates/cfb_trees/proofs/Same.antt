@@ -1,20 +1,14 @@
 -- Entries that keep their places: growth, and other fields.
-use Rattle.std.proofs.Common.{◌≡◌, ◌≢◌, ◌⊎◌, inl, inr, ℕ, zero, suc, ◌+◌, ◌<◌, ◌≤◌, Bool, true, false, List, [], ◌∷◌, ◌++◌, length, refl, ap, sym, ◌∙◌, subst, arith, set}
-use Rattle.std.specs.Prelude.{Contains, replicate, slice_set, ◌%◌}
-use Rattle.std.specs.List.{list_all}
+use Rattle.std.proofs.Common.{◌≡◌, ◌⊎◌, inl, inr, ℕ, zero, suc, ◌≤◌, List, [], ◌∷◌, ◌++◌, length, refl, ap, sym, ◌∙◌, subst, arith}
+use Rattle.std.specs.Prelude.{replicate, slice_set, ◌%◌}
 use Rattle.std.proofs.lemmas.Bool.{cases_lt, cases_eq}
 use Rattle.std.proofs.lemmas.List.{length-append, length-set, get_or-set_same, get_or-set_other, get_or_past}
-use Rattle.cfb_format.specs.declared.objtype.ObjType.TheVariants.{Root, Unallocated}
 use Rattle.cfb_format.specs.Names.{Cases}
 use Rattle.cfb_format.specs.DirectoryEntry.{Entry, unallocated_entry}
 use Rattle.cfb_format.specs.Siblings.{entry_at}
-use Rattle.cfb_format.specs.Reading.{Outline, siblings, numbers, IsOutline}
-use Rattle.cfb_siblings.specs.Painted.{hit, tally}
-use Rattle.cfb_siblings.proofs.Tallies.{hit-same}
-use Rattle.cfb_siblings.proofs.Outlines.{siblings-numbers}
+use Rattle.cfb_format.specs.Reading.{Outline, siblings, IsOutline}
 use Rattle.cfb_trees.specs.Changes.{ButFields, GrowthKeepsOutline, FieldsKeepOutline}
-use Rattle.cfb_trees.proofs.Members.{used-is-within, used-at}
-use Rattle.cfb_trees.proofs.Kept.{SameNode, same-node, children-kept, contents-kept}
+use Rattle.cfb_trees.proofs.Kept.{SameNode, children-kept, contents-kept}
 
 -- ---- the outline
 

@@ -1,6 +1,5 @@
 -- Where in an outline a storage stands, and what is in it.
-use Rattle.std.proofs.Common.{◌≡◌, ◌≢◌, ◌⊎◌, inl, inr, ℕ, ◌+◌, ◌<◌, ◌≤◌, List, [], ◌∷◌, ◌++◌, length, refl, ap, sym, ◌∙◌, subst, arith}
-use Rattle.std.specs.Prelude.{Contains}
+use Rattle.std.proofs.Common.{◌≡◌, ◌≢◌, ◌⊎◌, inl, inr, ℕ, ◌+◌, ◌≤◌, List, ◌∷◌, refl, ap, sym, ◌∙◌, subst, arith}
 use Rattle.std.proofs.lemmas.Bool.{cases_lt}
 use Rattle.cfb_format.specs.declared.objtype.ObjType.TheVariants.{Storage, Stream}
 use Rattle.cfb_format.specs.Names.{Cases}
@@ -9,9 +8,9 @@ use Rattle.cfb_format.specs.Siblings.{entry_at, Below}
 use Rattle.cfb_format.specs.Reading.{Outline, no_more, storage_at, stream_at, siblings, numbers, HasContents, IsOutline}
 use Rattle.cfb_siblings.specs.Painted.{hit, tally}
 use Rattle.cfb_siblings.specs.Children.{HasChildren}
-use Rattle.cfb_siblings.proofs.Tallies.{hit-same, hit-cases, hit-small, tally-append, counted, present, outside}
+use Rattle.cfb_siblings.proofs.Tallies.{hit-same, hit-cases, tally-append, counted, present, outside}
 use Rattle.cfb_siblings.proofs.Outlines.{siblings-numbers}
-use Rattle.cfb_trees.specs.Reached.{IsReached, AreReached, ReachedIsParent}
+use Rattle.cfb_trees.specs.Reached.{AreReached, ReachedIsParent}
 use Rattle.cfb_trees.proofs.Members.{storage-is-no-stream, root-is-no-stream, used-is-within, object-at, reached-once, used-at}
 
 -- the storage q stands in the outline, with this inside it

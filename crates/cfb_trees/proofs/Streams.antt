@@ -1,17 +1,16 @@
 -- The streams of a directory after an insertion and after a removal.
-use Rattle.std.proofs.Common.{◌≡◌, ◌≢◌, ◌⊎◌, inl, inr, ℕ, ◌+◌, ◌≤◌, List, [], ◌∷◌, ◌++◌, refl, ap, sym, ◌∙◌, subst, arith}
+use Rattle.std.proofs.Common.{◌≡◌, ◌≢◌, inl, inr, ℕ, ◌≤◌, List, ◌∷◌, ◌++◌, refl, ap, sym, ◌∙◌, subst, arith}
 use Rattle.std.specs.Prelude.{Contains, ◌↔◌}
 use Rattle.std.proofs.lemmas.Bool.{cases_eq}
 use Rattle.cfb_format.specs.declared.objtype.ObjType.TheVariants.{Stream}
 use Rattle.cfb_format.specs.Names.{Cases}
 use Rattle.cfb_format.specs.DirectoryEntry.{Entry}
 use Rattle.cfb_format.specs.Siblings.{entry_at}
-use Rattle.cfb_format.specs.Reading.{Outline, siblings, numbers, stream_numbers, IsOutline}
+use Rattle.cfb_format.specs.Reading.{Outline, numbers, stream_numbers, IsOutline}
 use Rattle.cfb_format.proofs.Unique.{Below-unique}
-use Rattle.cfb_siblings.specs.Painted.{hit, tally}
+use Rattle.cfb_siblings.specs.Painted.{tally}
 use Rattle.cfb_siblings.specs.Children.{ButLinks, HasRemoved}
 use Rattle.cfb_siblings.proofs.Tallies.{hit-same, tally-append, counted, present}
-use Rattle.cfb_siblings.proofs.Outlines.{siblings-numbers}
 use Rattle.cfb_trees.specs.Reached.{IsReached}
 use Rattle.cfb_trees.specs.Changes.{StaysAt, InsertionKeepsStreams, RemovalKeepsStreams}
 use Rattle.cfb_trees.proofs.Members.{streams-are-by-kind}
@@ -66,7 +65,7 @@ module _ (cases : Cases) (old new : List Entry) (o after : Outline) (parent n fr
   GoesTo k = (k' : ℕ) × Contains (stream_numbers after) k' × StaysAt old new n freed k k'
 
   -- the children that were there were reached
-  child-reached : (j : ℕ) → 1 ≤ tally j (xs ++ n ∷ ys) → Contains (numbers o) j
+  pub child-reached : (j : ℕ) → 1 ≤ tally j (xs ++ n ∷ ys) → Contains (numbers o) j
   child-reached j m =
       let (there, children, inner) = reached-is-parent cases old o parent is reached ne in
       let same : there ≡ xs ++ n ∷ ys = Below-unique cases old (entry_at old parent).child there (xs ++ n ∷ ys) children.below rem.was.below in

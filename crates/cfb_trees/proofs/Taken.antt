@@ -1,7 +1,6 @@
 -- An object with nothing in it that is taken from the children of what is reached.
-use Rattle.std.proofs.Common.{◌≡◌, ◌≢◌, ◌⊎◌, inl, inr, ℕ, ◌+◌, ◌≤◌, true, false, List, [], ◌∷◌, ◌++◌, length, refl, ap, sym, ◌∙◌, subst, arith}
+use Rattle.std.proofs.Common.{◌≡◌, ◌≢◌, inl, inr, ℕ, ◌+◌, ◌≤◌, true, false, List, [], ◌∷◌, ◌++◌, ap, sym, ◌∙◌, subst, arith}
 use Rattle.std.specs.Prelude.{Contains, ◌↔◌}
-use Rattle.std.specs.List.{AllByRecursion}
 use Rattle.std.specs.declared.cmp.Ordering.TheVariants.{Less}
 use Rattle.std.proofs.lemmas.Bool.{cases_lt}
 use Rattle.std.proofs.lemmas.List.{length-append}
@@ -9,7 +8,6 @@ use Rattle.cfb_format.specs.declared.objtype.ObjType.TheVariants.{Stream}
 use Rattle.cfb_format.specs.Bytes.{no_stream}
 use Rattle.cfb_format.specs.Names.{Cases, name_cmp}
 use Rattle.cfb_format.specs.DirectoryEntry.{Entry}
-use Rattle.cfb_format.specs.Tree.{is_same_name}
 use Rattle.cfb_format.specs.Siblings.{entry_at, Below, RisesByName}
 use Rattle.cfb_format.specs.Reading.{Outline, siblings, numbers, HasContents, IsOutline}
 use Rattle.cfb_format.proofs.Unique.{Below-unique, IsOutline-unique}
@@ -17,16 +15,16 @@ use Rattle.cfb_siblings.specs.Painted.{hit, tally}
 use Rattle.cfb_siblings.specs.Children.{ButLinks, HasRemoved}
 use Rattle.cfb_siblings.proofs.Tallies.{hit-same, hit-cases, hit-none, hit-small, tally-append, counted, present, outside, uncounted, all-at, distinct-once}
 use Rattle.cfb_siblings.proofs.NameFacts.{same-itself, later-not-same}
-use Rattle.cfb_siblings.proofs.Outlines.{siblings-numbers, SameContents}
+use Rattle.cfb_siblings.proofs.Outlines.{SameContents}
 use Rattle.cfb_siblings.proofs.Put.{relabel, relabeled, drop_one, dropped_after}
 use Rattle.cfb_trees.specs.Reached.{IsReached}
-use Rattle.cfb_trees.specs.Changes.{HasLess, RemovalKeepsOutline}
+use Rattle.cfb_trees.specs.Changes.{RemovalKeepsOutline}
 use Rattle.cfb_trees.proofs.Members.{reached-once, below-once}
 use Rattle.cfb_trees.proofs.Kept.{same-node}
 use Rattle.cfb_trees.proofs.Counts.{no-fewer, zip-length, zip-back}
 use Rattle.cfb_trees.proofs.Standing.{StandsAt, at-inner, at-within, at-held, stands-at}
 use Rattle.cfb_trees.proofs.Replaced.{Becomes, becomes}
-use Rattle.cfb_trees.proofs.Parents.{none, links-kind, same-entry, same-zip, parent-kind, parent-links, root-len}
+use Rattle.cfb_trees.proofs.Parents.{none, same-entry, same-zip, parent-kind, parent-links, root-len}
 
 -- ---- names that rise are names of one entry each
 

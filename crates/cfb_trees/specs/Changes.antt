@@ -1,5 +1,5 @@
 -- What changes of the entries keep of the tree of a directory.
-use Rattle.std.specs.Prelude.{ℕ, zero, ◌≡◌, ◌≢◌, ◌%◌, ◌↔◌, ◌⊎◌, List, ◌++◌, replicate, slice_set, Contains}
+use Rattle.std.specs.Prelude.{ℕ, ◌≡◌, ◌≢◌, ◌%◌, ◌↔◌, ◌⊎◌, List, ◌++◌, replicate, slice_set, Contains}
 use Rattle.cfb_format.specs.declared.objtype.ObjType.TheVariants.{Unallocated, Stream}
 use Rattle.cfb_format.specs.Bytes.{no_stream}
 use Rattle.cfb_format.specs.Names.{Cases}
