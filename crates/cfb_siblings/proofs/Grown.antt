@@ -1,14 +1,14 @@
 -- Unallocated entries at the end of a directory change nothing of the children of a storage.
-use Rattle.std.proofs.Common.{◌≡◌, inl, inr, ℕ, ◌+◌, ◌-◌, ◌<◌, ◌≤◌, List, [], ◌∷◌, ◌++◌, Bool, true, false, refl, sym, ◌∙◌, ap, subst, length, map, arith}
-use Rattle.std.specs.Prelude.{replicate, ◌&&◌, ◌==◌, if◌then◌else◌}
+use Rattle.std.proofs.Common.{◌≡◌, inl, inr, ℕ, ◌-◌, ◌≤◌, List, [], ◌∷◌, false, refl, sym, ◌∙◌, ap, subst, length, arith}
+use Rattle.std.specs.Prelude.{replicate, ◌==◌, if◌then◌else◌}
 use Rattle.std.specs.List.{AllByRecursion, list_all}
 use Rattle.std.proofs.lemmas.Bool.{cases_lt}
 use Rattle.std.proofs.lemmas.List.{get_or_append_left, get_or-append_right, get_or-replicate, get_or_past, length-replicate, length-append}
-use Rattle.cfb_format.specs.Names.{Cases, name_cmp}
+use Rattle.cfb_format.specs.Names.{Cases}
 use Rattle.cfb_format.specs.Tree.{is_same_name}
 use Rattle.cfb_format.specs.Bytes.{no_stream}
 use Rattle.cfb_format.specs.DirectoryEntry.{Entry, unallocated_entry}
-use Rattle.cfb_format.specs.Siblings.{SiblingTree, leaf, node, HangsAt, in_order, entry_at, is_red_color, is_red_at, is_red_apart, black_counts, Below, Balanced, RisesByName}
+use Rattle.cfb_format.specs.Siblings.{SiblingTree, leaf, node, HangsAt, in_order, entry_at, is_red_color, is_red_at, is_red_apart, black_counts, Below, Balanced}
 use Rattle.cfb_format.proofs.Unique.{HangsAt-unique}
 use Rattle.cfb_siblings.specs.declared.links.PathStep.{PathStep}
 use Rattle.cfb_siblings.specs.Painted.{Painted, Leaf, Node, Shape, tree_numbers}

@@ -1,4 +1,4 @@
-use Rattle.std.proofs.Common.{drop, length}
+use Rattle.std.proofs.Common.{drop}
 use Rattle.std.specs.Prelude.{map, chars}
 use Rattle.cfb_codecs.specs.EntryModel.{entries_of}
 use Rattle.cfb_siblings.proofs.PathWalk.{Walks}

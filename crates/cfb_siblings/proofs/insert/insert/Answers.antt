@@ -1,7 +1,6 @@
-use Rattle.std.proofs.Common.{sym, ap, ◌∙◌, ◌≡◌, ◌≤◌, subst, refl, set, [], ◌∷◌, false, arith}
-use Rattle.std.specs.Prelude.{chars, string_bytes}
+use Rattle.std.proofs.Common.{sym, subst, refl, set, [], ◌∷◌, false}
 use Rattle.cfb_codecs.specs.EntryModel.{entries_of, entry_of}
-use Rattle.cfb_siblings.specs.Painted.{Node, Leaf, tree_numbers, occurs}
+use Rattle.cfb_siblings.specs.Painted.{Node, Leaf}
 use Rattle.cfb_siblings.specs.Order.{Joins, Attached, KeptBeside, steps_of}
 use Rattle.cfb_siblings.specs.Children.{Inserts, HasRedApart}
 use Rattle.cfb_siblings.specs.Touched.{IsNear, Tells}
