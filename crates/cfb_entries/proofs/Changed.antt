@@ -1,18 +1,15 @@
 -- What an insertion and a removal make of the entries and of the list of free slots.
-use Rattle.std.proofs.Common.{◌≡◌, inl, inr, ℕ, ◌<◌, ◌≤◌, Bool, true, false, List, [], ◌∷◌, ◌++◌, length, ap, sym, subst, ◌∙◌, arith, refl}
-use Rattle.std.specs.Prelude.{Contains, ◌⊎◌, ◌&&◌, IsTrue, not, nat_le, Result, Ok, Err, OnOk, OnErr}
-use Rattle.std.specs.List.{list_any}
+use Rattle.std.proofs.Common.{◌≡◌, ℕ, ◌≤◌, true, false, List, [], ◌∷◌, ◌++◌, length, ap, sym, subst, ◌∙◌, arith, refl}
+use Rattle.std.specs.Prelude.{Contains, IsTrue, Result, Ok, Err, OnOk, OnErr}
 use Rattle.std.proofs.lemmas.Bool.Decides.{nat_tests}
-use Rattle.cfb_format.specs.declared.objtype.ObjType.{ObjType}
-use Rattle.cfb_format.specs.declared.objtype.ObjType.TheVariants.{Storage, Stream}
 use Rattle.cfb_format.specs.Bytes.{no_stream}
-use Rattle.cfb_format.specs.Names.{Cases, utf16_units, max_name_len, is_valid_name, is_forbidden_character}
+use Rattle.cfb_format.specs.Names.{Cases, utf16_units, max_name_len, is_valid_name}
 use Rattle.cfb_format.specs.Tree.{is_same_name}
 use Rattle.cfb_format.specs.DirectoryEntry.{Entry}
 use Rattle.cfb_format.specs.Siblings.{entry_at}
 use Rattle.cfb_format.proofs.Unique.{Below-unique}
 use Rattle.cfb_outline.specs.Outlines.{IsReachedStorage}
-use Rattle.cfb_siblings.specs.Children.{HasChildren, HasInserted, HasRemoved, Inserts, Removes, IsAbsent, KeepsColors}
+use Rattle.cfb_siblings.specs.Children.{HasChildren, Inserts, Removes, IsAbsent, KeepsColors}
 use Rattle.cfb_siblings.proofs.Tallies.{all-at, counted, present}
 use Rattle.cfb_trees.specs.Reached.{IsObject}
 use Rattle.cfb_entries.specs.EntryList.{AreInOrder, ListsFree, InsertsEntry, RemovesEntry, IsChildless}
@@ -61,10 +58,11 @@ is-removal cases old new parent name freed (n, list, h, named, childless) f colo
     let (after, taken) = f list h in
     let (m, xs, ys, e, same, has) = taken in
     let there : Contains list m = subst (λ (l : List ℕ). Contains l m) (sym e) (present m (xs ++ m ∷ ys) (in-middle m xs ys)) in
-    let one : n ≡ m = one-named cases old name list n m h.below.rises named.0 there named.1 same in
-    (record { number = m; freed = freed; before = xs; behind = ys; after = after; removed = has; named = same; childless = ap (λ (k : ℕ). (entry_at old k).child) (sym one) ∙ childless },
-     refl,
-     colors)
+    let one : n ≡ m = one-named cases old name list n m h.below.rises named.0 there named.1 same in (
+      record { number = m; freed = freed; before = xs; behind = ys; after = after; removed = has; named = same; childless = ap (λ (k : ℕ). (entry_at old k).child) (sym one) ∙ childless },
+      refl,
+      colors,
+    )
 
 pub removal-in-order : (cases : Cases) (old new : List Entry) (parent : ℕ) (name : List ℕ) → IsReachedStorage cases old parent → AreInOrder cases old → RemovesEntry cases old new parent name → AreInOrder cases new
 removal-in-order cases old new parent name reached a r = left-in-order cases old new parent r.number r.freed r.before r.behind r.after r.removed reached a r.childless
@@ -98,7 +96,7 @@ pub removal-through : (cases : Cases) (old lent new back : List Entry) (parent :
     → (r : RemovesEntry cases old back parent name) × (pushed ≡ free ++ r.freed ∷ []) × KeepsColors old back r.freed
 removal-through cases old lent new back parent name freed free reserved pushed e b there removes colors p q =
     let removes-old : (list : List ℕ) → HasChildren cases old parent list → (after : List ℕ) × Removes cases old new parent name freed list after =
-        subst (λ (es : List Entry). (list : List ℕ) → HasChildren cases es parent list → (after : List ℕ) × Removes cases es new parent name freed list after) e removes in
+    subst (λ (es : List Entry). (list : List ℕ) → HasChildren cases es parent list → (after : List ℕ) × Removes cases es new parent name freed list after) e removes in
     let colors-old : KeepsColors old new freed = subst (λ (es : List Entry). KeepsColors es new freed) e colors in
     let (r, f, k) = is-removal cases old new parent name freed there removes-old colors-old in
     subst (λ (es : List Entry). (r : RemovesEntry cases old es parent name) × (pushed ≡ free ++ r.freed ∷ []) × KeepsColors old es r.freed) (sym b)

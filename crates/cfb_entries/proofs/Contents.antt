@@ -1,11 +1,11 @@
 -- Names and kinds of entries under changes.
-use Rattle.std.proofs.Common.{◌≡◌, ◌≢◌, inl, inr, ℕ, ◌+◌, ◌<◌, ◌≤◌, Bool, true, false, List, [], ◌∷◌, ◌++◌, length, refl, ap, sym, subst, ◌∙◌, arith, length-append, length-set}
-use Rattle.std.specs.Prelude.{◌%◌, Contains, ◌⊎◌, ◌↔◌, IsTrue, replicate}
+use Rattle.std.proofs.Common.{◌≡◌, ◌≢◌, inl, inr, ℕ, ◌+◌, ◌≤◌, true, false, List, [], ◌∷◌, ◌++◌, length, refl, ap, sym, subst, ◌∙◌, arith, length-append, length-set}
+use Rattle.std.specs.Prelude.{◌%◌, Contains, ◌⊎◌, replicate}
 use Rattle.std.specs.List.{AllByRecursion}
 use Rattle.std.specs.declared.cmp.Ordering.TheVariants.{Less}
-use Rattle.std.proofs.lemmas.Bool.{cases_eq, cases_lt, leb-true}
+use Rattle.std.proofs.lemmas.Bool.{cases_eq, cases_lt}
 use Rattle.std.proofs.lemmas.List.{get_or_past, length-replicate}
-use Rattle.cfb_format.specs.declared.objtype.ObjType.TheVariants.{Unallocated, Stream}
+use Rattle.cfb_format.specs.declared.objtype.ObjType.TheVariants.{Unallocated}
 use Rattle.cfb_format.specs.Bytes.{no_stream}
 use Rattle.cfb_format.specs.Names.{Cases, name_cmp, utf16_units, max_name_len}
 use Rattle.cfb_format.specs.Tree.{is_same_name}
@@ -15,12 +15,16 @@ use Rattle.cfb_format.specs.Reading.{Outline, IsOutline, numbers}
 use Rattle.cfb_format.proofs.TreeMap.{alike}
 use Rattle.cfb_format.proofs.Unique.{Below-unique, IsOutline-unique}
 use Rattle.cfb_outline.specs.Outlines.{IsReachedStorage}
-use Rattle.cfb_siblings.specs.Children.{HasChildren, HasInserted, HasRemoved, ButLinks, IsParent}
+use Rattle.cfb_siblings.specs.Children.{HasChildren, HasInserted, HasRemoved, IsParent}
 use Rattle.cfb_siblings.specs.Painted.{tally}
 use Rattle.cfb_siblings.proofs.Tallies.{hit-same, hit-cases, tally-append, all-at, counted, present, outside}
 use Rattle.cfb_siblings.proofs.NameFacts.{later-not-same}
 use Rattle.cfb_siblings.specs.Laws.{grown_by}
-use Rattle.cfb_trees.specs.Reached.{IsReached, IsObject}
+use Rattle.cfb_siblings.specs.Order.{steps_of}
+use Rattle.cfb_siblings.proofs.Grown.{entry-stays, length-grows, place-same}
+use Rattle.cfb_entries.specs.declared.insertion.Insertion.{Insertion}
+use Rattle.cfb_entries.specs.Insertions.{IsInsertionOf}
+use Rattle.cfb_trees.specs.Reached.{IsObject}
 use Rattle.cfb_trees.proofs.Members.{object-is-used, reached-is-used, used-is-within}
 use Rattle.cfb_trees.proofs.Standing.{reached-is-parent}
 use Rattle.cfb_trees.proofs.Joined.{insertion-keeps-outline}
@@ -30,7 +34,7 @@ use Rattle.cfb_entries.specs.EntryList.{AreInOrder, HaveShortNames, ListsFree, m
 use Rattle.cfb_entries.specs.declared.fields.Fields.{Fields}
 use Rattle.cfb_entries.specs.Fields.{with_fields, with_fields_at}
 use Rattle.cfb_trees.specs.Changes.{ButFields}
-use Rattle.cfb_entries.proofs.FreeSlots.{SameFree, same-kind, free-kept, free-taken, free-freed}
+use Rattle.cfb_entries.proofs.FreeSlots.{same-kind, free-kept, free-taken, free-freed}
 
 -- the name of the slot k has its place
 abbrev pub IsShortAt : List Entry → ℕ → Type 0
@@ -205,3 +209,19 @@ module _ (entries : List Entry) (i : ℕ) (f : Fields) where
 
   pub fields-free : (free : List ℕ) → ListsFree entries free → ListsFree (with_fields_at entries i f) free
   fields-free free l = free-kept entries (with_fields_at entries i f) free (length-set entries i (with_fields (entry_at entries i) f)) (λ k. same-kind entries (with_fields_at entries i f) k (fields-at k).obj_type) l
+
+-- what an insertion needs stays good as the directory grows
+pub insertion-stays : {A : Type 0} (name : List ℕ) (cases : Cases) (entries : List Entry) (more parent : ℕ) (insertion : Insertion A) → IsInsertionOf name cases entries parent insertion → IsInsertionOf name cases (grown_by entries more) parent insertion
+insertion-stays name cases entries more parent insertion i = record {
+  named = i.named;
+  placed = place-same entries (grown_by entries more) (entry-stays entries more) (length-grows entries more) cases parent name (steps_of insertion.place) i.placed;
+}
+
+-- a storage that is reached stays one
+pub reached-stays : (cases : Cases) (entries : List Entry) (more k : ℕ) → IsReachedStorage cases entries k → IsReachedStorage cases (grown_by entries more) k
+reached-stays cases entries more k r = record {
+  outline = r.outline;
+  is = growth-keeps-outline cases entries more r.outline r.is;
+  reached = r.reached;
+  kind = λ e. r.kind (sym (ap (λ (x : Entry). x.obj_type) (grown-at entries more k)) ∙ e);
+}

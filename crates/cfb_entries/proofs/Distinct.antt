@@ -1,11 +1,11 @@
 -- Lists of numbers that stand in them once.
-use Rattle.std.proofs.Common.{◌≡◌, ◌≢◌, inl, inr, ℕ, zero, suc, ◌+◌, ◌-◌, ◌<◌, ◌≤◌, List, [], ◌∷◌, ◌++◌, length, refl, ap, sym, subst, ◌∙◌, arith}
-use Rattle.std.specs.Prelude.{nat_eq, Contains, ◌⊎◌, ◌↔◌}
+use Rattle.std.proofs.Common.{◌≡◌, inl, inr, ℕ, zero, suc, ◌+◌, ◌-◌, ◌<◌, ◌≤◌, List, [], ◌∷◌, ◌++◌, ap, sym, subst, arith}
+use Rattle.std.specs.Prelude.{nat_eq, Contains, ◌⊎◌}
 use Rattle.std.specs.List.{IsDistinct}
-use Rattle.std.proofs.lemmas.Bool.{cases_eq, cases_lt}
+use Rattle.std.proofs.lemmas.Bool.{cases_eq}
 use Rattle.std.proofs.lemmas.List.Elements.{Contains-append_left, Contains-push, Contains-push_cases}
-use Rattle.cfb_siblings.specs.Painted.{hit, tally}
-use Rattle.cfb_siblings.proofs.Tallies.{hit-same, hit-cases, hit-small, tally-append, counted, present, uncounted, distinct-once, once-distinct}
+use Rattle.cfb_siblings.specs.Painted.{tally}
+use Rattle.cfb_siblings.proofs.Tallies.{hit-same, hit-cases, hit-small, tally-append, counted, uncounted, distinct-once, once-distinct}
 use Rattle.cfb_entries.specs.Slots.{with_numbers}
 
 pub Contains-nil : (k : ℕ) → Contains [] k → ⊥

@@ -12,8 +12,9 @@ use Rattle.cfb_entries.proofs.fields.change_fields.Goals as goal
 pub returns : goal.returns
 returns g c =
     let entry : entry_at (entries_of c.args.list.now) c.args.number ≡ entry_of (slice_index_or c.args.list.now c.args.number c.index-list-number.result) = read-entry c.args.list.now c.args.number c.index-list-number.result c.requires.inside in
-    let same : c.fields_of.result ≡ fields_in (entry_at (entries_of c.args.list.now) c.args.number) = c.fields_of.ensures ∙ ap fields_in (sym entry) in
-    (c.change-changed.result,
-     subst (λ (f : Fields). g.W.FnOnce.post c.args.change (f, tt) c.change-changed.result) same c.change-changed.ensures,
-     map-set entry_of c.args.list.now c.args.number c.put_fields.new.entry
-     ∙ ap (slice_set (entries_of c.args.list.now) c.args.number) (c.put_fields.ensures ∙ ap (λ (e : Entry). with_fields e c.change-changed.result) (sym entry)))
+    let same : c.fields_of.result ≡ fields_in (entry_at (entries_of c.args.list.now) c.args.number) = c.fields_of.ensures ∙ ap fields_in (sym entry) in (
+      c.change-changed.result,
+      subst (λ (f : Fields). g.W.FnOnce.post c.args.change (f, tt) c.change-changed.result) same c.change-changed.ensures,
+      map-set entry_of c.args.list.now c.args.number c.put_fields.new.entry
+          ∙ ap (slice_set (entries_of c.args.list.now) c.args.number) (c.put_fields.ensures ∙ ap (λ (e : Entry). with_fields e c.change-changed.result) (sym entry)),
+    )

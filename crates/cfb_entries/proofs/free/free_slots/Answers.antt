@@ -1,4 +1,4 @@
-use Rattle.std.proofs.Common.{◌≡◌, ◌≤◌, ℕ, ◌-◌, sym, refl, length, false, true, arith}
+use Rattle.std.proofs.Common.{◌≡◌, ◌≤◌, sym, refl, length, false, true, arith}
 use Rattle.cfb_codecs.specs.EntryModel.{entries_of}
 use Rattle.cfb_siblings.proofs.Held.{entries-length}
 use Rattle.cfb_entries.proofs.FreeSlots.{from-end, from-free, from-used, from-start}

@@ -1,7 +1,7 @@
-use Rattle.std.proofs.Common.{◌≡◌, ◌≢◌, ◌<◌, ◌≤◌, ℕ, List, [], ◌∷◌, ◌++◌, ◌∙◌, ap, sym, subst, refl, length, drop, take, arith}
-use Rattle.std.specs.Prelude.{chars, string_bytes, vec_len}
+use Rattle.std.proofs.Common.{◌≡◌, ℕ, List, [], ◌∷◌, ◌++◌, ◌∙◌, ap, subst, refl, length, drop, take, arith}
+use Rattle.std.specs.Prelude.{chars, string_bytes}
 use Rattle.cfb_format.specs.DirectoryEntry.{Entry}
-use Rattle.cfb_codecs.specs.EntryModel.{entry_of, entries_of, new_entry}
+use Rattle.cfb_codecs.specs.EntryModel.{entries_of, new_entry}
 use Rattle.cfb_outline.specs.Outlines.{IsReachedStorage}
 use Rattle.cfb_siblings.specs.Children.{HasChildren, HasRedApart, Inserts}
 use Rattle.cfb_siblings.specs.Order.{IsPlaceFor, steps_of}
@@ -57,11 +57,11 @@ invariant_of-self g c =
     let name : chars (string_bytes c.new-entry.result.name) ≡ chars (string_bytes c.args.insertion.name) = ap (λ (e : Entry). e.name) c.new-entry.ensures in
     let placed : IsPlaceFor s.letters (entries_of s.list.items) c.args.parent (chars (string_bytes c.new-entry.result.name)) (steps_of c.args.insertion.place) = rw (cases, entries, name) c.requires.prepared.placed in
     let inserts : (list : List ℕ) → HasChildren s.letters (entries_of s.list.items) c.args.parent list → Inserts s.letters (entries_of s.list.items) (entries_of new) c.args.parent c.take_slot-slot.result (new_entry (name_in c.args.insertion) c.args.kind c.args.moment) list =
-        λ list h. subst (λ (e : Entry). Inserts s.letters (entries_of s.list.items) (entries_of new) c.args.parent c.take_slot-slot.result e list) c.new-entry.ensures
-        ((rw c.deref_mut.ensures.value at c.insert-touched.ensures.inserted) s.letters list placed h) in
+    λ list h. subst (λ (e : Entry). Inserts s.letters (entries_of s.list.items) (entries_of new) c.args.parent c.take_slot-slot.result e list) c.new-entry.ensures
+    ((rw c.deref_mut.ensures.value at c.insert-touched.ensures.inserted) s.letters list placed h) in
     let put : IsPut s.letters (entries_of s.list.items) (entries_of new) c.args.parent c.take_slot-slot.result (new_entry (name_in c.args.insertion) c.args.kind c.args.moment) c.take_slot-slot.new.free.items =
-        is-put s.letters (entries_of s.list.items) (entries_of new) c.args.parent c.take_slot-slot.result (new_entry (name_in c.args.insertion) c.args.kind c.args.moment) c.take_slot-slot.new.free.items
-        reached c.self.invariant.0 listed c.requires.kind refl (valid-short (name_in c.args.insertion) c.requires.valid) inserts in
+    is-put s.letters (entries_of s.list.items) (entries_of new) c.args.parent c.take_slot-slot.result (new_entry (name_in c.args.insertion) c.args.kind c.args.moment) c.take_slot-slot.new.free.items
+    reached c.self.invariant.0 listed c.requires.kind refl (valid-short (name_in c.args.insertion) c.requires.valid) inserts in
     let back : take s.list.len (new ++ drop (length new) s.list.items) ≡ new = written-back s.list.len new (drop (length new) s.list.items) (c.insert-touched.auto.entries ∙ c.deref_mut.ensures.len) in
     rw back (put.in_order, put.free_now)
 
@@ -76,11 +76,11 @@ returns-clause-inserted g c =
     let name : chars (string_bytes c.new-entry.result.name) ≡ chars (string_bytes c.args.insertion.name) = ap (λ (e : Entry). e.name) c.new-entry.ensures in
     let placed : IsPlaceFor s.letters (entries_of s.list.items) c.args.parent (chars (string_bytes c.new-entry.result.name)) (steps_of c.args.insertion.place) = rw (cases, entries, name) c.requires.prepared.placed in
     let inserts : (list : List ℕ) → HasChildren s.letters (entries_of s.list.items) c.args.parent list → Inserts s.letters (entries_of s.list.items) (entries_of new) c.args.parent c.take_slot-slot.result (new_entry (name_in c.args.insertion) c.args.kind c.args.moment) list =
-        λ list h. subst (λ (e : Entry). Inserts s.letters (entries_of s.list.items) (entries_of new) c.args.parent c.take_slot-slot.result e list) c.new-entry.ensures
-        ((rw c.deref_mut.ensures.value at c.insert-touched.ensures.inserted) s.letters list placed h) in
+    λ list h. subst (λ (e : Entry). Inserts s.letters (entries_of s.list.items) (entries_of new) c.args.parent c.take_slot-slot.result e list) c.new-entry.ensures
+    ((rw c.deref_mut.ensures.value at c.insert-touched.ensures.inserted) s.letters list placed h) in
     let put : IsPut s.letters (entries_of s.list.items) (entries_of new) c.args.parent c.take_slot-slot.result (new_entry (name_in c.args.insertion) c.args.kind c.args.moment) c.take_slot-slot.new.free.items =
-        is-put s.letters (entries_of s.list.items) (entries_of new) c.args.parent c.take_slot-slot.result (new_entry (name_in c.args.insertion) c.args.kind c.args.moment) c.take_slot-slot.new.free.items
-        reached c.self.invariant.0 listed c.requires.kind refl (valid-short (name_in c.args.insertion) c.requires.valid) inserts in
+    is-put s.letters (entries_of s.list.items) (entries_of new) c.args.parent c.take_slot-slot.result (new_entry (name_in c.args.insertion) c.args.kind c.args.moment) c.take_slot-slot.new.free.items
+    reached c.self.invariant.0 listed c.requires.kind refl (valid-short (name_in c.args.insertion) c.requires.valid) inserts in
     let back : take s.list.len (new ++ drop (length new) s.list.items) ≡ new = written-back s.list.len new (drop (length new) s.list.items) (c.insert-touched.auto.entries ∙ c.deref_mut.ensures.len) in
     rw back (rw (cases, entries) at put.inserted)
 
@@ -102,8 +102,8 @@ returns-clause-red_apart g c =
     let name : chars (string_bytes c.new-entry.result.name) ≡ chars (string_bytes c.args.insertion.name) = ap (λ (e : Entry). e.name) c.new-entry.ensures in
     let placed : IsPlaceFor s.letters (entries_of c.deref_mut.result.now) c.args.parent (chars (string_bytes c.new-entry.result.name)) (steps_of c.args.insertion.place) = rw (cases, same, name) c.requires.prepared.placed in
     let apart : (list : List ℕ) → HasChildren c.args.self.now.cases c.args.self.now.entries c.args.parent list → HasRedApart c.args.self.now.entries c.args.parent list
-        → (after : List ℕ) × HasChildren s.letters (entries_of new) c.args.parent after × HasRedApart (entries_of new) c.args.parent after =
-        λ list h a. c.insert-touched.ensures.red_apart s.letters list placed (rw (cases, same) h) (rw same a) in
+    → (after : List ℕ) × HasChildren s.letters (entries_of new) c.args.parent after × HasRedApart (entries_of new) c.args.parent after =
+    λ list h a. c.insert-touched.ensures.red_apart s.letters list placed (rw (cases, same) h) (rw same a) in
     rw back apart
 
 pub returns-clause-touches : goal.returns-clause-touches

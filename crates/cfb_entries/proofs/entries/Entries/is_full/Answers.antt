@@ -1,4 +1,4 @@
-use Rattle.std.proofs.Common.{◌≡◌, ◌∙◌, ap, sym, length, arith}
+use Rattle.std.proofs.Common.{◌≡◌, ◌∙◌, ap, sym, length}
 use Rattle.std.specs.Prelude.{not, nat_eq, vec_len}
 use Rattle.cfb_entries.specs.EntryList.{EntryList, has_free}
 use Rattle.cfb_codecs.specs.EntryModel.{entries_of}

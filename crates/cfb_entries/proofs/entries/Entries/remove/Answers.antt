@@ -1,4 +1,4 @@
-use Rattle.std.proofs.Common.{◌≡◌, ℕ, List, ◌∙◌, ap, sym, subst}
+use Rattle.std.proofs.Common.{◌≡◌, ap}
 use Rattle.std.specs.Prelude.{chars}
 use Rattle.cfb_codecs.specs.EntryModel.{entries_of}
 use Rattle.cfb_outline.specs.Outlines.{IsReachedStorage}
