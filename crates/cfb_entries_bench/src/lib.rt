@@ -1,6 +1,8 @@
-//! Tests of `cfb_outline`, in a crate beside it: a crate with tests of its own is proved twice.
+//! Tests of `cfb_outline` and `cfb_entries`, in a crate beside them: a crate with tests of its own is proved twice.
 #![tactic(auto)]
 
+#[cfg(test)]
+mod changes;
 pub mod directories;
 #[cfg(test)]
 mod outlines;
