@@ -8,3 +8,5 @@ pub mod directories;
 mod outlines;
 #[cfg(test)]
 mod refusals;
+#[cfg(test)]
+mod slots;
