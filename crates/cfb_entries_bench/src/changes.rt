@@ -79,7 +79,11 @@ fn side_by_side(alloc: Global, count: u32) -> Result<Vec<DirEntry>, Error> {
     let mut list = Vec::new(alloc);
     list.push(entry(alloc, &("Root Entry", Root, Black, [NONE, NONE, 1], 0))?)?;
     for number in 1..count.saturating_add(1) {
-        let right = if number < count { number.saturating_add(1) } else { NONE };
+        let right = if number < count {
+            number.saturating_add(1)
+        } else {
+            NONE
+        };
         let mut stream = entry(alloc, &("", Stream, Black, [NONE, right, NONE], 0))?;
         stream.name = format!(in alloc; "{number}")?;
         list.push(stream)?;
@@ -92,7 +96,11 @@ fn one_in_the_other(alloc: Global, count: u32) -> Result<Vec<DirEntry>, Error> {
     let mut list = Vec::new(alloc);
     list.push(entry(alloc, &("Root Entry", Root, Black, [NONE, NONE, 1], 0))?)?;
     for number in 1..count.saturating_add(1) {
-        let child = if number < count { number.saturating_add(1) } else { NONE };
+        let child = if number < count {
+            number.saturating_add(1)
+        } else {
+            NONE
+        };
         list.push(entry(alloc, &("a", Storage, Black, [NONE, NONE, child], 0))?)?;
     }
     Ok(list)
@@ -109,7 +117,10 @@ fn twenty_thousand_side_by_side_are_changed(rt: HostRuntime) -> Result<(), Fail>
     assert_eq!(rt; entries.find(&["20000"]), Some(20_000));
     assert_eq!(rt; put(rt.alloc(), &mut entries, &[], "20001")?, 20_001);
     assert_eq!(rt; take(rt.alloc(), &mut entries, &[], "10000")?, 2);
-    assert_eq!(rt; (entries.find(&["10000"]), entries.find(&["20001"])), (None, Some(20_001)));
+    assert_eq!(rt;
+        (entries.find(&["10000"]), entries.find(&["20001"])),
+        (None, Some(20_001))
+    );
     assert_eq!(rt; put(rt.alloc(), &mut entries, &[], "x")?, 10_000);
     assert_eq!(rt; entries.find(&["X"]), Some(10_000));
     assert_eq!(rt; reached(rt.alloc(), &entries)?, 20_001);
@@ -126,7 +137,10 @@ fn two_thousand_in_each_other_are_changed(rt: HostRuntime) -> Result<(), Fail> {
     take(rt.alloc(), &mut entries, &names, "b")?;
     take(rt.alloc(), &mut entries, &names, "c")?;
     take(rt.alloc(), &mut entries, &names[1..], "a")?;
-    assert_eq!(rt; (entries.find(&names), entries.find(&names[1..])), (None, Some(1_999)));
+    assert_eq!(rt;
+        (entries.find(&names), entries.find(&names[1..])),
+        (None, Some(1_999))
+    );
     assert_eq!(rt; reached(rt.alloc(), &entries)?, 1_999);
     Ok(())
 }
@@ -140,7 +154,10 @@ fn siblings_of_the_root_stay_where_they_are(rt: HostRuntime) -> Result<(), Fail>
     let mut entries = opened(rt.alloc(), list)?;
     assert_eq!(rt; entries.find(&["a"]), None);
     assert_eq!(rt; put(rt.alloc(), &mut entries, &[], "a")?, 2);
-    assert_eq!(rt; (entries.find(&["a"]), reached(rt.alloc(), &entries)?), (Some(2), 1));
+    assert_eq!(rt;
+        (entries.find(&["a"]), reached(rt.alloc(), &entries)?),
+        (Some(2), 1)
+    );
     Ok(())
 }
 
