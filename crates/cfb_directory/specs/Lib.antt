@@ -1,1 +1,4 @@
 pub mod Slots
+pub mod State
+pub mod Steps
+pub mod Lending
