@@ -14,7 +14,7 @@ use Rattle.cfb_format.specs.Siblings.{entry_at}
 use Rattle.cfb_tables.specs.Tables.{TableState, AreSizes, IsTooFew, first_or_end, sizes_of}
 use Rattle.cfb_alloc.specs.Agreement.{HasSectors}
 use Rattle.cfb_alloc.specs.Alloc.{AllocatorState, HoldsTables}
-use Rattle.cfb_entries.specs.EntryList.{max_entries, has_free, grown_by}
+use Rattle.cfb_entries.specs.EntryList.{EntryList, max_entries, has_free, grown_by}
 use Rattle.cfb_directory.specs.Slots.{HoldSlotsBut}
 
 -- the sectors of a file with their tables, the directory's sectors in order, the letters by which names are compared, and the entries
@@ -23,6 +23,10 @@ pub record DirectoryState : Type 0 where
   pub sectors : List ℕ
   pub cases : Cases
   pub entries : List Entry
+
+-- these as a directory
+abbrev pub directory_of : AllocatorState → List ℕ → EntryList → DirectoryState
+directory_of table sectors list = record { table = table; sectors = sectors; cases = list.cases; entries = list.entries }
 
 abbrev pub version_of : DirectoryState → Version
 version_of d = d.table.tables.version
