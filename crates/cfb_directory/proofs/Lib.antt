@@ -1,0 +1,5 @@
+pub mod SlotPlaces
+pub mod SlotLists
+pub mod SlotWrites
+pub mod InsertLinks
+pub mod InsertGrow
