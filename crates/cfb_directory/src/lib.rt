@@ -1,4 +1,5 @@
 //! The directory of a file: its entries in memory, and their slots in the chain of its sectors (MS-CFB 2.6).
 #![tactic(auto)]
 
+pub mod laws;
 pub mod slots;
