@@ -122,7 +122,7 @@ strict-after Permissive v old new same h = tt
 strict-after Strict V3 old new same h = same refl ∙ h
 strict-after Strict V4 old new same h = tt
 
-first-sector : (validation : Validation) (d : DirectoryState) → HoldsDirectory validation d → 512 ≤ length (bytes_of d)
+pub first-sector : (validation : Validation) (d : DirectoryState) → HoldsDirectory validation d → 512 ≤ length (bytes_of d)
 first-sector validation d held = there (version_of d) (bytes_of d) d.sectors held.some held.whole
   where
     past : (v : Version) (x : ℕ) (bytes : List ℕ) → sector_start v x + sector_len v ≤ length bytes → 512 ≤ length bytes

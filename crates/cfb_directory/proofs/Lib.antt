@@ -3,3 +3,4 @@ pub mod SlotLists
 pub mod SlotWrites
 pub mod InsertLinks
 pub mod InsertGrow
+pub mod InsertPut

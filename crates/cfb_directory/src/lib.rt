@@ -2,4 +2,5 @@
 #![tactic(auto)]
 
 mod inserting;
+pub mod laws;
 pub mod slots;
