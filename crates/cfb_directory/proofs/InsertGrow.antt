@@ -8,6 +8,7 @@ use Rattle.cfb_format.specs.declared.version.Version.{Version}
 use Rattle.cfb_format.specs.declared.version.Version.TheVariants.{V3, V4}
 use Rattle.cfb_format.specs.declared.validate.Validation.{Validation}
 use Rattle.cfb_format.specs.declared.validate.Validation.TheVariants.{Permissive, Strict}
+use Rattle.cfb_format.specs.declared.objtype.ObjType.TheVariants.{Unallocated}
 use Rattle.cfb_format.specs.Bytes.{end_of_chain, entries_per_sector, sector_len, sector_start, word_at}
 use Rattle.cfb_format.specs.Chain.{IsChain}
 use Rattle.cfb_format.specs.DirectoryEntry.{Entry, EntryFits, IsValidEntry, unallocated_entry}
@@ -184,7 +185,7 @@ module _ (validation : Validation) (old new : DirectoryState) (b : AllocatorStat
   grown-writable : AreWritable w new.entries
   grown-writable k lt used =
       let same : entry_at new.entries k ≡ entry_at old.entries k = ap (λ (es : List Entry). entry_at es k) entries ∙ entry-stays old.entries (entries_per_sector w) k in
-      let used_before = λ e. used (ap (λ (z : Entry). z.obj_type) same ∙ e) in
+      let used_before : (entry_at old.entries k).obj_type ≢ Unallocated = λ e. used (ap (λ (z : Entry). z.obj_type) same ∙ e) in
       subst (λ (z : Entry). EntryFits z × IsValidEntry w z) (sym same)
       (held.writable k (used-inside old.entries k used_before) used_before)
 

@@ -1,5 +1,5 @@
 -- The links of a storage's children and what else an insertion sets can be written.
-use Rattle.std.proofs.Common.{◌≡◌, ◌≢◌, ◌⊎◌, inl, inr, ℕ, zero, suc, ◌<◌, ◌≤◌, ◌+◌, List, [], ◌∷◌, ◌++◌, true, false, refl, sym, ◌∙◌, ap, subst, length, arith}
+use Rattle.std.proofs.Common.{◌≡◌, ◌≢◌, ◌⊎◌, inl, inr, ℕ, zero, suc, ◌<◌, ◌≤◌, ◌+◌, ◌^◌, List, [], ◌∷◌, ◌++◌, true, false, refl, sym, ◌∙◌, ap, subst, length, arith}
 use Rattle.std.specs.Prelude.{Contains, IsTrue}
 use Rattle.std.specs.Str.{all_scalars}
 use Rattle.std.proofs.lemmas.Bool.{cases_eq}
@@ -16,13 +16,18 @@ use Rattle.cfb_format.specs.Reading.{Outline, no_more, storage_at, stream_at, Ha
 use Rattle.cfb_format.specs.Siblings.{SiblingTree, leaf, node, HangsAt, in_order, entry_at, Below}
 use Rattle.cfb_codecs.specs.EntryModel.{new_entry}
 use Rattle.cfb_outline.specs.Outlines.{IsReachedStorage}
-use Rattle.cfb_outline.proofs.Insides.{below-same, present, storage-is-inside, first-or-later}
+use Rattle.cfb_outline.proofs.Insides.{below-same, present, storage-is-inside}
 use Rattle.cfb_tables.proofs.ChainLemmas.{le-regular}
-use Rattle.cfb_tables.proofs.Members.{Contains-or}
+use Rattle.cfb_tables.proofs.Members.{Contains-cases, Contains-or}
 use Rattle.cfb_siblings.specs.Children.{ButChild, ButLinks, HasChildren, HasInserted}
 use Rattle.cfb_siblings.specs.Way.{unlinked}
 use Rattle.cfb_entries.specs.EntryList.{InsertsEntry, max_entries}
 use Rattle.cfb_directory.specs.State.{AreWritable}
+
+-- ---- lists
+
+pub first-or-later : (i : ℕ) (xs : List ℕ) (x : ℕ) → Contains (i ∷ xs) x → (x ≡ i) ⊎ Contains xs x
+first-or-later i xs x m = elim (Contains-cases i xs x m) [ inl e ↦ inl (sym e) | inr r ↦ inr r ]
 
 -- ---- which entries are used
 

@@ -23,7 +23,6 @@ use Rattle.cfb_tables.specs.Tables.{TableState, AreSizes, first_or_end, sizes_of
 use Rattle.cfb_tables.proofs.Members.{Contains-nil}
 use Rattle.cfb_codecs.specs.EntryModel.{new_entry}
 use Rattle.cfb_outline.specs.Outlines.{IsReachedStorage}
-use Rattle.cfb_outline.proofs.Insides.{first-or-later}
 use Rattle.cfb_siblings.specs.Children.{HasChildren}
 use Rattle.cfb_siblings.specs.Touched.{Touches, TouchesOnly}
 use Rattle.cfb_alloc.specs.Agreement.{HasSectors}
@@ -34,7 +33,7 @@ use Rattle.cfb_directory.specs.Slots.{ChangesSlots, HoldSlotsBut, slot_of, slot_
 use Rattle.cfb_directory.specs.State.{AreWritable, DirectoryState, HoldsDirectory, bytes_of, tables_of, version_of}
 use Rattle.cfb_directory.proofs.SlotPlaces.{header-outside, slot_inside, slots_apart}
 use Rattle.cfb_directory.proofs.SlotWrites.{entries-stay}
-use Rattle.cfb_directory.proofs.InsertLinks.{touched-stands, writable-inserted}
+use Rattle.cfb_directory.proofs.InsertLinks.{first-or-later, touched-stands, writable-inserted}
 use Rattle.cfb_directory.proofs.InsertGrow.{first-sector}
 
 -- ---- slots that are not written

@@ -251,6 +251,7 @@ fn put<F: Medium, A: Heap>(
     ensures err { IfErr result IsMediumError }
     ensures counts { IsTrue F.tells → CountsFailure F.write_faults result allocator.old.file.failures allocator.new.file.failures }
 {
+    let _units = moment.value();
     let (number, touched) = entries.insert(insertion, parent, kind, moment);
     write_entries(allocator, sectors, entries.list(), &touched)?;
     Ok(number)
