@@ -1,5 +1,5 @@
 -- A directory that gets a sector of unallocated entries.
-use Rattle.std.proofs.Common.{◌≡◌, ◌≢◌, ◌⊎◌, inl, inr, ℕ, zero, suc, ◌<◌, ◌≤◌, ◌+◌, ◌-◌, ◌*◌, Bool, List, [], ◌∷◌, ◌++◌, true, false, refl, sym, ◌∙◌, ap, subst, length, replicate, arith, length-append}
+use Rattle.std.proofs.Common.{◌≡◌, ◌≢◌, ◌⊎◌, inl, inr, ℕ, zero, suc, ◌<◌, ◌≤◌, ◌+◌, ◌-◌, ◌*◌, ◌^◌, Bool, List, [], ◌∷◌, ◌++◌, true, false, refl, sym, ◌∙◌, ap, subst, length, replicate, arith, length-append}
 use Rattle.std.specs.Prelude.{Contains, slice_index, slice_index_or, nat_eq, ◌==◌, if◌then◌else◌}
 use Rattle.std.proofs.lemmas.Bool.{cases_eq, cases_lt}
 use Rattle.std.proofs.lemmas.List.{length-replicate}
@@ -10,33 +10,38 @@ use Rattle.cfb_format.specs.declared.validate.Validation.{Validation}
 use Rattle.cfb_format.specs.declared.validate.Validation.TheVariants.{Permissive, Strict}
 use Rattle.cfb_format.specs.declared.objtype.ObjType.TheVariants.{Unallocated}
 use Rattle.cfb_format.specs.Bytes.{end_of_chain, entries_per_sector, sector_len, sector_start, word_at}
-use Rattle.cfb_format.specs.Chain.{IsChain}
+use Rattle.cfb_format.specs.Chain.{IsChain, value}
 use Rattle.cfb_format.specs.DirectoryEntry.{Entry, EntryFits, IsValidEntry, unallocated_entry}
 use Rattle.cfb_format.specs.Header.{IfStrict, IsStrictHeader}
 use Rattle.cfb_format.specs.Medium.{ChangesOnlyBytes}
 use Rattle.cfb_format.specs.Reading.{IsStrictCount}
+use Rattle.cfb_format.specs.Refused.{AfterMedium}
 use Rattle.cfb_format.specs.Siblings.{entry_at}
 use Rattle.cfb_format.proofs.ByteLemmas.{part_apart}
 use Rattle.cfb_sectors.specs.declared.sector.SectorInit.TheVariants.{Dir}
-use Rattle.cfb_sectors.specs.Sectors.{SectorStays}
+use Rattle.cfb_sectors.specs.Sectors.{IsMediumError, SectorStays}
 use Rattle.cfb_sectors.specs.Words.{Stays}
 use Rattle.cfb_sectors.proofs.SectorLemmas.{SectorStays_next, after_header}
 use Rattle.cfb_sectors.proofs.WordLemmas.{word_stays}
 use Rattle.cfb_tables.specs.Listed.{ends_of, gained, last_or_end}
 use Rattle.cfb_tables.specs.Tables.{TableState, AreSizes, ending, first_or_end, sizes_of}
 use Rattle.cfb_tables.proofs.ChainLemmas.{members-busy}
-use Rattle.cfb_tables.proofs.ListedLemmas.{ending_other}
+use Rattle.cfb_tables.proofs.ListedLemmas.{ending_other, last_is}
 use Rattle.cfb_tables.proofs.Members.{Contains-one}
 use Rattle.cfb_alloc.specs.Agreement.{HasSectors, KeepsSectors}
-use Rattle.cfb_alloc.specs.Alloc.{AllocatorState, HoldsTables, IsFilled, OthersStay}
+use Rattle.cfb_format.specs.declared.error.Error.{Error}
+use Rattle.cfb_format.specs.declared.error.Error.TheVariants.{NotFound, AlreadyExists, InvalidInput, InvalidData, Medium, Memory, Full, Unsound, Failed, Unsupported}
+use Rattle.cfb_tables.specs.Refused.{ChangeRefused}
+use Rattle.cfb_alloc.specs.Alloc.{AllocatorState, HoldsTables, IsFilled, IsOtherHeaderByte, IsUsable, OthersStay}
 use Rattle.cfb_alloc.specs.Frame.{Spares}
 use Rattle.cfb_alloc.specs.ListedChain.{Lengthens}
 use Rattle.cfb_alloc.proofs.Frames.{spares-less, spares-then}
-use Rattle.cfb_alloc.proofs.HeldOrder.{members-no_table}
+use Rattle.cfb_alloc.proofs.HeldOrder.{held-usable, members-no_table}
 use Rattle.cfb_alloc.proofs.Listed.{not_in_nil}
 use Rattle.cfb_siblings.specs.Laws.{grown_by}
 use Rattle.cfb_siblings.proofs.Grown.{entry-stays}
-use Rattle.cfb_entries.specs.EntryList.{max_entries}
+use Rattle.cfb_entries.specs.EntryList.{EntryList, max_entries}
+use Rattle.cfb_directory.specs.Steps.{IsNotHeld}
 use Rattle.cfb_directory.specs.Growing.{ArePlaced, AreSectorsOf, IsListedChain, KeepsBounds, KeepsSlots}
 use Rattle.cfb_directory.specs.Slots.{HavePlaces, HoldSlotsBut, slot_of}
 use Rattle.cfb_directory.specs.State.{AreWritable, DirectoryState, HoldsDirectory, IsKeptHeaderByte, KeepsHeader, bytes_of, tables_of, version_of}
@@ -210,3 +215,97 @@ module _ (validation : Validation) (old new : DirectoryState) (b : AllocatorStat
             (λ e. ap (λ (a : AllocatorState). word_at a.file.bytes 40) (same3 (bounds.version ∙ e)) ∙ low-word old.table b others (omega (arith, long)))
             held.strict_header);
       }
+
+-- ---- places, headers and frames of a directory that grows
+
+pub grown-entries : (got : List Entry) (list old : EntryList) (n per : ℕ) → got ≡ grown_by list.entries n → list.entries ≡ old.entries → n ≡ per → got ≡ grown_by old.entries per
+grown-entries got list old n per is same len = is ∙ ap (λ (es : List Entry). grown_by es n) same ∙ ap (λ m. grown_by old.entries m) len
+
+pub grown-placed : (old : DirectoryState) (b e : AllocatorState) (after : List ℕ) (entries : List Entry) → ArePlaced old → Lengthens 1 old.sectors after (tables_of old) b.tables
+    → KeepsBounds (tables_of old) b.tables → AreSectorsOf b.tables after → entries ≡ grown_by old.entries (entries_per_sector (version_of old)) → e.tables ≡ b.tables
+    → HavePlaces e.tables.version after (length entries) (length e.tables.fat)
+grown-placed old b e after entries placed lengthened bounds within is same =
+    let per = entries_per_sector (version_of old) in
+    let count : length entries ≡ length old.entries + per = ap (λ (l : List Entry). length l) is ∙ length-append old.entries (replicate per unallocated_entry)
+        ∙ ap (λ n. length old.entries + n) (length-replicate per unallocated_entry) in
+    let sectors : length after ≡ length old.sectors + 1 = ap (λ (l : List ℕ). length l) (one-gained old.sectors after (tables_of old) b.tables lengthened).2
+        ∙ length-append old.sectors ((one-gained old.sectors after (tables_of old) b.tables lengthened).0 ∷ []) in
+    let slots = placed.slots in
+    let whole : length entries ≡ length after * per = count ∙ ap (λ n. n + per) slots ∙ more (version_of old) (length old.sectors) ∙ ap (λ n. n * per) (sym sectors) in
+    let v_new : version_of old ≡ e.tables.version = sym (ap (λ (t : TableState). t.version) same ∙ bounds.version) in
+    record {
+      slots = subst (λ (u : Version). length entries ≡ length after * entries_per_sector u) v_new whole;
+      within = λ i m. subst (λ (t : TableState). i < length t.fat) (sym same) (within i m);
+    }
+  where
+    more : (v : Version) (n : ℕ) → n * entries_per_sector v + entries_per_sector v ≡ (n + 1) * entries_per_sector v
+    more V3 n = omega arith
+    more V4 n = omega arith
+
+-- the number of sectors fits into a word
+pub few-sectors : (v : Version) (sectors : List ℕ) (n count : ℕ) → HavePlaces v sectors n count → n ≤ max_entries → length sectors < 2 ^ 32
+few-sectors V3 sectors n count h few = let s = h.slots in omega (arith, s, few)
+few-sectors V4 sectors n count h few = let s = h.slots in omega (arith, s, few)
+
+pub grown-spares : (sectors : List ℕ) (a b e : AllocatorState) → Spares (ends_of sectors) a b → Spares [] b e → Spares sectors a e
+grown-spares sectors a b e first second = spares-then sectors [] a b e (λ i m. absurd (not_in_nil i m)) (spares-less (ends_of sectors) sectors a b (ends-among sectors) first) second
+
+kept-byte : (v : Version) (a b e : AllocatorState) (i : ℕ) → IsKeptHeaderByte v i → i < length a.file.bytes → length a.file.bytes ≤ length b.file.bytes
+    → ((i < 44) ⊎ ((48 ≤ i) × (i < 68)) → slice_index b.file.bytes i ≡ slice_index a.file.bytes i)
+    → (v ≡ V3 → e ≡ b) → ChangesOnlyBytes 40 4 b.file.bytes e.file.bytes → slice_index e.file.bytes i ≡ slice_index a.file.bytes i
+kept-byte V3 a b e i kept lt longer first same change = ap (λ (x : AllocatorState). slice_index x.file.bytes i) (same refl) ∙ first kept
+kept-byte V4 a b e i (inl low) lt longer first same change = change.below i (omega (arith, lt, longer)) low ∙ first (inl (omega (arith, low)))
+kept-byte V4 a b e i (inr high) lt longer first same change = let from = high.0 in change.above i (omega (arith, lt, longer)) (omega (arith, from)) ∙ first (inr high)
+
+pub grown-header : (a b e : AllocatorState) → OthersStay a b → (a.tables.version ≡ V3 → e ≡ b) → ChangesOnlyBytes 40 4 b.file.bytes e.file.bytes
+    → (i : ℕ) → i < length a.file.bytes → IsKeptHeaderByte a.tables.version i → slice_index e.file.bytes i ≡ slice_index a.file.bytes i
+grown-header a b e others same change i lt kept =
+    kept-byte a.tables.version a b e i kept lt others.no_shorter (λ low. others.header i lt (other low)) same change
+  where
+    other : (i < 44) ⊎ ((48 ≤ i) × (i < 68)) → IsOtherHeaderByte a.tables.version i
+    other (inl low) = inl low
+    other (inr high) = inr (inl high)
+
+-- ---- refusals
+
+-- where the directory is held, its chain can be lengthened
+pub lengthens-held : (d : DirectoryState) → (IsUsable (tables_of d) → ⊥) ⊎ ((last_or_end d.sectors ≢ end_of_chain) × (value (tables_of d).fat (last_or_end d.sectors) ≢ end_of_chain)) → IsNotHeld d
+lengthens-held d (inl unusable) validation held = unusable (held-usable validation d.table held.tables)
+lengthens-held d (inr goes_on) validation held = goes_on.1 (last_is (tables_of d).fat (first_or_end d.sectors) d.sectors held.chain (some d.sectors held.some)).0
+  where
+    some : (list : List ℕ) → list ≢ [] → 0 < length list
+    some [] ne = absurd (ne refl)
+    some (x ∷ xs) ne = omega arith
+
+-- a refusal that says less of invalid data
+pub refused-less : (P Q memory full medium : Type 0) → (P → Q) → (e : Error) → ChangeRefused P memory full medium e → ChangeRefused Q memory full medium e
+refused-less P Q memory full medium f (NotFound d) h = h
+refused-less P Q memory full medium f (AlreadyExists d) h = h
+refused-less P Q memory full medium f (InvalidInput d) h = h
+refused-less P Q memory full medium f (InvalidData d) h = f h
+refused-less P Q memory full medium f (Medium m) h = h
+refused-less P Q memory full medium f Memory h = h
+refused-less P Q memory full medium f Full h = h
+refused-less P Q memory full medium f Unsound h = h
+refused-less P Q memory full medium f Failed h = h
+refused-less P Q memory full medium f Unsupported h = h
+
+-- after the medium's error what was begun is known
+pub medium-broke : (broken kept : Type 0) → broken → (e : Error) → IsMediumError e → AfterMedium broken kept e
+medium-broke broken kept b (NotFound d) is = absurd (omega (arith, is))
+medium-broke broken kept b (AlreadyExists d) is = absurd (omega (arith, is))
+medium-broke broken kept b (InvalidInput d) is = absurd (omega (arith, is))
+medium-broke broken kept b (InvalidData d) is = absurd (omega (arith, is))
+medium-broke broken kept b (Medium m) is = b
+medium-broke broken kept b Memory is = absurd (omega (arith, is))
+medium-broke broken kept b Full is = absurd (omega (arith, is))
+medium-broke broken kept b Unsound is = absurd (omega (arith, is))
+medium-broke broken kept b Failed is = absurd (omega (arith, is))
+medium-broke broken kept b Unsupported is = absurd (omega (arith, is))
+
+-- how many entries there are then
+pub grown-many : (entries got : List Entry) (per : ℕ) → got ≡ grown_by entries per → length entries + per ≤ max_entries → length got ≤ max_entries
+grown-many entries got per is few =
+    let count : length got ≡ length entries + per = ap (λ (l : List Entry). length l) is ∙ length-append entries (replicate per unallocated_entry)
+        ∙ ap (λ n. length entries + n) (length-replicate per unallocated_entry) in
+    omega (arith, count, few)

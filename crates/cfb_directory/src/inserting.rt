@@ -181,7 +181,8 @@ fn grow<F: Medium, A: Heap + Clone>(
     sectors.reserve(1)?;
     lengthen(allocator, sectors)?;
     entries.grow(fresh);
-    count_sectors(allocator, sectors.len())
+    count_sectors(allocator, sectors.len())?;
+    Ok(())
 }
 
 /// Has a free slot for a new entry: a directory that has none gets a sector.
