@@ -1,9 +1,10 @@
 -- The fields of an entry that a change may set: all but its name, its kind and its place in the tree (MS-CFB 2.6.1).
-use Rattle.std.specs.Prelude.{ℕ, ◌≡◌, List, slice_set}
+use Rattle.std.specs.Prelude.{ℕ, List, slice_set}
 use Rattle.cfb_format.specs.DirectoryEntry.{Entry}
 use Rattle.cfb_format.specs.Siblings.{entry_at}
 use Rattle.cfb_entries.specs.declared.fields.Fields.{Fields}
 
+-- the fields of an entry
 abbrev pub fields_in : Entry → Fields
 fields_in e = record {
   clsid = e.clsid;

@@ -116,7 +116,14 @@ impl<A: Allocator + Clone> Entries<A> {
         ensures few_touched { IfOk result (λ touched. vec_len touched ≤ 4) }
         ensures refused { OnErr result (self.new ≡ record self.old { room = self.new.room }) }
     {
-        remove_child(&self.letters, &mut self.list, &mut self.free, heap, parent, name)
+        remove_child(
+            &self.letters,
+            &mut self.list,
+            &mut self.free,
+            heap,
+            parent,
+            name,
+        )
     }
 }
 

@@ -10,7 +10,10 @@ use cfb_format::error::Error;
 use std::alloc::Allocator;
 
 /// So many entries that are not used. `Memory` where memory for them is refused.
-pub fn fresh_entries<A: Allocator + Clone>(heap: &A, count: usize) -> Result<Vec<DirEntry<A>, A>, Error>
+pub fn fresh_entries<A: Allocator + Clone>(
+    heap: &A,
+    count: usize,
+) -> Result<Vec<DirEntry<A>, A>, Error>
     ensures count { IfOk result (λ list. vec_len list ≡ count) }
     ensures unused { IfOk result (λ list. entries_of list.items ≡ replicate count unallocated_entry) }
     ensures refused { IfErr result IsMemory }

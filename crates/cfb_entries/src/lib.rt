@@ -8,4 +8,5 @@ pub mod fields;
 mod free;
 pub mod fresh;
 pub mod insertion;
+pub mod laws;
 mod names;
