@@ -227,9 +227,9 @@ pub grown-placed : (old : DirectoryState) (b e : AllocatorState) (after : List �
 grown-placed old b e after entries placed lengthened bounds within is same =
     let per = entries_per_sector (version_of old) in
     let count : length entries ≡ length old.entries + per = ap (λ (l : List Entry). length l) is ∙ length-append old.entries (replicate per unallocated_entry)
-        ∙ ap (λ n. length old.entries + n) (length-replicate per unallocated_entry) in
+    ∙ ap (λ n. length old.entries + n) (length-replicate per unallocated_entry) in
     let sectors : length after ≡ length old.sectors + 1 = ap (λ (l : List ℕ). length l) (one-gained old.sectors after (tables_of old) b.tables lengthened).2
-        ∙ length-append old.sectors ((one-gained old.sectors after (tables_of old) b.tables lengthened).0 ∷ []) in
+    ∙ length-append old.sectors ((one-gained old.sectors after (tables_of old) b.tables lengthened).0 ∷ []) in
     let slots = placed.slots in
     let whole : length entries ≡ length after * per = count ∙ ap (λ n. n + per) slots ∙ more (version_of old) (length old.sectors) ∙ ap (λ n. n * per) (sym sectors) in
     let v_new : version_of old ≡ e.tables.version = sym (ap (λ (t : TableState). t.version) same ∙ bounds.version) in
@@ -307,5 +307,5 @@ medium-broke broken kept b Unsupported is = absurd (omega (arith, is))
 pub grown-many : (entries got : List Entry) (per : ℕ) → got ≡ grown_by entries per → length entries + per ≤ max_entries → length got ≤ max_entries
 grown-many entries got per is few =
     let count : length got ≡ length entries + per = ap (λ (l : List Entry). length l) is ∙ length-append entries (replicate per unallocated_entry)
-        ∙ ap (λ n. length entries + n) (length-replicate per unallocated_entry) in
+    ∙ ap (λ n. length entries + n) (length-replicate per unallocated_entry) in
     omega (arith, count, few)

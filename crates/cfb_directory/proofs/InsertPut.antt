@@ -103,9 +103,9 @@ module _ (old : DirectoryState) (entries : List Entry) (parent n : ℕ) (entry :
         let new = table.file.bytes in
         let v_new = sym (ap (λ (t : TableState). t.version) same) in
         let counted = subst (λ n. IfStrict validation (IsStrictCount (version_of old) n (length old.sectors)))
-            (sym (header-word-stays touched (version_of old) old.sectors (bytes_of old) new change long 40 (omega arith))) held.counted in
+        (sym (header-word-stays touched (version_of old) old.sectors (bytes_of old) new change long 40 (omega arith))) held.counted in
         let strict = subst (λ n. IfStrict validation (IsStrictDirCount (version_of old) n))
-            (sym (header-word-stays touched (version_of old) old.sectors (bytes_of old) new change long 40 (omega arith))) held.strict_header in
+        (sym (header-word-stays touched (version_of old) old.sectors (bytes_of old) new change long 40 (omega arith))) held.strict_header in
         record {
           tables = holds;
           sizes = subst (λ (t : TableState). AreSizes t.version (sizes_of t)) (sym same) held.sizes;

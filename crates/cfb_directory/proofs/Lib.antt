@@ -4,3 +4,4 @@ pub mod SlotWrites
 pub mod InsertLinks
 pub mod InsertGrow
 pub mod InsertPut
+pub mod InsertWhole

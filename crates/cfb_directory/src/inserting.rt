@@ -135,6 +135,7 @@ fn count_sectors<F: Medium, A: Heap>(
     ensures same { allocator.old.tables.version ≡ V3 → (allocator.new ≡ allocator.old) × OnErr result ⊥ }
     ensures begun { (allocator.old.file.begun ≡ true) → allocator.new.file.begun ≡ true }
     ensures count { IsTrue F.tells → allocator.old.tables.version ≡ V4 → OnOk result (word_at allocator.new.file.bytes 40 ≡ count) }
+    ensures long { IsTrue F.tells → allocator.old.tables.version ≡ V4 → OnOk result (44 ≤ length allocator.new.file.bytes) }
     ensures holds { IsTrue F.tells → (validation : Validation) → HoldsTables validation allocator.old → OnOk result (HoldsTables validation allocator.new) }
     ensures others { IsTrue F.tells → ChangesOnlyBytes 40 4 allocator.old.file.bytes allocator.new.file.bytes }
     ensures spares { IsTrue F.tells → Spares [] allocator.old allocator.new }
@@ -167,6 +168,7 @@ fn grow<F: Medium, A: Heap + Clone>(
     ensures spares { IsTrue F.tells → Spares sectors.old.items allocator.old allocator.new }
     ensures header { IsTrue F.tells → KeepsHeader (directory_of allocator.old sectors.old.items entries.old) (directory_of allocator.new sectors.new.items entries.new) }
     ensures count { IsTrue F.tells → allocator.old.tables.version ≡ V4 → OnOk result (word_at allocator.new.file.bytes 40 ≡ length sectors.new.items) }
+    ensures long { IsTrue F.tells → allocator.old.tables.version ≡ V4 → OnOk result (44 ≤ length allocator.new.file.bytes) }
     ensures slots { IsTrue F.tells → (validation : Validation) → HoldsDirectory validation (directory_of allocator.old sectors.old.items entries.old)
         → KeepsSlots (directory_of allocator.old sectors.old.items entries.old) (directory_of allocator.new sectors.new.items entries.new) }
     ensures limits { KeepsLimits (directory_of allocator.old sectors.old.items entries.old) (directory_of allocator.new sectors.new.items entries.new) }
@@ -208,6 +210,7 @@ fn make_room<F: Medium, A: Heap + Clone>(
     ensures header { IsTrue F.tells → KeepsHeader (directory_of allocator.old sectors.old.items entries.old) (directory_of allocator.new sectors.new.items entries.new) }
     ensures count { IsTrue F.tells → allocator.old.tables.version ≡ V4 → has_free entries.old.entries ≡ false
         → OnOk result (word_at allocator.new.file.bytes 40 ≡ length sectors.new.items) }
+    ensures long { IsTrue F.tells → allocator.old.tables.version ≡ V4 → has_free entries.old.entries ≡ false → OnOk result (44 ≤ length allocator.new.file.bytes) }
     ensures slots { IsTrue F.tells → (validation : Validation) → HoldsDirectory validation (directory_of allocator.old sectors.old.items entries.old)
         → KeepsSlots (directory_of allocator.old sectors.old.items entries.old) (directory_of allocator.new sectors.new.items entries.new) }
     ensures limits { KeepsLimits (directory_of allocator.old sectors.old.items entries.old) (directory_of allocator.new sectors.new.items entries.new) }

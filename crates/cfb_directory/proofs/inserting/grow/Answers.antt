@@ -175,3 +175,6 @@ returns-clause-holds g c told validation held =
     (λ v3. (c.count_sectors.ensures.same v3).0) (λ v4. c.in_ok-count_sectors.ensures.count told v4 ∙ n)
     (c.in_ok-count_sectors.ensures.holds told validation (c.in_ok-lengthen.ensures.holds told validation held.tables)) (c.count_sectors.ensures.others told)
     grown (grown-many c.args.entries.now.entries got _ grown c.requires.few)
+
+pub returns-clause-long : goal.returns-clause-long
+returns-clause-long g c told version = c.in_ok-count_sectors.ensures.long told (c.lengthen.ensures.bounds.version ∙ version)

@@ -32,7 +32,7 @@ write_entries-requires-clause-names g c = λ k m.
 pub returns-in_err-write_entries-clause-slots : goal.returns-in_err-write_entries-clause-slots
 returns-in_err-write_entries-clause-slots g c told validation held =
     let change = subst (λ (l : List ℕ). ChangesSlots l c.args.allocator.now.tables.version c.args.sectors.now c.args.allocator.now.file.bytes c.write_entries.new.allocator.file.bytes)
-        c.deref.ensures.value (c.write_entries.ensures.others told) in
+    c.deref.ensures.value (c.write_entries.ensures.others told) in
     put-keeps (directory_of c.args.allocator.now c.args.sectors.now c.args.entries.now) c.insert-number.new.self.entries c.args.parent _ _ _
     c.requires.parent c.insert-number.ensures.inserted c.insert-number.ensures.touches c.insert-number.ensures.touches_only validation held
     c.write_entries.new.allocator.file.bytes change
@@ -40,7 +40,7 @@ returns-in_err-write_entries-clause-slots g c told validation held =
 pub returns-clause-slots : goal.returns-clause-slots
 returns-clause-slots g c told validation held =
     let change = subst (λ (l : List ℕ). ChangesSlots l c.args.allocator.now.tables.version c.args.sectors.now c.args.allocator.now.file.bytes c.write_entries.new.allocator.file.bytes)
-        c.deref.ensures.value (c.write_entries.ensures.others told) in
+    c.deref.ensures.value (c.write_entries.ensures.others told) in
     put-keeps (directory_of c.args.allocator.now c.args.sectors.now c.args.entries.now) c.insert-number.new.self.entries c.args.parent _ _ _
     c.requires.parent c.insert-number.ensures.inserted c.insert-number.ensures.touches c.insert-number.ensures.touches_only validation held
     c.write_entries.new.allocator.file.bytes change
@@ -52,7 +52,7 @@ used-kind kind (inr e) u = let clash : Unallocated ≡ Stream = sym u ∙ e in (
 pub returns-clause-begun : goal.returns-clause-begun
 returns-clause-begun g c =
     let some = some-touched (directory_of c.args.allocator.now c.args.sectors.now c.args.entries.now) c.insert-number.new.self.entries c.args.parent _ _ _
-        c.requires.parent c.insert-number.ensures.inserted c.insert-number.ensures.touches c.insert-number.ensures.touches_only (used-kind c.args.kind c.requires.kind) in
+    c.requires.parent c.insert-number.ensures.inserted c.insert-number.ensures.touches c.insert-number.ensures.touches_only (used-kind c.args.kind c.requires.kind) in
     c.in_ok-write_entries.ensures.begun.1 (subst (λ (l : List ℕ). 0 < length l) (sym c.deref.ensures.value) some)
 
 pub returns-clause-holds : goal.returns-clause-holds
@@ -69,11 +69,11 @@ returns-clause-holds g c told validation held =
     let valid = touched-valid d entries c.args.parent _ _ _ c.requires.parent c.insert-number.ensures.inserted c.insert-number.ensures.touches c.insert-number.ensures.touches_only validation held stands in
     let touched = c.insert-number.result.1.items in
     let late' = subst (λ (l : List ℕ). HoldSlotsBut (l ++ []) validation v bytes c.args.sectors.now (entries_of c.list.result.now)) (sym listed)
-        (subst (λ (es : List Entry). HoldSlotsBut (touched ++ []) validation v bytes c.args.sectors.now es) (sym c.list.ensures.list) late) in
+    (subst (λ (es : List Entry). HoldSlotsBut (touched ++ []) validation v bytes c.args.sectors.now es) (sym c.list.ensures.list) late) in
     let valid' = λ (k : ℕ) (m : Contains c.deref.result.now k).
-        subst (λ (es : List Entry). IsValidEntry v (entry_at es k)) (sym c.list.ensures.list) (valid k (subst (λ (l : List ℕ). Contains l k) listed m)) in
+    subst (λ (es : List Entry). IsValidEntry v (entry_at es k)) (sym c.list.ensures.list) (valid k (subst (λ (l : List ℕ). Contains l k) listed m)) in
     let slots = subst (λ (es : List Entry). HoldSlotsBut [] validation v c.write_entries.new.allocator.file.bytes c.args.sectors.now es) c.list.ensures.list
-        (c.in_ok-write_entries.ensures.slots told validation [] late' valid' held.whole held.chain.distinct) in
+    (c.in_ok-write_entries.ensures.slots told validation [] late' valid' held.whole held.chain.distinct) in
     let holds = c.in_ok-write_entries.ensures.holds told validation held.tables (members-no_table validation c.args.allocator.now _ c.args.sectors.now held.tables held.chain) in
     subst (λ (cs : Cases). HoldsDirectory validation (record { table = c.write_entries.new.allocator; sectors = c.args.sectors.now; cases = cs; entries = entries })) (sym c.insert-number.ensures.cases)
     (put-holds d entries c.args.parent _ _ touched c.requires.parent c.insert-number.ensures.inserted c.insert-number.ensures.touches c.insert-number.ensures.touches_only validation held stands
