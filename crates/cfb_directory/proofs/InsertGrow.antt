@@ -1,7 +1,7 @@
 -- A directory that gets a sector of unallocated entries.
-use Rattle.std.proofs.Common.{◌≡◌, ◌≢◌, ◌⊎◌, inl, inr, ℕ, zero, suc, ◌<◌, ◌≤◌, ◌+◌, ◌-◌, ◌*◌, ◌^◌, Bool, List, [], ◌∷◌, ◌++◌, true, false, refl, sym, ◌∙◌, ap, subst, length, replicate, arith, length-append}
-use Rattle.std.specs.Prelude.{Contains, slice_index, slice_index_or, nat_eq, ◌==◌, if◌then◌else◌}
-use Rattle.std.proofs.lemmas.Bool.{cases_eq, cases_lt}
+use Rattle.std.proofs.Common.{◌≡◌, ◌≢◌, ◌⊎◌, inl, inr, ℕ, ◌<◌, ◌≤◌, ◌+◌, ◌-◌, ◌*◌, ◌^◌, List, [], ◌∷◌, ◌++◌, refl, sym, ◌∙◌, ap, subst, length, replicate, arith, length-append}
+use Rattle.std.specs.Prelude.{Contains, slice_index}
+use Rattle.std.proofs.lemmas.Bool.{cases_eq}
 use Rattle.std.proofs.lemmas.List.{length-replicate}
 use Rattle.std.proofs.lemmas.List.Elements.{Contains-append_cases, Contains-get_or}
 use Rattle.cfb_format.specs.declared.version.Version.{Version}
@@ -10,7 +10,7 @@ use Rattle.cfb_format.specs.declared.validate.Validation.{Validation}
 use Rattle.cfb_format.specs.declared.validate.Validation.TheVariants.{Permissive, Strict}
 use Rattle.cfb_format.specs.declared.objtype.ObjType.TheVariants.{Unallocated}
 use Rattle.cfb_format.specs.Bytes.{end_of_chain, entries_per_sector, sector_len, sector_start, word_at}
-use Rattle.cfb_format.specs.Chain.{IsChain, value}
+use Rattle.cfb_format.specs.Chain.{value}
 use Rattle.cfb_format.specs.DirectoryEntry.{Entry, EntryFits, IsValidEntry, unallocated_entry}
 use Rattle.cfb_format.specs.Header.{IfStrict, IsStrictHeader}
 use Rattle.cfb_format.specs.Medium.{ChangesOnlyBytes}
@@ -19,7 +19,7 @@ use Rattle.cfb_format.specs.Refused.{AfterMedium}
 use Rattle.cfb_format.specs.Siblings.{entry_at}
 use Rattle.cfb_format.proofs.ByteLemmas.{part_apart}
 use Rattle.cfb_sectors.specs.declared.sector.SectorInit.TheVariants.{Dir}
-use Rattle.cfb_sectors.specs.Sectors.{IsMediumError, SectorStays}
+use Rattle.cfb_sectors.specs.Sectors.{IsMediumError}
 use Rattle.cfb_sectors.specs.Words.{Stays}
 use Rattle.cfb_sectors.proofs.SectorLemmas.{SectorStays_next, after_header}
 use Rattle.cfb_sectors.proofs.WordLemmas.{word_stays}
@@ -42,9 +42,9 @@ use Rattle.cfb_siblings.specs.Laws.{grown_by}
 use Rattle.cfb_siblings.proofs.Grown.{entry-stays}
 use Rattle.cfb_entries.specs.EntryList.{EntryList, max_entries}
 use Rattle.cfb_directory.specs.Steps.{IsNotHeld}
-use Rattle.cfb_directory.specs.Growing.{ArePlaced, AreSectorsOf, IsListedChain, KeepsBounds, KeepsSlots}
+use Rattle.cfb_directory.specs.Growing.{ArePlaced, AreSectorsOf, IsListedChain, KeepsBounds}
 use Rattle.cfb_directory.specs.Slots.{HavePlaces, HoldSlotsBut, slot_of}
-use Rattle.cfb_directory.specs.State.{AreWritable, DirectoryState, HoldsDirectory, IsKeptHeaderByte, KeepsHeader, bytes_of, tables_of, version_of}
+use Rattle.cfb_directory.specs.State.{AreWritable, DirectoryState, HoldsDirectory, IsKeptHeaderByte, bytes_of, tables_of, version_of}
 use Rattle.cfb_directory.proofs.SlotPlaces.{slot_stays}
 use Rattle.cfb_directory.proofs.SlotWrites.{fresh-held, slots-stay}
 use Rattle.cfb_directory.proofs.InsertLinks.{used-inside}

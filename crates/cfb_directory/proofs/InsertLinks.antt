@@ -1,5 +1,5 @@
 -- The links of a storage's children and what else an insertion sets can be written.
-use Rattle.std.proofs.Common.{◌≡◌, ◌≢◌, ◌⊎◌, inl, inr, ℕ, zero, suc, ◌<◌, ◌≤◌, ◌+◌, ◌^◌, List, [], ◌∷◌, ◌++◌, true, false, refl, sym, ◌∙◌, ap, subst, length, arith}
+use Rattle.std.proofs.Common.{◌≡◌, ◌≢◌, ◌⊎◌, inl, inr, ℕ, ◌<◌, ◌≤◌, ◌^◌, List, [], ◌∷◌, ◌++◌, true, refl, sym, ◌∙◌, ap, subst, length, arith}
 use Rattle.std.specs.Prelude.{Contains, IsTrue}
 use Rattle.std.specs.Str.{all_scalars}
 use Rattle.std.proofs.lemmas.Bool.{cases_eq}
@@ -8,18 +8,17 @@ use Rattle.cfb_format.specs.declared.version.Version.{Version}
 use Rattle.cfb_format.specs.declared.version.Version.TheVariants.{V3, V4}
 use Rattle.cfb_format.specs.declared.objtype.ObjType.{ObjType}
 use Rattle.cfb_format.specs.declared.objtype.ObjType.TheVariants.{Unallocated, Storage, Stream, Root}
-use Rattle.cfb_format.specs.declared.color.Color.{Color}
 use Rattle.cfb_format.specs.Bytes.{is_regular, no_stream, stream_len_modulus}
 use Rattle.cfb_format.specs.Names.{Cases, is_valid_name}
-use Rattle.cfb_format.specs.DirectoryEntry.{Entry, EntryFits, IsAllowedChild, IsValidEntry, is_entry_link, unallocated_entry}
+use Rattle.cfb_format.specs.DirectoryEntry.{Entry, EntryFits, IsAllowedChild, IsValidEntry, is_entry_link}
 use Rattle.cfb_format.specs.Reading.{Outline, no_more, storage_at, stream_at, HasContents, siblings, numbers}
-use Rattle.cfb_format.specs.Siblings.{SiblingTree, leaf, node, HangsAt, in_order, entry_at, Below}
+use Rattle.cfb_format.specs.Siblings.{SiblingTree, leaf, node, HangsAt, in_order, entry_at}
 use Rattle.cfb_codecs.specs.EntryModel.{new_entry}
 use Rattle.cfb_outline.specs.Outlines.{IsReachedStorage}
 use Rattle.cfb_outline.proofs.Insides.{below-same, present, storage-is-inside}
 use Rattle.cfb_tables.proofs.ChainLemmas.{le-regular}
 use Rattle.cfb_tables.proofs.Members.{Contains-cases, Contains-or}
-use Rattle.cfb_siblings.specs.Children.{ButChild, ButLinks, HasChildren, HasInserted}
+use Rattle.cfb_siblings.specs.Children.{ButChild, HasChildren, HasInserted}
 use Rattle.cfb_siblings.specs.Way.{unlinked}
 use Rattle.cfb_entries.specs.EntryList.{InsertsEntry, max_entries}
 use Rattle.cfb_directory.specs.State.{AreWritable}

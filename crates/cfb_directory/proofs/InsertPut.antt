@@ -1,33 +1,28 @@
 -- A directory whose entries changed in memory, and whose slots were written.
-use Rattle.std.proofs.Common.{◌≡◌, ◌≢◌, ◌⊎◌, inl, inr, ℕ, ◌<◌, ◌≤◌, ◌+◌, ◌*◌, ◌/◌, ◌%◌, List, [], ◌∷◌, ◌++◌, refl, sym, ◌∙◌, ap, subst, length, arith, append-nil}
+use Rattle.std.proofs.Common.{◌≡◌, ◌≢◌, inl, inr, ℕ, ◌<◌, ◌≤◌, ◌+◌, ◌*◌, List, [], ◌∷◌, ◌++◌, sym, ◌∙◌, ap, subst, length, arith}
 use Rattle.std.specs.Prelude.{Contains, slice_index, nat_eq}
 use Rattle.std.specs.List.{IsDistinct}
-use Rattle.std.proofs.lemmas.Bool.{cases_eq}
 use Rattle.std.proofs.lemmas.Grind.{same_number_lists}
 use Rattle.cfb_format.specs.declared.version.Version.{Version}
 use Rattle.cfb_format.specs.declared.version.Version.TheVariants.{V3, V4}
 use Rattle.cfb_format.specs.declared.validate.Validation.{Validation}
-use Rattle.cfb_format.specs.declared.objtype.ObjType.{ObjType}
-use Rattle.cfb_format.specs.declared.objtype.ObjType.TheVariants.{Unallocated, Storage, Stream}
+use Rattle.cfb_format.specs.declared.objtype.ObjType.TheVariants.{Unallocated}
 use Rattle.cfb_format.specs.Bytes.{entries_per_sector, sector_len, word_at}
 use Rattle.cfb_format.specs.DirectoryEntry.{Entry, EntryFits, IsValidEntry}
 use Rattle.cfb_format.specs.Header.{IfStrict, IsStrictDirCount, IsStrictHeader}
 use Rattle.cfb_format.specs.Medium.{part}
-use Rattle.cfb_format.specs.Names.{Cases}
 use Rattle.cfb_format.specs.Reading.{IsStrictCount}
 use Rattle.cfb_format.specs.Siblings.{entry_at}
 use Rattle.cfb_format.proofs.ByteLemmas.{length-part, part_at}
-use Rattle.cfb_sectors.specs.Words.{Stays}
 use Rattle.cfb_sectors.proofs.WordLemmas.{word_stays}
-use Rattle.cfb_tables.specs.Tables.{TableState, AreSizes, first_or_end, sizes_of}
+use Rattle.cfb_tables.specs.Tables.{TableState, AreSizes, sizes_of}
 use Rattle.cfb_tables.proofs.Members.{Contains-nil}
-use Rattle.cfb_codecs.specs.EntryModel.{new_entry}
 use Rattle.cfb_outline.specs.Outlines.{IsReachedStorage}
 use Rattle.cfb_siblings.specs.Children.{HasChildren}
 use Rattle.cfb_siblings.specs.Touched.{Touches, TouchesOnly}
 use Rattle.cfb_alloc.specs.Agreement.{HasSectors}
 use Rattle.cfb_alloc.specs.Alloc.{AllocatorState, HoldsTables}
-use Rattle.cfb_entries.specs.EntryList.{InsertsEntry, max_entries}
+use Rattle.cfb_entries.specs.EntryList.{InsertsEntry}
 use Rattle.cfb_directory.specs.Growing.{IsListedChain}
 use Rattle.cfb_directory.specs.Slots.{ChangesSlots, HoldSlotsBut, slot_of, slot_place}
 use Rattle.cfb_directory.specs.State.{AreWritable, DirectoryState, HoldsDirectory, bytes_of, tables_of, version_of}

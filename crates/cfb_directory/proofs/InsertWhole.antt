@@ -1,17 +1,15 @@
 -- A new entry in a directory that may have grown for it.
-use Rattle.std.proofs.Common.{◌≡◌, ◌≢◌, ◌⊎◌, inl, inr, ℕ, ◌<◌, ◌≤◌, ◌+◌, ◌*◌, ◌/◌, ◌%◌, Bool, List, [], ◌∷◌, ◌++◌, true, false, refl, sym, ◌∙◌, ap, subst, length, arith, length-append}
+use Rattle.std.proofs.Common.{◌≡◌, ◌⊎◌, inl, inr, ℕ, ◌<◌, ◌≤◌, ◌+◌, ◌*◌, ◌/◌, ◌%◌, Bool, List, [], ◌∷◌, true, false, refl, sym, ◌∙◌, ap, subst, length, arith}
 use Rattle.std.specs.Prelude.{Contains, slice_index, if◌then◌else◌}
 use Rattle.std.proofs.lemmas.List.{get_or_append_left}
 use Rattle.std.proofs.lemmas.List.Elements.{Contains-append_cases}
 use Rattle.cfb_format.specs.declared.error.Error.{Error}
 use Rattle.cfb_format.specs.declared.error.Error.TheVariants.{NotFound, AlreadyExists, InvalidInput, InvalidData, Medium, Memory, Full, Unsound, Failed, Unsupported}
-use Rattle.cfb_format.specs.declared.validate.Validation.{Validation}
 use Rattle.cfb_format.specs.declared.version.Version.{Version}
 use Rattle.cfb_format.specs.Bytes.{entries_per_sector, free_sector, sector_start, word_at}
-use Rattle.cfb_format.specs.Chain.{IsChain, value}
+use Rattle.cfb_format.specs.Chain.{value}
 use Rattle.cfb_format.specs.DirectoryEntry.{Entry}
 use Rattle.cfb_format.specs.Medium.{part}
-use Rattle.cfb_format.specs.Names.{Cases}
 use Rattle.cfb_format.specs.Siblings.{Balanced, entry_at}
 use Rattle.cfb_sectors.proofs.WordLemmas.{word_stays}
 use Rattle.cfb_tables.specs.Refused.{ChangeRefused, TableRefused}
@@ -27,13 +25,13 @@ use Rattle.cfb_siblings.specs.Children.{HasChildren, HasRedApart, KeepsBalance}
 use Rattle.cfb_siblings.specs.Laws.{grown_by}
 use Rattle.cfb_siblings.proofs.Grown.{balanced-same, children-same, entry-stays, length-grows, red-apart-same}
 use Rattle.cfb_entries.specs.declared.insertion.Insertion.{Insertion}
-use Rattle.cfb_entries.specs.EntryList.{EntryList, has_free}
-use Rattle.cfb_entries.specs.Insertions.{IsInsertionOf, name_in}
+use Rattle.cfb_entries.specs.EntryList.{has_free}
+use Rattle.cfb_entries.specs.Insertions.{IsInsertionOf}
 use Rattle.cfb_entries.proofs.Contents.{insertion-stays, reached-stays}
 use Rattle.cfb_directory.specs.Growing.{ArePlaced}
-use Rattle.cfb_directory.specs.Slots.{slot_of, slot_place}
-use Rattle.cfb_directory.specs.State.{DirectoryState, HoldsDirectory, IsFullForEntry, bytes_of, tables_of, version_of, with_room}
-use Rattle.cfb_directory.specs.Steps.{IsNotHeld, KeepsRedApart}
+use Rattle.cfb_directory.specs.Slots.{slot_of}
+use Rattle.cfb_directory.specs.State.{DirectoryState, tables_of, version_of, with_room}
+use Rattle.cfb_directory.specs.Steps.{IsNotHeld}
 use Rattle.cfb_directory.proofs.SlotPlaces.{slot_sector}
 use Rattle.cfb_directory.proofs.InsertGrow.{one-gained}
 

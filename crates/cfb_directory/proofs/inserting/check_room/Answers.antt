@@ -1,10 +1,10 @@
-use Rattle.std.proofs.Common.{◌≡◌, ◌⊎◌, inl, inr, ◌+◌, ◌<◌, length, arith, map, refl, sym, ◌∙◌, ap, rules}
+use Rattle.std.proofs.Common.{◌≡◌, inl, inr, length, arith, refl, sym, ◌∙◌, ap}
 use Rattle.std.specs.Prelude.{List, Bool, false, true, not}
 use Rattle.std.proofs.lemmas.List.{length-map}
 use Rattle.cfb_codecs.specs.EntryModel.{entry_of}
 use Rattle.cfb_format.specs.Bytes.{entries_per_sector}
 use Rattle.cfb_format.specs.DirectoryEntry.{Entry}
-use Rattle.cfb_entries.specs.EntryList.{has_free, max_entries}
+use Rattle.cfb_entries.specs.EntryList.{has_free}
 use Rattle.cfb_tables.proofs.RoomLemmas.{nothing-given-back}
 use Rattle.cfb_directory.proofs.inserting.check_room.Goals as goal
 

@@ -1,25 +1,20 @@
-use Rattle.std.proofs.Common.{◌≡◌, ◌≢◌, ◌⊎◌, ℕ, ◌<◌, ◌≤◌, List, length, refl, sym, ◌∙◌, ap, subst, arith, length-append}
-use Rattle.std.specs.Prelude.{Contains, replicate}
-use Rattle.std.proofs.lemmas.List.{length-replicate}
+use Rattle.std.proofs.Common.{◌≡◌, ◌≢◌, ◌⊎◌, ℕ, List, length, refl, sym, ◌∙◌, ap, subst, arith}
+use Rattle.std.specs.Prelude.{Contains}
 use Rattle.std.proofs.lemmas.Result.{err_from_is_err_and}
-use Rattle.cfb_format.specs.declared.version.Version.{Version}
-use Rattle.cfb_format.specs.declared.version.Version.TheVariants.{V3, V4}
-use Rattle.cfb_format.specs.Bytes.{end_of_chain, entries_per_sector, word_at}
+use Rattle.cfb_format.specs.Bytes.{end_of_chain, entries_per_sector}
 use Rattle.cfb_format.specs.Chain.{value}
-use Rattle.cfb_format.specs.DirectoryEntry.{Entry, unallocated_entry}
 use Rattle.cfb_format.specs.Refused.{CountsError}
 use Rattle.cfb_format.proofs.ByteLemmas.{ChangesOnly_refl}
 use Rattle.cfb_sectors.specs.declared.sector.SectorInit.TheVariants.{Dir}
 use Rattle.cfb_tables.specs.Listed.{ends_of, gained, last_or_end}
 use Rattle.cfb_tables.specs.Refused.{ChangeRefused}
 use Rattle.cfb_tables.specs.Tables.{TableState, IsTooFew}
-use Rattle.cfb_alloc.specs.Alloc.{AllocatorState, IsFilled, IsUsable}
+use Rattle.cfb_alloc.specs.Alloc.{IsFilled, IsUsable}
 use Rattle.cfb_alloc.specs.Frame.{Spares}
 use Rattle.cfb_alloc.specs.ListedChain.{Lengthens}
 use Rattle.cfb_alloc.proofs.Frames.{spares-less}
 use Rattle.cfb_alloc.proofs.Spared.{spares_refl}
-use Rattle.cfb_siblings.specs.Laws.{grown_by}
-use Rattle.cfb_entries.specs.EntryList.{EntryList, max_entries}
+use Rattle.cfb_entries.specs.EntryList.{EntryList}
 use Rattle.cfb_directory.specs.Growing.{AreSectorsOf, IsListedChain}
 use Rattle.cfb_directory.specs.State.{directory_of}
 use Rattle.cfb_directory.specs.Steps.{IsNotHeld}

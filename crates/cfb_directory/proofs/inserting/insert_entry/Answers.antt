@@ -1,9 +1,6 @@
-use Rattle.std.proofs.Common.{◌≡◌, ◌≢◌, ◌⊎◌, inl, inr, ℕ, ◌<◌, ◌≤◌, Bool, List, true, false, length, refl, sym, ◌∙◌, ap, subst, arith}
-use Rattle.std.specs.Prelude.{Contains, chars}
+use Rattle.std.proofs.Common.{◌≡◌, ℕ, List, sym, ◌∙◌, ap, subst, arith}
 use Rattle.std.proofs.lemmas.Result.{err_from_is_err_and}
 use Rattle.cfb_format.specs.declared.version.Version.{Version}
-use Rattle.cfb_format.specs.declared.version.Version.TheVariants.{V3, V4}
-use Rattle.cfb_format.specs.Bytes.{word_at}
 use Rattle.cfb_format.specs.DirectoryEntry.{Entry}
 use Rattle.cfb_format.specs.Names.{Cases}
 use Rattle.cfb_tables.specs.Refused.{TableRefused}
@@ -12,13 +9,13 @@ use Rattle.cfb_alloc.specs.ListedChain.{Lengthens}
 use Rattle.cfb_alloc.proofs.Answering.{all_ok, on_ok}
 use Rattle.cfb_alloc.proofs.Spared.{spares_refl}
 use Rattle.cfb_outline.specs.Outlines.{IsReachedStorage}
-use Rattle.cfb_siblings.specs.Children.{HasChildren, KeepsBalance}
+use Rattle.cfb_siblings.specs.Children.{HasChildren}
 use Rattle.cfb_entries.specs.EntryList.{has_free}
 use Rattle.cfb_entries.specs.Insertions.{IsInsertionOf, name_in}
 use Rattle.cfb_directory.specs.Growing.{ArePlaced}
 use Rattle.cfb_directory.specs.Slots.{slot_of}
 use Rattle.cfb_directory.specs.State.{HoldsDirectory, IsFullForEntry, directory_of}
-use Rattle.cfb_directory.specs.Steps.{IsNotHeld, KeepsOtherSlots, KeepsRedApart}
+use Rattle.cfb_directory.specs.Steps.{IsNotHeld}
 use Rattle.cfb_directory.proofs.InsertWhole.{checked-refused, header-word-kept, put-spares, roomy-balance, roomy-children, roomy-insertion, roomy-longer, roomy-reached, roomy-red-apart, roomy-same, same-slot, unplaced-not-held, which-way}
 use Rattle.cfb_directory.proofs.inserting.insert_entry.Goals as goal
 

@@ -1,13 +1,11 @@
-use Rattle.std.proofs.Common.{◌≡◌, inl, inr, ℕ, ◌<◌, ◌≤◌, List, ◌++◌, length, sym, ◌∙◌, ap, subst, arith}
+use Rattle.std.proofs.Common.{◌≡◌, inl, inr, ℕ, List, ◌++◌, sym, subst, arith}
 use Rattle.std.specs.Prelude.{Contains}
 use Rattle.std.proofs.lemmas.List.Elements.{Contains-append_cases, Contains-append_right}
 use Rattle.cfb_format.specs.Chain.{IsChain}
-use Rattle.cfb_sectors.specs.declared.sector.SectorInit.TheVariants.{Dir}
-use Rattle.cfb_tables.specs.Listed.{ends_of, gained, last_or_end}
+use Rattle.cfb_tables.specs.Listed.{last_or_end}
 use Rattle.cfb_tables.specs.Tables.{HasTaken, ending, first_or_end}
 use Rattle.cfb_tables.proofs.ChainLemmas.{members-busy}
 use Rattle.cfb_tables.proofs.ListedLemmas.{gained_is, grown_chain}
-use Rattle.cfb_directory.specs.Growing.{IsListedChain}
 use Rattle.cfb_directory.proofs.inserting.lengthen.Goals as goal
 
 pub returns-clause-chain : goal.returns-clause-chain

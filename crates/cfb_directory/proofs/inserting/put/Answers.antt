@@ -1,19 +1,17 @@
-use Rattle.std.proofs.Common.{◌≡◌, ◌≢◌, ◌⊎◌, inl, inr, ℕ, ◌<◌, ◌≤◌, List, ◌++◌, [], length, map, refl, sym, ◌∙◌, ap, subst, arith, rules}
-use Rattle.std.specs.Prelude.{Contains, Result, Ok, Err, OnOk, string_bytes}
+use Rattle.std.proofs.Common.{◌≡◌, ◌≢◌, ◌⊎◌, inl, inr, ℕ, ◌<◌, ◌≤◌, List, ◌++◌, [], length, sym, ◌∙◌, ap, subst, arith}
+use Rattle.std.specs.Prelude.{Contains, string_bytes}
 use Rattle.std.proofs.lemmas.List.{length-map}
 use Rattle.std.proofs.lemmas.Str.{IsUtf8-string_bytes, scalars-chars}
-use Rattle.cfb_format.specs.declared.validate.Validation.{Validation}
 use Rattle.cfb_format.specs.declared.objtype.ObjType.{ObjType}
 use Rattle.cfb_format.specs.declared.objtype.ObjType.TheVariants.{Unallocated, Storage, Stream}
-use Rattle.cfb_format.specs.DirectoryEntry.{Entry, EntryFits, IsValidEntry}
+use Rattle.cfb_format.specs.DirectoryEntry.{Entry, IsValidEntry}
 use Rattle.cfb_format.specs.Names.{Cases, utf16_units, max_name_len}
 use Rattle.cfb_format.specs.Siblings.{entry_at}
-use Rattle.cfb_codecs.specs.EntryModel.{entry_of, entries_of, new_entry}
-use Rattle.cfb_alloc.specs.Alloc.{AllocatorState, HoldsTables}
+use Rattle.cfb_codecs.specs.EntryModel.{entry_of, entries_of}
 use Rattle.cfb_alloc.proofs.HeldOrder.{members-no_table}
 use Rattle.cfb_entries.specs.Insertions.{name_in}
 use Rattle.cfb_directory.specs.Slots.{ChangesSlots, HoldSlotsBut}
-use Rattle.cfb_directory.specs.State.{HoldsDirectory, directory_of, version_of}
+use Rattle.cfb_directory.specs.State.{HoldsDirectory, directory_of}
 use Rattle.cfb_directory.proofs.InsertLinks.{new-stands}
 use Rattle.cfb_directory.proofs.InsertPut.{late-slots, touched-valid, put-holds, put-keeps, some-touched}
 use Rattle.cfb_directory.proofs.inserting.put.Goals as goal
