@@ -1,5 +1,5 @@
 -- The directory's slots by their places, and the entries in memory (MS-CFB 2.6).
-use Rattle.std.specs.Prelude.{ℕ, ◌≡◌, ◌+◌, ◌*◌, ◌/◌, ◌%◌, ◌<◌, List, length, slice_index, Contains}
+use Rattle.std.specs.Prelude.{ℕ, ◌≡◌, ◌+◌, ◌*◌, ◌/◌, ◌%◌, ◌<◌, ◌≤◌, ◌⊎◌, List, length, slice_index, Contains}
 use Rattle.cfb_format.specs.declared.version.Version.{Version}
 use Rattle.cfb_format.specs.declared.validate.Validation.{Validation}
 use Rattle.cfb_format.specs.Bytes.{entries_per_sector, sector_start}
@@ -24,3 +24,9 @@ pub record HoldSlotsBut (late : List ℕ) (validation : Validation) (version : V
 pub record HavePlaces (version : Version) (sectors : List ℕ) (entries count : ℕ) : Type 0 where
   pub slots : entries ≡ length sectors * entries_per_sector version
   pub within : (i : ℕ) → Contains sectors i → i < count
+
+-- of the bytes those of these slots alone change, and none is lost; what lies past the old end is open
+pub record ChangesSlots (touched : List ℕ) (version : Version) (sectors old new : List ℕ) : Type 0 where
+  pub no_shorter : length old ≤ length new
+  pub others : (i : ℕ) → i < length old → ((k : ℕ) → Contains touched k → (i < slot_place version sectors k) ⊎ (slot_place version sectors k + 128 ≤ i))
+      → slice_index new i ≡ slice_index old i
