@@ -1,8 +1,9 @@
 -- What the calls of a directory change (MS-CFB 2.6).
-use Rattle.std.specs.Prelude.{ℕ, ◌≡◌, ◌≢◌, ◌<◌, ◌×◌, ◌⊎◌, List, true, length, Contains}
+use Rattle.std.specs.Prelude.{ℕ, ◌≡◌, ◌≢◌, ◌<◌, List, true, length, slice_index, Contains}
 use Rattle.cfb_format.specs.declared.error.Error.{Error}
 use Rattle.cfb_format.specs.declared.validate.Validation.{Validation}
 use Rattle.cfb_format.specs.declared.objtype.ObjType.TheVariants.{Unallocated}
+use Rattle.cfb_format.specs.Bytes.{sector_len}
 use Rattle.cfb_format.specs.Refused.{AfterMedium}
 use Rattle.cfb_format.specs.Siblings.{entry_at}
 use Rattle.cfb_siblings.specs.Children.{HasChildren, HasRedApart}
@@ -32,3 +33,7 @@ KeepsSlotsBut number old new = (k : ℕ) → k < length old.entries → k ≢ nu
 abbrev pub KeepsRedApart : DirectoryState → DirectoryState → ℕ → Type 0
 KeepsRedApart old new parent = (list : List ℕ) → HasChildren old.cases old.entries parent list → HasRedApart old.entries parent list
     → (after : List ℕ) × HasChildren new.cases new.entries parent after × HasRedApart new.entries parent after
+
+-- every byte of the header stays, and of what fills the place of a sector behind it
+abbrev pub KeepsWholeHeader : DirectoryState → DirectoryState → Type 0
+KeepsWholeHeader old new = (i : ℕ) → i < length (bytes_of old) → i < sector_len (version_of old) → slice_index (bytes_of new) i ≡ slice_index (bytes_of old) i

@@ -3,6 +3,4 @@
 
 mod changing;
 pub mod directory;
-mod inserting;
-pub mod laws;
 pub mod slots;
