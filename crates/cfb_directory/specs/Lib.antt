@@ -1,4 +1,5 @@
 pub mod Slots
+pub mod SlotLaws
 pub mod State
 pub mod Steps
 pub mod Lending

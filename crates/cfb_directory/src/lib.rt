@@ -3,4 +3,5 @@
 
 mod changing;
 pub mod directory;
+pub mod laws;
 pub mod slots;

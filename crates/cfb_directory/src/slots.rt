@@ -1,14 +1,14 @@
 //! The slots of the directory, by their places in its sectors (MS-CFB 2.6).
-ghost use Rattle.std.specs.Prelude.{◌≡◌, ◌↔◌, ℕ, List, ◌∷◌, [], ◌++◌, ◌+◌, ◌*◌, ◌/◌, ◌<◌, ◌≤◌, true, length, nat_eq, slice_index, Contains, IsTrue, IfErr, OnOk};
-ghost use Rattle.std.specs.List.{IsDistinct};
+ghost use Rattle.std.specs.Prelude.{◌≡◌, ◌↔◌, ℕ, List, ◌∷◌, [], ◌++◌, ◌+◌, ◌*◌, ◌/◌, ◌^◌, ◌<◌, ◌≤◌, true, length, nat_eq, nat_lt, slice_index, Contains, IsTrue, IfErr, OnOk};
+ghost use Rattle.std.specs.List.{IsDistinct, list_all};
 ghost use Rattle.cfb_format.specs.declared.validate.Validation.{Validation};
 ghost use Rattle.cfb_format.specs.Bytes.{entries_per_sector, sector_start};
-ghost use Rattle.cfb_format.specs.DirectoryEntry.{IsValidEntry, entry_bytes};
+ghost use Rattle.cfb_format.specs.DirectoryEntry.{EntryFits, IsValidEntry, entry_bytes};
 ghost use Rattle.cfb_format.specs.Medium.{ChangesOnlyBytes, written};
 ghost use Rattle.cfb_format.specs.Names.{utf16_units, max_name_len};
 ghost use Rattle.cfb_format.specs.Refused.{CountsFailure, HasReason, no_error};
 ghost use Rattle.cfb_format.specs.Siblings.{entry_at};
-ghost use Rattle.cfb_codecs.specs.EntryModel.{entries_of};
+ghost use Rattle.cfb_codecs.specs.EntryModel.{entries_of, entry_of};
 ghost use Rattle.cfb_sectors.specs.Sectors.{IsRaised};
 ghost use Rattle.cfb_alloc.specs.Agreement.{HasSectors};
 ghost use Rattle.cfb_alloc.specs.Alloc.{HoldsTables};
@@ -18,10 +18,12 @@ ghost use Rattle.cfb_directory.specs.Slots.{ChangesSlots, HavePlaces, HoldSlotsB
 
 use cfb_alloc::alloc::Allocator;
 use cfb_codecs::direntry::DirEntry;
+use cfb_codecs::timestamp::Timestamp;
 use cfb_format::consts::DIR_ENTRY_LEN;
 use cfb_format::error::Error;
 use cfb_format::medium::{Medium, ReadMedium};
 use std::alloc::Allocator as Heap;
+use uuid::Uuid;
 
 /// Whether these sectors of the file have a slot for each of so many entries, and no more.
 pub(crate) fn are_placed<F: ReadMedium, A: Heap>(
@@ -32,10 +34,14 @@ pub(crate) fn are_placed<F: ReadMedium, A: Heap>(
     ensures { IsTrue result ↔ HavePlaces allocator.now.tables.version sectors.now entries (length allocator.now.tables.fat) }
 {
     let per = allocator.version().dir_entries_per_sector();
-    let count = allocator.fat().len();
-    entries % per == 0
-        && entries / per == sectors.len()
-        && sectors.iter().all(|sector| (*sector as usize) < count)
+    entries % per == 0 && entries / per == sectors.len() && are_below(sectors, allocator.fat().len())
+}
+
+/// Whether all of these numbers are below this one.
+fn are_below(numbers: &[u32], count: usize) -> bool
+    ensures { result ≡ list_all (λ i. nat_lt i count) numbers.now }
+{
+    numbers.iter().all(|number| (*number as usize) < count)
 }
 
 /// Writes the slot with that index of a sector. `Medium` where the medium fails.
@@ -70,6 +76,31 @@ fn write_slot<F: Medium, A: Heap>(
     allocator.write_contiguous(sector, index * DIR_ENTRY_LEN, slot)
 }
 
+/// A class id has its 16 bytes.
+fn class_id_is_whole(id: Uuid)
+    ensures { length id ≡ 16 }
+{
+    let _bytes = id;
+}
+
+/// A moment is a number of 64 bits.
+fn moment_fits(moment: Timestamp)
+    ensures { moment < 2 ^ 64 }
+{
+    let _units = moment.value();
+}
+
+/// An entry's fields have their widths, and its name is of characters.
+fn entry_fits<A: Heap>(entry: &DirEntry<A>)
+    ensures { EntryFits (entry_of entry.now) }
+{
+    let (_left, _right, _child) = (entry.left_sibling, entry.right_sibling, entry.child);
+    let (_bits, _start, _len) = (entry.state_bits, entry.start_sector, entry.stream_len);
+    class_id_is_whole(entry.clsid);
+    moment_fits(entry.creation_time);
+    moment_fits(entry.modified_time);
+}
+
 /// Writes the slot of an entry, by one write. `Medium` where the medium fails.
 pub(crate) fn write_entry<F: Medium, A: Heap>(
     allocator: &mut Allocator<F, A>,
@@ -102,8 +133,10 @@ pub(crate) fn write_entry<F: Medium, A: Heap>(
     ensures others { IsTrue F.tells → ChangesSlots (number ∷ []) allocator.old.tables.version sectors.now allocator.old.file.bytes allocator.new.file.bytes }
     ensures counts { IsTrue F.tells → CountsFailure F.write_faults result allocator.old.file.failures allocator.new.file.failures }
 {
+    let entry = &entries[number as usize];
+    entry_fits(entry);
     let mut slot = [0; DIR_ENTRY_LEN];
-    entries[number as usize].write_to(&mut slot);
+    entry.write_to(&mut slot);
     let per = allocator.version().dir_entries_per_sector();
     let sector = sectors[number as usize / per];
     write_slot(allocator, sector, number as usize % per, &slot)
