@@ -1,5 +1,5 @@
 -- The list of a directory's slots, and its slots by their places.
-use Rattle.std.proofs.Common.{◌≡◌, ◌≤◌, ◌<◌, ◌+◌, ◌-◌, ◌*◌, ◌/◌, ◌%◌, ◌⊎◌, inl, inr, ℕ, zero, suc, List, [], ◌∷◌, ◌++◌, map, refl, sym, ◌∙◌, ap, subst, length, take, drop, min, arith, mod-lt, length-append, drop-drop}
+use Rattle.std.proofs.Common.{◌≡◌, ◌<◌, ◌+◌, ◌-◌, ◌*◌, ◌/◌, ◌%◌, inl, inr, ℕ, zero, suc, List, [], ◌∷◌, refl, sym, ◌∙◌, ap, subst, length, take, drop, arith, mod-lt, length-append, drop-drop}
 use Rattle.std.specs.Prelude.{slice_index, slice_index_or, flat_map}
 use Rattle.std.specs.List.{AllZip, range_with_len}
 use Rattle.std.proofs.lemmas.Bool.{cases_lt}
@@ -15,7 +15,7 @@ use Rattle.cfb_format.specs.Header.{IfStrict}
 use Rattle.cfb_format.specs.Medium.{part}
 use Rattle.cfb_format.specs.Siblings.{entry_at}
 use Rattle.cfb_alloc.proofs.Listed.{not_in_nil}
-use Rattle.cfb_directory.specs.Slots.{HoldSlotsBut, slot_of}
+use Rattle.cfb_directory.specs.Slots.{slot_of}
 use Rattle.cfb_directory.specs.SlotLaws.{SlotsByPlace, SlotsAtPlaces}
 use Rattle.cfb_directory.proofs.SlotPlaces.{index_fits, some_slots}
 
@@ -116,8 +116,7 @@ by-place validation version bytes sectors entries h =
     let same : length (slots version bytes sectors) ≡ length entries = length-slots version bytes sectors ∙ sym h.count in
     let taken : (k : ℕ) → k < length entries → AcceptsEntry validation version (slice_index_or (slots version bytes sectors) k []) (entry_at entries k) = λ k lt.
     subst (λ (slot : List ℕ). AcceptsEntry validation version slot (entry_at entries k)) (sym (slots-at version bytes sectors k (let n = h.count in omega (arith, lt, n))))
-    (h.each k lt (not_in_nil k)) in
-    (
+    (h.each k lt (not_in_nil k)) in (
       zip-from_at (IsEntry version) [] unallocated_entry (slots version bytes sectors) entries same (λ k lt. (taken k lt).entry),
       strict_zip validation (IsStrictEntry version) (slots version bytes sectors) entries same (λ k lt. (taken k lt).strict),
       same,

@@ -1,5 +1,5 @@
 -- What writes of slots and changes of entries leave of the slots.
-use Rattle.std.proofs.Common.{◌≡◌, ◌≢◌, ◌≤◌, ◌<◌, ◌+◌, ◌-◌, ◌*◌, ◌/◌, ◌%◌, ◌⊎◌, inl, inr, ℕ, List, [], ◌∷◌, ◌++◌, refl, sym, ◌∙◌, ap, subst, length, replicate, arith, mod-lt, length-append}
+use Rattle.std.proofs.Common.{◌≡◌, ◌≢◌, ◌<◌, ◌+◌, ◌-◌, ◌*◌, ◌/◌, ◌%◌, inl, inr, ℕ, List, [], ◌∷◌, ◌++◌, refl, sym, ◌∙◌, ap, subst, length, replicate, arith, mod-lt, length-append}
 use Rattle.std.specs.Prelude.{slice_index, slice_index_or, nat_eq, Contains}
 use Rattle.std.specs.List.{IsDistinct}
 use Rattle.std.proofs.lemmas.Bool.{cases_eq, cases_lt}
@@ -9,9 +9,8 @@ use Rattle.std.proofs.lemmas.List.Elements.{Contains-get_or, Contains-append_lef
 use Rattle.cfb_format.specs.declared.version.Version.{Version}
 use Rattle.cfb_format.specs.declared.version.Version.TheVariants.{V3, V4}
 use Rattle.cfb_format.specs.declared.validate.Validation.{Validation}
-use Rattle.cfb_format.specs.declared.objtype.ObjType.TheVariants.{Unallocated}
 use Rattle.cfb_format.specs.Bytes.{sector_start, entries_per_sector, stream_len_modulus}
-use Rattle.cfb_format.specs.DirectoryEntry.{Entry, EntryFits, IsValidEntry, AcceptsEntry, entry_bytes, unallocated_entry}
+use Rattle.cfb_format.specs.DirectoryEntry.{Entry, AcceptsEntry, entry_bytes, unallocated_entry}
 use Rattle.cfb_format.specs.Medium.{ChangesOnlyBytes, part, written}
 use Rattle.cfb_format.specs.Siblings.{entry_at}
 use Rattle.cfb_format.proofs.ByteLemmas.{part_written, part-written_apart}
@@ -19,7 +18,6 @@ use Rattle.cfb_codecs.specs.declared.direntry.DirEntry.{DirEntry}
 use Rattle.cfb_codecs.specs.EntryModel.{entries_of, entry_of}
 use Rattle.cfb_codecs.proofs.EntryBack.{entry_read_back}
 use Rattle.cfb_alloc.specs.Agreement.{HasSectors}
-use Rattle.cfb_alloc.specs.Alloc.{IsFilled}
 use Rattle.cfb_alloc.proofs.FreshSlots.{fresh-slots}
 use Rattle.cfb_alloc.proofs.Listed.{in_cons, not_in_nil}
 use Rattle.cfb_directory.specs.Slots.{ChangesSlots, HoldSlotsBut, slot_of, slot_place}

@@ -34,7 +34,9 @@ pub(crate) fn are_placed<F: ReadMedium, A: Heap>(
     ensures { IsTrue result ↔ HavePlaces allocator.now.tables.version sectors.now entries (length allocator.now.tables.fat) }
 {
     let per = allocator.version().dir_entries_per_sector();
-    entries % per == 0 && entries / per == sectors.len() && are_below(sectors, allocator.fat().len())
+    entries % per == 0
+        && entries / per == sectors.len()
+        && are_below(sectors, allocator.fat().len())
 }
 
 /// Whether all of these numbers are below this one.

@@ -1,5 +1,4 @@
-use Rattle.std.proofs.Common.{◌≡◌, ◌<◌, ◌≤◌, ◌+◌, ◌++◌, inl, inr, ℕ, suc, List, [], ◌∷◌, drop, length, refl, sym, ◌∙◌, ap, subst, arith, add-one, get_or}
-use Rattle.std.specs.Prelude.{slice_index, Contains}
+use Rattle.std.proofs.Common.{◌≡◌, ◌+◌, ◌++◌, inr, ℕ, List, ◌∷◌, drop, refl, sym, ◌∙◌, ap, subst, arith, add-one, get_or}
 use Rattle.std.proofs.Math.Seq.{drop-cons}
 use Rattle.std.proofs.lemmas.List.{drop_all}
 use Rattle.std.proofs.lemmas.List.Elements.{Contains-get_or}
@@ -13,7 +12,7 @@ use Rattle.cfb_alloc.specs.Agreement.{HasSectors}
 use Rattle.cfb_alloc.specs.InSector.{IsNoTableSector}
 use Rattle.cfb_alloc.proofs.Frames.{spares-then}
 use Rattle.cfb_alloc.proofs.Spared.{spares_refl}
-use Rattle.cfb_directory.specs.Slots.{ChangesSlots, HoldSlotsBut}
+use Rattle.cfb_directory.specs.Slots.{HoldSlotsBut}
 use Rattle.cfb_directory.proofs.SlotWrites.{slots_after, slots_refl}
 use Rattle.cfb_directory.proofs.slots.write_entries.Goals as goal
 
@@ -35,6 +34,11 @@ loop-number-init g c = record {
   counts = λ told. refl;
 }
 
+-- all that a write leaves of a file, over two of them
+kept_after : (c b a : SectorFile) → c ≡ record b { len = c.len; bytes = c.bytes; failures = c.failures; begun = c.begun }
+    → b ≡ record a { len = b.len; bytes = b.bytes; failures = b.failures; begun = b.begun } → c ≡ record a { len = c.len; bytes = c.bytes; failures = c.failures; begun = c.begun }
+kept_after c b a second first = second ∙ ap (λ (f : SectorFile). record f { len = c.len; bytes = c.bytes; failures = c.failures; begun = c.begun }) first
+
 pub loop-number-preserved : goal.loop-number-preserved
 loop-number-preserved g c =
     let a = c.args.allocator.now in
@@ -49,7 +53,7 @@ loop-number-preserved g c =
     let v : b.tables.version ≡ a.tables.version = ap (λ (t : TableState). t.version) inv.tables in
     record {
       tables = e.tables ∙ inv.tables;
-      kept = e.kept ∙ ap (λ (f : SectorFile). record f { len = n.file.len; bytes = n.file.bytes; failures = n.file.failures; begun = n.file.begun }) inv.kept;
+      kept = kept_after n.file b.file a.file e.kept inv.kept;
       begun = (λ was. e.begun, λ some. e.begun);
       holds = λ told validation h other. e.holds told validation (inv.holds told validation h other)
           (λ j m. subst (λ (t : TableState). IsNoTableSector t j) (sym inv.tables) (other j m));

@@ -1,8 +1,8 @@
-use Rattle.std.proofs.Common.{◌≡◌, ◌<◌, ◌≤◌, ◌+◌, ◌*◌, ◌/◌, ◌%◌, inl, inr, ℕ, List, [], ◌∷◌, length, sym, ◌∙◌, ap, subst, arith, mod-lt}
+use Rattle.std.proofs.Common.{◌≡◌, ◌<◌, ◌≤◌, ◌+◌, ◌*◌, ◌/◌, ◌%◌, inl, inr, ℕ, List, [], length, sym, ◌∙◌, ap, subst, arith}
 use Rattle.std.specs.Prelude.{slice_index, Contains}
-use Rattle.std.proofs.lemmas.List.{get_or-map, length-map}
+use Rattle.std.proofs.lemmas.List.{length-map}
 use Rattle.cfb_format.specs.Bytes.{entries_per_sector, sector_start}
-use Rattle.cfb_format.specs.DirectoryEntry.{Entry, AcceptsEntry, EntryFits, entry_bytes, unallocated_entry}
+use Rattle.cfb_format.specs.DirectoryEntry.{Entry, AcceptsEntry, EntryFits, entry_bytes}
 use Rattle.cfb_format.specs.Medium.{ChangesOnlyBytes, written}
 use Rattle.cfb_format.specs.Names.{utf16_units, max_name_len}
 use Rattle.cfb_format.specs.Siblings.{entry_at}
