@@ -1,9 +1,9 @@
 //! A new entry among the children of a storage: it joins red, as a leaf, and recolourings and
 //! rotations settle the rest (MS-CFB 2.6.4).
-ghost use Rattle.std.specs.Prelude.{◌≡◌, ◌≢◌, ℕ, ◌+◌, ◌*◌, ◌<◌, ◌≤◌, length, chars, string_bytes, IfOk, OnOk, OnErr, MatchOption, List, vec_len, vec_capacity, Contains, ◌∷◌, false, true, slice_set};
+ghost use Rattle.std.specs.Prelude.{◌≡◌, ◌≢◌, ℕ, ◌+◌, ◌*◌, ◌<◌, ◌≤◌, length, chars, string_bytes, IfOk, MatchOption, List, vec_len, vec_capacity, Contains, ◌∷◌, false, true, slice_set};
 ghost use Rattle.cfb_codecs.specs.EntryModel.{entry_of};
 ghost use Rattle.cfb_format.specs.Siblings.{entry_at};
-ghost use Rattle.cfb_siblings.specs.Order.{Attached, Joins, KeptBeside, MayJoin};
+ghost use Rattle.cfb_siblings.specs.Order.{Attached, IsPlaceFor, Joins, KeptBeside, MayJoin, steps_of};
 ghost use Rattle.cfb_format.specs.declared.objtype.ObjType.TheVariants.{Unallocated};
 ghost use Rattle.cfb_format.specs.Names.{Cases};
 ghost use Rattle.cfb_siblings.specs.Painted.{Leaf, Node, Painted};
@@ -14,6 +14,7 @@ ghost use Rattle.cfb_siblings.specs.Touched.{IsNear, Tells, Touches, TouchesOnly
 ghost use Rattle.cfb_siblings.specs.Children.{HasChildren, HasRedApart, Inserts, IsAbsent, IsParent, KeepsBalance};
 
 use crate::links::{PathStep, far_side, is_red, join, last_step, links, paint, relink};
+use crate::place::Place;
 use crate::touched::{link_slot, make_room, note};
 use crate::way::way_to;
 use cfb_codecs::direntry::DirEntry;
@@ -149,41 +150,60 @@ fn attach<A: Allocator>(
     rebalance(entries, parent, path, slot, touched);
 }
 
-/// Puts the entry into the slot, which is free, and among the children of the storage `parent`,
-/// none of which has its name (MS-CFB 2.6.4). Links and colour are those that it gets here; all
-/// else of it stays. `touched` becomes the list of the slots whose entries changed, each of them
-/// once.
+/// The place for a new child of that name among the children of the storage `parent`, none of
+/// which has the name (MS-CFB 2.6.4), with all the memory that `insert` asks for.
 ///
-/// It answers `AllocError` where memory for the way down or for `touched` is refused, and no entry
-/// has changed then.
-pub fn insert<A: Allocator>(
+/// It answers `AllocError` where that memory is refused.
+pub fn place_for<A: Allocator + Clone>(
     alloc: A,
     cases: &CaseMapper<A>,
+    entries: &[DirEntry<A>],
+    parent: u32,
+    name: &str,
+) -> Result<Place<A>, AllocError>
+    requires few { length (entries_of entries.now) ≤ NO_STREAM }
+    requires stands { IsParent cases.now (entries_of entries.now) parent }
+    requires absent { (list : List ℕ) → HasChildren cases.now (entries_of entries.now) parent list → IsAbsent cases.now (entries_of entries.now) (chars name.now) list }
+    ensures { IfOk result (λ place. IsPlaceFor cases.now (entries_of entries.now) parent (chars name.now) (steps_of place)) }
+{
+    let mut touched = Vec::new(alloc.clone()?);
+    let (_, path) = way_to(alloc, cases, entries, parent, name)?;
+    make_room(&mut touched, path.len())?;
+    Ok(Place { path, touched })
+}
+
+/// Puts the entry into the slot, which is free, and among the children of the storage `parent`, at
+/// the place for its name (MS-CFB 2.6.4). Links and colour are those that it gets here; all else of
+/// it stays. It answers the list of the slots whose entries changed, each of them once, and takes no
+/// memory but that of the place.
+pub fn insert<A: Allocator>(
     entries: &mut [DirEntry<A>],
     parent: u32,
     slot: u32,
     entry: DirEntry<A>,
-    touched: &mut Vec<u32, A>,
-) -> Result<(), AllocError>
+    place: Place<A>,
+) -> Vec<u32, A>
     requires few { length (entries_of entries.old) ≤ NO_STREAM }
-    requires stands { IsParent cases.now (entries_of entries.old) parent }
     requires slot_in { slot < length entries.old }
     requires beside { slot ≢ parent }
-    requires vacant { (list : List ℕ) → HasChildren cases.now (entries_of entries.old) parent list → Contains list slot → ⊥ }
-    requires absent { (list : List ℕ) → HasChildren cases.now (entries_of entries.old) parent list → IsAbsent cases.now (entries_of entries.old) (chars (string_bytes entry.name)) list }
+    requires vacant { (cases : Cases) × (list : List ℕ) × HasChildren cases (entries_of entries.old) parent list × (Contains list slot → ⊥) }
+    requires placed { (cases : Cases) × IsPlaceFor cases (entries_of entries.old) parent (chars (string_bytes entry.name)) (steps_of place) }
 
-    ensures inserted { OnOk result ((list : List ℕ) → HasChildren cases.now (entries_of entries.old) parent list → Inserts cases.now (entries_of entries.old) (entries_of entries.new) parent slot (entry_of entry) list) }
-    ensures balanced { OnOk result (KeepsBalance (entries_of entries.old) (entries_of entries.new) parent) }
-    ensures red_apart { OnOk result ((list : List ℕ) → HasChildren cases.now (entries_of entries.old) parent list → HasRedApart (entries_of entries.old) parent list
-        → (after : List ℕ) × HasChildren cases.now (entries_of entries.new) parent after × HasRedApart (entries_of entries.new) parent after) }
-    ensures touches { OnOk result (Touches (entries_of entries.old) (entries_of entries.new) touched.new.items) }
-    ensures touches_only { OnOk result ((list : List ℕ) → HasChildren cases.now (entries_of entries.old) parent list → TouchesOnly parent (slot ∷ list) touched.new.items) }
-    ensures refused { OnErr result (entries.new ≡ entries.old) }
+    ensures inserted { (cases : Cases) (list : List ℕ) → IsPlaceFor cases (entries_of entries.old) parent (chars (string_bytes entry.name)) (steps_of place)
+        → HasChildren cases (entries_of entries.old) parent list → Inserts cases (entries_of entries.old) (entries_of entries.new) parent slot (entry_of entry) list }
+    ensures balanced { KeepsBalance (entries_of entries.old) (entries_of entries.new) parent }
+    ensures red_apart { (cases : Cases) (list : List ℕ) → IsPlaceFor cases (entries_of entries.old) parent (chars (string_bytes entry.name)) (steps_of place)
+        → HasChildren cases (entries_of entries.old) parent list → HasRedApart (entries_of entries.old) parent list
+        → (after : List ℕ) × HasChildren cases (entries_of entries.new) parent after × HasRedApart (entries_of entries.new) parent after }
+    ensures touches { Touches (entries_of entries.old) (entries_of entries.new) result.items }
+    ensures touches_only { (cases : Cases) (list : List ℕ) → HasChildren cases (entries_of entries.old) parent list → TouchesOnly parent (slot ∷ list) result.items }
 {
-    let (_, mut path) = way_to(alloc, cases, entries, parent, &entry.name)?;
-    make_room(touched, path.len())?;
-    note(touched, slot);
+    let Place {
+        mut path,
+        mut touched,
+    } = place;
+    note(&mut touched, slot);
     entries[slot as usize] = entry;
-    attach(entries, parent, &mut path, slot, touched);
-    Ok(())
+    attach(entries, parent, &mut path, slot, &mut touched);
+    touched
 }

@@ -1,0 +1,5 @@
+pub mod Distinct
+pub mod FreeSlots
+pub mod Lent
+pub mod Contents
+pub mod Changed

@@ -1,0 +1,39 @@
+use Rattle.std.proofs.Common.{◌≡◌, ap}
+use Rattle.std.specs.Prelude.{chars}
+use Rattle.cfb_codecs.specs.EntryModel.{entries_of}
+use Rattle.cfb_outline.specs.Outlines.{IsReachedStorage}
+use Rattle.cfb_entries.specs.EntryList.{EntryList}
+use Rattle.cfb_entries.proofs.Changed.{removal-in-order, removal-free, on-ok, either-way}
+use Rattle.cfb_entries.proofs.entries.Entries.remove.Goals as goal
+
+pub invariant_of-self : goal.invariant_of-self
+invariant_of-self g c =
+    let s = c.self.inside in
+    let old = entries_of s.list.items in
+    let cases : s.letters ≡ c.args.self.now.cases = ap (λ (e : EntryList). e.cases) c.self.view_is in
+    let entries : entries_of s.list.items ≡ c.args.self.now.entries = ap (λ (e : EntryList). e.entries) c.self.view_is in
+    let reached : IsReachedStorage s.letters (entries_of s.list.items) c.args.parent = rw (cases, entries) c.requires.parent in
+    either-way c.remove_child.result c.remove_child.ensures.removed c.remove_child.ensures.refused
+    (λ (r, listed, colors). (
+      removal-in-order s.letters old (entries_of c.remove_child.new.list.items) c.args.parent (chars c.args.name.now) reached c.self.invariant.0 r,
+      rw listed (removal-free s.letters old (entries_of c.remove_child.new.list.items) c.args.parent (chars c.args.name.now) s.free.items reached c.self.invariant.1 r),
+    ))
+    (λ (list, free). rw (list, free) c.self.invariant)
+
+pub returns-clause-removed : goal.returns-clause-removed
+returns-clause-removed g c =
+    let cases : c.self.inside.letters ≡ c.args.self.now.cases = ap (λ (e : EntryList). e.cases) c.self.view_is in
+    let entries : entries_of c.self.inside.list.items ≡ c.args.self.now.entries = ap (λ (e : EntryList). e.entries) c.self.view_is in
+    on-ok c.remove_child.result (λ (r, listed, colors). (r, colors)) (rw (cases, entries) at c.remove_child.ensures.removed)
+
+pub returns-clause-red_apart : goal.returns-clause-red_apart
+returns-clause-red_apart g c =
+    let entries : entries_of c.self.inside.list.items ≡ c.args.self.now.entries = ap (λ (e : EntryList). e.entries) c.self.view_is in
+    let cases : c.self.inside.letters ≡ c.args.self.now.cases = ap (λ (e : EntryList). e.cases) c.self.view_is in
+    rw cases (rw (cases, entries) at c.remove_child.ensures.red_apart)
+
+pub returns-clause-touches_only : goal.returns-clause-touches_only
+returns-clause-touches_only g c =
+    let cases : c.self.inside.letters ≡ c.args.self.now.cases = ap (λ (e : EntryList). e.cases) c.self.view_is in
+    let entries : entries_of c.self.inside.list.items ≡ c.args.self.now.entries = ap (λ (e : EntryList). e.entries) c.self.view_is in
+    rw (cases, entries) at c.remove_child.ensures.touches_only

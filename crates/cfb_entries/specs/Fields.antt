@@ -1,0 +1,30 @@
+-- The fields of an entry that a change may set: all but its name, its kind and its place in the tree (MS-CFB 2.6.1).
+use Rattle.std.specs.Prelude.{ℕ, List, slice_set}
+use Rattle.cfb_format.specs.DirectoryEntry.{Entry}
+use Rattle.cfb_format.specs.Siblings.{entry_at}
+use Rattle.cfb_entries.specs.declared.fields.Fields.{Fields}
+
+abbrev pub fields_in : Entry → Fields
+fields_in e = record {
+  clsid = e.clsid;
+  state_bits = e.state_bits;
+  creation_time = e.creation_time;
+  modified_time = e.modified_time;
+  start_sector = e.start_sector;
+  stream_len = e.stream_len;
+}
+
+-- the entry with these fields
+abbrev pub with_fields : Entry → Fields → Entry
+with_fields e f = record e {
+  clsid = f.clsid;
+  state_bits = f.state_bits;
+  creation_time = f.creation_time;
+  modified_time = f.modified_time;
+  start_sector = f.start_sector;
+  stream_len = f.stream_len;
+}
+
+-- the entries with these fields in the one of that number
+abbrev pub with_fields_at : List Entry → ℕ → Fields → List Entry
+with_fields_at entries number f = slice_set entries number (with_fields (entry_at entries number) f)

@@ -1,0 +1,4 @@
+pub mod EntryList
+pub mod Fields
+pub mod Insertions
+pub mod Slots

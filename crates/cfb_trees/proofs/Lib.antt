@@ -1,0 +1,12 @@
+pub mod Members
+pub mod Kept
+pub mod Standing
+pub mod Replaced
+pub mod Parents
+pub mod Joined
+pub mod Counts
+pub mod Taken
+pub mod Streams
+pub mod Same
+pub mod Colored
+pub mod Recolored

@@ -1,0 +1,41 @@
+//! What changes of entries keep of a directory's tree. None of these functions does anything: each
+//! has a law as its contract.
+ghost use Rattle.cfb_trees.specs.Changes.{FieldsKeepOutline, GrowthKeepsOutline, InsertionKeepsOutline, InsertionKeepsStreams, RemovalKeepsOutline, RemovalKeepsStreams};
+ghost use Rattle.cfb_trees.specs.Colors.{FieldsKeepColors, GrowthKeepsColors, InsertionKeepsColors, RemovalKeepsColors};
+ghost use Rattle.cfb_trees.specs.Reached.{ReachedIsObject, ReachedIsParent, ReachedIsUsed, ReachedIsWithin, StreamsAreByKind};
+
+/// What the tree reaches is an entry in use: the root, or a storage or a stream below it. Where it
+/// is no stream, it has children in order.
+pub fn reached_entries_are_in_use()
+    ensures within { ReachedIsWithin }
+    ensures used { ReachedIsUsed }
+    ensures object { ReachedIsObject }
+    ensures parent { ReachedIsParent }
+    ensures streams { StreamsAreByKind }
+{}
+
+/// A directory that grew by free slots has its tree and its colours.
+pub fn growth_keeps_the_tree()
+    ensures outline { GrowthKeepsOutline }
+    ensures colors { GrowthKeepsColors }
+{}
+
+/// A directory with other fields of one entry has its tree and its colours.
+pub fn fields_keep_the_tree()
+    ensures outline { FieldsKeepOutline }
+    ensures colors { FieldsKeepColors }
+{}
+
+/// After an insertion among the children of a storage the tree has one object more.
+pub fn insertion_keeps_the_tree()
+    ensures outline { InsertionKeepsOutline }
+    ensures streams { InsertionKeepsStreams }
+    ensures colors { InsertionKeepsColors }
+{}
+
+/// After a removal from the children of a storage the tree has one object less.
+pub fn removal_keeps_the_tree()
+    ensures outline { RemovalKeepsOutline }
+    ensures streams { RemovalKeepsStreams }
+    ensures colors { RemovalKeepsColors }
+{}

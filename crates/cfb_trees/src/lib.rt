@@ -1,0 +1,4 @@
+//! What changes of a directory's entries make of the tree of its storages and streams.
+#![tactic(auto)]
+
+pub mod laws;
