@@ -5,3 +5,4 @@ pub mod DirectoryRefusals
 pub mod Placed
 pub mod Rewritten
 pub mod ChangedFields
+pub mod RemovedEntries

@@ -14,7 +14,8 @@ use Rattle.cfb_format.specs.Siblings.{entry_at}
 use Rattle.cfb_tables.specs.Tables.{TableState, AreSizes, IsTooFew, first_or_end, sizes_of}
 use Rattle.cfb_alloc.specs.Agreement.{HasSectors}
 use Rattle.cfb_alloc.specs.Alloc.{AllocatorState, HoldsTables}
-use Rattle.cfb_entries.specs.EntryList.{EntryList, max_entries, has_free, grown_by}
+use Rattle.cfb_siblings.specs.Laws.{grown_by}
+use Rattle.cfb_entries.specs.EntryList.{EntryList, max_entries, has_free}
 use Rattle.cfb_directory.specs.Slots.{HoldSlotsBut}
 
 -- the sectors of a file with their tables, the directory's sectors in order, the letters by which names are compared, and the entries
@@ -68,7 +69,7 @@ IsFullForEntry d = (has_free d.entries ≡ false)
 
 -- the entries among which a new one is put: where no slot is free, those of one more sector come behind them
 abbrev pub with_room : DirectoryState → List Entry
-with_room d = if has_free d.entries then d.entries else grown_by (entries_per_sector (version_of d)) d.entries
+with_room d = if has_free d.entries then d.entries else grown_by d.entries (entries_per_sector (version_of d))
 
 -- ---- what every call leaves alone
 

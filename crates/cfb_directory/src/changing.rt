@@ -6,7 +6,7 @@ ghost use Rattle.cfb_format.specs.DirectoryEntry.{IsValidEntry};
 ghost use Rattle.cfb_format.specs.Refused.{CountsFailure};
 ghost use Rattle.cfb_format.specs.Siblings.{entry_at};
 ghost use Rattle.cfb_outline.specs.Outlines.{IsReachedStorage};
-ghost use Rattle.cfb_siblings.specs.Children.{HasChildren, IsChildNamed};
+ghost use Rattle.cfb_siblings.specs.Children.{HasChildren, IsChildNamed, KeepsColors};
 ghost use Rattle.cfb_tables.specs.Refused.{ChangeRefused};
 ghost use Rattle.cfb_alloc.specs.Frame.{Spares};
 ghost use Rattle.cfb_entries.specs.declared.fields.Fields.{Fields};
@@ -42,7 +42,7 @@ pub(crate) fn remove_entry<F: Medium, A: Heap + Clone>(
     requires parent { IsReachedStorage entries.old.cases entries.old.entries parent }
     requires there { (list : List ℕ) → HasChildren entries.old.cases entries.old.entries parent list
         → (n : ℕ) × IsChildNamed entries.old.cases entries.old.entries (chars name.now) list n × ((entry_at entries.old.entries n).child ≡ no_stream) }
-    ensures removed { OnOk result (RemovesEntry entries.old.cases entries.old.entries entries.new.entries parent (chars name.now)) }
+    ensures removed { OnOk result ((r : RemovesEntry entries.old.cases entries.old.entries entries.new.entries parent (chars name.now)) × KeepsColors entries.old.entries entries.new.entries r.freed) }
     ensures red_apart { OnOk result (KeepsRedApart (directory_of allocator.old sectors.now entries.old) (directory_of allocator.new sectors.now entries.new) parent) }
     ensures kept { allocator.new.tables ≡ allocator.old.tables }
     ensures holds { IsTrue F.tells → (validation : Validation) → HoldsDirectory validation (directory_of allocator.old sectors.now entries.old)

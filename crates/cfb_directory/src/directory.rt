@@ -10,7 +10,7 @@ ghost use Rattle.cfb_format.specs.Refused.{CountsFailure, IsInvalidOrMemory};
 ghost use Rattle.cfb_format.specs.Siblings.{entry_at};
 ghost use Rattle.cfb_codecs.specs.EntryModel.{entries_of, entry_of};
 ghost use Rattle.cfb_outline.specs.Outlines.{AcceptsOutline, IsReachedStorage};
-ghost use Rattle.cfb_siblings.specs.Children.{HasChildren, IsAbsent, IsChildNamed};
+ghost use Rattle.cfb_siblings.specs.Children.{HasChildren, IsAbsent, IsChildNamed, KeepsColors};
 ghost use Rattle.cfb_siblings.specs.Paths.{number_from};
 ghost use Rattle.cfb_sectors.specs.Sectors.{IsMediumError, IsRaised};
 ghost use Rattle.cfb_tables.specs.Changes.{NoChain};
@@ -219,7 +219,7 @@ impl<F: ReadMedium, A: Heap> Directory<F, A> {
     /// takes no memory.
     pub fn stream_id_for_name_chain(&self, names: &[&str]) -> Option<u32>
         ensures found { (o : Outline) → IsOutline self.now.cases self.now.entries o → result ≡ number_from self.now.cases self.now.entries 0 o (map (λ name. chars name.now) names.now) }
-        ensures reached { IfSome result (λ k. (o : Outline) → IsOutline self.now.cases self.now.entries o → Contains (0 ∷ numbers o) k) }
+        ensures reached { (o : Outline) → IsOutline self.now.cases self.now.entries o → IfSome result (λ k. Contains (0 ∷ numbers o) k) }
     {
         self.entries.find(names)
     }
@@ -229,7 +229,7 @@ impl<F: ReadMedium, A: Heap> Directory<F, A> {
         requires parent { IsReachedStorage self.now.cases self.now.entries parent }
         ensures found { (list : List ℕ) → HasChildren self.now.cases self.now.entries parent list
             → MatchOption result (IsAbsent self.now.cases self.now.entries (chars name.now) list) (λ k. IsChildNamed self.now.cases self.now.entries (chars name.now) list k) }
-        ensures reached { IfSome result (λ k. (o : Outline) → IsOutline self.now.cases self.now.entries o → Contains (numbers o) k) }
+        ensures reached { (o : Outline) → IsOutline self.now.cases self.now.entries o → IfSome result (λ k. Contains (numbers o) k) }
     {
         self.entries.child_named(parent, name)
     }
@@ -259,7 +259,7 @@ impl<F: Medium, A: Heap + Clone> Directory<F, A> {
         requires parent { IsReachedStorage self.old.cases self.old.entries parent }
         requires there { (list : List ℕ) → HasChildren self.old.cases self.old.entries parent list
             → (n : ℕ) × IsChildNamed self.old.cases self.old.entries (chars name.now) list n × ((entry_at self.old.entries n).child ≡ no_stream) }
-        ensures removed { OnOk result (RemovesEntry self.old.cases self.old.entries self.new.entries parent (chars name.now)) }
+        ensures removed { OnOk result ((r : RemovesEntry self.old.cases self.old.entries self.new.entries parent (chars name.now)) × KeepsColors self.old.entries self.new.entries r.freed) }
         ensures red_apart { OnOk result (KeepsRedApart self.old self.new parent) }
         ensures kept { (self.new.sectors ≡ self.old.sectors) × (tables_of self.new ≡ tables_of self.old) }
         ensures holds { IsTrue F.tells → (validation : Validation) → HoldsDirectory validation self.old → OnOk result (HoldsDirectory validation self.new) }

@@ -11,5 +11,5 @@ returns-clause-found g c = subst (λ (d : DirectoryState). (list : List ℕ) →
     c.self.view_is c.child_named.ensures.found
 
 pub returns-clause-reached : goal.returns-clause-reached
-returns-clause-reached g c = subst (λ (d : DirectoryState). IfSome c.child_named.result (λ k. (o : Outline) → IsOutline d.cases d.entries o → Contains (numbers o) k))
+returns-clause-reached g c = subst (λ (d : DirectoryState). (o : Outline) → IsOutline d.cases d.entries o → IfSome c.child_named.result (λ k. Contains (numbers o) k))
     c.self.view_is c.child_named.ensures.reached
