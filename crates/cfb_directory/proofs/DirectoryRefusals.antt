@@ -1,8 +1,9 @@
 -- Which refusals of the layers below are those of the directory.
-use Rattle.std.specs.Prelude.{◌≡◌, Result, Ok, Err, IfErr, true}
+use Rattle.std.specs.Prelude.{◌≡◌, ℕ, Bool, Result, Ok, Err, IfErr, refl}
+use Rattle.cfb_format.specs.declared.medium.MediumFault.{MediumFault}
 use Rattle.cfb_format.specs.declared.error.Error.{Error}
 use Rattle.cfb_format.specs.declared.error.Error.TheVariants.{NotFound, AlreadyExists, InvalidInput, InvalidData, Medium, Memory, Full, Unsound, Failed, Unsupported}
-use Rattle.cfb_format.specs.Refused.{HasReason, IsInvalidOrMemory, AfterMedium, no_error}
+use Rattle.cfb_format.specs.Refused.{HasReason, IsInvalidOrMemory, AfterMedium, CountsError, no_error}
 use Rattle.cfb_tables.specs.Refused.{TableRefused, ChangeRefused}
 
 -- a chain that is refused
@@ -73,3 +74,16 @@ medium_stops begun kept Unsupported r = absurd r
 pub err_map : {T : Type 0} (P Q : Error → Type 0) → ((e : Error) → P e → Q e) → (r : Result T Error) → IfErr r P → IfErr r Q
 err_map P Q f (Ok x) p = tt
 err_map P Q f (Err e) p = f e p
+
+-- nor counts it as a failure
+pub invalid_counts : (can_give : MediumFault → Bool) (n : ℕ) (e : Error) → ChangeRefused Unit ⊥ ⊥ ⊥ e → CountsError can_give n n e
+invalid_counts can_give n (InvalidData d) r = refl
+invalid_counts can_give n Memory r = absurd r
+invalid_counts can_give n (NotFound d) r = absurd r
+invalid_counts can_give n (AlreadyExists d) r = absurd r
+invalid_counts can_give n (InvalidInput d) r = absurd r
+invalid_counts can_give n (Medium g) r = absurd r
+invalid_counts can_give n Full r = absurd r
+invalid_counts can_give n Unsound r = absurd r
+invalid_counts can_give n Failed r = absurd r
+invalid_counts can_give n Unsupported r = absurd r

@@ -6,3 +6,4 @@ pub mod Placed
 pub mod Rewritten
 pub mod ChangedFields
 pub mod RemovedEntries
+pub mod HeldDirectory

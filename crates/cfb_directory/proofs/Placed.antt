@@ -1,5 +1,5 @@
 -- A directory that the bytes hold has its places, and its slots stay where they are not written.
-use Rattle.std.proofs.Common.{◌≡◌, ◌≢◌, ◌≤◌, ◌<◌, ◌+◌, ◌*◌, ◌/◌, ◌%◌, ◌⊎◌, inl, inr, min, ℕ, List, [], ◌∷◌, refl, sym, ◌∙◌, ap, subst, length, arith}
+use Rattle.std.proofs.Common.{◌≡◌, ◌≢◌, ◌≤◌, ◌<◌, ◌+◌, ◌*◌, inl, inr, ℕ, List, [], ◌∷◌, true, refl, sym, ◌∙◌, ap, subst, length, arith}
 use Rattle.std.specs.Prelude.{slice_index, nat_eq, Contains}
 use Rattle.std.specs.List.{IsDistinct}
 use Rattle.std.proofs.lemmas.Grind.{same_number_lists}
@@ -13,6 +13,8 @@ use Rattle.cfb_tables.specs.Tables.{first_or_end}
 use Rattle.cfb_tables.proofs.ChainLemmas.{members-busy}
 use Rattle.cfb_tables.proofs.Members.{Contains-here}
 use Rattle.cfb_alloc.specs.Agreement.{HasSectors}
+use Rattle.cfb_alloc.specs.Alloc.{AllocatorState, HoldsTables}
+use Rattle.cfb_alloc.specs.Frame.{Spares}
 use Rattle.cfb_alloc.specs.InSector.{IsNoTableSector}
 use Rattle.cfb_alloc.proofs.HeldOrder.{members-no_table}
 use Rattle.cfb_directory.specs.Slots.{ChangesSlots, HavePlaces, slot_of, slot_place}
@@ -50,12 +52,35 @@ slot_left touched v sectors old new k once whole changes within lk out =
     let small : i < 128 = omega (arith, lt, lb) in
     part_at new at 128 i small
     ∙ changes.others (at + i) (omega (arith, small, inside)) (λ j m.
-      let lj = within j m in
-      let ne : k ≢ j = λ e. out (subst (Contains touched) (sym e) m) in
-      elim (slots_apart v sectors once k j ne lk lj) [ inl before ↦ inl (omega (arith, before, small)) | inr behind ↦ inr (omega (arith, behind)) ])
+    let lj = within j m in
+    let ne : k ≢ j = λ e. out (subst (Contains touched) (sym e) m) in
+    elim (slots_apart v sectors once k j ne lk lj) [ inl before ↦ inl (omega (arith, before, small)) | inr behind ↦ inr (omega (arith, behind)) ])
     ∙ sym (part_at old at 128 i small))
 
 -- the header lies before all slots
 pub header_left : (touched : List ℕ) (v : Version) (sectors old new : List ℕ) → ChangesSlots touched v sectors old new
     → (i : ℕ) → i < length old → i < sector_len v → slice_index new i ≡ slice_index old i
 header_left touched v sectors old new changes i lt low = changes.others i lt (λ k m. inl (header-outside v sectors i k low))
+
+-- ---- a change that was begun
+
+-- the allocator once a change was begun
+abbrev pub begun_as : AllocatorState → AllocatorState
+begun_as a = record a { file = record a.file { begun = true } }
+
+pub begun_holds : (validation : Validation) (a : AllocatorState) → HoldsTables validation a → HoldsTables validation (begun_as a)
+begun_holds validation a h = record {
+  holds = record { measured = h.holds.measured; listed = h.holds.listed; agrees = h.holds.agrees; strict = h.holds.strict; apart = h.holds.apart };
+  clean = h.clean;
+}
+
+pub begun_spares : (own : List ℕ) (a new : AllocatorState) → Spares own (begun_as a) new → Spares own a new
+begun_spares own a new s = record {
+  same_version = s.same_version;
+  no_shorter = s.no_shorter;
+  values = s.values;
+  kept = s.kept;
+  tables = λ i f. s.tables i (record { busy = f.busy; other = f.other; no_table = f.no_table });
+  sectors = λ i f. s.sectors i (record { busy = f.busy; other = f.other; no_table = f.no_table });
+  header = s.header;
+}

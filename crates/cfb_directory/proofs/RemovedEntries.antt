@@ -1,6 +1,6 @@
 -- Entries can be written after a removal, as before.
 use Rattle.std.proofs.Common.{◌≡◌, ◌≢◌, ◌<◌, ◌≤◌, ◌+◌, ◌^◌, ◌⊎◌, inl, inr, ℕ, zero, suc, List, [], ◌∷◌, ◌++◌, Bool, true, false, refl, sym, ◌∙◌, ap, subst, length, arith, length-append, le-leb}
-use Rattle.std.specs.Prelude.{Contains, IsTrue, nat_eq, slice_index, ◌==◌, ◌||◌}
+use Rattle.std.specs.Prelude.{Contains, IsTrue, nat_eq, slice_index_or, ◌==◌, ◌||◌}
 use Rattle.std.specs.List.{AllZip, IsDistinct}
 use Rattle.std.proofs.lemmas.Bool.{cases_eq, cases_lt}
 use Rattle.std.proofs.lemmas.List.{get_or_past}
@@ -54,7 +54,6 @@ all_taken (x ∷ xs) ys once among short k m =
 
 -- ---- links
 
-
 -- what hangs somewhere has a number that a link may be
 link_at : (es : List Entry) (w : ℕ) (t : SiblingTree) → length es ≤ max_entries → HangsAt es w t → IsTrue (is_entry_link w) × (w < 2 ^ 32)
 link_at es w leaf few h = (subst (λ n. IsTrue (is_entry_link n)) (sym h) refl, omega (arith, h))
@@ -72,9 +71,9 @@ links_in es w (node a i b) few h k m = elim (Contains-append_cases (in_order a) 
   | inl before ↦ links_in es (entry_at es i).left_sibling a few h.3 k before
   | inr rest ↦ elim (Contains-cases i (in_order b) k rest) [
     | inl e ↦ (
-        subst (λ j. IsTrue (is_entry_link (entry_at es j).left_sibling) × ((entry_at es j).left_sibling < 2 ^ 32)) e (link_at es (entry_at es i).left_sibling a few h.3),
-        subst (λ j. IsTrue (is_entry_link (entry_at es j).right_sibling) × ((entry_at es j).right_sibling < 2 ^ 32)) e (link_at es (entry_at es i).right_sibling b few h.4),
-      )
+      subst (λ j. IsTrue (is_entry_link (entry_at es j).left_sibling) × ((entry_at es j).left_sibling < 2 ^ 32)) e (link_at es (entry_at es i).left_sibling a few h.3),
+      subst (λ j. IsTrue (is_entry_link (entry_at es j).right_sibling) × ((entry_at es j).right_sibling < 2 ^ 32)) e (link_at es (entry_at es i).right_sibling b few h.4),
+    )
     | inr behind ↦ links_in es (entry_at es i).right_sibling b few h.4 k behind
   ]
 ]
@@ -89,20 +88,61 @@ allowed_child Root w ne h = h
 
 other_child : (v : Version) (e : Entry) (w : ℕ) → e.obj_type ≢ Stream → IsTrue (is_entry_link w) → w < 2 ^ 32 → EntryFits e × IsValidEntry v e
     → EntryFits (record e { child = w }) × IsValidEntry v (record e { child = w })
-other_child v e w kind link low h = (record h.0 { child = low }, record h.1 { child = allowed_child e.obj_type w kind link })
+other_child v e w kind link low h = (
+  record {
+    name = h.0.name;
+    left_sibling = h.0.left_sibling;
+    right_sibling = h.0.right_sibling;
+    child = low;
+    clsid = h.0.clsid;
+    state_bits = h.0.state_bits;
+    creation_time = h.0.creation_time;
+    modified_time = h.0.modified_time;
+    start_sector = h.0.start_sector;
+    stream_len = h.0.stream_len;
+  },
+  record {
+    name = h.1.name;
+    left_sibling = h.1.left_sibling;
+    right_sibling = h.1.right_sibling;
+    child = allowed_child e.obj_type w kind link;
+    clsid = h.1.clsid;
+    creation_time = h.1.creation_time;
+    modified_time = h.1.modified_time;
+    start_sector = h.1.start_sector;
+    stream_len = h.1.stream_len;
+    len_in_version = h.1.len_in_version;
+  },
+)
 
 other_links : (v : Version) (e now : Entry) → ButLinks e now → IsTrue (is_entry_link now.left_sibling) × (now.left_sibling < 2 ^ 32)
     → IsTrue (is_entry_link now.right_sibling) × (now.right_sibling < 2 ^ 32) → EntryFits e × IsValidEntry v e → EntryFits now × IsValidEntry v now
 other_links v e now same left right h =
-    let as : now ≡ record e { left_sibling = now.left_sibling; right_sibling = now.right_sibling; color = now.color } =
+    let made : now ≡ record e { left_sibling = now.left_sibling; right_sibling = now.right_sibling; color = now.color } =
     ap (λ (x : Entry). record x { left_sibling = now.left_sibling; right_sibling = now.right_sibling; color = now.color }) same in (
-      subst EntryFits (sym as) (record {
-        name = h.0.name; left_sibling = left.1; right_sibling = right.1; child = h.0.child; clsid = h.0.clsid; state_bits = h.0.state_bits;
-        creation_time = h.0.creation_time; modified_time = h.0.modified_time; start_sector = h.0.start_sector; stream_len = h.0.stream_len;
+      subst EntryFits (sym made) (record {
+        name = h.0.name;
+        left_sibling = left.1;
+        right_sibling = right.1;
+        child = h.0.child;
+        clsid = h.0.clsid;
+        state_bits = h.0.state_bits;
+        creation_time = h.0.creation_time;
+        modified_time = h.0.modified_time;
+        start_sector = h.0.start_sector;
+        stream_len = h.0.stream_len;
       }),
-      subst (IsValidEntry v) (sym as) (record {
-        name = h.1.name; left_sibling = left.0; right_sibling = right.0; child = h.1.child; clsid = h.1.clsid;
-        creation_time = h.1.creation_time; modified_time = h.1.modified_time; start_sector = h.1.start_sector; stream_len = h.1.stream_len; len_in_version = h.1.len_in_version;
+      subst (IsValidEntry v) (sym made) (record {
+        name = h.1.name;
+        left_sibling = left.0;
+        right_sibling = right.0;
+        child = h.1.child;
+        clsid = h.1.clsid;
+        creation_time = h.1.creation_time;
+        modified_time = h.1.modified_time;
+        start_sector = h.1.start_sector;
+        stream_len = h.1.stream_len;
+        len_in_version = h.1.len_in_version;
       }),
     )
 
@@ -120,12 +160,28 @@ cases_used Root = inr (λ e. cc)
 
 unallocated_valid : (v : Version) → IsValidEntry v unallocated_entry
 unallocated_valid V3 = record {
-  name = refl; left_sibling = refl; right_sibling = refl; child = refl; clsid = refl;
-  creation_time = refl; modified_time = refl; start_sector = refl; stream_len = refl; len_in_version = omega arith;
+  name = refl;
+  left_sibling = refl;
+  right_sibling = refl;
+  child = refl;
+  clsid = refl;
+  creation_time = refl;
+  modified_time = refl;
+  start_sector = refl;
+  stream_len = refl;
+  len_in_version = omega arith;
 }
 unallocated_valid V4 = record {
-  name = refl; left_sibling = refl; right_sibling = refl; child = refl; clsid = refl;
-  creation_time = refl; modified_time = refl; start_sector = refl; stream_len = refl; len_in_version = omega arith;
+  name = refl;
+  left_sibling = refl;
+  right_sibling = refl;
+  child = refl;
+  clsid = refl;
+  creation_time = refl;
+  modified_time = refl;
+  start_sector = refl;
+  stream_len = refl;
+  len_in_version = omega arith;
 }
 
 -- ---- the removal
@@ -156,15 +212,15 @@ module _ (v : Version) (cases : Cases) (old new : List Entry) (parent n freed : 
   child_was : (k : ℕ) → Contains list k → (j : ℕ) × Contains (xs ++ n ∷ ys) j × ButLinks (entry_at old j) (entry_at new k)
   child_was k m =
       let zip = zip-length (λ i j. ButLinks (entry_at old i) (entry_at new j)) 0 0 (xs ++ ys) list r.siblings_kept in
-      let at = zip-at (λ i j. ButLinks (entry_at old i) (entry_at new j)) 0 0 (xs ++ ys) list m.0 r.siblings_kept m.1 in
+      let at = zip-at (λ i j. ButLinks (entry_at old i) (entry_at new j)) 0 k (xs ++ ys) list m.0 r.siblings_kept m.1 in
       let inside = m.1 in
       let was = Contains-get_or (xs ++ ys) m.0 0 (omega (arith, inside, zip)) in (
-        slice_index (xs ++ ys) m.0,
+        slice_index_or (xs ++ ys) m.0 0,
         elim (Contains-append_cases xs ys _ was) [
           | inl front ↦ Contains-append_left xs (n ∷ ys) _ front
           | inr back ↦ Contains-append_right xs (n ∷ ys) _ (Contains-there n ys _ back)
         ],
-        subst (λ w. ButLinks (entry_at old (slice_index (xs ++ ys) m.0)) (entry_at new w)) m.2 at,
+        subst (λ w. ButLinks (entry_at old (slice_index_or (xs ++ ys) m.0 0)) (entry_at new w)) m.2 at,
       )
 
   parent_now : (entry_at new parent).obj_type ≢ Unallocated → EntryFits (entry_at new parent) × IsValidEntry v (entry_at new parent)

@@ -2,4 +2,5 @@ pub mod Slots
 pub mod SlotLaws
 pub mod State
 pub mod Steps
+pub mod HeldLaws
 pub mod Lending

@@ -15,7 +15,7 @@ ghost use Rattle.cfb_entries.specs.Fields.{fields_in, with_fields, with_fields_a
 ghost use Rattle.cfb_directory.specs.State.{HoldsDirectory, KeepsLimits, directory_of};
 ghost use Rattle.cfb_directory.specs.Steps.{IsNotHeld, KeepsOtherSlots, KeepsRedApart, KeepsSlotsBut, KeepsWholeHeader, StopsShort};
 
-use crate::slots::{are_placed, write_entries, write_entry};
+use crate::slots::{are_placed, numbered_entry_fits, write_entries, write_entry};
 use cfb_alloc::alloc::Allocator;
 use cfb_entries::entries::Entries;
 use cfb_entries::fields::Fields;
@@ -101,5 +101,7 @@ pub(crate) fn change_fields<F: Medium, A: Heap, W: FnOnce(Fields) -> Fields>(
         return Err(unplaced(count));
     }
     entries.set_fields(number, change);
-    write_entry(allocator, sectors, entries.list(), number)
+    let list = entries.list();
+    numbered_entry_fits(list, number);
+    write_entry(allocator, sectors, list, number)
 }

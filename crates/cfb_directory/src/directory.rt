@@ -272,7 +272,14 @@ impl<F: Medium, A: Heap + Clone> Directory<F, A> {
         ensures err { IfErr result (ChangeRefused (IsNotHeld self.old) Unit ⊥ Unit) }
         ensures counts { IsTrue F.tells → CountsFailure F.write_faults result self.old.table.file.failures self.new.table.file.failures }
     {
-        remove_entry(&mut self.allocator, &self.sectors, &mut self.entries, &self.heap, parent, name)
+        remove_entry(
+            &mut self.allocator,
+            &self.sectors,
+            &mut self.entries,
+            &self.heap,
+            parent,
+            name,
+        )
     }
 }
 
@@ -308,7 +315,13 @@ impl<F: Medium, A: Heap> Directory<F, A> {
         ensures err { IfErr result (ChangeRefused (IsNotHeld self.old) ⊥ ⊥ Unit) }
         ensures counts { IsTrue F.tells → CountsFailure F.write_faults result self.old.table.file.failures self.new.table.file.failures }
     {
-        change_fields(&mut self.allocator, &self.sectors, &mut self.entries, number, change)
+        change_fields(
+            &mut self.allocator,
+            &self.sectors,
+            &mut self.entries,
+            number,
+            change,
+        )
     }
 
     /// The same of the root, which is entry 0 (MS-CFB 2.6.2).

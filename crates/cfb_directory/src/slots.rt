@@ -103,6 +103,14 @@ fn entry_fits<A: Heap>(entry: &DirEntry<A>)
     moment_fits(entry.modified_time);
 }
 
+/// The fields of the entry of that number have their widths, and its name is of characters.
+pub(crate) fn numbered_entry_fits<A: Heap>(entries: &[DirEntry<A>], number: u32)
+    requires { number < length entries.now }
+    ensures { EntryFits (entry_at (entries_of entries.now) number) }
+{
+    entry_fits(&entries[number as usize]);
+}
+
 /// Writes the slot of an entry, by one write. `Medium` where the medium fails.
 pub(crate) fn write_entry<F: Medium, A: Heap>(
     allocator: &mut Allocator<F, A>,
@@ -131,7 +139,6 @@ pub(crate) fn write_entry<F: Medium, A: Heap>(
         → IsValidEntry allocator.old.tables.version (entry_at (entries_of entries.now) number)
         → HasSectors allocator.old.tables.version allocator.old.file.bytes sectors.now → IsDistinct nat_eq sectors.now
         → OnOk result (HoldSlotsBut late validation allocator.old.tables.version allocator.new.file.bytes sectors.now (entries_of entries.now)) }
-    ensures fits { EntryFits (entry_at (entries_of entries.now) number) }
     ensures spares { IsTrue F.tells → Spares sectors.now allocator.old allocator.new }
     ensures others { IsTrue F.tells → ChangesSlots (number ∷ []) allocator.old.tables.version sectors.now allocator.old.file.bytes allocator.new.file.bytes }
     ensures counts { IsTrue F.tells → CountsFailure F.write_faults result allocator.old.file.failures allocator.new.file.failures }

@@ -38,19 +38,19 @@ returns-then-not-are_placed-clause-err g c =
 
 pub write_entry-requires-clause-name : goal.write_entry-requires-clause-name
 write_entry-requires-clause-name g c =
-    let same = c.list.ensures.list in
+    let same = c.list-list.ensures.list in
     let inside = c.requires.inside in
     let changed = c.set_fields.ensures.changed in
     let long = ap (λ (es : List Entry). length es) changed.2 ∙ changed_length c.args.entries.now.entries c.args.number changed.0 in
-    subst (λ (es : List Entry). length (utf16_units (entry_at es c.args.number).name) ≤ max_name_len) (sym same) (c.list.ensures.in_order.names c.args.number (omega (arith, inside, long)))
+    subst (λ (es : List Entry). length (utf16_units (entry_at es c.args.number).name) ≤ max_name_len) (sym same) (c.list-list.ensures.in_order.names c.args.number (omega (arith, inside, long)))
 
 pub write_entry-requires-clause-places : goal.write_entry-requires-clause-places
 write_entry-requires-clause-places g c =
     let before : length c.list-count.result.now ≡ length c.args.entries.now.entries =
     sym (length-map c.list-count.result.now entry_of) ∙ ap (λ (es : List Entry). length es) c.list-count.ensures.list in
     let changed = c.set_fields.ensures.changed in
-    let after : length c.list.result.now ≡ length c.args.entries.now.entries =
-    sym (length-map c.list.result.now entry_of) ∙ ap (λ (es : List Entry). length es) (c.list.ensures.list ∙ changed.2) ∙ changed_length c.args.entries.now.entries c.args.number changed.0 in
+    let after : length c.list-list.result.now ≡ length c.args.entries.now.entries =
+    sym (length-map c.list-list.result.now entry_of) ∙ ap (λ (es : List Entry). length es) (c.list-list.ensures.list ∙ changed.2) ∙ changed_length c.args.entries.now.entries c.args.number changed.0 in
     subst (λ n. HavePlaces c.args.allocator.now.tables.version c.args.sectors.now n (length c.args.allocator.now.tables.fat)) (before ∙ sym after)
     (c.are_placed.ensures.0 c.if-not-are_placed.false)
 
@@ -65,7 +65,7 @@ returns-clause-holds g c told validation h valid =
     let sectors = c.args.sectors.now in
     let old = c.args.entries.now.entries in
     let new = c.set_fields.new.self.entries in
-    let same = c.list.ensures.list in
+    let same = c.list-list.ensures.list in
     let changed = c.set_fields.ensures.changed in
     let inside = c.requires.inside in
     let long : length new ≡ length old = ap (λ (es : List Entry). length es) changed.2 ∙ changed_length old n changed.0 in
@@ -73,7 +73,7 @@ returns-clause-holds g c told validation h valid =
     let beside : (k : ℕ) → k ≢ n → entry_at new k ≡ entry_at old k = λ k ne. ap (λ (es : List Entry). entry_at es k) changed.2 ∙ changed_beside old n changed.0 k ne in
     let here : entry_at new n ≡ with_fields (entry_at old n) changed.0 = ap (λ (es : List Entry). entry_at es n) changed.2 ∙ changed_here old n changed.0 inside in
     let good : IsValidEntry v (entry_at new n) = subst (IsValidEntry v) (sym here) (valid changed.0 changed.1) in
-    let fits : EntryFits (entry_at new n) = subst (λ (es : List Entry). EntryFits (entry_at es n)) same c.write_entry.ensures.fits in
+    let fits : EntryFits (entry_at new n) = subst (λ (es : List Entry). EntryFits (entry_at es n)) same c.numbered_entry_fits.ensures in
     let late : HoldSlotsBut (n ∷ []) validation v a.file.bytes sectors new = entries-stay (n ∷ []) [] validation v a.file.bytes sectors old new h.slots long told_at in
     let slots = c.write_entry.ensures.slots told validation [] (subst (HoldSlotsBut (n ∷ []) validation v a.file.bytes sectors) (sym same) late)
     (subst (λ (es : List Entry). IsValidEntry v (entry_at es n)) (sym same) good) h.whole h.chain.distinct in

@@ -89,7 +89,3 @@ returns-clause-others g c told =
     one_slot a.tables.version sectors a.file.bytes c.write_slot.new.allocator.file.bytes k
     (subst (λ n. ChangesOnlyBytes (sector_start a.tables.version (slice_index sectors (k / n)) + k % n * 128) 128 a.file.bytes c.write_slot.new.allocator.file.bytes) per
     (c.write_slot.ensures.others told))
-
-pub returns-clause-fits : goal.returns-clause-fits
-returns-clause-fits g c =
-    subst (λ (e : Entry). EntryFits e) (sym (kept_entry c.args.entries.now c.args.number c.index-entries-number.result c.requires.inside c.index-entries-number.is)) c.entry_fits.ensures

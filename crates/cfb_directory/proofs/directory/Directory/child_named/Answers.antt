@@ -7,7 +7,7 @@ use Rattle.cfb_directory.proofs.directory.Directory.child_named.Goals as goal
 
 pub returns-clause-found : goal.returns-clause-found
 returns-clause-found g c = subst (λ (d : DirectoryState). (list : List ℕ) → HasChildren d.cases d.entries c.args.parent list
-        → MatchOption c.child_named.result (IsAbsent d.cases d.entries (chars c.args.name.now) list) (λ k. IsChildNamed d.cases d.entries (chars c.args.name.now) list k))
+    → MatchOption c.child_named.result (IsAbsent d.cases d.entries (chars c.args.name.now) list) (λ k. IsChildNamed d.cases d.entries (chars c.args.name.now) list k))
     c.self.view_is c.child_named.ensures.found
 
 pub returns-clause-reached : goal.returns-clause-reached
