@@ -103,6 +103,14 @@ fn entry_fits<A: Heap>(entry: &DirEntry<A>)
     moment_fits(entry.modified_time);
 }
 
+/// The fields of the entry of that number have their widths, and its name is of characters.
+pub(crate) fn numbered_entry_fits<A: Heap>(entries: &[DirEntry<A>], number: u32)
+    requires { number < length entries.now }
+    ensures { EntryFits (entry_at (entries_of entries.now) number) }
+{
+    entry_fits(&entries[number as usize]);
+}
+
 /// Writes the slot of an entry, by one write. `Medium` where the medium fails.
 pub(crate) fn write_entry<F: Medium, A: Heap>(
     allocator: &mut Allocator<F, A>,
