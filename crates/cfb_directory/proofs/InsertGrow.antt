@@ -47,6 +47,7 @@ use Rattle.cfb_directory.specs.Slots.{HavePlaces, HoldSlotsBut, slot_of}
 use Rattle.cfb_directory.specs.State.{AreWritable, DirectoryState, HoldsDirectory, IsKeptHeaderByte, bytes_of, tables_of, version_of}
 use Rattle.cfb_directory.proofs.SlotPlaces.{slot_stays}
 use Rattle.cfb_directory.proofs.SlotWrites.{fresh-held, slots-stay}
+use Rattle.cfb_directory.proofs.Placed.{header_there}
 use Rattle.cfb_directory.proofs.InsertLinks.{used-inside}
 
 -- ---- lists
@@ -128,17 +129,6 @@ strict-after Permissive v old new same h = tt
 strict-after Strict V3 old new same h = same refl ∙ h
 strict-after Strict V4 old new same h = tt
 
-pub first-sector : (validation : Validation) (d : DirectoryState) → HoldsDirectory validation d → 512 ≤ length (bytes_of d)
-first-sector validation d held = there (version_of d) (bytes_of d) d.sectors held.some held.whole
-  where
-    past : (v : Version) (x : ℕ) (bytes : List ℕ) → sector_start v x + sector_len v ≤ length bytes → 512 ≤ length bytes
-    past V3 x bytes h = omega arith
-    past V4 x bytes h = omega arith
-
-    there : (v : Version) (bytes list : List ℕ) → list ≢ [] → HasSectors v bytes list → 512 ≤ length bytes
-    there v bytes [] some whole = absurd (some refl)
-    there v bytes (x ∷ xs) some whole = past v x bytes (whole x (0, omega arith, refl))
-
 first-stays : (before : List ℕ) (x : ℕ) → before ≢ [] → first_or_end (before ++ x ∷ []) ≡ first_or_end before
 first-stays [] x some = absurd (some refl)
 first-stays (y ∷ ys) x some = refl
@@ -196,7 +186,7 @@ module _ (validation : Validation) (old new : DirectoryState) (b : AllocatorStat
 
   pub grown-holds : HoldsDirectory validation new
   grown-holds =
-      let long = first-sector validation old held in
+      let long = (header_there w (bytes_of old) old.sectors held.some held.whole).0 in
       let v_new = sym version-same in
       record {
         tables = holds;

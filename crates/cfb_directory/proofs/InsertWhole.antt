@@ -13,8 +13,7 @@ use Rattle.cfb_format.specs.Medium.{part}
 use Rattle.cfb_format.specs.Siblings.{Balanced, entry_at}
 use Rattle.cfb_sectors.proofs.WordLemmas.{word_stays}
 use Rattle.cfb_tables.specs.Refused.{ChangeRefused, TableRefused}
-use Rattle.cfb_tables.specs.Tables.{TableState, first_or_end}
-use Rattle.cfb_tables.proofs.ChainLemmas.{members-busy}
+use Rattle.cfb_tables.specs.Tables.{TableState}
 use Rattle.cfb_tables.proofs.Members.{first_of_three}
 use Rattle.cfb_alloc.specs.Alloc.{AllocatorState}
 use Rattle.cfb_alloc.specs.Frame.{Spares}
@@ -30,9 +29,10 @@ use Rattle.cfb_entries.specs.Insertions.{IsInsertionOf}
 use Rattle.cfb_entries.proofs.Contents.{insertion-stays, reached-stays}
 use Rattle.cfb_directory.specs.Growing.{ArePlaced}
 use Rattle.cfb_directory.specs.Slots.{slot_of}
-use Rattle.cfb_directory.specs.State.{DirectoryState, tables_of, version_of, with_room}
+use Rattle.cfb_directory.specs.State.{DirectoryState, version_of, with_room}
 use Rattle.cfb_directory.specs.Steps.{IsNotHeld}
 use Rattle.cfb_directory.proofs.SlotPlaces.{slot_sector}
+use Rattle.cfb_directory.proofs.Placed.{held_places}
 use Rattle.cfb_directory.proofs.InsertGrow.{one-gained}
 
 -- ---- entries with room
@@ -103,10 +103,7 @@ same-slot before after old new v bytes n k (inr h) count lt =
 
 -- a directory that is held has its places
 pub unplaced-not-held : (d : DirectoryState) → (ArePlaced d → ⊥) → IsNotHeld d
-unplaced-not-held d none validation held = none (record {
-  slots = held.slots.count;
-  within = λ i m. (members-busy (tables_of d).fat (first_or_end d.sectors) d.sectors held.chain i m).1;
-})
+unplaced-not-held d none validation held = none (held_places validation d held)
 
 pub checked-refused : (P Q F : Type 0) (M : Type 0) → (P → Q) → (e : Error) → TableRefused P ⊥ F e → ChangeRefused Q M F (Unit {0}) e
 checked-refused P Q F M f (NotFound d) h = h

@@ -5,13 +5,13 @@ use Rattle.std.proofs.lemmas.Str.{IsUtf8-string_bytes, scalars-chars}
 use Rattle.cfb_format.specs.declared.objtype.ObjType.{ObjType}
 use Rattle.cfb_format.specs.declared.objtype.ObjType.TheVariants.{Unallocated, Storage, Stream}
 use Rattle.cfb_format.specs.DirectoryEntry.{Entry, IsValidEntry}
-use Rattle.cfb_format.specs.Names.{Cases, utf16_units, max_name_len}
+use Rattle.cfb_format.specs.Names.{utf16_units, max_name_len}
 use Rattle.cfb_format.specs.Siblings.{entry_at}
 use Rattle.cfb_codecs.specs.EntryModel.{entry_of, entries_of}
 use Rattle.cfb_alloc.proofs.HeldOrder.{members-no_table}
 use Rattle.cfb_entries.specs.Insertions.{name_in}
 use Rattle.cfb_directory.specs.Slots.{ChangesSlots, HoldSlotsBut}
-use Rattle.cfb_directory.specs.State.{HoldsDirectory, directory_of}
+use Rattle.cfb_directory.specs.State.{directory_of}
 use Rattle.cfb_directory.proofs.InsertLinks.{new-stands}
 use Rattle.cfb_directory.proofs.InsertPut.{late-slots, touched-valid, put-holds, put-keeps, some-touched}
 use Rattle.cfb_directory.proofs.inserting.put.Goals as goal
@@ -73,6 +73,5 @@ returns-clause-holds g c told validation held =
     let slots = subst (λ (es : List Entry). HoldSlotsBut [] validation v c.write_entries.new.allocator.file.bytes c.args.sectors.now es) c.list.ensures.list
     (c.in_ok-write_entries.ensures.slots told validation [] late' valid' held.whole held.chain.distinct) in
     let holds = c.in_ok-write_entries.ensures.holds told validation held.tables (members-no_table validation c.args.allocator.now _ c.args.sectors.now held.tables held.chain) in
-    subst (λ (cs : Cases). HoldsDirectory validation (record { table = c.write_entries.new.allocator; sectors = c.args.sectors.now; cases = cs; entries = entries })) (sym c.insert-number.ensures.cases)
-    (put-holds d entries c.args.parent _ _ touched c.requires.parent c.insert-number.ensures.inserted c.insert-number.ensures.touches c.insert-number.ensures.touches_only validation held stands
-    c.write_entries.new.allocator c.write_entries.ensures.tables holds slots change)
+    put-holds d entries c.args.parent _ _ touched c.requires.parent c.insert-number.ensures.inserted c.insert-number.ensures.touches c.insert-number.ensures.touches_only validation held stands
+    c.write_entries.new.allocator c.insert-number.new.self.cases c.write_entries.ensures.tables holds slots change
