@@ -1,0 +1,13 @@
+pub mod SlotPlaces
+pub mod SlotLists
+pub mod SlotWrites
+pub mod DirectoryRefusals
+pub mod Placed
+pub mod Rewritten
+pub mod ChangedFields
+pub mod RemovedEntries
+pub mod HeldDirectory
+pub mod InsertLinks
+pub mod InsertGrow
+pub mod InsertPut
+pub mod InsertWhole

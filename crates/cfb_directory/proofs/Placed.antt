@@ -1,0 +1,86 @@
+-- A directory that the bytes hold has its places, and its slots stay where they are not written.
+use Rattle.std.proofs.Common.{◌≡◌, ◌≢◌, ◌≤◌, ◌<◌, ◌+◌, ◌*◌, inl, inr, ℕ, List, [], ◌∷◌, true, refl, sym, ◌∙◌, ap, subst, length, arith}
+use Rattle.std.specs.Prelude.{slice_index, nat_eq, Contains}
+use Rattle.std.specs.List.{IsDistinct}
+use Rattle.std.proofs.lemmas.Grind.{same_number_lists}
+use Rattle.cfb_format.specs.declared.version.Version.{Version}
+use Rattle.cfb_format.specs.declared.version.Version.TheVariants.{V3, V4}
+use Rattle.cfb_format.specs.declared.validate.Validation.{Validation}
+use Rattle.cfb_format.specs.Bytes.{sector_len, sector_start, entries_per_sector}
+use Rattle.cfb_format.specs.Medium.{part}
+use Rattle.cfb_format.proofs.ByteLemmas.{part_at, length-part}
+use Rattle.cfb_tables.specs.Tables.{first_or_end}
+use Rattle.cfb_tables.proofs.ChainLemmas.{members-busy}
+use Rattle.cfb_tables.proofs.Members.{Contains-here}
+use Rattle.cfb_alloc.specs.Agreement.{HasSectors}
+use Rattle.cfb_alloc.specs.Alloc.{AllocatorState, HoldsTables}
+use Rattle.cfb_alloc.specs.Frame.{Spares}
+use Rattle.cfb_alloc.specs.InSector.{IsNoTableSector}
+use Rattle.cfb_alloc.proofs.HeldOrder.{members-no_table}
+use Rattle.cfb_directory.specs.Slots.{ChangesSlots, HavePlaces, slot_of, slot_place}
+use Rattle.cfb_directory.specs.State.{DirectoryState, HoldsDirectory, version_of, bytes_of, tables_of}
+use Rattle.cfb_directory.proofs.SlotPlaces.{header-outside, slot_inside, slots_apart}
+
+-- its sectors have a slot for each entry
+pub held_places : (validation : Validation) (d : DirectoryState) → HoldsDirectory validation d → HavePlaces (version_of d) d.sectors (length d.entries) (length (tables_of d).fat)
+held_places validation d h = record {
+  slots = h.slots.count;
+  within = λ i m. (members-busy (tables_of d).fat (first_or_end d.sectors) d.sectors h.chain i m).1;
+}
+
+-- none of them holds the tables
+pub held_no_tables : (validation : Validation) (d : DirectoryState) → HoldsDirectory validation d → (i : ℕ) → Contains d.sectors i → IsNoTableSector (tables_of d) i
+held_no_tables validation d h = members-no_table validation d.table (first_or_end d.sectors) d.sectors h.tables h.chain
+
+-- a file with a sector has its header
+pub header_there : (v : Version) (bytes list : List ℕ) → list ≢ [] → HasSectors v bytes list → (512 ≤ length bytes) × (sector_len v ≤ length bytes)
+header_there v bytes [] some whole = absurd (some refl)
+header_there V3 bytes (x ∷ list) some whole = let w : (x + 1) * 512 + 512 ≤ length bytes = whole x (Contains-here x list) in (omega (arith, w), omega (arith, w))
+header_there V4 bytes (x ∷ list) some whole = let w : (x + 1) * 4096 + 4096 ≤ length bytes = whole x (Contains-here x list) in (omega (arith, w), omega (arith, w))
+
+-- a slot that is none of those written
+pub slot_left : (touched : List ℕ) (v : Version) (sectors old new : List ℕ) (k : ℕ) → IsDistinct nat_eq sectors → HasSectors v old sectors
+    → ChangesSlots touched v sectors old new → ((j : ℕ) → Contains touched j → j < length sectors * entries_per_sector v)
+    → k < length sectors * entries_per_sector v → (Contains touched k → ⊥) → slot_of v new sectors k ≡ slot_of v old sectors k
+slot_left touched v sectors old new k once whole changes within lk out =
+    let at = slot_place v sectors k in
+    let inside : at + 128 ≤ length old = slot_inside v old sectors k whole lk in
+    let longer = changes.no_shorter in
+    let la = length-part old at 128 in
+    let lb = length-part new at 128 in
+    same_number_lists (part new at 128) (part old at 128) (omega (arith, la, lb, longer, inside)) (λ i lt.
+    let small : i < 128 = omega (arith, lt, lb) in
+    part_at new at 128 i small
+    ∙ changes.others (at + i) (omega (arith, small, inside)) (λ j m.
+    let lj = within j m in
+    let ne : k ≢ j = λ e. out (subst (Contains touched) (sym e) m) in
+    elim (slots_apart v sectors once k j ne lk lj) [ inl before ↦ inl (omega (arith, before, small)) | inr behind ↦ inr (omega (arith, behind)) ])
+    ∙ sym (part_at old at 128 i small))
+
+-- the header lies before all slots
+pub header_left : (touched : List ℕ) (v : Version) (sectors old new : List ℕ) → ChangesSlots touched v sectors old new
+    → (i : ℕ) → i < length old → i < sector_len v → slice_index new i ≡ slice_index old i
+header_left touched v sectors old new changes i lt low = changes.others i lt (λ k m. inl (header-outside v sectors i k low))
+
+-- ---- a change that was begun
+
+-- the allocator once a change was begun
+abbrev pub begun_as : AllocatorState → AllocatorState
+begun_as a = record a { file = record a.file { begun = true } }
+
+pub begun_holds : (validation : Validation) (a : AllocatorState) → HoldsTables validation a → HoldsTables validation (begun_as a)
+begun_holds validation a h = record {
+  holds = record { measured = h.holds.measured; listed = h.holds.listed; agrees = h.holds.agrees; strict = h.holds.strict; apart = h.holds.apart };
+  clean = h.clean;
+}
+
+pub begun_spares : (own : List ℕ) (a new : AllocatorState) → Spares own (begun_as a) new → Spares own a new
+begun_spares own a new s = record {
+  same_version = s.same_version;
+  no_shorter = s.no_shorter;
+  values = s.values;
+  kept = s.kept;
+  tables = λ i f. s.tables i (record { busy = f.busy; other = f.other; no_table = f.no_table });
+  sectors = λ i f. s.sectors i (record { busy = f.busy; other = f.other; no_table = f.no_table });
+  header = s.header;
+}

@@ -1,0 +1,30 @@
+use Rattle.std.proofs.Common.{◌≡◌, ◌≢◌, ℕ, ◌<◌, List, length, sym, ◌∙◌, ap, subst}
+use Rattle.std.specs.Prelude.{OnOk}
+use Rattle.cfb_format.specs.DirectoryEntry.{IsValidEntry}
+use Rattle.cfb_format.specs.Siblings.{entry_at}
+use Rattle.cfb_entries.specs.declared.fields.Fields.{Fields}
+use Rattle.cfb_entries.specs.Fields.{fields_in, with_fields}
+use Rattle.cfb_directory.specs.State.{DirectoryState, HoldsDirectory, bytes_of, directory_of, version_of}
+use Rattle.cfb_directory.specs.Steps.{KeepsSlotsBut}
+use Rattle.cfb_directory.proofs.directory.Directory.with_dir_entry_mut.Goals as goal
+
+pub returns-clause-holds : goal.returns-clause-holds
+returns-clause-holds g c told validation h valid =
+    let same = sym c.self.view_is in
+    let table = c.self.inside.allocator in
+    let list = c.self.inside.entries in
+    let h' = subst (λ (s : List ℕ). HoldsDirectory validation (directory_of table s list)) (sym c.deref.ensures.value) (subst (HoldsDirectory validation) same h) in
+    subst (λ (s : List ℕ). OnOk c.change_fields.result (HoldsDirectory validation (directory_of c.change_fields.new.allocator s c.change_fields.new.entries))) c.deref.ensures.value
+    (c.change_fields.ensures.holds told validation h'
+    (subst (λ (d : DirectoryState). (f : Fields) → g.W.FnOnce.post c.args.change (fields_in (entry_at d.entries c.args.number), tt) f
+    → IsValidEntry (version_of d) (with_fields (entry_at d.entries c.args.number) f)) same valid))
+
+pub returns-clause-slots : goal.returns-clause-slots
+returns-clause-slots g c told validation h =
+    let same = sym c.self.view_is in
+    let table = c.self.inside.allocator in
+    let list = c.self.inside.entries in
+    let h' = subst (λ (s : List ℕ). HoldsDirectory validation (directory_of table s list)) (sym c.deref.ensures.value) (subst (HoldsDirectory validation) same h) in
+    subst (λ (d : DirectoryState). KeepsSlotsBut c.args.number d (directory_of c.change_fields.new.allocator c.self.inside.sectors.items c.change_fields.new.entries)) c.self.view_is
+    (subst (λ (s : List ℕ). KeepsSlotsBut c.args.number (directory_of table s list) (directory_of c.change_fields.new.allocator s c.change_fields.new.entries)) c.deref.ensures.value
+    (c.change_fields.ensures.slots told validation h'))

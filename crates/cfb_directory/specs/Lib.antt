@@ -1,0 +1,7 @@
+pub mod Slots
+pub mod SlotLaws
+pub mod State
+pub mod Steps
+pub mod HeldLaws
+pub mod Growing
+pub mod Lending

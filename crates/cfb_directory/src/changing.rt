@@ -1,0 +1,107 @@
+//! How a directory changes one of its storages or entries: first in memory, then the slots of the entries that changed.
+ghost use Rattle.std.specs.Prelude.{◌≡◌, ◌⊎◌, ℕ, ◌%◌, ◌<◌, List, length, chars, true, IsTrue, IfErr, OnOk};
+ghost use Rattle.cfb_format.specs.declared.validate.Validation.{Validation};
+ghost use Rattle.cfb_format.specs.Bytes.{no_stream};
+ghost use Rattle.cfb_format.specs.DirectoryEntry.{IsValidEntry};
+ghost use Rattle.cfb_format.specs.Refused.{CountsFailure};
+ghost use Rattle.cfb_format.specs.Siblings.{entry_at};
+ghost use Rattle.cfb_outline.specs.Outlines.{IsReachedStorage};
+ghost use Rattle.cfb_siblings.specs.Children.{HasChildren, IsChildNamed, KeepsColors};
+ghost use Rattle.cfb_tables.specs.Refused.{ChangeRefused};
+ghost use Rattle.cfb_alloc.specs.Frame.{Spares};
+ghost use Rattle.cfb_entries.specs.declared.fields.Fields.{Fields};
+ghost use Rattle.cfb_entries.specs.EntryList.{RemovesEntry};
+ghost use Rattle.cfb_entries.specs.Fields.{fields_in, with_fields, with_fields_at};
+ghost use Rattle.cfb_directory.specs.State.{HoldsDirectory, KeepsLimits, directory_of};
+ghost use Rattle.cfb_directory.specs.Steps.{IsNotHeld, KeepsOtherSlots, KeepsRedApart, KeepsSlotsBut, KeepsWholeHeader, StopsShort};
+
+use crate::slots::{are_placed, numbered_entry_fits, write_entries, write_entry};
+use cfb_alloc::alloc::Allocator;
+use cfb_entries::entries::Entries;
+use cfb_entries::fields::Fields;
+use cfb_format::error::{Detail, Error};
+use cfb_format::medium::Medium;
+use std::alloc::Allocator as Heap;
+
+/// A refusal of sectors that have not a slot for each entry, and no more, or are none of the file's.
+pub(crate) fn unplaced(entries: usize) -> Error
+    ensures { ChangeRefused Unit ⊥ ⊥ ⊥ result }
+{
+    Error::InvalidData(Detail::number("directory with no slot for each entry", entries as u64))
+}
+
+/// Takes the child of that name out of the storage `parent`, in memory and in the slots: all of `Directory::remove_dir_entry`.
+pub(crate) fn remove_entry<F: Medium, A: Heap + Clone>(
+    allocator: &mut Allocator<F, A>,
+    sectors: &[u32],
+    entries: &mut Entries<A>,
+    heap: &A,
+    parent: u32,
+    name: &str,
+) -> Result<(), Error>
+    requires parent { IsReachedStorage entries.old.cases entries.old.entries parent }
+    requires there { (list : List ℕ) → HasChildren entries.old.cases entries.old.entries parent list
+        → (n : ℕ) × IsChildNamed entries.old.cases entries.old.entries (chars name.now) list n × ((entry_at entries.old.entries n).child ≡ no_stream) }
+    ensures removed { OnOk result ((r : RemovesEntry entries.old.cases entries.old.entries entries.new.entries parent (chars name.now)) × KeepsColors entries.old.entries entries.new.entries r.freed) }
+    ensures red_apart { OnOk result (KeepsRedApart (directory_of allocator.old sectors.now entries.old) (directory_of allocator.new sectors.now entries.new) parent) }
+    ensures kept { allocator.new.tables ≡ allocator.old.tables }
+    ensures holds { IsTrue F.tells → (validation : Validation) → HoldsDirectory validation (directory_of allocator.old sectors.now entries.old)
+        → OnOk result (HoldsDirectory validation (directory_of allocator.new sectors.now entries.new)) }
+    ensures spares { IsTrue F.tells → Spares sectors.now allocator.old allocator.new }
+    ensures header { IsTrue F.tells → KeepsWholeHeader (directory_of allocator.old sectors.now entries.old) (directory_of allocator.new sectors.now entries.new) }
+    ensures slots { IsTrue F.tells → (validation : Validation) → HoldsDirectory validation (directory_of allocator.old sectors.now entries.old)
+        → KeepsOtherSlots parent (directory_of allocator.old sectors.now entries.old) (directory_of allocator.new sectors.now entries.new) }
+    ensures limits { KeepsLimits (directory_of allocator.old sectors.now entries.old) (directory_of allocator.new sectors.now entries.new) }
+    ensures begun { OnOk result (allocator.new.file.begun ≡ true) }
+    ensures refused { IfErr result (StopsShort (directory_of allocator.old sectors.now entries.old) (directory_of allocator.new sectors.now entries.new)) }
+    ensures err { IfErr result (ChangeRefused (IsNotHeld (directory_of allocator.old sectors.now entries.old)) Unit ⊥ Unit) }
+    ensures counts { IsTrue F.tells → CountsFailure F.write_faults result allocator.old.file.failures allocator.new.file.failures }
+{
+    let count = entries.list().len();
+    if !are_placed(allocator, sectors, count) {
+        return Err(unplaced(count));
+    }
+    let touched = entries.remove(heap, parent, name)?;
+    allocator.begin_change();
+    write_entries(allocator, sectors, entries.list(), &touched)
+}
+
+/// Sets the fields of an entry, in memory and in its slot: all of `Directory::with_dir_entry_mut`.
+pub(crate) fn change_fields<F: Medium, A: Heap, W: FnOnce(Fields) -> Fields>(
+    allocator: &mut Allocator<F, A>,
+    sectors: &[u32],
+    entries: &mut Entries<A>,
+    number: u32,
+    change: W,
+) -> Result<(), Error>
+    requires inside { number < length entries.old.entries }
+    requires callable { W.IsAlwaysCallable change }
+    requires root_len { number ≡ 0 → (f : Fields) → W.post change (fields_in (entry_at entries.old.entries 0)) f → f.stream_len % 64 ≡ 0 }
+    ensures changed { OnOk result ((f : Fields) × W.post change (fields_in (entry_at entries.old.entries number)) f
+        × (entries.new.entries ≡ with_fields_at entries.old.entries number f)) }
+    ensures entries { (entries.new.entries ≡ entries.old.entries)
+        ⊎ ((f : Fields) × W.post change (fields_in (entry_at entries.old.entries number)) f × (entries.new.entries ≡ with_fields_at entries.old.entries number f)) }
+    ensures kept { allocator.new.tables ≡ allocator.old.tables }
+    ensures holds { IsTrue F.tells → (validation : Validation) → HoldsDirectory validation (directory_of allocator.old sectors.now entries.old)
+        → ((f : Fields) → W.post change (fields_in (entry_at entries.old.entries number)) f
+        → IsValidEntry allocator.old.tables.version (with_fields (entry_at entries.old.entries number) f))
+        → OnOk result (HoldsDirectory validation (directory_of allocator.new sectors.now entries.new)) }
+    ensures spares { IsTrue F.tells → Spares sectors.now allocator.old allocator.new }
+    ensures header { IsTrue F.tells → KeepsWholeHeader (directory_of allocator.old sectors.now entries.old) (directory_of allocator.new sectors.now entries.new) }
+    ensures slots { IsTrue F.tells → (validation : Validation) → HoldsDirectory validation (directory_of allocator.old sectors.now entries.old)
+        → KeepsSlotsBut number (directory_of allocator.old sectors.now entries.old) (directory_of allocator.new sectors.now entries.new) }
+    ensures limits { KeepsLimits (directory_of allocator.old sectors.now entries.old) (directory_of allocator.new sectors.now entries.new) }
+    ensures begun { OnOk result (allocator.new.file.begun ≡ true) }
+    ensures refused { IfErr result (StopsShort (directory_of allocator.old sectors.now entries.old) (directory_of allocator.new sectors.now entries.new)) }
+    ensures err { IfErr result (ChangeRefused (IsNotHeld (directory_of allocator.old sectors.now entries.old)) ⊥ ⊥ Unit) }
+    ensures counts { IsTrue F.tells → CountsFailure F.write_faults result allocator.old.file.failures allocator.new.file.failures }
+{
+    let count = entries.list().len();
+    if !are_placed(allocator, sectors, count) {
+        return Err(unplaced(count));
+    }
+    entries.set_fields(number, change);
+    let list = entries.list();
+    numbered_entry_fits(list, number);
+    write_entry(allocator, sectors, list, number)
+}

@@ -1,0 +1,442 @@
+//! The directory of a file (MS-CFB 2.6): its entries in memory, and each change of them written into the slots of its sectors.
+ghost use Rattle.std.specs.Prelude.{◌≡◌, ◌≢◌, ◌⊎◌, ℕ, ◌*◌, ◌%◌, ◌<◌, ◌≤◌, ◌∷◌, List, [], length, map, min, chars, true, false, Contains, IsTrue, MatchOption, vec_len, IfOk, IfErr, IfSome, OnOk};
+ghost use Rattle.cfb_format.specs.declared.objtype.ObjType.TheVariants.{Root};
+ghost use Rattle.cfb_format.specs.declared.validate.Validation.{Validation};
+ghost use Rattle.cfb_format.specs.Bytes.{end_of_chain, entries_per_sector, max_regular_sector, no_stream, sector_len};
+ghost use Rattle.cfb_format.specs.Chain.{IsChain};
+ghost use Rattle.cfb_format.specs.DirectoryEntry.{IsValidEntry};
+ghost use Rattle.cfb_format.specs.Reading.{IsOutline, Outline, numbers};
+ghost use Rattle.cfb_format.specs.Refused.{CountsFailure, IsInvalidOrMemory};
+ghost use Rattle.cfb_format.specs.Siblings.{entry_at};
+ghost use Rattle.cfb_codecs.specs.EntryModel.{entries_of, entry_of};
+ghost use Rattle.cfb_outline.specs.Outlines.{AcceptsOutline, IsReachedStorage};
+ghost use Rattle.cfb_siblings.specs.Children.{HasChildren, IsAbsent, IsChildNamed, KeepsColors};
+ghost use Rattle.cfb_siblings.specs.Paths.{number_from};
+ghost use Rattle.cfb_sectors.specs.Sectors.{IsMediumError, IsRaised};
+ghost use Rattle.cfb_tables.specs.Changes.{NoChain};
+ghost use Rattle.cfb_tables.specs.Clean.{IsUnnamed};
+ghost use Rattle.cfb_tables.specs.Refused.{ChangeRefused, NoLast};
+ghost use Rattle.cfb_tables.specs.Tables.{Extended, ExtendsFrom, GivesBackChain, HasTaken, IsTooFew, TakesFor};
+ghost use Rattle.cfb_alloc.specs.Alloc.{ChangesSectors, HoldsTables, IsFilled, IsUsable, OthersStay};
+ghost use Rattle.cfb_alloc.specs.Broken.{BreaksOff};
+ghost use Rattle.cfb_alloc.specs.Frame.{Spares};
+ghost use Rattle.cfb_entries.specs.declared.fields.Fields.{Fields};
+ghost use Rattle.cfb_entries.specs.EntryList.{AreInOrder, HaveShortNames, RemovesEntry, max_entries};
+ghost use Rattle.cfb_entries.specs.Fields.{fields_in, with_fields, with_fields_at};
+ghost use Rattle.cfb_directory.specs.State.{HoldsDirectory, KeepsLimits, bytes_of, tables_of, version_of};
+ghost use Rattle.cfb_directory.specs.Steps.{IsNotHeld, KeepsOtherSlots, KeepsRedApart, KeepsSlotsBut, KeepsWholeHeader, StopsShort};
+
+use crate::changing::{change_fields, remove_entry};
+use cfb_alloc::alloc::Allocator;
+use cfb_codecs::direntry::DirEntry;
+use cfb_codecs::path::CaseMapper;
+use cfb_entries::entries::Entries;
+use cfb_entries::fields::Fields;
+use cfb_format::error::{Detail, Error};
+use cfb_format::medium::{Medium, ReadMedium};
+use cfb_format::validate::Validation;
+use cfb_format::version::Version;
+use cfb_sectors::sector::SectorInit;
+use std::alloc::{Allocator as Heap, Global};
+use std::marker::Model;
+
+/// The directory of a file, with the allocator of its sectors.
+#[derive(Drop)]
+pub struct Directory<F: ReadMedium, A: Heap = Global> {
+    allocator: Allocator<F, A>,
+    sectors: Vec<u32, A>,
+    entries: Entries<A>,
+    heap: A,
+}
+
+impl<F: ReadMedium, A: Heap> Model for Directory<F, A> {
+    ghost use Rattle.cfb_directory.specs.State.{DirectoryState};
+
+    ghost Value = { DirectoryState };
+
+    ghost view = { λ d. record { table = d.allocator; sectors = d.sectors.items; cases = d.entries.cases; entries = d.entries.entries } };
+}
+
+impl<F: ReadMedium, A: Heap + Clone> Directory<F, A> {
+    /// The directory whose chain begins at `start`, with the entries that stand in its slots (MS-CFB 2.6).
+    ///
+    /// `InvalidData` exactly where there is no such chain or it is empty, where it has not as many slots as there are entries, and where
+    /// the entries are none that opening takes in this mode: they have no outline, a name of more than 31 UTF-16 units, or there are
+    /// more than 0xFFFFFFFB of them. Else `Memory` where memory was refused.
+    pub fn new(
+        heap: A,
+        allocator: Allocator<F, A>,
+        letters: CaseMapper<A>,
+        entries: Vec<DirEntry<A>, A>,
+        start: u32,
+        validation: Validation,
+    ) -> Result<Directory<F, A>, Error>
+        ensures same { IfOk result (λ d. (d.table ≡ allocator) × (d.cases ≡ letters) × (d.entries ≡ entries_of entries.items)) }
+        ensures chain { IfOk result (λ d. IsChain allocator.tables.fat start d.sectors × (d.sectors ≢ [])) }
+        ensures count { IfOk result (λ d. length d.entries ≡ length d.sectors * entries_per_sector allocator.tables.version) }
+        ensures accepted { OnOk result ((o : Outline) × AcceptsOutline validation letters (entries_of entries.items) o) }
+        ensures fit { OnOk result (HaveShortNames (entries_of entries.items) × (vec_len entries ≤ max_entries)) }
+        ensures refused { IfErr result (IsInvalidOrMemory ((list : List ℕ) (o : Outline) → IsChain allocator.tables.fat start list → list ≢ []
+            → vec_len entries ≡ length list * entries_per_sector allocator.tables.version
+            → AcceptsOutline validation letters (entries_of entries.items) o → HaveShortNames (entries_of entries.items) → vec_len entries ≤ max_entries → ⊥)) }
+    {
+        let sectors = allocator.chain(start)?;
+        if sectors.is_empty() {
+            return Err(Error::InvalidData(Detail::text("directory with no sector")));
+        }
+        let per = allocator.version().dir_entries_per_sector();
+        if entries.len() != sectors.len() * per {
+            return Err(unslotted(sectors.len(), entries.len()));
+        }
+        let entries = Entries::new(&heap, letters, entries, validation)?;
+        Ok(Directory {
+            allocator,
+            sectors,
+            entries,
+            heap,
+        })
+    }
+}
+
+/// A refusal of entries for which the sectors have too many or too few slots.
+fn unslotted(sectors: usize, entries: usize) -> Error
+    ensures { (detail : _) × (result ≡ Error.InvalidData detail) }
+{
+    Error::InvalidData(Detail::numbers(
+        "sectors of the directory with another number of slots than entries",
+        sectors as u64,
+        entries as u64,
+    ))
+}
+
+impl<F: ReadMedium, A: Heap> Directory<F, A> {
+    /// The version of the file.
+    pub fn version(&self) -> Version
+        ensures { result ≡ version_of self.now }
+    {
+        self.allocator.version()
+    }
+
+    /// The length of a sector, in bytes.
+    pub fn sector_len(&self) -> usize
+        ensures { result ≡ sector_len (version_of self.now) }
+    {
+        self.allocator.sector_len()
+    }
+
+    /// The medium.
+    pub fn inner(&self) -> &F
+        ensures bytes { F.bytes result.now ≡ bytes_of self.now }
+        ensures failures { F.failures result.now ≡ self.now.table.file.failures }
+    {
+        self.allocator.inner()
+    }
+
+    /// Gives the medium back.
+    pub fn into_inner(self) -> F
+        ensures bytes { F.bytes result ≡ bytes_of self }
+        ensures failures { F.failures result ≡ self.table.file.failures }
+    {
+        let Directory {
+            allocator,
+            sectors: _,
+            entries: _,
+            heap: _,
+        } = self;
+        allocator.into_inner()
+    }
+
+    /// Whether a write or a flush of the medium was asked for since the last `end_change`, or ever.
+    pub fn begun(&self) -> bool
+        ensures { result ≡ self.now.table.file.begun }
+    {
+        self.allocator.begun()
+    }
+
+    /// Says that the change that was begun, if one was, has ended well.
+    pub fn end_change(&mut self)
+        ensures { self.new ≡ record self.old { table = record self.old.table { file = record self.old.table.file { begun = false } } } }
+    {
+        self.allocator.end_change();
+    }
+
+    /// Lets the file grow to so many sectors, and to no more. No number above the greatest regular one is taken.
+    pub fn set_max_sectors(&mut self, max_sectors: u32)
+        ensures { self.new ≡ record self.old {
+          table = record self.old.table { tables = record (tables_of self.old) { max_sectors = min max_sectors max_regular_sector } };
+        } }
+    {
+        self.allocator.set_max_sectors(max_sectors);
+    }
+
+    /// The allocator of the file's sectors.
+    pub fn allocator(&self) -> &Allocator<F, A>
+        ensures { result.now ≡ self.now.table }
+    {
+        &self.allocator
+    }
+
+    /// The sectors of the directory, in order.
+    pub fn sectors(&self) -> &[u32]
+        ensures { result.now ≡ self.now.sectors }
+    {
+        &self.sectors
+    }
+
+    /// The letters by which names are compared.
+    pub fn letters(&self) -> &CaseMapper<A>
+        ensures { result.now ≡ self.now.cases }
+    {
+        self.entries.letters()
+    }
+
+    /// The entries, by their numbers.
+    pub fn entries(&self) -> &[DirEntry<A>]
+        ensures entries { entries_of result.now ≡ self.now.entries }
+        ensures in_order { AreInOrder self.now.cases self.now.entries }
+    {
+        self.entries.list()
+    }
+
+    /// The root, which is entry 0 (MS-CFB 2.6.2).
+    pub fn root_dir_entry(&self) -> &DirEntry<A>
+        ensures entry { entry_of result.now ≡ entry_at self.now.entries 0 }
+        ensures root { (entry_at self.now.entries 0).obj_type ≡ Root }
+        ensures inside { 0 < length self.now.entries }
+    {
+        &self.entries.list()[0]
+    }
+
+    /// The entry of that number.
+    pub fn dir_entry(&self, number: u32) -> &DirEntry<A>
+        requires { number < length self.now.entries }
+        ensures { entry_of result.now ≡ entry_at self.now.entries number }
+    {
+        &self.entries.list()[number as usize]
+    }
+
+    /// The entry that these names lead to from the root: `None` where nothing is there. There is nothing in a stream (MS-CFB 2.6.2). It
+    /// takes no memory.
+    pub fn stream_id_for_name_chain(&self, names: &[&str]) -> Option<u32>
+        ensures found { (o : Outline) → IsOutline self.now.cases self.now.entries o → result ≡ number_from self.now.cases self.now.entries 0 o (map (λ name. chars name.now) names.now) }
+        ensures reached { (o : Outline) → IsOutline self.now.cases self.now.entries o → IfSome result (λ k. Contains (0 ∷ numbers o) k) }
+    {
+        self.entries.find(names)
+    }
+
+    /// The child of that name in the storage `parent`, or `None` where it has none (MS-CFB 2.6.4). It takes no memory.
+    pub fn child_named(&self, parent: u32, name: &str) -> Option<u32>
+        requires parent { IsReachedStorage self.now.cases self.now.entries parent }
+        ensures found { (list : List ℕ) → HasChildren self.now.cases self.now.entries parent list
+            → MatchOption result (IsAbsent self.now.cases self.now.entries (chars name.now) list) (λ k. IsChildNamed self.now.cases self.now.entries (chars name.now) list k) }
+        ensures reached { (o : Outline) → IsOutline self.now.cases self.now.entries o → IfSome result (λ k. Contains (numbers o) k) }
+    {
+        self.entries.child_named(parent, name)
+    }
+}
+
+impl<F: ReadMedium, A: Heap> Directory<F, A> {
+    ghost use Rattle.std.specs.Borrow.{sem};
+    ghost use Rattle.cfb_directory.specs.Lending.{directory_lends};
+
+    /// Lends the allocator of the file's sectors. The directory's sectors and entries are as before whatever is done with it.
+    pub fn allocator_mut(&mut self) -> &mut Allocator<F, A>
+        ensures value { result.now ≡ self.old.table }
+        ensures* writes_back { sem 𝓛 (directory_lends F.row A.row F.ReadMedium A.Allocator self.entry result) }
+    {
+        &mut self.allocator
+    }
+}
+
+impl<F: Medium, A: Heap + Clone> Directory<F, A> {
+    /// Takes the child of that name, which is there and has no children, out of the storage `parent`, and writes the slots of all
+    /// entries that change, the one that is free then among them.
+    ///
+    /// `InvalidData` where the directory's sectors have not a slot for each entry, which no bytes hold, and `Memory`: then nothing has
+    /// changed. After `Medium`, where the medium fails, the entry is gone in memory, and of the file's bytes those of the touched slots
+    /// alone may have changed.
+    pub fn remove_dir_entry(&mut self, parent: u32, name: &str) -> Result<(), Error>
+        requires parent { IsReachedStorage self.old.cases self.old.entries parent }
+        requires there { (list : List ℕ) → HasChildren self.old.cases self.old.entries parent list
+            → (n : ℕ) × IsChildNamed self.old.cases self.old.entries (chars name.now) list n × ((entry_at self.old.entries n).child ≡ no_stream) }
+        ensures removed { OnOk result ((r : RemovesEntry self.old.cases self.old.entries self.new.entries parent (chars name.now)) × KeepsColors self.old.entries self.new.entries r.freed) }
+        ensures red_apart { OnOk result (KeepsRedApart self.old self.new parent) }
+        ensures kept { (self.new.sectors ≡ self.old.sectors) × (tables_of self.new ≡ tables_of self.old) }
+        ensures holds { IsTrue F.tells → (validation : Validation) → HoldsDirectory validation self.old → OnOk result (HoldsDirectory validation self.new) }
+        ensures spares { IsTrue F.tells → Spares self.old.sectors self.old.table self.new.table }
+        ensures header { IsTrue F.tells → KeepsWholeHeader self.old self.new }
+        ensures slots { IsTrue F.tells → (validation : Validation) → HoldsDirectory validation self.old → KeepsOtherSlots parent self.old self.new }
+        ensures limits { KeepsLimits self.old self.new }
+        ensures begun { OnOk result (self.new.table.file.begun ≡ true) }
+        ensures refused { IfErr result (StopsShort self.old self.new) }
+        ensures err { IfErr result (ChangeRefused (IsNotHeld self.old) Unit ⊥ Unit) }
+        ensures counts { IsTrue F.tells → CountsFailure F.write_faults result self.old.table.file.failures self.new.table.file.failures }
+    {
+        remove_entry(
+            &mut self.allocator,
+            &self.sectors,
+            &mut self.entries,
+            &self.heap,
+            parent,
+            name,
+        )
+    }
+}
+
+impl<F: Medium, A: Heap> Directory<F, A> {
+    /// Gives the entry of that number the fields that the closure makes of its own, and writes its slot. The root's length stays whole
+    /// mini sectors.
+    ///
+    /// `InvalidData` where the directory's sectors have not a slot for each entry, which no bytes hold: then nothing has changed. After
+    /// `Medium`, where the medium fails, the fields are set in memory, and of the file's bytes those of the entry's slot alone may have
+    /// changed.
+    pub fn with_dir_entry_mut<W: FnOnce(Fields) -> Fields>(
+        &mut self,
+        number: u32,
+        change: W,
+    ) -> Result<(), Error>
+        requires inside { number < length self.old.entries }
+        requires callable { W.IsAlwaysCallable change }
+        requires root_len { number ≡ 0 → (f : Fields) → W.post change (fields_in (entry_at self.old.entries 0)) f → f.stream_len % 64 ≡ 0 }
+        ensures changed { OnOk result ((f : Fields) × W.post change (fields_in (entry_at self.old.entries number)) f
+            × (self.new.entries ≡ with_fields_at self.old.entries number f)) }
+        ensures entries { (self.new.entries ≡ self.old.entries)
+            ⊎ ((f : Fields) × W.post change (fields_in (entry_at self.old.entries number)) f × (self.new.entries ≡ with_fields_at self.old.entries number f)) }
+        ensures kept { (self.new.sectors ≡ self.old.sectors) × (tables_of self.new ≡ tables_of self.old) }
+        ensures holds { IsTrue F.tells → (validation : Validation) → HoldsDirectory validation self.old
+            → ((f : Fields) → W.post change (fields_in (entry_at self.old.entries number)) f → IsValidEntry (version_of self.old) (with_fields (entry_at self.old.entries number) f))
+            → OnOk result (HoldsDirectory validation self.new) }
+        ensures spares { IsTrue F.tells → Spares self.old.sectors self.old.table self.new.table }
+        ensures header { IsTrue F.tells → KeepsWholeHeader self.old self.new }
+        ensures slots { IsTrue F.tells → (validation : Validation) → HoldsDirectory validation self.old → KeepsSlotsBut number self.old self.new }
+        ensures limits { KeepsLimits self.old self.new }
+        ensures begun { OnOk result (self.new.table.file.begun ≡ true) }
+        ensures refused { IfErr result (StopsShort self.old self.new) }
+        ensures err { IfErr result (ChangeRefused (IsNotHeld self.old) ⊥ ⊥ Unit) }
+        ensures counts { IsTrue F.tells → CountsFailure F.write_faults result self.old.table.file.failures self.new.table.file.failures }
+    {
+        change_fields(
+            &mut self.allocator,
+            &self.sectors,
+            &mut self.entries,
+            number,
+            change,
+        )
+    }
+
+    /// The same of the root, which is entry 0 (MS-CFB 2.6.2).
+    pub fn with_root_dir_entry_mut<W: FnOnce(Fields) -> Fields>(
+        &mut self,
+        change: W,
+    ) -> Result<(), Error>
+        requires callable { W.IsAlwaysCallable change }
+        requires root_len { (f : Fields) → W.post change (fields_in (entry_at self.old.entries 0)) f → f.stream_len % 64 ≡ 0 }
+        ensures changed { OnOk result ((f : Fields) × W.post change (fields_in (entry_at self.old.entries 0)) f
+            × (self.new.entries ≡ with_fields_at self.old.entries 0 f)) }
+        ensures entries { (self.new.entries ≡ self.old.entries)
+            ⊎ ((f : Fields) × W.post change (fields_in (entry_at self.old.entries 0)) f × (self.new.entries ≡ with_fields_at self.old.entries 0 f)) }
+        ensures kept { (self.new.sectors ≡ self.old.sectors) × (tables_of self.new ≡ tables_of self.old) }
+        ensures holds { IsTrue F.tells → (validation : Validation) → HoldsDirectory validation self.old
+            → ((f : Fields) → W.post change (fields_in (entry_at self.old.entries 0)) f → IsValidEntry (version_of self.old) (with_fields (entry_at self.old.entries 0) f))
+            → OnOk result (HoldsDirectory validation self.new) }
+        ensures spares { IsTrue F.tells → Spares self.old.sectors self.old.table self.new.table }
+        ensures header { IsTrue F.tells → KeepsWholeHeader self.old self.new }
+        ensures slots { IsTrue F.tells → (validation : Validation) → HoldsDirectory validation self.old → KeepsSlotsBut 0 self.old self.new }
+        ensures limits { KeepsLimits self.old self.new }
+        ensures begun { OnOk result (self.new.table.file.begun ≡ true) }
+        ensures refused { IfErr result (StopsShort self.old self.new) }
+        ensures err { IfErr result (ChangeRefused (IsNotHeld self.old) ⊥ ⊥ Unit) }
+        ensures counts { IsTrue F.tells → CountsFailure F.write_faults result self.old.table.file.failures self.new.table.file.failures }
+    {
+        let _root = self.root_dir_entry();
+        self.with_dir_entry_mut(0, change)
+    }
+}
+
+impl<F: Medium, A: Heap> Directory<F, A> {
+    /// Begins a chain of one sector, which holds what `init` says, and gives its number.
+    ///
+    /// `Full`, `Memory` and `InvalidData` as in `Allocator::begin_chain`: then nothing has changed. After `Medium`, where the medium
+    /// fails, the tables in memory have the sector, and of the file's bytes no sector in use has changed but the table sectors. The
+    /// directory itself stays in any case.
+    pub fn begin_chain(&mut self, init: SectorInit) -> Result<u32, Error>
+        ensures taken { IfOk result (λ x. HasTaken (tables_of self.old) (tables_of self.new) [] (x ∷ [])) }
+        ensures chain { IfOk result (λ x. IsChain (tables_of self.new).fat x (x ∷ [])) }
+        ensures filled { IsTrue F.tells → (validation : Validation) → HoldsTables validation self.old.table
+            → IfOk result (λ x. IsFilled (version_of self.new) init (bytes_of self.new) x) }
+        ensures holds { IsTrue F.tells → (validation : Validation) → HoldsTables validation self.old.table → OnOk result (HoldsTables validation self.new.table) }
+        ensures others { IsTrue F.tells → OthersStay self.old.table self.new.table }
+        ensures spares { IsTrue F.tells → Spares [] self.old.table self.new.table }
+        ensures rest { self.new ≡ record self.old { table = self.new.table } }
+        ensures enough { OnOk result (IsTooFew (tables_of self.old) 1 → ⊥) }
+        ensures begun { OnOk result (self.new.table.file.begun ≡ true) }
+        ensures refused { IfErr result (BreaksOff (TakesFor []) self.old.table self.new.table) }
+        ensures err { IfErr result (ChangeRefused (IsUsable (tables_of self.old) → ⊥) (IsTooFew (tables_of self.old) 1 → ⊥) (IsTooFew (tables_of self.old) 1) Unit) }
+        ensures counts { IsTrue F.tells → CountsFailure F.write_faults result self.old.table.file.failures self.new.table.file.failures }
+    {
+        self.allocator.begin_chain(init)
+    }
+
+    /// Has the medium hand on what was written. `Medium` where it fails. No byte changes, nor anything in memory.
+    pub fn flush(&mut self) -> Result<(), Error>
+        ensures tables { tables_of self.new ≡ tables_of self.old }
+        ensures ok { IsTrue F.tells → OnOk result (self.new.table.file ≡ record self.old.table.file { begun = true }) }
+        ensures kept { self.new.table.file ≡ record self.old.table.file {
+          bytes = self.new.table.file.bytes;
+          failures = self.new.table.file.failures;
+          begun = true;
+        } }
+        ensures bytes { IsTrue F.tells → bytes_of self.new ≡ bytes_of self.old }
+        ensures rest { self.new ≡ record self.old { table = self.new.table } }
+        ensures err { IfErr result IsMediumError }
+        ensures counts { IsTrue F.tells → CountsFailure F.write_faults result self.old.table.file.failures self.new.table.file.failures }
+    {
+        self.allocator.flush()
+    }
+}
+
+impl<F: Medium, A: Heap + Clone> Directory<F, A> {
+    /// Adds a sector, which holds what `init` says, at the end of the chain from `start`, and gives its number.
+    ///
+    /// `InvalidData` where there is no such chain, where it is empty, and where the FAT sectors do not cover the file; `Medium`,
+    /// `Memory` and `Full` as in `begin_chain`. The directory itself stays in any case, so `start` is not to be that of its own chain.
+    pub fn extend_chain(&mut self, start: u32, init: SectorInit) -> Result<u32, Error>
+        ensures extended { IfOk result (λ x. Extended (tables_of self.old) (tables_of self.new) start (x ∷ [])) }
+        ensures filled { IsTrue F.tells → (validation : Validation) → HoldsTables validation self.old.table
+            → IfOk result (λ x. IsFilled (version_of self.new) init (bytes_of self.new) x) }
+        ensures holds { IsTrue F.tells → (validation : Validation) → HoldsTables validation self.old.table → OnOk result (HoldsTables validation self.new.table) }
+        ensures others { IsTrue F.tells → OthersStay self.old.table self.new.table }
+        ensures spares { IsTrue F.tells → (list : List ℕ) → IsChain (tables_of self.old).fat start list → Spares list self.old.table self.new.table }
+        ensures rest { self.new ≡ record self.old { table = self.new.table } }
+        ensures enough { OnOk result (IsTooFew (tables_of self.old) 1 → ⊥) }
+        ensures begun { OnOk result (self.new.table.file.begun ≡ true) }
+        ensures refused { IfErr result (BreaksOff (ExtendsFrom start) self.old.table self.new.table) }
+        ensures err { IfErr result (ChangeRefused ((IsUsable (tables_of self.old) → ⊥) ⊎ NoLast (tables_of self.old).fat start)
+            (IsTooFew (tables_of self.old) 1 → ⊥) (IsTooFew (tables_of self.old) 1) Unit) }
+        ensures counts { IsTrue F.tells → CountsFailure F.write_faults result self.old.table.file.failures self.new.table.file.failures }
+    {
+        self.allocator.extend_chain(start, init)
+    }
+
+    /// Frees the chain from `start`. The empty one, from END, changes nothing.
+    ///
+    /// `InvalidData` where there is no such chain, and where the FAT sectors do not cover the file; `Medium` where the medium fails,
+    /// and `Memory`. Nothing has changed where it is refused, but after `Medium`: then the chain is free in memory, and of the
+    /// file's bytes the FAT sectors alone have changed. The directory itself stays in any case, so `start` is not to be that of its own
+    /// chain.
+    pub fn free_chain(&mut self, start: u32) -> Result<(), Error>
+        ensures freed { OnOk result (GivesBackChain [] start (tables_of self.old) (tables_of self.new)) }
+        ensures none { start ≡ end_of_chain → self.new ≡ self.old }
+        ensures holds { IsTrue F.tells → (validation : Validation) → HoldsTables validation self.old.table → IsUnnamed (tables_of self.old).fat start
+            → OnOk result (HoldsTables validation self.new.table) }
+        ensures changes { IsTrue F.tells → ChangesSectors (tables_of self.old).fat_sectors (version_of self.old) (bytes_of self.old) (bytes_of self.new) }
+        ensures spares { IsTrue F.tells → (list : List ℕ) → IsChain (tables_of self.old).fat start list → Spares list self.old.table self.new.table }
+        ensures rest { self.new ≡ record self.old { table = self.new.table } }
+        ensures begun { OnOk result (IsRaised (start ≢ end_of_chain) self.old.table.file self.new.table.file) }
+        ensures refused { IfErr result (BreaksOff (GivesBackChain [] start) self.old.table self.new.table) }
+        ensures err { IfErr result (ChangeRefused ((IsUsable (tables_of self.old) → ⊥) ⊎ NoChain (tables_of self.old).fat start) Unit ⊥ Unit) }
+        ensures counts { IsTrue F.tells → CountsFailure F.write_faults result self.old.table.file.failures self.new.table.file.failures }
+    {
+        self.allocator.free_chain(start)
+    }
+}

@@ -1,0 +1,8 @@
+//! The directory of a file: its entries in memory, and their slots in the chain of its sectors (MS-CFB 2.6).
+#![tactic(auto)]
+
+mod changing;
+pub mod directory;
+mod inserting;
+pub mod laws;
+pub mod slots;
