@@ -1,21 +1,16 @@
-use Rattle.std.proofs.Common.{◌≡◌, ◌≢◌, ◌<◌, ◌≤◌, ℕ, List, [], ◌∷◌, Bool, true, false, length, refl, sym, ◌∙◌, ap, subst, arith}
-use Rattle.std.specs.Prelude.{Contains, OnOk}
+use Rattle.std.proofs.Common.{◌≡◌, ◌≢◌, ◌≤◌, ℕ, List, [], ◌∷◌, true, false, length, sym, ◌∙◌, ap, subst, arith}
+use Rattle.std.specs.Prelude.{Contains}
 use Rattle.std.proofs.lemmas.List.{length-map}
-use Rattle.cfb_format.specs.declared.version.Version.{Version}
-use Rattle.cfb_format.specs.Bytes.{entries_per_sector}
 use Rattle.cfb_format.specs.DirectoryEntry.{Entry, EntryFits, IsValidEntry}
 use Rattle.cfb_format.specs.Names.{utf16_units, max_name_len}
 use Rattle.cfb_format.specs.Siblings.{entry_at}
-use Rattle.cfb_codecs.specs.EntryModel.{entry_of, entries_of}
-use Rattle.cfb_tables.specs.Tables.{TableState}
+use Rattle.cfb_codecs.specs.EntryModel.{entry_of}
 use Rattle.cfb_tables.proofs.Members.{Contains-one}
-use Rattle.cfb_alloc.specs.Alloc.{HoldsTables}
 use Rattle.cfb_alloc.proofs.Answering.{all_ok, on_both}
 use Rattle.cfb_alloc.proofs.Spared.{spares_refl}
-use Rattle.cfb_entries.specs.Fields.{with_fields, with_fields_at}
+use Rattle.cfb_entries.specs.Fields.{with_fields}
 use Rattle.cfb_directory.specs.Slots.{HavePlaces, HoldSlotsBut}
-use Rattle.cfb_directory.specs.State.{DirectoryState, HoldsDirectory, directory_of}
-use Rattle.cfb_directory.specs.Steps.{StopsShort}
+use Rattle.cfb_directory.specs.State.{directory_of}
 use Rattle.cfb_directory.proofs.ChangedFields.{changed_here, changed_length, changed_told, changed_writable, changed_beside}
 use Rattle.cfb_directory.proofs.DirectoryRefusals.{invalid_for, medium_refused, medium_stops, err_map}
 use Rattle.cfb_directory.proofs.Placed.{held_places, held_no_tables, header_left, slot_left}

@@ -1,4 +1,4 @@
-use Rattle.std.proofs.Common.{◌≡◌, ◌≢◌, ◌<◌, ◌≤◌, inl, inr, ℕ, List, [], ◌∷◌, ◌++◌, Bool, true, false, length, refl, sym, ◌∙◌, ap, subst, arith}
+use Rattle.std.proofs.Common.{◌≡◌, ◌≤◌, inl, inr, ℕ, List, [], ◌++◌, true, false, length, refl, sym, ◌∙◌, ap, subst, arith}
 use Rattle.std.specs.Prelude.{Contains, OnOk}
 use Rattle.std.proofs.lemmas.List.{length-map}
 use Rattle.cfb_format.specs.Refused.{CountsFailure}
@@ -14,7 +14,7 @@ use Rattle.cfb_alloc.proofs.Answering.{all_ok, on_both, on_ok}
 use Rattle.cfb_alloc.proofs.Spared.{spares_refl}
 use Rattle.cfb_entries.proofs.Contents.{reached-parent}
 use Rattle.cfb_directory.specs.Slots.{ChangesSlots, HavePlaces, HoldSlotsBut}
-use Rattle.cfb_directory.specs.State.{DirectoryState, HoldsDirectory, directory_of}
+use Rattle.cfb_directory.specs.State.{directory_of}
 use Rattle.cfb_directory.proofs.DirectoryRefusals.{invalid_for, invalid_stops, medium_refused, medium_stops, err_map, invalid_counts}
 use Rattle.cfb_directory.proofs.Placed.{begun_as, begun_holds, begun_spares, held_places, held_no_tables, header_left, slot_left}
 use Rattle.cfb_directory.proofs.RemovedEntries.{removed_writable, touched_valid}

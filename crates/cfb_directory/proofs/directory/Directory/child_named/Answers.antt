@@ -1,4 +1,4 @@
-use Rattle.std.proofs.Common.{ℕ, ◌∷◌, List, sym, subst, MatchOption}
+use Rattle.std.proofs.Common.{ℕ, List, subst, MatchOption}
 use Rattle.std.specs.Prelude.{chars, Contains, IfSome}
 use Rattle.cfb_format.specs.Reading.{IsOutline, Outline, numbers}
 use Rattle.cfb_siblings.specs.Children.{HasChildren, IsAbsent, IsChildNamed}

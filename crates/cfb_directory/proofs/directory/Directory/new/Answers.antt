@@ -1,10 +1,8 @@
-use Rattle.std.proofs.Common.{◌≡◌, ◌≢◌, ℕ, ◌*◌, ◌≤◌, List, [], length, sym, ◌∙◌, ap, subst, arith, vec_len}
+use Rattle.std.proofs.Common.{◌≡◌, ℕ, ◌*◌, List, length, sym, ◌∙◌, ap, arith}
 use Rattle.std.proofs.lemmas.Bool.{eqb-true}
 use Rattle.std.proofs.lemmas.List.{nil_from_length}
 use Rattle.std.proofs.lemmas.Result.{err_from_is_err_and}
-use Rattle.cfb_format.specs.declared.error.Error.{Error}
 use Rattle.cfb_format.specs.Bytes.{entries_per_sector}
-use Rattle.cfb_format.specs.Refused.{IsInvalidOrMemory}
 use Rattle.cfb_format.proofs.Unique.{IsChain-unique}
 use Rattle.cfb_codecs.proofs.Refusals.{refusal_follows}
 use Rattle.cfb_directory.proofs.DirectoryRefusals.{walk_invalid}

@@ -1,10 +1,10 @@
-use Rattle.std.proofs.Common.{◌≡◌, ◌≢◌, ℕ, ◌<◌, List, length, sym, ◌∙◌, ap, subst}
+use Rattle.std.proofs.Common.{ℕ, List, sym, subst}
 use Rattle.std.specs.Prelude.{OnOk}
 use Rattle.cfb_format.specs.DirectoryEntry.{IsValidEntry}
 use Rattle.cfb_format.specs.Siblings.{entry_at}
 use Rattle.cfb_entries.specs.declared.fields.Fields.{Fields}
 use Rattle.cfb_entries.specs.Fields.{fields_in, with_fields}
-use Rattle.cfb_directory.specs.State.{DirectoryState, HoldsDirectory, bytes_of, directory_of, version_of}
+use Rattle.cfb_directory.specs.State.{DirectoryState, HoldsDirectory, directory_of, version_of}
 use Rattle.cfb_directory.specs.Steps.{KeepsSlotsBut}
 use Rattle.cfb_directory.proofs.directory.Directory.with_dir_entry_mut.Goals as goal
 
