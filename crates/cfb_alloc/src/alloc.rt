@@ -185,8 +185,10 @@ impl<F: ReadMedium, A: Heap> Allocator<F, A> {
         ensures len { result ≡ self.now.file.len }
         ensures end { self.now.file.len ≤ sectors_end self.now.file }
         ensures placed { IsPlaced self.now.file self.now.tables }
+        ensures sizes { AreSizes self.now.tables.version (sizes_of self.now.tables) }
     {
         let _ = self.sectors.num_sectors();
+        let _ = self.tables.len();
         self.sectors.len()
     }
 

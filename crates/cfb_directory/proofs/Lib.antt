@@ -7,3 +7,7 @@ pub mod Rewritten
 pub mod ChangedFields
 pub mod RemovedEntries
 pub mod HeldDirectory
+pub mod InsertLinks
+pub mod InsertGrow
+pub mod InsertPut
+pub mod InsertWhole

@@ -3,4 +3,5 @@ pub mod SlotLaws
 pub mod State
 pub mod Steps
 pub mod HeldLaws
+pub mod Growing
 pub mod Lending

@@ -1,11 +1,271 @@
 //! How a directory takes a new entry: all memory first, then a sector where no slot is free, then the entries in memory, then their slots.
+ghost use Rattle.std.specs.Prelude.{◌≡◌, ◌⊎◌, ◌≢◌, ℕ, List, [], ◌++◌, ◌+◌, ◌^◌, ◌<◌, ◌≤◌, true, false, length, chars, vec_len, vec_capacity, slice_index, Contains, IsTrue, IfOk, IfErr, OnOk, OnErr};
+ghost use Rattle.cfb_format.specs.declared.objtype.ObjType.TheVariants.{Storage, Stream};
+ghost use Rattle.cfb_format.specs.declared.validate.Validation.{Validation};
+ghost use Rattle.cfb_format.specs.declared.version.Version.TheVariants.{V3, V4};
+ghost use Rattle.cfb_format.specs.Bytes.{end_of_chain, entries_per_sector, word_at};
+ghost use Rattle.cfb_format.specs.Chain.{value};
+ghost use Rattle.cfb_format.specs.Medium.{ChangesOnlyBytes};
+ghost use Rattle.cfb_format.specs.Names.{is_valid_name};
+ghost use Rattle.cfb_format.specs.Refused.{AfterMedium, CountsFailure};
+ghost use Rattle.cfb_codecs.specs.EntryModel.{new_entry};
+ghost use Rattle.cfb_outline.specs.Outlines.{IsReachedStorage};
+ghost use Rattle.cfb_siblings.specs.Children.{HasChildren, IsAbsent, KeepsBalance};
+ghost use Rattle.cfb_siblings.specs.Laws.{grown_by};
+ghost use Rattle.cfb_sectors.specs.Sectors.{IsMediumError};
+ghost use Rattle.cfb_sectors.specs.declared.sector.SectorInit.TheVariants.{Dir};
+ghost use Rattle.cfb_tables.specs.Listed.{ends_of, gained, last_or_end};
+ghost use Rattle.cfb_tables.specs.Refused.{ChangeRefused, TableRefused};
+ghost use Rattle.cfb_tables.specs.Tables.{AreSizes, IsTooFew, sizes_of};
+ghost use Rattle.cfb_alloc.specs.Alloc.{HoldsTables, IsFilled, IsUsable, OthersStay};
+ghost use Rattle.cfb_alloc.specs.Frame.{Spares};
+ghost use Rattle.cfb_alloc.specs.ListedChain.{Lengthens};
+ghost use Rattle.cfb_entries.specs.EntryList.{InsertsEntry, has_free, max_entries};
+ghost use Rattle.cfb_entries.specs.Insertions.{IsInsertionOf, name_in};
+ghost use Rattle.cfb_directory.specs.Growing.{ArePlaced, AreSectorsOf, IsListedChain, KeepsBounds, KeepsSlots};
+ghost use Rattle.cfb_directory.specs.State.{HoldsDirectory, IsFullForEntry, KeepsHeader, KeepsLimits, bytes_of, directory_of, version_of, with_room};
+ghost use Rattle.cfb_directory.specs.Steps.{IsNotHeld, KeepsOtherSlots, KeepsRedApart, StopsShort};
 
-/// How many slots are free or can be added .. `Full` and `InvalidData` before any memory is asked for
-fn check_room<F, A>(allocator: &Allocator<F, A>, sectors: &[u32], entries: &Entries<A>) -> Result<(), Error>
-//   if !are_placed(allocator, sectors, entries.list().len()) { InvalidData }
-//   if entries.is_full() { if entries.list().len() + per > MAX { Full } ; if !allocator.can_take(1, 0) { Full } }
+use crate::slots::{are_placed, write_entries};
+use cfb_alloc::alloc::{Allocator, HeaderWord};
+use cfb_codecs::timestamp::Timestamp;
+use cfb_entries::entries::Entries;
+use cfb_entries::fresh::fresh_entries;
+use cfb_entries::insertion::Insertion;
+use cfb_format::consts::END_OF_CHAIN;
+use cfb_format::error::{Detail, Error};
+use cfb_format::medium::{Medium, ReadMedium};
+use cfb_format::objtype::ObjType;
+use cfb_format::version::Version;
+use cfb_sectors::sector::SectorInit;
+use std::alloc::Allocator as Heap;
 
-/// All of insert_dir_entry over the directory's fields.
+/// How many entries a directory may have.
+const MAX_ENTRIES: usize = 0xFFFF_FFFB;
+
+/// Whether a new entry may come: `InvalidData` where the sectors have not a slot for each entry or are none of the file's, and `Full`
+/// where no slot is free and no sector can be added.
+fn check_room<F: ReadMedium, A: Heap>(
+    allocator: &Allocator<F, A>,
+    sectors: &[u32],
+    entries: &Entries<A>,
+) -> Result<(), Error>
+    ensures placed { OnOk result (ArePlaced (directory_of allocator.now sectors.now entries.now)) }
+    ensures enough { OnOk result (IsFullForEntry (directory_of allocator.now sectors.now entries.now) → ⊥) }
+    ensures err { IfErr result (TableRefused (ArePlaced (directory_of allocator.now sectors.now entries.now) → ⊥) ⊥
+        (IsFullForEntry (directory_of allocator.now sectors.now entries.now))) }
+{
+    let count = entries.list().len();
+    if !are_placed(allocator, sectors, count) {
+        return Err(Error::InvalidData(Detail::text("directory without a slot for each entry")));
+    }
+    if !entries.is_full() {
+        return Ok(());
+    }
+    let per = allocator.version().dir_entries_per_sector();
+    if count + per > MAX_ENTRIES {
+        return Err(Error::Full);
+    }
+    if !allocator.can_take(1, 0) {
+        return Err(Error::Full);
+    }
+    Ok(())
+}
+
+/// The last number of a list, or END.
+fn last_number(numbers: &[u32]) -> u32
+    ensures { result ≡ last_or_end numbers.now }
+{
+    numbers.last().copied().unwrap_or(END_OF_CHAIN)
+}
+
+/// Appends numbers to a list that has room for them.
+fn append_reserved<A: Heap>(list: &mut Vec<u32, A>, more: &[u32])
+    requires { vec_len list.old + length more.now ≤ vec_capacity list.old }
+    ensures { list.new.items ≡ list.old.items ++ more.now }
+{
+    for number in more {
+        list.push_reserved(*number);
+    }
+}
+
+/// Adds a sector of unallocated entries behind the last of these sectors, and appends it to the list, which has room for it. Nothing
+/// has changed where it is refused, but after `Medium`.
+fn lengthen<F: Medium, A: Heap + Clone>(
+    allocator: &mut Allocator<F, A>,
+    sectors: &mut Vec<u32, A>,
+) -> Result<(), Error>
+    requires room { vec_len sectors.old + 1 ≤ vec_capacity sectors.old }
+    ensures lengthened { OnOk result (Lengthens 1 sectors.old.items sectors.new.items allocator.old.tables allocator.new.tables) }
+    ensures kept { OnErr result (sectors.new.items ≡ sectors.old.items) }
+    ensures chain { IsListedChain allocator.old.tables sectors.old.items → OnOk result (IsListedChain allocator.new.tables sectors.new.items) }
+    ensures within { AreSectorsOf allocator.old.tables sectors.old.items → OnOk result (AreSectorsOf allocator.new.tables sectors.new.items) }
+    ensures sizes { OnOk result (AreSizes allocator.new.tables.version (sizes_of allocator.new.tables)) }
+    ensures filled { IsTrue F.tells → (validation : Validation) → HoldsTables validation allocator.old
+        → OnOk result ((i : ℕ) → Contains (gained sectors.old.items sectors.new.items) i → IsFilled allocator.new.tables.version Dir allocator.new.file.bytes i) }
+    ensures holds { IsTrue F.tells → (validation : Validation) → HoldsTables validation allocator.old → OnOk result (HoldsTables validation allocator.new) }
+    ensures others { IsTrue F.tells → OthersStay allocator.old allocator.new }
+    ensures spares { IsTrue F.tells → Spares (ends_of sectors.old.items) allocator.old allocator.new }
+    ensures bounds { KeepsBounds allocator.old.tables allocator.new.tables }
+    ensures begun { OnOk result (allocator.new.file.begun ≡ true) }
+    ensures refused { IfErr result (AfterMedium (allocator.new.file.begun ≡ true) (allocator.new ≡ allocator.old)) }
+    ensures err { IfErr result (ChangeRefused
+        ((IsUsable allocator.old.tables → ⊥) ⊎ ((last_or_end sectors.old.items ≢ end_of_chain) × (value allocator.old.tables.fat (last_or_end sectors.old.items) ≢ end_of_chain)))
+        Unit (IsTooFew allocator.old.tables 1) Unit) }
+    ensures counts { IsTrue F.tells → CountsFailure F.write_faults result allocator.old.file.failures allocator.new.file.failures }
+{
+    let last = last_number(sectors);
+    let more = match allocator.extend_chain_by(last, 1, SectorInit::Dir) {
+        Ok(more) => more,
+        Err(error) => return Err(error),
+    };
+    append_reserved(sectors, &more);
+    let len = allocator.file_len();
+    let _met = len;
+    Ok(())
+}
+
+/// Says in the header how many sectors the directory has; version 3 keeps no number there (MS-CFB 2.2). `Medium` where the medium fails.
+fn count_sectors<F: Medium, A: Heap>(
+    allocator: &mut Allocator<F, A>,
+    count: usize,
+) -> Result<(), Error>
+    requires few { count < 2 ^ 32 }
+    ensures tables { allocator.new.tables ≡ allocator.old.tables }
+    ensures same { allocator.old.tables.version ≡ V3 → (allocator.new ≡ allocator.old) × OnErr result ⊥ }
+    ensures begun { (allocator.old.file.begun ≡ true) → allocator.new.file.begun ≡ true }
+    ensures count { IsTrue F.tells → allocator.old.tables.version ≡ V4 → OnOk result (word_at allocator.new.file.bytes 40 ≡ count) }
+    ensures long { IsTrue F.tells → allocator.old.tables.version ≡ V4 → OnOk result (44 ≤ length allocator.new.file.bytes) }
+    ensures holds { IsTrue F.tells → (validation : Validation) → HoldsTables validation allocator.old → OnOk result (HoldsTables validation allocator.new) }
+    ensures others { IsTrue F.tells → ChangesOnlyBytes 40 4 allocator.old.file.bytes allocator.new.file.bytes }
+    ensures spares { IsTrue F.tells → Spares [] allocator.old allocator.new }
+    ensures err { IfErr result IsMediumError }
+    ensures counts { IsTrue F.tells → CountsFailure F.write_faults result allocator.old.file.failures allocator.new.file.failures }
+{
+    match allocator.version() {
+        Version::V3 => Ok(()),
+        Version::V4 => allocator.write_header_word(HeaderWord::DirectorySectors, count as u32),
+    }
+}
+
+/// Adds a sector of unallocated entries to the directory, with all memory for it before anything changes.
+///
+/// `Memory`, `Full` where no sector can be had, and `InvalidData` where the sectors are no chain: then nothing has changed; `Medium`.
+fn grow<F: Medium, A: Heap + Clone>(
+    allocator: &mut Allocator<F, A>,
+    sectors: &mut Vec<u32, A>,
+    entries: &mut Entries<A>,
+    heap: &A,
+) -> Result<(), Error>
+    requires few { length entries.old.entries + entries_per_sector allocator.old.tables.version ≤ max_entries }
+    requires placed { ArePlaced (directory_of allocator.old sectors.old.items entries.old) }
+    ensures entries { OnOk result (entries.new.entries ≡ grown_by entries.old.entries (entries_per_sector allocator.old.tables.version)) }
+    ensures placed { OnOk result (ArePlaced (directory_of allocator.new sectors.new.items entries.new)) }
+    ensures lengthened { OnOk result (Lengthens 1 sectors.old.items sectors.new.items allocator.old.tables allocator.new.tables) }
+    ensures chain { IsListedChain allocator.old.tables sectors.old.items → OnOk result (IsListedChain allocator.new.tables sectors.new.items) }
+    ensures holds { IsTrue F.tells → (validation : Validation) → HoldsDirectory validation (directory_of allocator.old sectors.old.items entries.old)
+        → OnOk result (HoldsDirectory validation (directory_of allocator.new sectors.new.items entries.new)) }
+    ensures spares { IsTrue F.tells → Spares sectors.old.items allocator.old allocator.new }
+    ensures header { IsTrue F.tells → KeepsHeader (directory_of allocator.old sectors.old.items entries.old) (directory_of allocator.new sectors.new.items entries.new) }
+    ensures count { IsTrue F.tells → allocator.old.tables.version ≡ V4 → OnOk result (word_at allocator.new.file.bytes 40 ≡ length sectors.new.items) }
+    ensures long { IsTrue F.tells → allocator.old.tables.version ≡ V4 → OnOk result (44 ≤ length allocator.new.file.bytes) }
+    ensures slots { IsTrue F.tells → (validation : Validation) → HoldsDirectory validation (directory_of allocator.old sectors.old.items entries.old)
+        → KeepsSlots (directory_of allocator.old sectors.old.items entries.old) (directory_of allocator.new sectors.new.items entries.new) }
+    ensures limits { KeepsLimits (directory_of allocator.old sectors.old.items entries.old) (directory_of allocator.new sectors.new.items entries.new) }
+    ensures begun { OnOk result (allocator.new.file.begun ≡ true) }
+    ensures refused { IfErr result (StopsShort (directory_of allocator.old sectors.old.items entries.old) (directory_of allocator.new sectors.new.items entries.new)) }
+    ensures err { IfErr result (ChangeRefused (IsNotHeld (directory_of allocator.old sectors.old.items entries.old)) Unit (IsTooFew allocator.old.tables 1) Unit) }
+    ensures counts { IsTrue F.tells → CountsFailure F.write_faults result allocator.old.file.failures allocator.new.file.failures }
+{
+    let per = allocator.version().dir_entries_per_sector();
+    let fresh = fresh_entries(heap, per)?;
+    entries.reserve(per)?;
+    sectors.reserve(1)?;
+    lengthen(allocator, sectors)?;
+    entries.grow(fresh);
+    count_sectors(allocator, sectors.len())?;
+    Ok(())
+}
+
+/// Has a free slot for a new entry: a directory that has none gets a sector.
+///
+/// `Memory`, `Full` where no sector can be had, and `InvalidData` where the sectors are no chain: then nothing has changed; `Medium`.
+fn make_room<F: Medium, A: Heap + Clone>(
+    allocator: &mut Allocator<F, A>,
+    sectors: &mut Vec<u32, A>,
+    entries: &mut Entries<A>,
+    heap: &A,
+) -> Result<(), Error>
+    requires placed { ArePlaced (directory_of allocator.old sectors.old.items entries.old) }
+    requires enough { IsFullForEntry (directory_of allocator.old sectors.old.items entries.old) → ⊥ }
+    ensures entries { OnOk result (entries.new.entries ≡ with_room (directory_of allocator.old sectors.old.items entries.old)) }
+    ensures free { OnOk result (has_free entries.new.entries ≡ true) }
+    ensures placed { OnOk result (ArePlaced (directory_of allocator.new sectors.new.items entries.new)) }
+    ensures kept { has_free entries.old.entries ≡ true → (sectors.new.items ≡ sectors.old.items) × (allocator.new ≡ allocator.old) }
+    ensures lengthened { has_free entries.old.entries ≡ false → OnOk result (Lengthens 1 sectors.old.items sectors.new.items allocator.old.tables allocator.new.tables) }
+    ensures chain { IsListedChain allocator.old.tables sectors.old.items → OnOk result (IsListedChain allocator.new.tables sectors.new.items) }
+    ensures holds { IsTrue F.tells → (validation : Validation) → HoldsDirectory validation (directory_of allocator.old sectors.old.items entries.old)
+        → OnOk result (HoldsDirectory validation (directory_of allocator.new sectors.new.items entries.new)) }
+    ensures spares { IsTrue F.tells → Spares sectors.old.items allocator.old allocator.new }
+    ensures header { IsTrue F.tells → KeepsHeader (directory_of allocator.old sectors.old.items entries.old) (directory_of allocator.new sectors.new.items entries.new) }
+    ensures count { IsTrue F.tells → allocator.old.tables.version ≡ V4 → has_free entries.old.entries ≡ false
+        → OnOk result (word_at allocator.new.file.bytes 40 ≡ length sectors.new.items) }
+    ensures long { IsTrue F.tells → allocator.old.tables.version ≡ V4 → has_free entries.old.entries ≡ false → OnOk result (44 ≤ length allocator.new.file.bytes) }
+    ensures slots { IsTrue F.tells → (validation : Validation) → HoldsDirectory validation (directory_of allocator.old sectors.old.items entries.old)
+        → KeepsSlots (directory_of allocator.old sectors.old.items entries.old) (directory_of allocator.new sectors.new.items entries.new) }
+    ensures limits { KeepsLimits (directory_of allocator.old sectors.old.items entries.old) (directory_of allocator.new sectors.new.items entries.new) }
+    ensures refused { IfErr result (StopsShort (directory_of allocator.old sectors.old.items entries.old) (directory_of allocator.new sectors.new.items entries.new)) }
+    ensures err { IfErr result (ChangeRefused (IsNotHeld (directory_of allocator.old sectors.old.items entries.old)) Unit (IsFullForEntry (directory_of allocator.old sectors.old.items entries.old)) Unit) }
+    ensures counts { IsTrue F.tells → CountsFailure F.write_faults result allocator.old.file.failures allocator.new.file.failures }
+{
+    if !entries.is_full() {
+        return Ok(());
+    }
+    grow(allocator, sectors, entries, heap)
+}
+
+/// Puts an entry that was prepared into a free slot, and writes the slots that changed. `Medium` where the medium fails.
+fn put<F: Medium, A: Heap>(
+    allocator: &mut Allocator<F, A>,
+    sectors: &[u32],
+    entries: &mut Entries<A>,
+    insertion: Insertion<A>,
+    parent: u32,
+    kind: ObjType,
+    moment: Timestamp,
+) -> Result<u32, Error>
+    requires placed { ArePlaced (directory_of allocator.old sectors.now entries.old) }
+    requires parent { IsReachedStorage entries.old.cases entries.old.entries parent }
+    requires prepared { IsInsertionOf (name_in insertion) entries.old.cases entries.old.entries parent insertion }
+    requires valid { IsTrue (is_valid_name (name_in insertion)) }
+    requires kind { (kind ≡ Storage) ⊎ (kind ≡ Stream) }
+    requires free { has_free entries.old.entries ≡ true }
+    ensures cases { entries.new.cases ≡ entries.old.cases }
+    ensures tables { allocator.new.tables ≡ allocator.old.tables }
+    ensures inserted { IfOk result (λ n. InsertsEntry entries.old.cases entries.old.entries entries.new.entries parent n (new_entry (name_in insertion) kind moment)) }
+    ensures balanced { OnOk result (KeepsBalance entries.old.entries entries.new.entries parent) }
+    ensures red_apart { OnOk result (KeepsRedApart (directory_of allocator.old sectors.now entries.old) (directory_of allocator.new sectors.now entries.new) parent) }
+    ensures holds { IsTrue F.tells → (validation : Validation) → HoldsDirectory validation (directory_of allocator.old sectors.now entries.old)
+        → OnOk result (HoldsDirectory validation (directory_of allocator.new sectors.now entries.new)) }
+    ensures spares { IsTrue F.tells → Spares sectors.now allocator.old allocator.new }
+    ensures header { IsTrue F.tells → (i : ℕ) → i < 512 → i < length allocator.old.file.bytes → slice_index allocator.new.file.bytes i ≡ slice_index allocator.old.file.bytes i }
+    ensures slots { IsTrue F.tells → (validation : Validation) → HoldsDirectory validation (directory_of allocator.old sectors.now entries.old)
+        → KeepsOtherSlots parent (directory_of allocator.old sectors.now entries.old) (directory_of allocator.new sectors.now entries.new) }
+    ensures begun { allocator.new.file.begun ≡ true }
+    ensures err { IfErr result IsMediumError }
+    ensures counts { IsTrue F.tells → CountsFailure F.write_faults result allocator.old.file.failures allocator.new.file.failures }
+{
+    let _units = moment.value();
+    let (number, touched) = entries.insert(insertion, parent, kind, moment);
+    write_entries(allocator, sectors, entries.list(), &touched)?;
+    Ok(number)
+}
+
+/// Puts a new storage or stream into the storage `parent`, where no child has that name, writes the slots that changed, and answers its
+/// number. Where no slot is free, the directory gets a sector first. All memory is asked for before anything changes.
+///
+/// `InvalidData` where the bytes do not hold the directory, `Full` where no slot is free and no sector can be had, and `Memory`:
+/// then nothing has changed; `Medium` where the medium fails.
 pub(crate) fn insert_entry<F: Medium, A: Heap + Clone>(
     allocator: &mut Allocator<F, A>,
     sectors: &mut Vec<u32, A>,
@@ -16,14 +276,37 @@ pub(crate) fn insert_entry<F: Medium, A: Heap + Clone>(
     kind: ObjType,
     moment: Timestamp,
 ) -> Result<u32, Error>
+    requires parent { IsReachedStorage entries.old.cases entries.old.entries parent }
+    requires valid { IsTrue (is_valid_name (chars name.now)) }
+    requires absent { (list : List ℕ) → HasChildren entries.old.cases entries.old.entries parent list → IsAbsent entries.old.cases entries.old.entries (chars name.now) list }
+    requires kind { (kind ≡ Storage) ⊎ (kind ≡ Stream) }
+    ensures inserted { IfOk result (λ n. InsertsEntry entries.old.cases (with_room (directory_of allocator.old sectors.old.items entries.old)) entries.new.entries parent n (new_entry (chars name.now) kind moment)) }
+    ensures balanced { OnOk result (KeepsBalance entries.old.entries entries.new.entries parent) }
+    ensures red_apart { OnOk result (KeepsRedApart (directory_of allocator.old sectors.old.items entries.old) (directory_of allocator.new sectors.new.items entries.new) parent) }
+    ensures kept { has_free entries.old.entries ≡ true → (sectors.new.items ≡ sectors.old.items) × (allocator.new.tables ≡ allocator.old.tables) }
+    ensures lengthened { has_free entries.old.entries ≡ false → OnOk result (Lengthens 1 sectors.old.items sectors.new.items allocator.old.tables allocator.new.tables) }
+    ensures chain { IsListedChain allocator.old.tables sectors.old.items → OnOk result (IsListedChain allocator.new.tables sectors.new.items) }
+    ensures holds { IsTrue F.tells → (validation : Validation) → HoldsDirectory validation (directory_of allocator.old sectors.old.items entries.old)
+        → OnOk result (HoldsDirectory validation (directory_of allocator.new sectors.new.items entries.new)) }
+    ensures spares { IsTrue F.tells → Spares sectors.old.items allocator.old allocator.new }
+    ensures header { IsTrue F.tells → KeepsHeader (directory_of allocator.old sectors.old.items entries.old) (directory_of allocator.new sectors.new.items entries.new) }
+    ensures count { IsTrue F.tells → allocator.old.tables.version ≡ V4 → has_free entries.old.entries ≡ false
+        → OnOk result (word_at allocator.new.file.bytes 40 ≡ length sectors.new.items) }
+    ensures header_kept { IsTrue F.tells → has_free entries.old.entries ≡ true
+        → (i : ℕ) → i < 512 → i < length allocator.old.file.bytes → slice_index allocator.new.file.bytes i ≡ slice_index allocator.old.file.bytes i }
+    ensures slots { IsTrue F.tells → (validation : Validation) → HoldsDirectory validation (directory_of allocator.old sectors.old.items entries.old)
+        → KeepsOtherSlots parent (directory_of allocator.old sectors.old.items entries.old) (directory_of allocator.new sectors.new.items entries.new) }
+    ensures limits { KeepsLimits (directory_of allocator.old sectors.old.items entries.old) (directory_of allocator.new sectors.new.items entries.new) }
+    ensures begun { OnOk result (allocator.new.file.begun ≡ true) }
+    ensures enough { OnOk result (IsFullForEntry (directory_of allocator.old sectors.old.items entries.old) → ⊥) }
+    ensures refused { IfErr result (StopsShort (directory_of allocator.old sectors.old.items entries.old) (directory_of allocator.new sectors.new.items entries.new)) }
+    ensures err { IfErr result (ChangeRefused (IsNotHeld (directory_of allocator.old sectors.old.items entries.old))
+        (IsFullForEntry (directory_of allocator.old sectors.old.items entries.old) → ⊥)
+        (IsFullForEntry (directory_of allocator.old sectors.old.items entries.old)) Unit) }
+    ensures counts { IsTrue F.tells → CountsFailure F.write_faults result allocator.old.file.failures allocator.new.file.failures }
 {
     check_room(allocator, sectors, entries)?;
     let insertion = entries.prepare(heap, parent, name)?;
-    if entries.is_full() {
-        grow(allocator, sectors, entries, heap)?;      // fresh entries, room in both lists, extend_chain_by(last, 1, Dir), then push and append
-    }
-    let (number, touched) = entries.insert(insertion, parent, kind, moment);
-    // version 4 and grown: header word 40
-    write_entries(allocator, sectors, entries.list(), &touched)?;
-    Ok(number)
+    make_room(allocator, sectors, entries, heap)?;
+    put(allocator, sectors, entries, insertion, parent, kind, moment)
 }

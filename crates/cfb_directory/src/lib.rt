@@ -3,5 +3,6 @@
 
 mod changing;
 pub mod directory;
+mod inserting;
 pub mod laws;
 pub mod slots;

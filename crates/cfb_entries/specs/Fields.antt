@@ -4,6 +4,7 @@ use Rattle.cfb_format.specs.DirectoryEntry.{Entry}
 use Rattle.cfb_format.specs.Siblings.{entry_at}
 use Rattle.cfb_entries.specs.declared.fields.Fields.{Fields}
 
+-- the fields of an entry
 abbrev pub fields_in : Entry → Fields
 fields_in e = record {
   clsid = e.clsid;

@@ -1,4 +1,4 @@
-//! Tests of `cfb_outline`, in a crate beside it: a crate with tests of its own is proved twice.
+//! Tests of `cfb_outline` and `cfb_entries`, in a crate beside them: a crate with tests of its own is proved twice.
 #![tactic(auto)]
 
 pub mod directories;
@@ -6,3 +6,5 @@ pub mod directories;
 mod outlines;
 #[cfg(test)]
 mod refusals;
+#[cfg(test)]
+mod slots;
