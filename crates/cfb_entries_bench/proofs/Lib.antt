@@ -1,1 +1,1 @@
-pub mod Roots
+pub mod Storages

@@ -1,14 +1,13 @@
 //! Directories in memory that other writers left out of balance, looked up in and changed.
-use crate::directories::entry;
+use crate::changed::{put, take};
+use crate::directories::{Given, directory, entry};
 use cfb_codecs::direntry::DirEntry;
-use cfb_codecs::path::{CaseMapper, validate_name};
-use cfb_codecs::timestamp::Timestamp;
+use cfb_codecs::path::CaseMapper;
 use cfb_entries::entries::Entries;
-use cfb_entries::fresh::fresh_entries;
-use cfb_format::color::Color::Black;
+use cfb_format::color::Color::{Black, Red};
 use cfb_format::consts::NO_STREAM as NONE;
-use cfb_format::error::{Detail, Error};
-use cfb_format::objtype::ObjType::{self, Root, Storage, Stream};
+use cfb_format::error::Error;
+use cfb_format::objtype::ObjType::{Root, Storage, Stream, Unallocated};
 use cfb_format::validate::Validation::Permissive;
 use cfb_outline::outline::reached_entries;
 use std::alloc::Global;
@@ -17,61 +16,6 @@ use std::test::Fail;
 /// The entries of the directory, as they are opened.
 fn opened(alloc: Global, list: Vec<DirEntry>) -> Result<Entries, Error> {
     Entries::new(&alloc, CaseMapper::new(alloc)?, list, Permissive)
-}
-
-/// A refusal where a test asks for what is not there.
-fn missing() -> Error {
-    Error::NotFound(Detail::text("nothing stands there"))
-}
-
-/// The storage at these names.
-fn storage_at(entries: &Entries, names: &[&str]) -> Result<u32, Error> {
-    match entries.find(names) {
-        Some(number) => Ok(number),
-        None => Err(missing()),
-    }
-}
-
-/// Puts a stream of this name into the storage at these names, behind four new slots where none is free.
-fn put(alloc: Global, entries: &mut Entries, names: &[&str], name: &str) -> Result<u32, Error> {
-    validate_name(alloc, name)?;
-    if entries.list().len() > 100_000 {
-        return Err(Error::Full);
-    }
-    if entries.is_full() {
-        let fresh = fresh_entries(&alloc, 4)?;
-        entries.reserve(4)?;
-        entries.grow(fresh);
-    }
-    let parent = storage_at(entries, names)?;
-    let list = entries.list();
-    if list[parent as usize].obj_type == ObjType::Stream {
-        return Err(missing());
-    }
-    if entries.child_named(parent, name).is_some() || entries.is_full() {
-        return Err(missing());
-    }
-    let insertion = entries.prepare(&alloc, parent, name)?;
-    let (number, _) = entries.insert(insertion, parent, Stream, Timestamp::zero());
-    Ok(number)
-}
-
-/// Takes the object of this name, which has nothing in it, out of the storage at these names, and answers how many slots changed.
-fn take(alloc: Global, entries: &mut Entries, names: &[&str], name: &str) -> Result<usize, Error> {
-    let parent = storage_at(entries, names)?;
-    let list = entries.list();
-    if list[parent as usize].obj_type == ObjType::Stream {
-        return Err(missing());
-    }
-    let Some(child) = entries.child_named(parent, name) else {
-        return Err(missing());
-    };
-    let list = entries.list();
-    if list[child as usize].child != NONE {
-        return Err(missing());
-    }
-    let touched = entries.remove(&alloc, parent, name)?;
-    Ok(touched.len())
 }
 
 /// `count` streams below the root, each the right sibling of the one before.
@@ -161,21 +105,51 @@ fn siblings_of_the_root_stay_where_they_are(rt: HostRuntime) -> Result<(), Fail>
     Ok(())
 }
 
+/// A root, and three slots of which the middle one is used.
+#[rattlefmt::skip]
+const GIVEN: &[Given] = &[
+    ("Root Entry", Root, Black, [NONE, NONE, 2], 0), ("", Unallocated, Red, [NONE; 3], 0),
+    ("m", Stream, Black, [NONE; 3], 0), ("", Unallocated, Red, [NONE; 3], 0),
+];
+
 /// Right after opening the lowest free slot is taken, then the one that was freed last, and of new ones the lowest.
 #[test]
 fn free_slots_are_taken_in_order(rt: HostRuntime) -> Result<(), Fail> {
-    let mut list = Vec::new(rt.alloc());
-    list.push(entry(rt.alloc(), &("Root Entry", Root, Black, [NONE; 3], 0))?)?;
-    for _ in 0..4 {
-        list.push(DirEntry::unallocated(rt.alloc()))?;
-    }
-    let mut entries = opened(rt.alloc(), list)?;
-    assert_eq!(rt; put(rt.alloc(), &mut entries, &[], "a")?, 1);
-    assert_eq!(rt; put(rt.alloc(), &mut entries, &[], "b")?, 2);
+    let mut entries = opened(rt.alloc(), directory(rt.alloc(), GIVEN)?)?;
+    assert_eq!(rt; put(rt.alloc(), &mut entries, &[], "z")?, 1, "the lowest");
+    take(rt.alloc(), &mut entries, &[], "m")?;
+    assert_eq!(rt;
+        put(rt.alloc(), &mut entries, &[], "n")?,
+        2,
+        "the freed one"
+    );
+    assert_eq!(rt; put(rt.alloc(), &mut entries, &[], "a")?, 3, "the last one");
+    assert_eq!(rt;
+        put(rt.alloc(), &mut entries, &[], "b")?,
+        4,
+        "the lowest new one"
+    );
+    assert_eq!(rt;
+        put(rt.alloc(), &mut entries, &[], "c")?,
+        5,
+        "the next new one"
+    );
     take(rt.alloc(), &mut entries, &[], "a")?;
-    assert_eq!(rt; put(rt.alloc(), &mut entries, &[], "c")?, 1);
-    assert_eq!(rt; put(rt.alloc(), &mut entries, &[], "d")?, 3);
-    assert_eq!(rt; put(rt.alloc(), &mut entries, &[], "e")?, 4);
-    assert_eq!(rt; put(rt.alloc(), &mut entries, &[], "f")?, 5);
+    take(rt.alloc(), &mut entries, &[], "b")?;
+    assert_eq!(rt;
+        put(rt.alloc(), &mut entries, &[], "d")?,
+        4,
+        "what was freed last"
+    );
+    assert_eq!(rt;
+        put(rt.alloc(), &mut entries, &[], "e")?,
+        3,
+        "what was freed before that"
+    );
+    assert_eq!(rt;
+        put(rt.alloc(), &mut entries, &[], "f")?,
+        6,
+        "a new one again"
+    );
     Ok(())
 }

@@ -43,7 +43,7 @@ pub fn directory<A: Allocator + Clone>(
 }
 
 /// Whether the entry is a stream.
-fn is_stream<A: Allocator>(entries: &[DirEntry<A>], number: u32) -> bool
+pub fn is_stream<A: Allocator>(entries: &[DirEntry<A>], number: u32) -> bool
     ensures { result ≡ false → (entry_at (entries_of entries.now) number).obj_type ≢ Stream }
 {
     if number as usize >= entries.len() {

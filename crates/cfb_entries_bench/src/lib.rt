@@ -2,11 +2,11 @@
 #![tactic(auto)]
 
 #[cfg(test)]
+mod changed;
+#[cfg(test)]
 mod changes;
 pub mod directories;
 #[cfg(test)]
 mod outlines;
 #[cfg(test)]
 mod refusals;
-#[cfg(test)]
-mod slots;
