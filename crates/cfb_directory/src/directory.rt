@@ -1,39 +1,45 @@
 //! The directory of a file (MS-CFB 2.6): its entries in memory, and each change of them written into the slots of its sectors.
-ghost use Rattle.std.specs.Prelude.{◌≡◌, ◌≢◌, ◌⊎◌, ℕ, ◌*◌, ◌%◌, ◌<◌, ◌≤◌, ◌∷◌, List, [], length, map, min, chars, true, false, Contains, IsTrue, MatchOption, vec_len, IfOk, IfErr, IfSome, OnOk};
-ghost use Rattle.cfb_format.specs.declared.objtype.ObjType.TheVariants.{Root};
+ghost use Rattle.std.specs.Prelude.{◌≡◌, ◌≢◌, ◌⊎◌, ℕ, ◌*◌, ◌%◌, ◌<◌, ◌≤◌, ◌∷◌, List, [], length, slice_index, map, min, chars, true, false, Contains, IsTrue, MatchOption, vec_len, IfOk, IfErr, IfSome, OnOk};
+ghost use Rattle.cfb_format.specs.declared.objtype.ObjType.TheVariants.{Root, Storage, Stream};
+ghost use Rattle.cfb_format.specs.declared.version.Version.TheVariants.{V4};
 ghost use Rattle.cfb_format.specs.declared.validate.Validation.{Validation};
-ghost use Rattle.cfb_format.specs.Bytes.{end_of_chain, entries_per_sector, max_regular_sector, no_stream, sector_len};
+ghost use Rattle.cfb_format.specs.Bytes.{end_of_chain, entries_per_sector, max_regular_sector, no_stream, sector_len, word_at};
+ghost use Rattle.cfb_format.specs.Names.{is_valid_name};
 ghost use Rattle.cfb_format.specs.Chain.{IsChain};
 ghost use Rattle.cfb_format.specs.DirectoryEntry.{IsValidEntry};
 ghost use Rattle.cfb_format.specs.Reading.{IsOutline, Outline, numbers};
 ghost use Rattle.cfb_format.specs.Refused.{CountsFailure, IsInvalidOrMemory};
 ghost use Rattle.cfb_format.specs.Siblings.{entry_at};
-ghost use Rattle.cfb_codecs.specs.EntryModel.{entries_of, entry_of};
+ghost use Rattle.cfb_codecs.specs.EntryModel.{entries_of, entry_of, new_entry};
 ghost use Rattle.cfb_outline.specs.Outlines.{AcceptsOutline, IsReachedStorage};
-ghost use Rattle.cfb_siblings.specs.Children.{HasChildren, IsAbsent, IsChildNamed, KeepsColors};
+ghost use Rattle.cfb_siblings.specs.Children.{HasChildren, IsAbsent, IsChildNamed, KeepsBalance, KeepsColors};
 ghost use Rattle.cfb_siblings.specs.Paths.{number_from};
 ghost use Rattle.cfb_sectors.specs.Sectors.{IsMediumError, IsRaised};
 ghost use Rattle.cfb_tables.specs.Changes.{NoChain};
 ghost use Rattle.cfb_tables.specs.Clean.{IsUnnamed};
 ghost use Rattle.cfb_tables.specs.Refused.{ChangeRefused, NoLast};
-ghost use Rattle.cfb_tables.specs.Tables.{Extended, ExtendsFrom, GivesBackChain, HasTaken, IsTooFew, TakesFor};
+ghost use Rattle.cfb_tables.specs.Tables.{Extended, ExtendsFrom, GivesBackChain, HasTaken, IsTooFew, TakesFor, first_or_end};
 ghost use Rattle.cfb_alloc.specs.Alloc.{ChangesSectors, HoldsTables, IsFilled, IsUsable, OthersStay};
 ghost use Rattle.cfb_alloc.specs.Broken.{BreaksOff};
 ghost use Rattle.cfb_alloc.specs.Frame.{Spares};
+ghost use Rattle.cfb_alloc.specs.ListedChain.{Lengthens};
 ghost use Rattle.cfb_entries.specs.declared.fields.Fields.{Fields};
-ghost use Rattle.cfb_entries.specs.EntryList.{AreInOrder, HaveShortNames, RemovesEntry, max_entries};
+ghost use Rattle.cfb_entries.specs.EntryList.{AreInOrder, HaveShortNames, InsertsEntry, RemovesEntry, has_free, max_entries};
 ghost use Rattle.cfb_entries.specs.Fields.{fields_in, with_fields, with_fields_at};
-ghost use Rattle.cfb_directory.specs.State.{HoldsDirectory, KeepsLimits, bytes_of, tables_of, version_of};
+ghost use Rattle.cfb_directory.specs.State.{HoldsDirectory, IsFullForEntry, KeepsHeader, KeepsLimits, bytes_of, tables_of, version_of, with_room};
 ghost use Rattle.cfb_directory.specs.Steps.{IsNotHeld, KeepsOtherSlots, KeepsRedApart, KeepsSlotsBut, KeepsWholeHeader, StopsShort};
 
 use crate::changing::{change_fields, remove_entry};
+use crate::inserting::insert_entry;
 use cfb_alloc::alloc::Allocator;
 use cfb_codecs::direntry::DirEntry;
 use cfb_codecs::path::CaseMapper;
+use cfb_codecs::timestamp::Timestamp;
 use cfb_entries::entries::Entries;
 use cfb_entries::fields::Fields;
 use cfb_format::error::{Detail, Error};
 use cfb_format::medium::{Medium, ReadMedium};
+use cfb_format::objtype::ObjType;
 use cfb_format::validate::Validation;
 use cfb_format::version::Version;
 use cfb_sectors::sector::SectorInit;
@@ -249,6 +255,59 @@ impl<F: ReadMedium, A: Heap> Directory<F, A> {
 }
 
 impl<F: Medium, A: Heap + Clone> Directory<F, A> {
+    /// Puts a new storage or stream, which has that name and is empty, into the storage `parent`, where no child has the name, writes the
+    /// slots of all entries that change, and answers its number. Where no slot is free, the directory gets a sector first, which version
+    /// 4 counts in the header; all memory is asked for before anything changes.
+    ///
+    /// `InvalidData`, which does not come where the bytes hold the directory; `Full` where no slot is free and none can be had, since the
+    /// directory would pass 0xFFFFFFFB entries or no sector can be taken; and `Memory`, which does not come where it is full: then nothing
+    /// has changed. After `Medium`, where the medium fails, the change was begun, and of the file's bytes no sector in use has changed
+    /// but the directory's and the table sectors.
+    pub fn insert_dir_entry(
+        &mut self,
+        parent: u32,
+        name: &str,
+        kind: ObjType,
+        moment: Timestamp,
+    ) -> Result<u32, Error>
+        requires parent { IsReachedStorage self.old.cases self.old.entries parent }
+        requires valid { IsTrue (is_valid_name (chars name.now)) }
+        requires absent { (list : List ℕ) → HasChildren self.old.cases self.old.entries parent list → IsAbsent self.old.cases self.old.entries (chars name.now) list }
+        requires kind { (kind ≡ Storage) ⊎ (kind ≡ Stream) }
+        ensures inserted { IfOk result (λ n. InsertsEntry self.old.cases (with_room self.old) self.new.entries parent n (new_entry (chars name.now) kind moment)) }
+        ensures balanced { OnOk result (KeepsBalance self.old.entries self.new.entries parent) }
+        ensures red_apart { OnOk result (KeepsRedApart self.old self.new parent) }
+        ensures kept { has_free self.old.entries ≡ true → (self.new.sectors ≡ self.old.sectors) × (tables_of self.new ≡ tables_of self.old) }
+        ensures lengthened { has_free self.old.entries ≡ false → OnOk result (Lengthens 1 self.old.sectors self.new.sectors (tables_of self.old) (tables_of self.new)) }
+        ensures chain { IsChain (tables_of self.old).fat (first_or_end self.old.sectors) self.old.sectors
+            → OnOk result (IsChain (tables_of self.new).fat (first_or_end self.new.sectors) self.new.sectors) }
+        ensures holds { IsTrue F.tells → (validation : Validation) → HoldsDirectory validation self.old → OnOk result (HoldsDirectory validation self.new) }
+        ensures spares { IsTrue F.tells → Spares self.old.sectors self.old.table self.new.table }
+        ensures header { IsTrue F.tells → KeepsHeader self.old self.new }
+        ensures count { IsTrue F.tells → version_of self.old ≡ V4 → has_free self.old.entries ≡ false
+            → OnOk result (word_at (bytes_of self.new) 40 ≡ length self.new.sectors) }
+        ensures header_kept { IsTrue F.tells → has_free self.old.entries ≡ true
+            → (i : ℕ) → i < 512 → i < length (bytes_of self.old) → slice_index (bytes_of self.new) i ≡ slice_index (bytes_of self.old) i }
+        ensures slots { IsTrue F.tells → (validation : Validation) → HoldsDirectory validation self.old → KeepsOtherSlots parent self.old self.new }
+        ensures limits { KeepsLimits self.old self.new }
+        ensures begun { OnOk result (self.new.table.file.begun ≡ true) }
+        ensures enough { OnOk result (IsFullForEntry self.old → ⊥) }
+        ensures refused { IfErr result (StopsShort self.old self.new) }
+        ensures err { IfErr result (ChangeRefused (IsNotHeld self.old) (IsFullForEntry self.old → ⊥) (IsFullForEntry self.old) Unit) }
+        ensures counts { IsTrue F.tells → CountsFailure F.write_faults result self.old.table.file.failures self.new.table.file.failures }
+    {
+        insert_entry(
+            &mut self.allocator,
+            &mut self.sectors,
+            &mut self.entries,
+            &self.heap,
+            parent,
+            name,
+            kind,
+            moment,
+        )
+    }
+
     /// Takes the child of that name, which is there and has no children, out of the storage `parent`, and writes the slots of all
     /// entries that change, the one that is free then among them.
     ///
