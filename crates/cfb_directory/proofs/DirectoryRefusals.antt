@@ -1,5 +1,5 @@
 -- Which refusals of the layers below are those of the directory.
-use Rattle.std.specs.Prelude.{◌≡◌, ℕ, Bool, Result, Ok, Err, IfErr, refl}
+use Rattle.std.specs.Prelude.{ℕ, Bool, Result, Ok, Err, IfErr, refl}
 use Rattle.cfb_format.specs.declared.medium.MediumFault.{MediumFault}
 use Rattle.cfb_format.specs.declared.error.Error.{Error}
 use Rattle.cfb_format.specs.declared.error.Error.TheVariants.{NotFound, AlreadyExists, InvalidInput, InvalidData, Medium, Memory, Full, Unsound, Failed, Unsupported}

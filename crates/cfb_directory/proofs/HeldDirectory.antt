@@ -1,17 +1,16 @@
 -- A directory that the bytes hold is the one that is read, and stays held through changes that spare it.
-use Rattle.std.proofs.Common.{◌≡◌, ◌≢◌, ◌≤◌, ◌<◌, ◌+◌, inl, inr, ℕ, List, [], true, refl, sym, ◌∙◌, ap, subst, length, arith, le-leb}
-use Rattle.std.specs.Prelude.{Contains, slice_index}
+use Rattle.std.proofs.Common.{◌≡◌, ◌≤◌, ◌+◌, inl, inr, ℕ, List, [], true, sym, ◌∙◌, ap, subst, length, arith, le-leb}
+use Rattle.std.specs.Prelude.{slice_index}
 use Rattle.std.specs.List.{AllZip, list_all}
 use Rattle.std.proofs.lemmas.List.Elements.{Contains-get_or, Contains-append_cases}
 use Rattle.cfb_format.specs.declared.version.Version.{Version}
 use Rattle.cfb_format.specs.declared.version.Version.TheVariants.{V3, V4}
-use Rattle.cfb_format.specs.declared.validate.Validation.{Validation}
 use Rattle.cfb_format.specs.declared.validate.Validation.TheVariants.{Strict}
 use Rattle.cfb_format.specs.declared.header.Header.{Header}
 use Rattle.cfb_format.specs.Bytes.{is_whole_sector, sector_len, sector_start, word_at}
 use Rattle.cfb_format.specs.Chain.{IsChain}
 use Rattle.cfb_format.specs.DirectoryEntry.{IsStrictEntry, slots}
-use Rattle.cfb_format.specs.Header.{IfStrict, IsHeader, IsStrictHeader, dir_sectors_of}
+use Rattle.cfb_format.specs.Header.{IfStrict, IsStrictHeader, dir_sectors_of}
 use Rattle.cfb_format.specs.Reading.{IsStrictCount}
 use Rattle.cfb_format.proofs.Unique.{IsHeader-unique}
 use Rattle.cfb_tables.specs.Changes.{AreDisjoint}
@@ -21,7 +20,7 @@ use Rattle.cfb_alloc.specs.Frame.{table_sectors}
 use Rattle.cfb_alloc.proofs.AgreementLemmas.{every}
 use Rattle.cfb_alloc.proofs.Frames.{other-chains-spared}
 use Rattle.cfb_directory.specs.Slots.{HoldSlotsBut}
-use Rattle.cfb_directory.specs.State.{AreWritable, DirectoryState, HoldsDirectory, bytes_of, tables_of, version_of}
+use Rattle.cfb_directory.specs.State.{AreWritable, bytes_of, tables_of, version_of}
 use Rattle.cfb_directory.specs.HeldLaws.{DirectoryStaysHeld, HeldDirectoryIsRead, HeldDirectoryIsStrict}
 use Rattle.cfb_directory.proofs.Placed.{held_no_tables}
 use Rattle.cfb_directory.proofs.Rewritten.{strict_header_stays}

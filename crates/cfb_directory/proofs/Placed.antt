@@ -1,12 +1,12 @@
 -- A directory that the bytes hold has its places, and its slots stay where they are not written.
-use Rattle.std.proofs.Common.{◌≡◌, ◌≢◌, ◌≤◌, ◌<◌, ◌+◌, ◌*◌, inl, inr, ℕ, List, [], ◌∷◌, true, refl, sym, ◌∙◌, ap, subst, length, arith}
+use Rattle.std.proofs.Common.{◌≡◌, ◌≢◌, ◌≤◌, ◌<◌, ◌+◌, ◌*◌, inl, inr, ℕ, List, [], ◌∷◌, true, refl, sym, ◌∙◌, subst, length, arith}
 use Rattle.std.specs.Prelude.{slice_index, nat_eq, Contains}
 use Rattle.std.specs.List.{IsDistinct}
 use Rattle.std.proofs.lemmas.Grind.{same_number_lists}
 use Rattle.cfb_format.specs.declared.version.Version.{Version}
 use Rattle.cfb_format.specs.declared.version.Version.TheVariants.{V3, V4}
 use Rattle.cfb_format.specs.declared.validate.Validation.{Validation}
-use Rattle.cfb_format.specs.Bytes.{sector_len, sector_start, entries_per_sector}
+use Rattle.cfb_format.specs.Bytes.{sector_len, entries_per_sector}
 use Rattle.cfb_format.specs.Medium.{part}
 use Rattle.cfb_format.proofs.ByteLemmas.{part_at, length-part}
 use Rattle.cfb_tables.specs.Tables.{first_or_end}
@@ -18,7 +18,7 @@ use Rattle.cfb_alloc.specs.Frame.{Spares}
 use Rattle.cfb_alloc.specs.InSector.{IsNoTableSector}
 use Rattle.cfb_alloc.proofs.HeldOrder.{members-no_table}
 use Rattle.cfb_directory.specs.Slots.{ChangesSlots, HavePlaces, slot_of, slot_place}
-use Rattle.cfb_directory.specs.State.{DirectoryState, HoldsDirectory, version_of, bytes_of, tables_of}
+use Rattle.cfb_directory.specs.State.{DirectoryState, HoldsDirectory, version_of, tables_of}
 use Rattle.cfb_directory.proofs.SlotPlaces.{header-outside, slot_inside, slots_apart}
 
 -- its sectors have a slot for each entry

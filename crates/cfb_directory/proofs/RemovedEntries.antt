@@ -1,7 +1,7 @@
 -- Entries can be written after a removal, as before.
-use Rattle.std.proofs.Common.{◌≡◌, ◌≢◌, ◌<◌, ◌≤◌, ◌+◌, ◌^◌, ◌⊎◌, inl, inr, ℕ, zero, suc, List, [], ◌∷◌, ◌++◌, Bool, true, false, refl, sym, ◌∙◌, ap, subst, length, arith, length-append, le-leb}
+use Rattle.std.proofs.Common.{◌≡◌, ◌≢◌, ◌<◌, ◌≤◌, ◌^◌, ◌⊎◌, inl, inr, ℕ, List, [], ◌∷◌, ◌++◌, refl, sym, ◌∙◌, ap, subst, length, arith, length-append, le-leb}
 use Rattle.std.specs.Prelude.{Contains, IsTrue, nat_eq, slice_index_or, ◌==◌, ◌||◌}
-use Rattle.std.specs.List.{AllZip, IsDistinct}
+use Rattle.std.specs.List.{IsDistinct}
 use Rattle.std.proofs.lemmas.Bool.{cases_eq, cases_lt}
 use Rattle.std.proofs.lemmas.List.{get_or_past}
 use Rattle.std.proofs.lemmas.List.Elements.{Contains-append_left, Contains-append_right, Contains-append_cases, Contains-get_or}
@@ -9,15 +9,14 @@ use Rattle.cfb_format.specs.declared.objtype.ObjType.{ObjType}
 use Rattle.cfb_format.specs.declared.objtype.ObjType.TheVariants.{Unallocated, Storage, Stream, Root}
 use Rattle.cfb_format.specs.declared.version.Version.{Version}
 use Rattle.cfb_format.specs.declared.version.Version.TheVariants.{V3, V4}
-use Rattle.cfb_format.specs.Bytes.{is_regular, max_regular_sector, no_stream}
+use Rattle.cfb_format.specs.Bytes.{max_regular_sector, no_stream}
 use Rattle.cfb_format.specs.Names.{Cases}
 use Rattle.cfb_format.specs.DirectoryEntry.{Entry, EntryFits, IsValidEntry, IsAllowedChild, is_entry_link, unallocated_entry}
 use Rattle.cfb_format.specs.Siblings.{SiblingTree, leaf, node, HangsAt, in_order, entry_at}
 use Rattle.cfb_format.proofs.Unique.{Below-unique}
 use Rattle.cfb_outline.specs.Outlines.{IsReachedStorage}
-use Rattle.cfb_siblings.specs.Children.{ButChild, ButLinks, HasChildren, HasRemoved}
+use Rattle.cfb_siblings.specs.Children.{ButLinks, HasRemoved}
 use Rattle.cfb_siblings.specs.Touched.{TouchesOnly}
-use Rattle.cfb_siblings.specs.Way.{unlinked}
 use Rattle.cfb_tables.proofs.Members.{Contains-here, Contains-there, Contains-cases, Contains-or, Contains-split, Contains-nil, cons-distinct, distinct-cons}
 use Rattle.cfb_entries.specs.EntryList.{max_entries}
 use Rattle.cfb_entries.proofs.Contents.{free-beside, free-outside}
