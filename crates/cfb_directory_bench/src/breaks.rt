@@ -40,9 +40,13 @@ const CHANGES: [Change; 4] = [
 fn bytes_before(alloc: Global, change: &Change) -> Result<Vec<u8>, Error> {
     let file = MemoryMedium::from_bytes(created(alloc, V3)?);
     let mut directory = opened(alloc, file, V3, Strict)?;
-    let other = directory.allocator_mut().extend_chain_by(END_OF_CHAIN, 2, SectorInit::Zero)?;
+    let other = directory
+        .allocator_mut()
+        .extend_chain_by(END_OF_CHAIN, 2, SectorInit::Zero)?;
     for sector in &other {
-        directory.allocator_mut().write_contiguous(*sector, 0, &[0x5a; 512])?;
+        directory
+            .allocator_mut()
+            .write_contiguous(*sector, 0, &[0x5a; 512])?;
     }
     for ask in change.before {
         asked(alloc, &mut directory, *ask)?;
@@ -67,7 +71,12 @@ fn failing_in_turn(alloc: Global, change: &Change) -> Result<u64, Error> {
         if failures == 0 && answer.is_none() && stays {
             return Ok(nth);
         }
-        if failures != 1 || answer != Some(Error::Medium(MediumFault::Write)) || !begun || !answers || !stays {
+        if failures != 1
+            || answer != Some(Error::Medium(MediumFault::Write))
+            || !begun
+            || !answers
+            || !stays
+        {
             return Ok(0);
         }
     }
@@ -89,7 +98,10 @@ fn writes_fail_in_turn(rt: HostRuntime) -> Result<(), Fail> {
 fn a_flush_fails(rt: HostRuntime) -> Result<(), Fail> {
     let file = MemoryMedium::from_bytes(created(rt.alloc(), V3)?);
     let mut directory = opened(rt.alloc(), Failing::once(file, Kind::Flush, 1), V3, Strict)?;
-    assert_eq!(rt; directory.flush().err(), Some(Error::Medium(MediumFault::Flush)));
+    assert_eq!(rt;
+        directory.flush().err(),
+        Some(Error::Medium(MediumFault::Flush))
+    );
     assert!(rt; directory.begun());
     assert_eq!(rt; directory.flush().err(), None);
     Ok(())

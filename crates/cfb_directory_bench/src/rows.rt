@@ -172,7 +172,12 @@ fn rows_are_worked(rt: HostRuntime) -> Result<(), Fail> {
             None => false,
         };
         assert!(rt; same, "row {at}, byte by byte");
-        let again = opened(rt.alloc(), MemoryMedium::from_bytes(after.bytes().to_vec(rt.alloc())?), row.version, Strict)?;
+        let again = opened(
+            rt.alloc(),
+            MemoryMedium::from_bytes(after.bytes().to_vec(rt.alloc())?),
+            row.version,
+            Strict,
+        )?;
         assert!(rt; is_as_wanted(&again, row), "row {at}, opened again");
         at = at.saturating_add(1);
     }
@@ -212,7 +217,12 @@ fn directory_sectors_are_counted(rt: HostRuntime) -> Result<(), Fail> {
 
 /// How many writes touch these bytes as the first storage is put into a created file of version 3: each slot that changes is
 /// written by one, and nothing else is.
-const WRITES: [(u64, u64, u64); 4] = [(0, 1024, 0), (1024, 1152, 1), (1152, 1280, 1), (1280, 1536, 0)];
+const WRITES: [(u64, u64, u64); 4] = [
+    (0, 1024, 0),
+    (1024, 1152, 1),
+    (1152, 1280, 1),
+    (1280, 1536, 0),
+];
 
 #[test]
 fn each_slot_is_written_alone(rt: HostRuntime) -> Result<(), Fail> {
@@ -241,7 +251,12 @@ fn many_are_put_and_taken(rt: HostRuntime) -> Result<(), Fail> {
         let name = format!(in rt.alloc(); "n{:04}", number.saturating_mul(2))?;
         take(&mut directory, &[], &name)?;
         if number % 16 == 0 {
-            let order = reached_entries(rt.alloc(), directory.letters(), directory.entries(), Strict)?;
+            let order = reached_entries(
+                rt.alloc(),
+                directory.letters(),
+                directory.entries(),
+                Strict,
+            )?;
             assert_eq!(rt; order.len(), 2046 - number as usize);
         }
     }
@@ -273,7 +288,9 @@ fn fullness_is_exact(rt: HostRuntime) -> Result<(), Fail> {
             let name = format!(in rt.alloc(); "n{number}")?;
             put(rt.alloc(), &mut directory, &[], &name, true)?;
         }
-        directory.allocator_mut().extend_chain_by(END_OF_CHAIN, others, SectorInit::Zero)?;
+        directory
+            .allocator_mut()
+            .extend_chain_by(END_OF_CHAIN, others, SectorInit::Zero)?;
         directory.end_change();
         directory.set_max_sectors(limit);
         let before = directory.inner().bytes().to_vec(rt.alloc())?;
@@ -304,17 +321,20 @@ fn fields_are_set_alone(rt: HostRuntime) -> Result<(), Fail> {
     put(rt.alloc(), &mut directory, &[], "a", false)?;
     let before = directory.inner().bytes().to_vec(rt.alloc())?;
     assert!(rt; directory.entries().len() >= 2);
-    directory.with_dir_entry_mut(1, |fields| Fields {
-        clsid: Uuid::from_bytes([1, 2, 3, 4, 5, 6, 7, 8, 9, 10, 11, 12, 13, 14, 15, 16]),
-        state_bits: 0x1122_3344,
-        creation_time: Timestamp::read_from(&[8, 7, 6, 5, 4, 3, 2, 1]),
-        modified_time: Timestamp::read_from(&[0x18, 0x17, 0x16, 0x15, 0x14, 0x13, 0x12, 0x11]),
-        ..fields
-    })?;
+    directory.with_dir_entry_mut(
+        1,
+        |fields| Fields {
+            clsid: Uuid::from_bytes([1, 2, 3, 4, 5, 6, 7, 8, 9, 10, 11, 12, 13, 14, 15, 16]),
+            state_bits: 0x1122_3344,
+            creation_time: Timestamp::read_from(&[8, 7, 6, 5, 4, 3, 2, 1]),
+            modified_time: Timestamp::read_from(&[0x18, 0x17, 0x16, 0x15, 0x14, 0x13, 0x12, 0x11]),
+            ..fields
+        },
+    )?;
     let mut wanted = before;
     let set: [u8; 36] = [
-        4, 3, 2, 1, 6, 5, 8, 7, 9, 10, 11, 12, 13, 14, 15, 16, 0x44, 0x33, 0x22, 0x11, 8, 7, 6, 5, 4, 3, 2, 1, 0x18, 0x17, 0x16, 0x15, 0x14,
-        0x13, 0x12, 0x11,
+        4, 3, 2, 1, 6, 5, 8, 7, 9, 10, 11, 12, 13, 14, 15, 16, 0x44, 0x33, 0x22, 0x11, 8, 7, 6, 5,
+        4, 3, 2, 1, 0x18, 0x17, 0x16, 0x15, 0x14, 0x13, 0x12, 0x11,
     ];
     assert!(rt; wanted.len() >= 1152 + 128);
     put_bytes(&mut wanted, 1152 + 80, &set);
