@@ -1,0 +1,11 @@
+//! Tests of `cfb_directory`, in a crate beside it: a crate with tests of its own is proved twice.
+#![tactic(auto)]
+
+#[cfg(test)]
+mod breaks;
+#[cfg(test)]
+mod directories;
+#[cfg(test)]
+mod files;
+#[cfg(test)]
+mod rows;
