@@ -38,7 +38,7 @@ use Rattle.cfb_directory.proofs.InsertGrow.{one-gained}
 -- ---- entries with room
 
 -- what holds of the entries, and of them with more that are not used, holds of them with room
-has-room : (P : List Entry → Type 0) (b : Bool) (entries : List Entry) (per : ℕ) → P entries → P (grown_by entries per) → P (if b then entries else grown_by entries per)
+pub has-room : (P : List Entry → Type 0) (b : Bool) (entries : List Entry) (per : ℕ) → P entries → P (grown_by entries per) → P (if b then entries else grown_by entries per)
 has-room P true entries per same grown = same
 has-room P false entries per same grown = grown
 

@@ -11,3 +11,4 @@ pub mod InsertLinks
 pub mod InsertGrow
 pub mod InsertPut
 pub mod InsertWhole
+pub mod NamesFound

@@ -5,3 +5,4 @@ pub mod Steps
 pub mod HeldLaws
 pub mod Growing
 pub mod Lending
+pub mod NameLaws

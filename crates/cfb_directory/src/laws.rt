@@ -1,6 +1,7 @@
 //! What the definitions promise about each other. None of these functions does anything: each has a law
 //! as its contract.
 ghost use Rattle.cfb_directory.specs.HeldLaws.{DirectoryStaysHeld, HeldDirectoryIsRead, HeldDirectoryIsStrict};
+ghost use Rattle.cfb_directory.specs.NameLaws.{InsertedIsFound, RemovedIsGone};
 ghost use Rattle.cfb_directory.specs.SlotLaws.{SlotsByPlace, SlotsAtPlaces, SlotsStay, FreshSlotsAreHeld, EntriesThatStayAreHeld, HeaderIsOutsideSlots};
 
 /// The slots that hold entries by their places are the slots that opening reads (MS-CFB 2.6).
@@ -28,4 +29,11 @@ pub fn held_directory_is_read()
 /// A directory stays held by the bytes through changes that spare its sectors and leave the words of the header that speak of it.
 pub fn directory_stays_held()
     ensures { DirectoryStaysHeld }
+{}
+
+/// A directory is a map from chains of names to entries, through all storages: an entry that was put into it is found by its name in
+/// its storage, one that was taken out is not, and all else is found as before (MS-CFB 2.6.4).
+pub fn names_follow_changes()
+    ensures inserted { InsertedIsFound }
+    ensures removed { RemovedIsGone }
 {}
