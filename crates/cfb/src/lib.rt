@@ -14,10 +14,10 @@ pub mod internal {
     pub use cfb_alloc::seeking::AllocatedSector;
     pub use cfb_chains::chain::Chain;
     pub use cfb_codecs::direntry::DirEntry;
-    pub use cfb_directory::directory::Directory;
-    pub use cfb_entries::fields::Fields;
     pub use cfb_codecs::path::{self, CaseMapper};
     pub use cfb_codecs::timestamp::Timestamp;
+    pub use cfb_directory::directory::Directory;
+    pub use cfb_entries::fields::Fields;
     pub use cfb_format::color::Color;
     pub use cfb_format::consts;
     pub use cfb_format::header::Header;
