@@ -7,21 +7,21 @@ use Rattle.cfb_format.specs.DirectoryEntry.{Entry, EntryFits, IsValidEntry, unal
 use Rattle.cfb_format.specs.Siblings.{entry_at}
 use Rattle.cfb_tables.proofs.Members.{Contains-here}
 use Rattle.cfb_entries.specs.declared.fields.Fields.{Fields}
-use Rattle.cfb_entries.specs.Fields.{with_fields, with_fields_at}
+use Rattle.cfb_entries.specs.Fields.{entry_with_fields, entries_with_fields}
 use Rattle.cfb_directory.specs.State.{AreWritable}
 
 module _ (entries : List Entry) (n : ℕ) (f : Fields) where
-  pub changed_here : n < length entries → entry_at (with_fields_at entries n f) n ≡ with_fields (entry_at entries n) f
-  changed_here lt = get_or-set_same entries n (with_fields (entry_at entries n) f) unallocated_entry lt
+  pub changed_here : n < length entries → entry_at (entries_with_fields entries n f) n ≡ entry_with_fields (entry_at entries n) f
+  changed_here lt = get_or-set_same entries n (entry_with_fields (entry_at entries n) f) unallocated_entry lt
 
-  pub changed_beside : (k : ℕ) → k ≢ n → entry_at (with_fields_at entries n f) k ≡ entry_at entries k
-  changed_beside k ne = get_or-set_other entries n k (with_fields (entry_at entries n) f) unallocated_entry ne
+  pub changed_beside : (k : ℕ) → k ≢ n → entry_at (entries_with_fields entries n f) k ≡ entry_at entries k
+  changed_beside k ne = get_or-set_other entries n k (entry_with_fields (entry_at entries n) f) unallocated_entry ne
 
-  pub changed_length : length (with_fields_at entries n f) ≡ length entries
-  changed_length = length-set entries n (with_fields (entry_at entries n) f)
+  pub changed_length : length (entries_with_fields entries n f) ≡ length entries
+  changed_length = length-set entries n (entry_with_fields (entry_at entries n) f)
 
   -- all but the slot of that entry are as before
-  pub changed_told : (k : ℕ) → (Contains (n ∷ []) k → ⊥) → entry_at (with_fields_at entries n f) k ≡ entry_at entries k
+  pub changed_told : (k : ℕ) → (Contains (n ∷ []) k → ⊥) → entry_at (entries_with_fields entries n f) k ≡ entry_at entries k
   changed_told k out = changed_beside k (λ e. out (subst (Contains (n ∷ [])) (sym e) (Contains-here n [])))
 
 -- they can be written, if that one can

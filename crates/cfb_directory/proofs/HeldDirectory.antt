@@ -20,7 +20,7 @@ use Rattle.cfb_alloc.specs.Frame.{table_sectors}
 use Rattle.cfb_alloc.proofs.AgreementLemmas.{every}
 use Rattle.cfb_alloc.proofs.Frames.{other-chains-spared}
 use Rattle.cfb_directory.specs.Slots.{HoldSlotsBut}
-use Rattle.cfb_directory.specs.State.{AreWritable, bytes_of, tables_of, version_of}
+use Rattle.cfb_directory.specs.State.{AreWritable, bytes_of, tables_in, version_of}
 use Rattle.cfb_directory.specs.HeldLaws.{DirectoryStaysHeld, HeldDirectoryIsRead, HeldDirectoryIsStrict}
 use Rattle.cfb_directory.proofs.Placed.{held_no_tables}
 use Rattle.cfb_directory.proofs.Rewritten.{strict_header_stays}
@@ -36,7 +36,7 @@ held-directory-is-read validation d h =
     let read = by-place validation (version_of d) (bytes_of d) d.sectors d.entries h.slots in
     let few = h.most in
     record {
-      chain = subst (λ s. IsChain (tables_of d).fat s d.sectors) (sym h.first) h.chain;
+      chain = subst (λ s. IsChain (tables_in d).fat s d.sectors) (sym h.first) h.chain;
       some = h.some;
       whole = all_whole (version_of d) (bytes_of d) d.sectors h.whole;
       most = omega (arith, few, read.2);
@@ -66,9 +66,9 @@ directory-stays-held validation own d a h tables sizes spares apart count first 
     let bytes = a.file.bytes in
     let longer = spares.no_shorter in
     let version = sym spares.same_version in
-    let free : AreDisjoint d.sectors (table_sectors (tables_of d)) = λ i m t.
+    let free : AreDisjoint d.sectors (table_sectors (tables_in d)) = λ i m t.
     let none = held_no_tables validation d h i m in
-    elim (Contains-append_cases (tables_of d).fat_sectors (tables_of d).difat_sectors i t) [ inl fat ↦ none.0 fat | inr difat ↦ none.1 difat ] in
+    elim (Contains-append_cases (tables_in d).fat_sectors (tables_in d).difat_sectors i t) [ inl fat ↦ none.0 fat | inr difat ↦ none.1 difat ] in
     let stays = other-chains-spared own d.table a (first_or_end d.sectors) d.sectors spares h.chain apart free in
     let whole : HasSectors v bytes d.sectors = λ i m. (let w = h.whole i m in omega (arith, w, longer)) in
     record {

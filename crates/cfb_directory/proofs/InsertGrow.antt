@@ -40,11 +40,12 @@ use Rattle.cfb_alloc.proofs.HeldOrder.{held-usable, members-no_table}
 use Rattle.cfb_alloc.proofs.Listed.{not_in_nil}
 use Rattle.cfb_siblings.specs.Laws.{grown_by}
 use Rattle.cfb_siblings.proofs.Grown.{entry-stays}
-use Rattle.cfb_entries.specs.EntryList.{EntryList, max_entries}
+use Rattle.cfb_format.specs.Full.{max_entries}
+use Rattle.cfb_entries.specs.EntryList.{EntryList}
 use Rattle.cfb_directory.specs.Steps.{IsNotHeld}
 use Rattle.cfb_directory.specs.Growing.{ArePlaced, AreSectorsOf, IsListedChain, KeepsBounds}
 use Rattle.cfb_directory.specs.Slots.{HavePlaces, HoldSlotsBut, slot_of}
-use Rattle.cfb_directory.specs.State.{AreWritable, DirectoryState, HoldsDirectory, IsKeptHeaderByte, bytes_of, tables_of, version_of}
+use Rattle.cfb_directory.specs.State.{AreWritable, DirectoryState, HoldsDirectory, IsKeptHeaderByte, bytes_of, tables_in, version_of}
 use Rattle.cfb_directory.proofs.SlotPlaces.{slot_stays}
 use Rattle.cfb_directory.proofs.SlotWrites.{fresh-held, slots-stay}
 use Rattle.cfb_directory.proofs.Placed.{header_there}
@@ -84,10 +85,10 @@ module _ (validation : Validation) (old : DirectoryState) (held : HoldsDirectory
 
   pub sectors-kept : KeepsSectors v old.sectors (bytes_of old) new
   sectors-kept i m =
-      let busy = (members-busy (tables_of old).fat (first_or_end old.sectors) old.sectors held.chain i m) in
+      let busy = (members-busy (tables_in old).fat (first_or_end old.sectors) old.sectors held.chain i m) in
       let apart = members-no_table validation old.table (first_or_end old.sectors) old.sectors held.tables held.chain i m in
       SectorStays_next (version_of old) (version_of old) i (bytes_of old) b.file.bytes new refl
-      (others.sectors i busy.0 (λ t. elim (Contains-append_cases (tables_of old).fat_sectors (tables_of old).difat_sectors i t) [ inl f ↦ apart.0 f | inr d ↦ apart.1 d ]) (not_in_nil i))
+      (others.sectors i busy.0 (λ t. elim (Contains-append_cases (tables_in old).fat_sectors (tables_in old).difat_sectors i t) [ inl f ↦ apart.0 f | inr d ↦ apart.1 d ]) (not_in_nil i))
       (after_header (version_of old) i 40 4 b.file.bytes new change (omega arith))
 
   pub slots-kept : (entries : List Entry) → length entries ≡ length old.sectors * entries_per_sector (version_of old) → (k : ℕ) → k < length entries
@@ -141,10 +142,10 @@ not-empty before x after is none =
 
 -- the word of a sector was added behind a directory that was held, and its number was written
 module _ (validation : Validation) (old new : DirectoryState) (b : AllocatorState) (held : HoldsDirectory validation old)
-    (lengthened : Lengthens 1 old.sectors new.sectors (tables_of old) b.tables) (chain : IsListedChain b.tables new.sectors) (bounds : KeepsBounds (tables_of old) b.tables)
+    (lengthened : Lengthens 1 old.sectors new.sectors (tables_in old) b.tables) (chain : IsListedChain b.tables new.sectors) (bounds : KeepsBounds (tables_in old) b.tables)
     (sizes : AreSizes b.tables.version (sizes_of b.tables))
     (filled : (i : ℕ) → Contains (gained old.sectors new.sectors) i → IsFilled b.tables.version Dir b.file.bytes i) (others : OthersStay old.table b)
-    (tables : tables_of new ≡ b.tables) (same3 : b.tables.version ≡ V3 → new.table ≡ b) (count4 : b.tables.version ≡ V4 → word_at (bytes_of new) 40 ≡ length new.sectors)
+    (tables : tables_in new ≡ b.tables) (same3 : b.tables.version ≡ V3 → new.table ≡ b) (count4 : b.tables.version ≡ V4 → word_at (bytes_of new) 40 ≡ length new.sectors)
     (holds : HoldsTables validation new.table) (change : ChangesOnlyBytes 40 4 b.file.bytes (bytes_of new))
     (entries : new.entries ≡ grown_by old.entries (entries_per_sector (version_of old))) (few : length new.entries ≤ max_entries) where
   abbrev w : Version
@@ -154,15 +155,15 @@ module _ (validation : Validation) (old new : DirectoryState) (b : AllocatorStat
   version-same = ap (λ (t : TableState). t.version) tables ∙ bounds.version
 
   abbrev x : ℕ
-  x = (one-gained old.sectors new.sectors (tables_of old) b.tables lengthened).0
+  x = (one-gained old.sectors new.sectors (tables_in old) b.tables lengthened).0
 
   listed : new.sectors ≡ old.sectors ++ x ∷ []
-  listed = (one-gained old.sectors new.sectors (tables_of old) b.tables lengthened).2
+  listed = (one-gained old.sectors new.sectors (tables_in old) b.tables lengthened).2
 
   fresh : IsFilled w Dir (bytes_of new) x
   fresh = filled-stays w b.file.bytes (bytes_of new) x change
       (subst (λ (u : Version). IsFilled u Dir b.file.bytes x) bounds.version
-      (filled x (subst (λ l. Contains l x) (sym (one-gained old.sectors new.sectors (tables_of old) b.tables lengthened).1) (0, omega arith, refl))))
+      (filled x (subst (λ l. Contains l x) (sym (one-gained old.sectors new.sectors (tables_in old) b.tables lengthened).1) (0, omega arith, refl))))
 
   grown-whole : HasSectors w (bytes_of new) new.sectors
   grown-whole i m = elim (Contains-append_cases old.sectors (x ∷ []) i (subst (λ l. Contains l i) listed m)) [
@@ -211,15 +212,15 @@ module _ (validation : Validation) (old new : DirectoryState) (b : AllocatorStat
 pub grown-entries : (got : List Entry) (list old : EntryList) (n per : ℕ) → got ≡ grown_by list.entries n → list.entries ≡ old.entries → n ≡ per → got ≡ grown_by old.entries per
 grown-entries got list old n per is same len = is ∙ ap (λ (es : List Entry). grown_by es n) same ∙ ap (λ m. grown_by old.entries m) len
 
-pub grown-placed : (old : DirectoryState) (b e : AllocatorState) (after : List ℕ) (entries : List Entry) → ArePlaced old → Lengthens 1 old.sectors after (tables_of old) b.tables
-    → KeepsBounds (tables_of old) b.tables → AreSectorsOf b.tables after → entries ≡ grown_by old.entries (entries_per_sector (version_of old)) → e.tables ≡ b.tables
+pub grown-placed : (old : DirectoryState) (b e : AllocatorState) (after : List ℕ) (entries : List Entry) → ArePlaced old → Lengthens 1 old.sectors after (tables_in old) b.tables
+    → KeepsBounds (tables_in old) b.tables → AreSectorsOf b.tables after → entries ≡ grown_by old.entries (entries_per_sector (version_of old)) → e.tables ≡ b.tables
     → HavePlaces e.tables.version after (length entries) (length e.tables.fat)
 grown-placed old b e after entries placed lengthened bounds within is same =
     let per = entries_per_sector (version_of old) in
     let count : length entries ≡ length old.entries + per = ap (λ (l : List Entry). length l) is ∙ length-append old.entries (replicate per unallocated_entry)
     ∙ ap (λ n. length old.entries + n) (length-replicate per unallocated_entry) in
-    let sectors : length after ≡ length old.sectors + 1 = ap (λ (l : List ℕ). length l) (one-gained old.sectors after (tables_of old) b.tables lengthened).2
-    ∙ length-append old.sectors ((one-gained old.sectors after (tables_of old) b.tables lengthened).0 ∷ []) in
+    let sectors : length after ≡ length old.sectors + 1 = ap (λ (l : List ℕ). length l) (one-gained old.sectors after (tables_in old) b.tables lengthened).2
+    ∙ length-append old.sectors ((one-gained old.sectors after (tables_in old) b.tables lengthened).0 ∷ []) in
     let slots = placed.slots in
     let whole : length entries ≡ length after * per = count ∙ ap (λ n. n + per) slots ∙ more (version_of old) (length old.sectors) ∙ ap (λ n. n * per) (sym sectors) in
     let v_new : version_of old ≡ e.tables.version = sym (ap (λ (t : TableState). t.version) same ∙ bounds.version) in
@@ -259,9 +260,9 @@ grown-header a b e others same change i lt kept =
 -- ---- refusals
 
 -- where the directory is held, its chain can be lengthened
-pub lengthens-held : (d : DirectoryState) → (IsUsable (tables_of d) → ⊥) ⊎ ((last_or_end d.sectors ≢ end_of_chain) × (value (tables_of d).fat (last_or_end d.sectors) ≢ end_of_chain)) → IsNotHeld d
+pub lengthens-held : (d : DirectoryState) → (IsUsable (tables_in d) → ⊥) ⊎ ((last_or_end d.sectors ≢ end_of_chain) × (value (tables_in d).fat (last_or_end d.sectors) ≢ end_of_chain)) → IsNotHeld d
 lengthens-held d (inl unusable) validation held = unusable (held-usable validation d.table held.tables)
-lengthens-held d (inr goes_on) validation held = goes_on.1 (last_is (tables_of d).fat (first_or_end d.sectors) d.sectors held.chain (some d.sectors held.some)).0
+lengthens-held d (inr goes_on) validation held = goes_on.1 (last_is (tables_in d).fat (first_or_end d.sectors) d.sectors held.chain (some d.sectors held.some)).0
   where
     some : (list : List ℕ) → list ≢ [] → 0 < length list
     some [] ne = absurd (ne refl)

@@ -20,7 +20,8 @@ use Rattle.cfb_tables.proofs.ChainLemmas.{le-regular}
 use Rattle.cfb_tables.proofs.Members.{Contains-cases, Contains-or}
 use Rattle.cfb_siblings.specs.Children.{ButChild, HasChildren, HasInserted}
 use Rattle.cfb_siblings.specs.Way.{unlinked}
-use Rattle.cfb_entries.specs.EntryList.{InsertsEntry, max_entries}
+use Rattle.cfb_format.specs.Full.{max_entries}
+use Rattle.cfb_entries.specs.EntryList.{InsertsEntry}
 use Rattle.cfb_directory.specs.State.{AreWritable}
 
 -- ---- lists

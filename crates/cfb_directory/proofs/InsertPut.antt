@@ -13,7 +13,7 @@ use Rattle.cfb_siblings.specs.Touched.{Touches, TouchesOnly}
 use Rattle.cfb_alloc.specs.Alloc.{AllocatorState, HoldsTables}
 use Rattle.cfb_entries.specs.EntryList.{InsertsEntry}
 use Rattle.cfb_directory.specs.Slots.{ChangesSlots, HoldSlotsBut, slot_of}
-use Rattle.cfb_directory.specs.State.{DirectoryState, HoldsDirectory, bytes_of, tables_of, version_of}
+use Rattle.cfb_directory.specs.State.{DirectoryState, HoldsDirectory, bytes_of, tables_in, version_of}
 use Rattle.cfb_directory.proofs.SlotWrites.{entries-stay}
 use Rattle.cfb_directory.proofs.InsertLinks.{first-or-later, touched-stands, writable-inserted}
 use Rattle.cfb_directory.proofs.Placed.{header_left, slot_left}
@@ -43,7 +43,7 @@ module _ (old : DirectoryState) (entries : List Entry) (parent n : ℕ) (entry :
         (touched-stands (version_of old) old.cases old.entries entries parent n entry reached i held.most stands held.writable k
         (only (i.before ++ i.behind) i.inserted.was k m)).1
 
-    pub put-holds : (table : AllocatorState) (cases : Cases) → table.tables ≡ tables_of old → HoldsTables validation table
+    pub put-holds : (table : AllocatorState) (cases : Cases) → table.tables ≡ tables_in old → HoldsTables validation table
         → HoldSlotsBut [] validation (version_of old) table.file.bytes old.sectors entries → ChangesSlots touched (version_of old) old.sectors (bytes_of old) table.file.bytes
         → HoldsDirectory validation (record { table = table; sectors = old.sectors; cases = cases; entries = entries })
     put-holds table cases same holds slots change =

@@ -9,7 +9,7 @@ use Rattle.cfb_trees.proofs.PathRemoved.{removal-takes-a-name}
 use Rattle.cfb_trees.proofs.PathNames.{growth-keeps-names}
 use Rattle.cfb_trees.proofs.Same.{growth-keeps-outline}
 use Rattle.cfb_entries.specs.EntryList.{has_free}
-use Rattle.cfb_directory.specs.NameLaws.{InsertedIsFound, RemovedIsGone}
+use Rattle.cfb_directory.specs.NameLaws.{InsertedIsFound, RemovedIsFoundNoMore}
 use Rattle.cfb_directory.specs.State.{DirectoryState, version_of, with_room}
 use Rattle.cfb_directory.proofs.InsertWhole.{has-room, roomy-same}
 
@@ -35,6 +35,6 @@ inserted-is-found old new parent n entry o o' before i ne childless h h' there =
       alone = λ path e. let (start, (name, is, found, same)) = f.alone path e in (start, (name, is, sym (names-same old o start) ∙ found, same));
     }
 
-pub removed-is-gone : RemovedIsGone
+pub removed-is-gone : RemovedIsFoundNoMore
 removed-is-gone cases old new parent name o o' r ne h h' there path =
     removal-takes-a-name cases old new o o' parent r.number r.freed r.before r.behind r.after h h' r.removed r.childless ne there path

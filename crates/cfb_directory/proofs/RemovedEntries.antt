@@ -18,7 +18,7 @@ use Rattle.cfb_outline.specs.Outlines.{IsReachedStorage}
 use Rattle.cfb_siblings.specs.Children.{ButLinks, HasRemoved}
 use Rattle.cfb_siblings.specs.Touched.{TouchesOnly}
 use Rattle.cfb_tables.proofs.Members.{Contains-here, Contains-there, Contains-cases, Contains-or, Contains-split, Contains-nil, cons-distinct, distinct-cons}
-use Rattle.cfb_entries.specs.EntryList.{max_entries}
+use Rattle.cfb_format.specs.Full.{max_entries}
 use Rattle.cfb_entries.proofs.Contents.{free-beside, free-outside}
 use Rattle.cfb_directory.specs.State.{AreWritable}
 use Rattle.cfb_directory.proofs.SlotLists.{zip-at, zip-length}

@@ -15,7 +15,7 @@ use Rattle.cfb_tables.specs.Tables.{TableState}
 use Rattle.cfb_alloc.specs.Agreement.{HasSectors}
 use Rattle.cfb_alloc.specs.Alloc.{AllocatorState, HoldsTables}
 use Rattle.cfb_directory.specs.Slots.{HoldSlotsBut}
-use Rattle.cfb_directory.specs.State.{DirectoryState, HoldsDirectory, AreWritable, version_of, bytes_of, tables_of}
+use Rattle.cfb_directory.specs.State.{DirectoryState, HoldsDirectory, AreWritable, version_of, bytes_of, tables_in}
 use Rattle.cfb_directory.proofs.Placed.{header_there}
 
 -- what strict opening wants of a header's word 40
@@ -42,7 +42,7 @@ module _ (v : Version) (old new list : List ℕ) (some : list ≢ []) (whole : H
 
 -- its sectors and tables as before, and the entries that the slots hold now
 pub rewritten : (validation : Validation) (d : DirectoryState) (a : AllocatorState) (cases : Cases) (entries : List Entry) → HoldsDirectory validation d
-    → a.tables ≡ tables_of d → HoldsTables validation a → length (bytes_of d) ≤ length a.file.bytes
+    → a.tables ≡ tables_in d → HoldsTables validation a → length (bytes_of d) ≤ length a.file.bytes
     → ((i : ℕ) → i < length (bytes_of d) → i < sector_len (version_of d) → slice_index a.file.bytes i ≡ slice_index (bytes_of d) i)
     → HoldSlotsBut [] validation (version_of d) a.file.bytes d.sectors entries → AreWritable (version_of d) entries → length entries ≡ length d.entries
     → HoldsDirectory validation (record { table = a; sectors = d.sectors; cases = cases; entries = entries })
@@ -50,7 +50,7 @@ rewritten validation d a cases entries h same tables longer header slots writabl
     let v = version_of d in
     let bytes = a.file.bytes in
     let word = word_left v (bytes_of d) bytes d.sectors h.some h.whole header in
-    let held : HoldsTables validation (record { file = a.file; tables = tables_of d }) = subst (λ (t : TableState). HoldsTables validation (record { file = a.file; tables = t })) same tables in
+    let held : HoldsTables validation (record { file = a.file; tables = tables_in d }) = subst (λ (t : TableState). HoldsTables validation (record { file = a.file; tables = t })) same tables in
     subst (λ (t : TableState). HoldsDirectory validation (record { table = record { file = a.file; tables = t }; sectors = d.sectors; cases = cases; entries = entries })) (sym same) (record {
       tables = held;
       sizes = h.sizes;

@@ -3,11 +3,11 @@ use Rattle.std.specs.Prelude.{ℕ, ◌≡◌, ◌<◌, List, length, Contains}
 use Rattle.cfb_format.specs.Chain.{IsChain}
 use Rattle.cfb_tables.specs.Tables.{TableState, first_or_end}
 use Rattle.cfb_directory.specs.Slots.{HavePlaces, slot_of}
-use Rattle.cfb_directory.specs.State.{DirectoryState, version_of, bytes_of, tables_of}
+use Rattle.cfb_directory.specs.State.{DirectoryState, version_of, bytes_of, tables_in}
 
 -- each entry has a slot in sectors of the file, and no slot is left over
 abbrev pub ArePlaced : DirectoryState → Type 0
-ArePlaced d = HavePlaces (version_of d) d.sectors (length d.entries) (length (tables_of d).fat)
+ArePlaced d = HavePlaces (version_of d) d.sectors (length d.entries) (length (tables_in d).fat)
 
 -- in the file the slots of all entries stay
 abbrev pub KeepsSlots : DirectoryState → DirectoryState → Type 0

@@ -12,12 +12,12 @@ use Rattle.cfb_tables.specs.Changes.{AreDisjoint}
 use Rattle.cfb_tables.specs.Tables.{AreSizes, sizes_of}
 use Rattle.cfb_alloc.specs.Alloc.{AllocatorState, HoldsTables}
 use Rattle.cfb_alloc.specs.Frame.{Spares}
-use Rattle.cfb_directory.specs.State.{DirectoryState, HoldsDirectory, bytes_of, tables_of, version_of}
+use Rattle.cfb_directory.specs.State.{DirectoryState, HoldsDirectory, bytes_of, tables_in, version_of}
 
 -- a directory that the bytes hold is the one that opening reads
 abbrev pub HeldDirectoryIsRead : Type 0
 HeldDirectoryIsRead = (validation : Validation) (d : DirectoryState) → HoldsDirectory validation d
-    → IsDirectory (version_of d) (bytes_of d) (tables_of d).fat (word_at (bytes_of d) 48) d.sectors d.entries
+    → IsDirectory (version_of d) (bytes_of d) (tables_in d).fat (word_at (bytes_of d) 48) d.sectors d.entries
 
 -- strict opening takes the header, the count of sectors in it, and each slot
 pub record IsStrictDirectory (d : DirectoryState) (h : Header) : Type 0 where

@@ -19,7 +19,7 @@ InsertedIsFound = (old new : DirectoryState) (parent n : ℕ) (entry : Entry) (o
     → FindsAlso old.cases old.entries new.entries o o' parent n entry before
 
 -- an entry that was taken out is found no more, and all other chains find what they found, in the slots where it stands now
-abbrev pub RemovedIsGone : Type 0
-RemovedIsGone = (cases : Cases) (old new : List Entry) (parent : ℕ) (name : List ℕ) (o o' : Outline) (r : RemovesEntry cases old new parent name)
+abbrev pub RemovedIsFoundNoMore : Type 0
+RemovedIsFoundNoMore = (cases : Cases) (old new : List Entry) (parent : ℕ) (name : List ℕ) (o o' : Outline) (r : RemovesEntry cases old new parent name)
     → (entry_at old parent).obj_type ≢ Stream → IsOutline cases old o → IsOutline cases new o' → Contains (0 ∷ numbers o) parent
     → (path : List (List ℕ)) → number_from cases new 0 o' path ≡ option_and_then (number_after r.number r.freed) (number_from cases old 0 o path)

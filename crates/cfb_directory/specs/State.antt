@@ -15,7 +15,8 @@ use Rattle.cfb_tables.specs.Tables.{TableState, AreSizes, IsTooFew, first_or_end
 use Rattle.cfb_alloc.specs.Agreement.{HasSectors}
 use Rattle.cfb_alloc.specs.Alloc.{AllocatorState, HoldsTables}
 use Rattle.cfb_siblings.specs.Laws.{grown_by}
-use Rattle.cfb_entries.specs.EntryList.{EntryList, max_entries, has_free}
+use Rattle.cfb_format.specs.Full.{max_entries}
+use Rattle.cfb_entries.specs.EntryList.{EntryList, has_free}
 use Rattle.cfb_directory.specs.Slots.{HoldSlotsBut}
 
 -- the sectors of a file with their tables, the directory's sectors in order, the letters by which names are compared, and the entries
@@ -35,8 +36,8 @@ version_of d = d.table.tables.version
 abbrev pub bytes_of : DirectoryState → List ℕ
 bytes_of d = d.table.file.bytes
 
-abbrev pub tables_of : DirectoryState → TableState
-tables_of d = d.table.tables
+abbrev pub tables_in : DirectoryState → TableState
+tables_in d = d.table.tables
 
 -- ---- what the bytes hold
 
@@ -49,8 +50,8 @@ AreWritable version entries = (k : ℕ) → k < length entries → (entry_at ent
 -- this mode takes them
 pub record HoldsDirectory (validation : Validation) (d : DirectoryState) : Type 0 where
   pub tables : HoldsTables validation d.table
-  pub sizes : AreSizes (version_of d) (sizes_of (tables_of d))
-  pub chain : IsChain (tables_of d).fat (first_or_end d.sectors) d.sectors
+  pub sizes : AreSizes (version_of d) (sizes_of (tables_in d))
+  pub chain : IsChain (tables_in d).fat (first_or_end d.sectors) d.sectors
   pub some : d.sectors ≢ []
   pub whole : HasSectors (version_of d) (bytes_of d) d.sectors
   pub first : word_at (bytes_of d) 48 ≡ first_or_end d.sectors
@@ -65,7 +66,7 @@ pub record HoldsDirectory (validation : Validation) (d : DirectoryState) : Type 
 -- one more entry can't be had: no slot is free, and the directory has as many as it may have, or no sector can be had
 abbrev pub IsFullForEntry : DirectoryState → Type 0
 IsFullForEntry d = (has_free d.entries ≡ false)
-    × ((max_entries < length d.entries + entries_per_sector (version_of d)) ⊎ IsTooFew (tables_of d) 1)
+    × ((max_entries < length d.entries + entries_per_sector (version_of d)) ⊎ IsTooFew (tables_in d) 1)
 
 -- the entries among which a new one is put: where no slot is free, those of one more sector come behind them
 abbrev pub with_room : DirectoryState → List Entry
@@ -77,7 +78,7 @@ with_room d = if has_free d.entries then d.entries else grown_by d.entries (entr
 pub record KeepsLimits (old new : DirectoryState) : Type 0 where
   pub version : version_of new ≡ version_of old
   pub cases : new.cases ≡ old.cases
-  pub max_sectors : (tables_of new).max_sectors ≡ (tables_of old).max_sectors
+  pub max_sectors : (tables_in new).max_sectors ≡ (tables_in old).max_sectors
 
 -- a byte of the header that no change of the directory writes: it does not speak of the tables, nor, in version 4, counts the
 -- directory's sectors (MS-CFB 2.2)

@@ -30,8 +30,8 @@ KeepsSlotsBut number old new = (k : ℕ) → k < length old.entries → k ≢ nu
     → slot_of (version_of old) (bytes_of new) old.sectors k ≡ slot_of (version_of old) (bytes_of old) old.sectors k
 
 -- a black top and no red under a red stay with the children of the storage
-abbrev pub KeepsRedApart : DirectoryState → DirectoryState → ℕ → Type 0
-KeepsRedApart old new parent = (list : List ℕ) → HasChildren old.cases old.entries parent list → HasRedApart old.entries parent list
+abbrev pub StaysRedApart : DirectoryState → DirectoryState → ℕ → Type 0
+StaysRedApart old new parent = (list : List ℕ) → HasChildren old.cases old.entries parent list → HasRedApart old.entries parent list
     → (after : List ℕ) × HasChildren new.cases new.entries parent after × HasRedApart new.entries parent after
 
 -- every byte of the header stays, and of what fills the place of a sector behind it

@@ -11,9 +11,9 @@ ghost use Rattle.cfb_tables.specs.Refused.{ChangeRefused};
 ghost use Rattle.cfb_alloc.specs.Frame.{Spares};
 ghost use Rattle.cfb_entries.specs.declared.fields.Fields.{Fields};
 ghost use Rattle.cfb_entries.specs.EntryList.{RemovesEntry};
-ghost use Rattle.cfb_entries.specs.Fields.{fields_in, with_fields, with_fields_at};
+ghost use Rattle.cfb_entries.specs.Fields.{fields_in, entry_with_fields, entries_with_fields};
 ghost use Rattle.cfb_directory.specs.State.{HoldsDirectory, KeepsLimits, directory_of};
-ghost use Rattle.cfb_directory.specs.Steps.{IsNotHeld, KeepsOtherSlots, KeepsRedApart, KeepsSlotsBut, KeepsWholeHeader, StopsShort};
+ghost use Rattle.cfb_directory.specs.Steps.{IsNotHeld, KeepsOtherSlots, StaysRedApart, KeepsSlotsBut, KeepsWholeHeader, StopsShort};
 
 use crate::slots::{are_placed, numbered_entry_fits, write_entries, write_entry};
 use cfb_alloc::alloc::Allocator;
@@ -43,7 +43,7 @@ pub(crate) fn remove_entry<F: Medium, A: Heap + Clone>(
     requires there { (list : List ℕ) → HasChildren entries.old.cases entries.old.entries parent list
         → (n : ℕ) × IsChildNamed entries.old.cases entries.old.entries (chars name.now) list n × ((entry_at entries.old.entries n).child ≡ no_stream) }
     ensures removed { OnOk result ((r : RemovesEntry entries.old.cases entries.old.entries entries.new.entries parent (chars name.now)) × KeepsColors entries.old.entries entries.new.entries r.freed) }
-    ensures red_apart { OnOk result (KeepsRedApart (directory_of allocator.old sectors.now entries.old) (directory_of allocator.new sectors.now entries.new) parent) }
+    ensures red_apart { OnOk result (StaysRedApart (directory_of allocator.old sectors.now entries.old) (directory_of allocator.new sectors.now entries.new) parent) }
     ensures kept { allocator.new.tables ≡ allocator.old.tables }
     ensures holds { IsTrue F.tells → (validation : Validation) → HoldsDirectory validation (directory_of allocator.old sectors.now entries.old)
         → OnOk result (HoldsDirectory validation (directory_of allocator.new sectors.now entries.new)) }
@@ -78,13 +78,13 @@ pub(crate) fn change_fields<F: Medium, A: Heap, W: FnOnce(Fields) -> Fields>(
     requires callable { W.IsAlwaysCallable change }
     requires root_len { number ≡ 0 → (f : Fields) → W.post change (fields_in (entry_at entries.old.entries 0)) f → f.stream_len % 64 ≡ 0 }
     ensures changed { OnOk result ((f : Fields) × W.post change (fields_in (entry_at entries.old.entries number)) f
-        × (entries.new.entries ≡ with_fields_at entries.old.entries number f)) }
+        × (entries.new.entries ≡ entries_with_fields entries.old.entries number f)) }
     ensures entries { (entries.new.entries ≡ entries.old.entries)
-        ⊎ ((f : Fields) × W.post change (fields_in (entry_at entries.old.entries number)) f × (entries.new.entries ≡ with_fields_at entries.old.entries number f)) }
+        ⊎ ((f : Fields) × W.post change (fields_in (entry_at entries.old.entries number)) f × (entries.new.entries ≡ entries_with_fields entries.old.entries number f)) }
     ensures kept { allocator.new.tables ≡ allocator.old.tables }
     ensures holds { IsTrue F.tells → (validation : Validation) → HoldsDirectory validation (directory_of allocator.old sectors.now entries.old)
         → ((f : Fields) → W.post change (fields_in (entry_at entries.old.entries number)) f
-        → IsValidEntry allocator.old.tables.version (with_fields (entry_at entries.old.entries number) f))
+        → IsValidEntry allocator.old.tables.version (entry_with_fields (entry_at entries.old.entries number) f))
         → OnOk result (HoldsDirectory validation (directory_of allocator.new sectors.now entries.new)) }
     ensures spares { IsTrue F.tells → Spares sectors.now allocator.old allocator.new }
     ensures header { IsTrue F.tells → KeepsWholeHeader (directory_of allocator.old sectors.now entries.old) (directory_of allocator.new sectors.now entries.new) }

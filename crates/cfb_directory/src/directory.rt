@@ -25,10 +25,11 @@ ghost use Rattle.cfb_alloc.specs.Alloc.{ChangesSectors, HoldsTables, IsFilled, I
 ghost use Rattle.cfb_alloc.specs.Broken.{BreaksOff};
 ghost use Rattle.cfb_alloc.specs.Frame.{Spares};
 ghost use Rattle.cfb_entries.specs.declared.fields.Fields.{Fields};
-ghost use Rattle.cfb_entries.specs.EntryList.{AreInOrder, HaveShortNames, InsertsEntry, RemovesEntry, has_free, max_entries};
-ghost use Rattle.cfb_entries.specs.Fields.{fields_in, with_fields, with_fields_at};
-ghost use Rattle.cfb_directory.specs.State.{HoldsDirectory, IsFullForEntry, KeepsHeader, KeepsLimits, bytes_of, tables_of, version_of, with_room};
-ghost use Rattle.cfb_directory.specs.Steps.{IsNotHeld, KeepsOtherSlots, KeepsRedApart, KeepsSlotsBut, KeepsWholeHeader, StopsShort};
+ghost use Rattle.cfb_format.specs.Full.{max_entries};
+ghost use Rattle.cfb_entries.specs.EntryList.{AreInOrder, HaveShortNames, InsertsEntry, RemovesEntry, has_free};
+ghost use Rattle.cfb_entries.specs.Fields.{fields_in, entry_with_fields, entries_with_fields};
+ghost use Rattle.cfb_directory.specs.State.{HoldsDirectory, IsFullForEntry, KeepsHeader, KeepsLimits, bytes_of, tables_in, version_of, with_room};
+ghost use Rattle.cfb_directory.specs.Steps.{IsNotHeld, KeepsOtherSlots, StaysRedApart, KeepsSlotsBut, KeepsWholeHeader, StopsShort};
 
 use crate::changing::{change_fields, remove_entry};
 use crate::inserting::insert_entry;
@@ -170,7 +171,7 @@ impl<F: ReadMedium, A: Heap> Directory<F, A> {
     /// Lets the file grow to so many sectors, and to no more. No number above the greatest regular one is taken.
     pub fn set_max_sectors(&mut self, max_sectors: u32)
         ensures { self.new ≡ record self.old {
-          table = record self.old.table { tables = record (tables_of self.old) { max_sectors = min max_sectors max_regular_sector } };
+          table = record self.old.table { tables = record (tables_in self.old) { max_sectors = min max_sectors max_regular_sector } };
         } }
     {
         self.allocator.set_max_sectors(max_sectors);
@@ -276,10 +277,10 @@ impl<F: Medium, A: Heap + Clone> Directory<F, A> {
         requires kind { (kind ≡ Storage) ⊎ (kind ≡ Stream) }
         ensures inserted { IfOk result (λ n. InsertsEntry self.old.cases (with_room self.old) self.new.entries parent n (new_entry (chars name.now) kind moment)) }
         ensures balanced { OnOk result (KeepsBalance self.old.entries self.new.entries parent) }
-        ensures red_apart { OnOk result (KeepsRedApart self.old self.new parent) }
-        ensures kept { has_free self.old.entries ≡ true → (self.new.sectors ≡ self.old.sectors) × (tables_of self.new ≡ tables_of self.old) }
-        ensures lengthened { has_free self.old.entries ≡ false → OnOk result (Lengthens 1 self.old.sectors self.new.sectors (tables_of self.old) (tables_of self.new)) }
-        ensures chain { IsListedChain (tables_of self.old) self.old.sectors → OnOk result (IsListedChain (tables_of self.new) self.new.sectors) }
+        ensures red_apart { OnOk result (StaysRedApart self.old self.new parent) }
+        ensures kept { has_free self.old.entries ≡ true → (self.new.sectors ≡ self.old.sectors) × (tables_in self.new ≡ tables_in self.old) }
+        ensures lengthened { has_free self.old.entries ≡ false → OnOk result (Lengthens 1 self.old.sectors self.new.sectors (tables_in self.old) (tables_in self.new)) }
+        ensures chain { IsListedChain (tables_in self.old) self.old.sectors → OnOk result (IsListedChain (tables_in self.new) self.new.sectors) }
         ensures holds { IsTrue F.tells → (validation : Validation) → HoldsDirectory validation self.old → OnOk result (HoldsDirectory validation self.new) }
         ensures spares { IsTrue F.tells → Spares self.old.sectors self.old.table self.new.table }
         ensures header { IsTrue F.tells → KeepsHeader self.old self.new }
@@ -319,8 +320,8 @@ impl<F: Medium, A: Heap + Clone> Directory<F, A> {
         requires there { (list : List ℕ) → HasChildren self.old.cases self.old.entries parent list
             → (n : ℕ) × IsChildNamed self.old.cases self.old.entries (chars name.now) list n × ((entry_at self.old.entries n).child ≡ no_stream) }
         ensures removed { OnOk result ((r : RemovesEntry self.old.cases self.old.entries self.new.entries parent (chars name.now)) × KeepsColors self.old.entries self.new.entries r.freed) }
-        ensures red_apart { OnOk result (KeepsRedApart self.old self.new parent) }
-        ensures kept { (self.new.sectors ≡ self.old.sectors) × (tables_of self.new ≡ tables_of self.old) }
+        ensures red_apart { OnOk result (StaysRedApart self.old self.new parent) }
+        ensures kept { (self.new.sectors ≡ self.old.sectors) × (tables_in self.new ≡ tables_in self.old) }
         ensures holds { IsTrue F.tells → (validation : Validation) → HoldsDirectory validation self.old → OnOk result (HoldsDirectory validation self.new) }
         ensures spares { IsTrue F.tells → Spares self.old.sectors self.old.table self.new.table }
         ensures header { IsTrue F.tells → KeepsWholeHeader self.old self.new }
@@ -358,12 +359,12 @@ impl<F: Medium, A: Heap> Directory<F, A> {
         requires callable { W.IsAlwaysCallable change }
         requires root_len { number ≡ 0 → (f : Fields) → W.post change (fields_in (entry_at self.old.entries 0)) f → f.stream_len % 64 ≡ 0 }
         ensures changed { OnOk result ((f : Fields) × W.post change (fields_in (entry_at self.old.entries number)) f
-            × (self.new.entries ≡ with_fields_at self.old.entries number f)) }
+            × (self.new.entries ≡ entries_with_fields self.old.entries number f)) }
         ensures entries { (self.new.entries ≡ self.old.entries)
-            ⊎ ((f : Fields) × W.post change (fields_in (entry_at self.old.entries number)) f × (self.new.entries ≡ with_fields_at self.old.entries number f)) }
-        ensures kept { (self.new.sectors ≡ self.old.sectors) × (tables_of self.new ≡ tables_of self.old) }
+            ⊎ ((f : Fields) × W.post change (fields_in (entry_at self.old.entries number)) f × (self.new.entries ≡ entries_with_fields self.old.entries number f)) }
+        ensures kept { (self.new.sectors ≡ self.old.sectors) × (tables_in self.new ≡ tables_in self.old) }
         ensures holds { IsTrue F.tells → (validation : Validation) → HoldsDirectory validation self.old
-            → ((f : Fields) → W.post change (fields_in (entry_at self.old.entries number)) f → IsValidEntry (version_of self.old) (with_fields (entry_at self.old.entries number) f))
+            → ((f : Fields) → W.post change (fields_in (entry_at self.old.entries number)) f → IsValidEntry (version_of self.old) (entry_with_fields (entry_at self.old.entries number) f))
             → OnOk result (HoldsDirectory validation self.new) }
         ensures spares { IsTrue F.tells → Spares self.old.sectors self.old.table self.new.table }
         ensures header { IsTrue F.tells → KeepsWholeHeader self.old self.new }
@@ -391,12 +392,12 @@ impl<F: Medium, A: Heap> Directory<F, A> {
         requires callable { W.IsAlwaysCallable change }
         requires root_len { (f : Fields) → W.post change (fields_in (entry_at self.old.entries 0)) f → f.stream_len % 64 ≡ 0 }
         ensures changed { OnOk result ((f : Fields) × W.post change (fields_in (entry_at self.old.entries 0)) f
-            × (self.new.entries ≡ with_fields_at self.old.entries 0 f)) }
+            × (self.new.entries ≡ entries_with_fields self.old.entries 0 f)) }
         ensures entries { (self.new.entries ≡ self.old.entries)
-            ⊎ ((f : Fields) × W.post change (fields_in (entry_at self.old.entries 0)) f × (self.new.entries ≡ with_fields_at self.old.entries 0 f)) }
-        ensures kept { (self.new.sectors ≡ self.old.sectors) × (tables_of self.new ≡ tables_of self.old) }
+            ⊎ ((f : Fields) × W.post change (fields_in (entry_at self.old.entries 0)) f × (self.new.entries ≡ entries_with_fields self.old.entries 0 f)) }
+        ensures kept { (self.new.sectors ≡ self.old.sectors) × (tables_in self.new ≡ tables_in self.old) }
         ensures holds { IsTrue F.tells → (validation : Validation) → HoldsDirectory validation self.old
-            → ((f : Fields) → W.post change (fields_in (entry_at self.old.entries 0)) f → IsValidEntry (version_of self.old) (with_fields (entry_at self.old.entries 0) f))
+            → ((f : Fields) → W.post change (fields_in (entry_at self.old.entries 0)) f → IsValidEntry (version_of self.old) (entry_with_fields (entry_at self.old.entries 0) f))
             → OnOk result (HoldsDirectory validation self.new) }
         ensures spares { IsTrue F.tells → Spares self.old.sectors self.old.table self.new.table }
         ensures header { IsTrue F.tells → KeepsWholeHeader self.old self.new }
@@ -419,18 +420,18 @@ impl<F: Medium, A: Heap> Directory<F, A> {
     /// fails, the tables in memory have the sector, and of the file's bytes no sector in use has changed but the table sectors. The
     /// directory itself stays in any case.
     pub fn begin_chain(&mut self, init: SectorInit) -> Result<u32, Error>
-        ensures taken { IfOk result (λ x. HasTaken (tables_of self.old) (tables_of self.new) [] (x ∷ [])) }
-        ensures chain { IfOk result (λ x. IsChain (tables_of self.new).fat x (x ∷ [])) }
+        ensures taken { IfOk result (λ x. HasTaken (tables_in self.old) (tables_in self.new) [] (x ∷ [])) }
+        ensures chain { IfOk result (λ x. IsChain (tables_in self.new).fat x (x ∷ [])) }
         ensures filled { IsTrue F.tells → (validation : Validation) → HoldsTables validation self.old.table
             → IfOk result (λ x. IsFilled (version_of self.new) init (bytes_of self.new) x) }
         ensures holds { IsTrue F.tells → (validation : Validation) → HoldsTables validation self.old.table → OnOk result (HoldsTables validation self.new.table) }
         ensures others { IsTrue F.tells → OthersStay self.old.table self.new.table }
         ensures spares { IsTrue F.tells → Spares [] self.old.table self.new.table }
         ensures rest { self.new ≡ record self.old { table = self.new.table } }
-        ensures enough { OnOk result (IsTooFew (tables_of self.old) 1 → ⊥) }
+        ensures enough { OnOk result (IsTooFew (tables_in self.old) 1 → ⊥) }
         ensures begun { OnOk result (self.new.table.file.begun ≡ true) }
         ensures refused { IfErr result (BreaksOff (TakesFor []) self.old.table self.new.table) }
-        ensures err { IfErr result (ChangeRefused (IsUsable (tables_of self.old) → ⊥) (IsTooFew (tables_of self.old) 1 → ⊥) (IsTooFew (tables_of self.old) 1) Unit) }
+        ensures err { IfErr result (ChangeRefused (IsUsable (tables_in self.old) → ⊥) (IsTooFew (tables_in self.old) 1 → ⊥) (IsTooFew (tables_in self.old) 1) Unit) }
         ensures counts { IsTrue F.tells → CountsFailure F.write_faults result self.old.table.file.failures self.new.table.file.failures }
     {
         self.allocator.begin_chain(init)
@@ -438,7 +439,7 @@ impl<F: Medium, A: Heap> Directory<F, A> {
 
     /// Has the medium hand on what was written. `Medium` where it fails. No byte changes, nor anything in memory.
     pub fn flush(&mut self) -> Result<(), Error>
-        ensures tables { tables_of self.new ≡ tables_of self.old }
+        ensures tables { tables_in self.new ≡ tables_in self.old }
         ensures ok { IsTrue F.tells → OnOk result (self.new.table.file ≡ record self.old.table.file { begun = true }) }
         ensures kept { self.new.table.file ≡ record self.old.table.file {
           bytes = self.new.table.file.bytes;
@@ -460,18 +461,18 @@ impl<F: Medium, A: Heap + Clone> Directory<F, A> {
     /// `InvalidData` where there is no such chain, where it is empty, and where the FAT sectors do not cover the file; `Medium`,
     /// `Memory` and `Full` as in `begin_chain`. The directory itself stays in any case, so `start` is not to be that of its own chain.
     pub fn extend_chain(&mut self, start: u32, init: SectorInit) -> Result<u32, Error>
-        ensures extended { IfOk result (λ x. Extended (tables_of self.old) (tables_of self.new) start (x ∷ [])) }
+        ensures extended { IfOk result (λ x. Extended (tables_in self.old) (tables_in self.new) start (x ∷ [])) }
         ensures filled { IsTrue F.tells → (validation : Validation) → HoldsTables validation self.old.table
             → IfOk result (λ x. IsFilled (version_of self.new) init (bytes_of self.new) x) }
         ensures holds { IsTrue F.tells → (validation : Validation) → HoldsTables validation self.old.table → OnOk result (HoldsTables validation self.new.table) }
         ensures others { IsTrue F.tells → OthersStay self.old.table self.new.table }
-        ensures spares { IsTrue F.tells → (list : List ℕ) → IsChain (tables_of self.old).fat start list → Spares list self.old.table self.new.table }
+        ensures spares { IsTrue F.tells → (list : List ℕ) → IsChain (tables_in self.old).fat start list → Spares list self.old.table self.new.table }
         ensures rest { self.new ≡ record self.old { table = self.new.table } }
-        ensures enough { OnOk result (IsTooFew (tables_of self.old) 1 → ⊥) }
+        ensures enough { OnOk result (IsTooFew (tables_in self.old) 1 → ⊥) }
         ensures begun { OnOk result (self.new.table.file.begun ≡ true) }
         ensures refused { IfErr result (BreaksOff (ExtendsFrom start) self.old.table self.new.table) }
-        ensures err { IfErr result (ChangeRefused ((IsUsable (tables_of self.old) → ⊥) ⊎ NoLast (tables_of self.old).fat start)
-            (IsTooFew (tables_of self.old) 1 → ⊥) (IsTooFew (tables_of self.old) 1) Unit) }
+        ensures err { IfErr result (ChangeRefused ((IsUsable (tables_in self.old) → ⊥) ⊎ NoLast (tables_in self.old).fat start)
+            (IsTooFew (tables_in self.old) 1 → ⊥) (IsTooFew (tables_in self.old) 1) Unit) }
         ensures counts { IsTrue F.tells → CountsFailure F.write_faults result self.old.table.file.failures self.new.table.file.failures }
     {
         self.allocator.extend_chain(start, init)
@@ -484,16 +485,16 @@ impl<F: Medium, A: Heap + Clone> Directory<F, A> {
     /// file's bytes the FAT sectors alone have changed. The directory itself stays in any case, so `start` is not to be that of its own
     /// chain.
     pub fn free_chain(&mut self, start: u32) -> Result<(), Error>
-        ensures freed { OnOk result (GivesBackChain [] start (tables_of self.old) (tables_of self.new)) }
+        ensures freed { OnOk result (GivesBackChain [] start (tables_in self.old) (tables_in self.new)) }
         ensures none { start ≡ end_of_chain → self.new ≡ self.old }
-        ensures holds { IsTrue F.tells → (validation : Validation) → HoldsTables validation self.old.table → IsUnnamed (tables_of self.old).fat start
+        ensures holds { IsTrue F.tells → (validation : Validation) → HoldsTables validation self.old.table → IsUnnamed (tables_in self.old).fat start
             → OnOk result (HoldsTables validation self.new.table) }
-        ensures changes { IsTrue F.tells → ChangesSectors (tables_of self.old).fat_sectors (version_of self.old) (bytes_of self.old) (bytes_of self.new) }
-        ensures spares { IsTrue F.tells → (list : List ℕ) → IsChain (tables_of self.old).fat start list → Spares list self.old.table self.new.table }
+        ensures changes { IsTrue F.tells → ChangesSectors (tables_in self.old).fat_sectors (version_of self.old) (bytes_of self.old) (bytes_of self.new) }
+        ensures spares { IsTrue F.tells → (list : List ℕ) → IsChain (tables_in self.old).fat start list → Spares list self.old.table self.new.table }
         ensures rest { self.new ≡ record self.old { table = self.new.table } }
         ensures begun { OnOk result (IsRaised (start ≢ end_of_chain) self.old.table.file self.new.table.file) }
         ensures refused { IfErr result (BreaksOff (GivesBackChain [] start) self.old.table self.new.table) }
-        ensures err { IfErr result (ChangeRefused ((IsUsable (tables_of self.old) → ⊥) ⊎ NoChain (tables_of self.old).fat start) Unit ⊥ Unit) }
+        ensures err { IfErr result (ChangeRefused ((IsUsable (tables_in self.old) → ⊥) ⊎ NoChain (tables_in self.old).fat start) Unit ⊥ Unit) }
         ensures counts { IsTrue F.tells → CountsFailure F.write_faults result self.old.table.file.failures self.new.table.file.failures }
     {
         self.allocator.free_chain(start)

@@ -20,11 +20,12 @@ ghost use Rattle.cfb_tables.specs.Tables.{AreSizes, IsTooFew, sizes_of};
 ghost use Rattle.cfb_alloc.specs.Alloc.{HoldsTables, IsFilled, IsUsable, OthersStay};
 ghost use Rattle.cfb_alloc.specs.Frame.{Spares};
 ghost use Rattle.cfb_alloc.specs.ListedChain.{Lengthens};
-ghost use Rattle.cfb_entries.specs.EntryList.{InsertsEntry, has_free, max_entries};
+ghost use Rattle.cfb_format.specs.Full.{max_entries};
+ghost use Rattle.cfb_entries.specs.EntryList.{InsertsEntry, has_free};
 ghost use Rattle.cfb_entries.specs.Insertions.{IsInsertionOf, name_in};
 ghost use Rattle.cfb_directory.specs.Growing.{ArePlaced, AreSectorsOf, IsListedChain, KeepsBounds, KeepsSlots};
 ghost use Rattle.cfb_directory.specs.State.{HoldsDirectory, IsFullForEntry, KeepsHeader, KeepsLimits, bytes_of, directory_of, version_of, with_room};
-ghost use Rattle.cfb_directory.specs.Steps.{IsNotHeld, KeepsOtherSlots, KeepsRedApart, StopsShort};
+ghost use Rattle.cfb_directory.specs.Steps.{IsNotHeld, KeepsOtherSlots, StaysRedApart, StopsShort};
 
 use crate::slots::{are_placed, write_entries};
 use cfb_alloc::alloc::{Allocator, HeaderWord};
@@ -244,7 +245,7 @@ fn put<F: Medium, A: Heap>(
     ensures tables { allocator.new.tables ≡ allocator.old.tables }
     ensures inserted { IfOk result (λ n. InsertsEntry entries.old.cases entries.old.entries entries.new.entries parent n (new_entry (name_in insertion) kind moment)) }
     ensures balanced { OnOk result (KeepsBalance entries.old.entries entries.new.entries parent) }
-    ensures red_apart { OnOk result (KeepsRedApart (directory_of allocator.old sectors.now entries.old) (directory_of allocator.new sectors.now entries.new) parent) }
+    ensures red_apart { OnOk result (StaysRedApart (directory_of allocator.old sectors.now entries.old) (directory_of allocator.new sectors.now entries.new) parent) }
     ensures holds { IsTrue F.tells → (validation : Validation) → HoldsDirectory validation (directory_of allocator.old sectors.now entries.old)
         → OnOk result (HoldsDirectory validation (directory_of allocator.new sectors.now entries.new)) }
     ensures spares { IsTrue F.tells → Spares sectors.now allocator.old allocator.new }
@@ -282,7 +283,7 @@ pub(crate) fn insert_entry<F: Medium, A: Heap + Clone>(
     requires kind { (kind ≡ Storage) ⊎ (kind ≡ Stream) }
     ensures inserted { IfOk result (λ n. InsertsEntry entries.old.cases (with_room (directory_of allocator.old sectors.old.items entries.old)) entries.new.entries parent n (new_entry (chars name.now) kind moment)) }
     ensures balanced { OnOk result (KeepsBalance entries.old.entries entries.new.entries parent) }
-    ensures red_apart { OnOk result (KeepsRedApart (directory_of allocator.old sectors.old.items entries.old) (directory_of allocator.new sectors.new.items entries.new) parent) }
+    ensures red_apart { OnOk result (StaysRedApart (directory_of allocator.old sectors.old.items entries.old) (directory_of allocator.new sectors.new.items entries.new) parent) }
     ensures kept { has_free entries.old.entries ≡ true → (sectors.new.items ≡ sectors.old.items) × (allocator.new.tables ≡ allocator.old.tables) }
     ensures lengthened { has_free entries.old.entries ≡ false → OnOk result (Lengthens 1 sectors.old.items sectors.new.items allocator.old.tables allocator.new.tables) }
     ensures chain { IsListedChain allocator.old.tables sectors.old.items → OnOk result (IsListedChain allocator.new.tables sectors.new.items) }

@@ -1,7 +1,7 @@
 //! What the definitions promise about each other. None of these functions does anything: each has a law
 //! as its contract.
 ghost use Rattle.cfb_directory.specs.HeldLaws.{DirectoryStaysHeld, HeldDirectoryIsRead, HeldDirectoryIsStrict};
-ghost use Rattle.cfb_directory.specs.NameLaws.{InsertedIsFound, RemovedIsGone};
+ghost use Rattle.cfb_directory.specs.NameLaws.{InsertedIsFound, RemovedIsFoundNoMore};
 ghost use Rattle.cfb_directory.specs.SlotLaws.{SlotsByPlace, SlotsAtPlaces, SlotsStay, FreshSlotsAreHeld, EntriesThatStayAreHeld, HeaderIsOutsideSlots};
 
 /// The slots that hold entries by their places are the slots that opening reads (MS-CFB 2.6).
@@ -35,5 +35,5 @@ pub fn directory_stays_held()
 /// its storage, one that was taken out is not, and all else is found as before (MS-CFB 2.6.4).
 pub fn names_follow_changes()
     ensures inserted { InsertedIsFound }
-    ensures removed { RemovedIsGone }
+    ensures removed { RemovedIsFoundNoMore }
 {}

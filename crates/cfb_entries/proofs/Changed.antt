@@ -12,7 +12,7 @@ use Rattle.cfb_outline.specs.Outlines.{IsReachedStorage}
 use Rattle.cfb_siblings.specs.Children.{HasChildren, Inserts, Removes, IsAbsent, KeepsColors}
 use Rattle.cfb_siblings.proofs.Tallies.{all-at, counted, present}
 use Rattle.cfb_trees.specs.Reached.{IsObject}
-use Rattle.cfb_entries.specs.EntryList.{AreInOrder, ListsFree, InsertsEntry, RemovesEntry, IsChildless}
+use Rattle.cfb_entries.specs.EntryList.{AreInOrder, ListsFreeSlots, InsertsEntry, RemovesEntry, IsChildless}
 use Rattle.cfb_entries.proofs.FreeSlots.{last-free}
 use Rattle.cfb_entries.proofs.Contents.{reached-parent, put-in-order, put-free, left-in-order, left-free, in-middle, one-named}
 
@@ -23,9 +23,9 @@ valid-short name valid = grind (arith, nat_tests)
 pub record IsPut (cases : Cases) (old new : List Entry) (parent n : ℕ) (entry : Entry) (free : List ℕ) : Type 0 where
   pub inserted : InsertsEntry cases old new parent n entry
   pub in_order : AreInOrder cases new
-  pub free_now : ListsFree new free
+  pub free_now : ListsFreeSlots new free
 
-pub is-put : (cases : Cases) (old new : List Entry) (parent n : ℕ) (entry : Entry) (free : List ℕ) → IsReachedStorage cases old parent → AreInOrder cases old → ListsFree old (free ++ n ∷ [])
+pub is-put : (cases : Cases) (old new : List Entry) (parent n : ℕ) (entry : Entry) (free : List ℕ) → IsReachedStorage cases old parent → AreInOrder cases old → ListsFreeSlots old (free ++ n ∷ [])
     → IsObject entry → entry.child ≡ no_stream → length (utf16_units entry.name) ≤ max_name_len
     → ((list : List ℕ) → HasChildren cases old parent list → Inserts cases old new parent n entry list) → IsPut cases old new parent n entry free
 is-put cases old new parent n entry free r a l object childless fits f =
@@ -67,7 +67,7 @@ is-removal cases old new parent name freed (n, list, h, named, childless) f colo
 pub removal-in-order : (cases : Cases) (old new : List Entry) (parent : ℕ) (name : List ℕ) → IsReachedStorage cases old parent → AreInOrder cases old → RemovesEntry cases old new parent name → AreInOrder cases new
 removal-in-order cases old new parent name reached a r = left-in-order cases old new parent r.number r.freed r.before r.behind r.after r.removed reached a r.childless
 
-pub removal-free : (cases : Cases) (old new : List Entry) (parent : ℕ) (name free : List ℕ) → IsReachedStorage cases old parent → ListsFree old free → (r : RemovesEntry cases old new parent name) → ListsFree new (free ++ r.freed ∷ [])
+pub removal-free : (cases : Cases) (old new : List Entry) (parent : ℕ) (name free : List ℕ) → IsReachedStorage cases old parent → ListsFreeSlots old free → (r : RemovesEntry cases old new parent name) → ListsFreeSlots new (free ++ r.freed ∷ [])
 removal-free cases old new parent name free reached l r = left-free cases old new parent r.number r.freed r.before r.behind r.after r.removed free reached l
 
 -- ---- answers that may be refusals

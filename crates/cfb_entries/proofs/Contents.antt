@@ -30,9 +30,10 @@ use Rattle.cfb_trees.proofs.Standing.{reached-is-parent}
 use Rattle.cfb_trees.proofs.Joined.{insertion-keeps-outline}
 use Rattle.cfb_trees.proofs.Taken.{freed-counted, moved, removal-keeps-outline}
 use Rattle.cfb_trees.proofs.Same.{grown-at, growth-keeps-outline, set-fields, fields-keep-outline}
-use Rattle.cfb_entries.specs.EntryList.{AreInOrder, HaveShortNames, ListsFree, max_entries}
+use Rattle.cfb_format.specs.Full.{max_entries}
+use Rattle.cfb_entries.specs.EntryList.{AreInOrder, HaveShortNames, ListsFreeSlots}
 use Rattle.cfb_entries.specs.declared.fields.Fields.{Fields}
-use Rattle.cfb_entries.specs.Fields.{with_fields, with_fields_at}
+use Rattle.cfb_entries.specs.Fields.{entry_with_fields, entries_with_fields}
 use Rattle.cfb_trees.specs.Changes.{ButFields}
 use Rattle.cfb_entries.proofs.FreeSlots.{same-kind, free-kept, free-taken, free-freed}
 
@@ -121,7 +122,7 @@ module _ (cases : Cases) (old new : List Entry) (parent n : ℕ) (entry : Entry)
       let (after, is, m) = insertion-keeps-outline cases old new r.outline parent n entry xs ys r.is r.reached r.kind u object childless h in
       record { outline = after; is = is; names = put-names a.names fits; few = omega (arith, a.few, h.longer) }
 
-  pub put-free : (free : List ℕ) → IsObject entry → ListsFree old (free ++ n ∷ []) → ListsFree new free
+  pub put-free : (free : List ℕ) → IsObject entry → ListsFreeSlots old (free ++ n ∷ []) → ListsFreeSlots new free
   put-free free object l =
       free-taken old new free n h.longer
       (λ u. object-is-used entry object (sym (ap (λ (x : Entry). x.obj_type) h.entry_kept) ∙ u))
@@ -168,7 +169,7 @@ module _ (cases : Cases) (old new : List Entry) (parent n freed : ℕ) (xs ys li
       let same : all ≡ xs ++ n ∷ ys = Below-unique cases old (entry_at old parent).child all (xs ++ n ∷ ys) listed.below h.was.below in
       object-is-used (entry_at old k) (c k (subst (λ (l : List ℕ). Contains l k) (sym same) m)).1
 
-  pub left-free : (free : List ℕ) → IsReachedStorage cases old parent → ListsFree old free → ListsFree new (free ++ freed ∷ [])
+  pub left-free : (free : List ℕ) → IsReachedStorage cases old parent → ListsFreeSlots old free → ListsFreeSlots new (free ++ freed ∷ [])
   left-free free r l =
       let freed-in : Contains (xs ++ n ∷ ys) freed = present freed (xs ++ n ∷ ys) (freed-counted cases old new parent n freed xs ys list h) in
       let freed-used = was-used r freed freed-in in
@@ -193,22 +194,22 @@ grown-in-order cases entries more few a = record {
 -- ---- other fields
 
 module _ (entries : List Entry) (i : ℕ) (f : Fields) where
-  but-fields : ButFields (entry_at entries i) (with_fields (entry_at entries i) f)
+  but-fields : ButFields (entry_at entries i) (entry_with_fields (entry_at entries i) f)
   but-fields = record { name = refl; obj_type = refl; color = refl; left_sibling = refl; right_sibling = refl; child = refl }
 
-  fields-at : (k : ℕ) → ButFields (entry_at entries k) (entry_at (with_fields_at entries i f) k)
-  fields-at = set-fields entries i (with_fields (entry_at entries i) f) but-fields
+  fields-at : (k : ℕ) → ButFields (entry_at entries k) (entry_at (entries_with_fields entries i f) k)
+  fields-at = set-fields entries i (entry_with_fields (entry_at entries i) f) but-fields
 
-  pub fields-in-order : (cases : Cases) → (i ≡ 0 → f.stream_len % 64 ≡ 0) → AreInOrder cases entries → AreInOrder cases (with_fields_at entries i f)
+  pub fields-in-order : (cases : Cases) → (i ≡ 0 → f.stream_len % 64 ≡ 0) → AreInOrder cases entries → AreInOrder cases (entries_with_fields entries i f)
   fields-in-order cases whole a = record {
     outline = a.outline;
-    is = fields-keep-outline cases entries i (with_fields (entry_at entries i) f) a.outline a.is but-fields whole;
-    names = λ k lt. short-as entries (with_fields_at entries i f) k k a.names (fields-at k).name;
-    few = omega (arith, a.few, length-set entries i (with_fields (entry_at entries i) f));
+    is = fields-keep-outline cases entries i (entry_with_fields (entry_at entries i) f) a.outline a.is but-fields whole;
+    names = λ k lt. short-as entries (entries_with_fields entries i f) k k a.names (fields-at k).name;
+    few = omega (arith, a.few, length-set entries i (entry_with_fields (entry_at entries i) f));
   }
 
-  pub fields-free : (free : List ℕ) → ListsFree entries free → ListsFree (with_fields_at entries i f) free
-  fields-free free l = free-kept entries (with_fields_at entries i f) free (length-set entries i (with_fields (entry_at entries i) f)) (λ k. same-kind entries (with_fields_at entries i f) k (fields-at k).obj_type) l
+  pub fields-free : (free : List ℕ) → ListsFreeSlots entries free → ListsFreeSlots (entries_with_fields entries i f) free
+  fields-free free l = free-kept entries (entries_with_fields entries i f) free (length-set entries i (entry_with_fields (entry_at entries i) f)) (λ k. same-kind entries (entries_with_fields entries i f) k (fields-at k).obj_type) l
 
 -- what an insertion needs stays good as the directory grows
 pub insertion-stays : {A : Type 0} (name : List ℕ) (cases : Cases) (entries : List Entry) (more parent : ℕ) (insertion : Insertion A) → IsInsertionOf name cases entries parent insertion → IsInsertionOf name cases (grown_by entries more) parent insertion

@@ -13,7 +13,8 @@ use Rattle.cfb_format.specs.DirectoryEntry.{Entry, unallocated_entry}
 use Rattle.cfb_format.specs.Siblings.{entry_at}
 use Rattle.cfb_siblings.specs.Laws.{grown_by}
 use Rattle.cfb_trees.proofs.Same.{grown-at}
-use Rattle.cfb_entries.specs.EntryList.{ListsFree, has_free, is_free_kind}
+use Rattle.cfb_format.specs.Full.{is_unallocated}
+use Rattle.cfb_entries.specs.EntryList.{ListsFreeSlots, has_free}
 use Rattle.cfb_entries.specs.Slots.{with_numbers}
 use Rattle.cfb_entries.proofs.Distinct.{Contains-nil, distinct-nil, distinct-push, distinct-rest, distinct-last, with-distinct, with-cases, with-old, with-new}
 
@@ -70,13 +71,13 @@ from-used entries n free used l = record {
   ];
 }
 
-pub from-start : (entries : List Entry) (n : ℕ) (free : List ℕ) → n ≡ 0 → ListsFrom entries n free → ListsFree entries free
+pub from-start : (entries : List Entry) (n : ℕ) (free : List ℕ) → n ≡ 0 → ListsFrom entries n free → ListsFreeSlots entries free
 from-start entries n free e l = record { once = l.once; within = l.within; unused = l.unused; all = λ k high u. l.all k (omega (arith, e)) high u }
 
 -- ---- changes
 
 -- no slot was taken or freed
-pub free-kept : (old new : List Entry) (free : List ℕ) → length new ≡ length old → ((k : ℕ) → SameFree old new k) → ListsFree old free → ListsFree new free
+pub free-kept : (old new : List Entry) (free : List ℕ) → length new ≡ length old → ((k : ℕ) → SameFree old new k) → ListsFreeSlots old free → ListsFreeSlots new free
 free-kept old new free len same l = record {
   once = l.once;
   within = λ k m. omega (arith, l.within k m, len);
@@ -85,7 +86,7 @@ free-kept old new free len same l = record {
 }
 
 -- the last one was taken
-pub free-taken : (old new : List Entry) (free : List ℕ) (x : ℕ) → length new ≡ length old → (entry_at new x).obj_type ≢ Unallocated → ((k : ℕ) → k ≢ x → SameFree old new k) → ListsFree old (free ++ x ∷ []) → ListsFree new free
+pub free-taken : (old new : List Entry) (free : List ℕ) (x : ℕ) → length new ≡ length old → (entry_at new x).obj_type ≢ Unallocated → ((k : ℕ) → k ≢ x → SameFree old new k) → ListsFreeSlots old (free ++ x ∷ []) → ListsFreeSlots new free
 free-taken old new free x len used same l = record {
   once = distinct-rest free x l.once;
   within = λ k m. omega (arith, l.within k (Contains-append_left free (x ∷ []) k m), len);
@@ -97,7 +98,7 @@ free-taken old new free x len used same l = record {
 
 -- a slot that was used is free now
 pub free-freed : (old new : List Entry) (free : List ℕ) (x : ℕ) → length new ≡ length old → x < length old → (entry_at old x).obj_type ≢ Unallocated → (entry_at new x).obj_type ≡ Unallocated
-    → ((k : ℕ) → k ≢ x → SameFree old new k) → ListsFree old free → ListsFree new (free ++ x ∷ [])
+    → ((k : ℕ) → k ≢ x → SameFree old new k) → ListsFreeSlots old free → ListsFreeSlots new (free ++ x ∷ [])
 free-freed old new free x len lt used is same l = record {
   once = distinct-push free x l.once (λ m. used (l.unused x m));
   within = λ k m. elim (Contains-push_cases free x k m) [ inl r ↦ omega (arith, l.within k r, len) | inr e ↦ omega (arith, e, lt, len) ];
@@ -115,7 +116,7 @@ past-unused : (entries : List Entry) (k : ℕ) → length entries ≤ k → (ent
 past-unused entries k le = ap (λ (e : Entry). e.obj_type) (get_or_past entries k unallocated_entry le)
 
 -- the new slots are free
-pub free-grown : (entries : List Entry) (free : List ℕ) (more : ℕ) → ListsFree entries free → ListsFree (grown_by entries more) (with_numbers free (length entries) more)
+pub free-grown : (entries : List Entry) (free : List ℕ) (more : ℕ) → ListsFreeSlots entries free → ListsFreeSlots (grown_by entries more) (with_numbers free (length entries) more)
 free-grown entries free more l =
     let n = length entries in
     let len : length (grown_by entries more) ≡ n + more = omega (arith, length-append entries (replicate more unallocated_entry), length-replicate more unallocated_entry) in
@@ -132,7 +133,7 @@ free-grown entries free more l =
 
 -- ---- whether one is free
 
-free-kind : (kind : ObjType) → is_free_kind kind ≡ true → kind ≡ Unallocated
+free-kind : (kind : ObjType) → is_unallocated kind ≡ true → kind ≡ Unallocated
 free-kind Unallocated e = refl
 free-kind Storage e = absurd (let q : false ≡ true = e in cc)
 free-kind Stream e = absurd (let q : false ≡ true = e in cc)
@@ -141,7 +142,7 @@ free-kind Root e = absurd (let q : false ≡ true = e in cc)
 abbrev HasFreeSlot : List Entry → Type 0
 HasFreeSlot entries = (k : ℕ) × (k < length entries) × ((entry_at entries k).obj_type ≡ Unallocated)
 
-free-or-later : (x : Entry) (entries : List Entry) (b : Bool) → is_free_kind x.obj_type ≡ b → has_free (x ∷ entries) ≡ true → (has_free entries ≡ true → HasFreeSlot entries) → HasFreeSlot (x ∷ entries)
+free-or-later : (x : Entry) (entries : List Entry) (b : Bool) → is_unallocated x.obj_type ≡ b → has_free (x ∷ entries) ≡ true → (has_free entries ≡ true → HasFreeSlot entries) → HasFreeSlot (x ∷ entries)
 free-or-later x entries true f e later = (0, omega arith, free-kind x.obj_type f)
 free-or-later x entries false f e later =
     let (k, lt, u) = later (rw f at e) in
@@ -149,10 +150,10 @@ free-or-later x entries false f e later =
 
 some-free : (entries : List Entry) → has_free entries ≡ true → HasFreeSlot entries
 some-free [] e = absurd (let q : false ≡ true = e in cc)
-some-free (x ∷ entries) e = free-or-later x entries (is_free_kind x.obj_type) refl e (some-free entries)
+some-free (x ∷ entries) e = free-or-later x entries (is_unallocated x.obj_type) refl e (some-free entries)
 
 -- some slot is free exactly where the list has one
-pub free-some : (entries : List Entry) (free : List ℕ) → ListsFree entries free → has_free entries ≡ true → 0 < length free
+pub free-some : (entries : List Entry) (free : List ℕ) → ListsFreeSlots entries free → has_free entries ≡ true → 0 < length free
 free-some entries free l e =
     let (k, lt, u) = some-free entries e in
     let (i, below, is) = l.all k lt u in
@@ -162,19 +163,19 @@ first-listed : (free : List ℕ) → 0 < length free → Contains free (get_or f
 first-listed [] lt = absurd (omega (arith, lt))
 first-listed (x ∷ free) lt = (0, lt, refl)
 
-pub some-listed : (entries : List Entry) (free : List ℕ) → ListsFree entries free → 0 < length free → has_free entries ≡ true
+pub some-listed : (entries : List Entry) (free : List ℕ) → ListsFreeSlots entries free → 0 < length free → has_free entries ≡ true
 some-listed entries free l some =
     let m = first-listed free some in
-    list_any_at (λ (e : Entry). is_free_kind e.obj_type) entries (get_or free 0 0) unallocated_entry (l.within _ m) (ap is_free_kind (l.unused _ m))
+    list_any_at (λ (e : Entry). is_unallocated e.obj_type) entries (get_or free 0 0) unallocated_entry (l.within _ m) (ap is_unallocated (l.unused _ m))
 
-pub none-free : (entries : List Entry) (free : List ℕ) (b : Bool) → ListsFree entries free → has_free entries ≡ b → length free ≡ 0 → b ≡ false
+pub none-free : (entries : List Entry) (free : List ℕ) (b : Bool) → ListsFreeSlots entries free → has_free entries ≡ b → length free ≡ 0 → b ≡ false
 none-free entries free true l e z = absurd (omega (arith, free-some entries free l e, z))
 none-free entries free false l e z = refl
 
 not-zero : (n : ℕ) → 0 < n → nat_eq n 0 ≡ false
 not-zero n lt = grind (arith, nat_tests)
 
-pub full-is : (entries : List Entry) (free : List ℕ) → ListsFree entries free → nat_eq (length free) 0 ≡ not (has_free entries)
+pub full-is : (entries : List Entry) (free : List ℕ) → ListsFreeSlots entries free → nat_eq (length free) 0 ≡ not (has_free entries)
 full-is entries free l = elim (cases_lt 0 (length free)) [
   | inl some ↦ not-zero (length free) some ∙ ap not (sym (some-listed entries free l some))
   | inr none ↦
@@ -183,5 +184,5 @@ full-is entries free l = elim (cases_lt 0 (length free)) [
 ]
 
 -- the slot that is taken first
-pub last-free : (entries : List Entry) (free : List ℕ) (x : ℕ) → ListsFree entries (free ++ x ∷ []) → (x < length entries) × ((entry_at entries x).obj_type ≡ Unallocated)
+pub last-free : (entries : List Entry) (free : List ℕ) (x : ℕ) → ListsFreeSlots entries (free ++ x ∷ []) → (x < length entries) × ((entry_at entries x).obj_type ≡ Unallocated)
 last-free entries free x l = (l.within x (Contains-push free x), l.unused x (Contains-push free x))

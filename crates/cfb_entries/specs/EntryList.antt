@@ -1,8 +1,8 @@
 -- The entries of a directory in memory, and which slots of them are free (MS-CFB 2.6).
-use Rattle.std.specs.Prelude.{ℕ, ◌≡◌, ◌<◌, ◌≤◌, List, Bool, true, false, length, nat_eq, Contains}
+use Rattle.std.specs.Prelude.{ℕ, ◌≡◌, ◌<◌, ◌≤◌, List, Bool, true, length, nat_eq, Contains}
 use Rattle.std.specs.List.{IsDistinct, list_any}
-use Rattle.cfb_format.specs.declared.objtype.ObjType.{ObjType}
-use Rattle.cfb_format.specs.declared.objtype.ObjType.TheVariants.{Unallocated, Storage, Stream, Root}
+use Rattle.cfb_format.specs.declared.objtype.ObjType.TheVariants.{Unallocated}
+use Rattle.cfb_format.specs.Full.{max_entries, is_unallocated}
 use Rattle.cfb_format.specs.Names.{Cases, utf16_units, max_name_len}
 use Rattle.cfb_format.specs.DirectoryEntry.{Entry}
 use Rattle.cfb_format.specs.Siblings.{entry_at}
@@ -17,10 +17,6 @@ pub record EntryList : Type 0 where
   pub entries : List Entry
   pub room : ℕ
 
--- how many entries a directory may have
-abbrev pub max_entries : ℕ
-max_entries = 0xFFFF_FFFB
-
 -- each name has its place in a slot
 abbrev pub HaveShortNames : List Entry → Type 0
 HaveShortNames entries = (k : ℕ) → k < length entries → length (utf16_units (entry_at entries k).name) ≤ max_name_len
@@ -34,18 +30,12 @@ pub record AreInOrder (cases : Cases) (entries : List Entry) : Type 0 where
 
 -- ---- free slots
 
-abbrev pub is_free_kind : ObjType → Bool
-is_free_kind Unallocated = true
-is_free_kind Storage = false
-is_free_kind Stream = false
-is_free_kind Root = false
-
 -- some slot is not used
 abbrev pub has_free : List Entry → Bool
-has_free entries = list_any (λ e. is_free_kind e.obj_type) entries
+has_free entries = list_any (λ e. is_unallocated e.obj_type) entries
 
 -- the list has each slot that is not used, once
-pub record ListsFree (entries : List Entry) (free : List ℕ) : Type 0 where
+pub record ListsFreeSlots (entries : List Entry) (free : List ℕ) : Type 0 where
   pub once : IsDistinct nat_eq free
   pub within : (k : ℕ) → Contains free k → k < length entries
   pub unused : (k : ℕ) → Contains free k → (entry_at entries k).obj_type ≡ Unallocated

@@ -16,8 +16,8 @@ fields_in e = record {
 }
 
 -- the entry with these fields
-abbrev pub with_fields : Entry → Fields → Entry
-with_fields e f = record e {
+abbrev pub entry_with_fields : Entry → Fields → Entry
+entry_with_fields e f = record e {
   clsid = f.clsid;
   state_bits = f.state_bits;
   creation_time = f.creation_time;
@@ -27,5 +27,5 @@ with_fields e f = record e {
 }
 
 -- the entries with these fields in the one of that number
-abbrev pub with_fields_at : List Entry → ℕ → Fields → List Entry
-with_fields_at entries number f = slice_set entries number (with_fields (entry_at entries number) f)
+abbrev pub entries_with_fields : List Entry → ℕ → Fields → List Entry
+entries_with_fields entries number f = slice_set entries number (entry_with_fields (entry_at entries number) f)

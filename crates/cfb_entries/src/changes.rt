@@ -3,7 +3,8 @@ ghost use Rattle.std.specs.Prelude.{◌≡◌, ℕ, ◌+◌, ◌≤◌, ◌++◌
 ghost use Rattle.cfb_codecs.specs.EntryModel.{entries_of};
 ghost use Rattle.cfb_siblings.specs.Children.{HasChildren, HasRedApart, KeepsColors};
 ghost use Rattle.cfb_siblings.specs.Touched.{Touches, TouchesOnly};
-ghost use Rattle.cfb_entries.specs.EntryList.{IsChildless, RemovesEntry, max_entries};
+ghost use Rattle.cfb_format.specs.Full.{max_entries};
+ghost use Rattle.cfb_entries.specs.EntryList.{IsChildless, RemovesEntry};
 
 use cfb_codecs::direntry::DirEntry;
 use cfb_codecs::path::CaseMapper;

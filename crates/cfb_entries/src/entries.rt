@@ -12,8 +12,9 @@ ghost use Rattle.cfb_siblings.specs.Children.{HasChildren, HasRedApart, IsAbsent
 ghost use Rattle.cfb_siblings.specs.Laws.{grown_by};
 ghost use Rattle.cfb_siblings.specs.Paths.{number_from};
 ghost use Rattle.cfb_siblings.specs.Touched.{Touches, TouchesOnly};
-ghost use Rattle.cfb_entries.specs.EntryList.{AreInOrder, HaveShortNames, InsertsEntry, IsChildless, RemovesEntry, has_free, max_entries};
-ghost use Rattle.cfb_entries.specs.Fields.{fields_in, with_fields_at};
+ghost use Rattle.cfb_format.specs.Full.{max_entries};
+ghost use Rattle.cfb_entries.specs.EntryList.{AreInOrder, HaveShortNames, InsertsEntry, IsChildless, RemovesEntry, has_free};
+ghost use Rattle.cfb_entries.specs.Fields.{fields_in, entries_with_fields};
 ghost use Rattle.cfb_entries.specs.Insertions.{IsInsertionOf, name_in};
 
 use crate::changes::{remove_child, reserve_both};
@@ -49,13 +50,13 @@ pub struct Entries<A: Allocator = Global> {
 impl<A: Allocator> Model for Entries<A> {
     ghost use Rattle.std.specs.Prelude.{◌-◌, min, vec_len, vec_capacity};
     ghost use Rattle.cfb_codecs.specs.EntryModel.{entries_of};
-    ghost use Rattle.cfb_entries.specs.EntryList.{EntryList, AreInOrder, ListsFree};
+    ghost use Rattle.cfb_entries.specs.EntryList.{EntryList, AreInOrder, ListsFreeSlots};
 
     ghost Value = { EntryList };
 
     ghost view = { λ e. record { cases = e.letters; entries = entries_of e.list.items; room = min (vec_capacity e.list - vec_len e.list) (vec_capacity e.free - vec_len e.free) } };
 
-    ghost invariant = { λ e. AreInOrder e.letters (entries_of e.list.items) × ListsFree (entries_of e.list.items) e.free.items };
+    ghost invariant = { λ e. AreInOrder e.letters (entries_of e.list.items) × ListsFreeSlots (entries_of e.list.items) e.free.items };
 }
 
 impl<A: Allocator + Clone> Entries<A> {
@@ -226,7 +227,7 @@ impl<A: Allocator> Entries<A> {
         requires callable { W.IsAlwaysCallable change }
         requires root_len { number ≡ 0 → (f : Fields) → W.post change (fields_in (entry_at self.old.entries 0)) f → f.stream_len % 64 ≡ 0 }
         ensures cases { self.new.cases ≡ self.old.cases }
-        ensures changed { (f : Fields) × W.post change (fields_in (entry_at self.old.entries number)) f × (self.new.entries ≡ with_fields_at self.old.entries number f) }
+        ensures changed { (f : Fields) × W.post change (fields_in (entry_at self.old.entries number)) f × (self.new.entries ≡ entries_with_fields self.old.entries number f) }
         ensures room { self.new.room ≡ self.old.room }
     {
         change_fields(&mut self.list, number, change);

@@ -2,7 +2,7 @@
 ghost use Rattle.std.specs.Prelude.{◌≡◌, ℕ, ◌<◌, length};
 ghost use Rattle.cfb_codecs.specs.EntryModel.{entry_of, entries_of};
 ghost use Rattle.cfb_format.specs.Siblings.{entry_at};
-ghost use Rattle.cfb_entries.specs.Fields.{fields_in, with_fields, with_fields_at};
+ghost use Rattle.cfb_entries.specs.Fields.{fields_in, entry_with_fields, entries_with_fields};
 
 use cfb_codecs::direntry::DirEntry;
 use cfb_codecs::timestamp::Timestamp;
@@ -42,7 +42,7 @@ fn fields_of<A: Allocator>(entry: &DirEntry<A>) -> Fields
 
 /// Gives an entry these fields.
 fn put_fields<A: Allocator>(entry: &mut DirEntry<A>, fields: Fields)
-    ensures { entry_of entry.new ≡ with_fields (entry_of entry.old) fields }
+    ensures { entry_of entry.new ≡ entry_with_fields (entry_of entry.old) fields }
 {
     entry.clsid = fields.clsid;
     entry.state_bits = fields.state_bits;
@@ -60,7 +60,7 @@ pub(crate) fn change_fields<A: Allocator, W: FnOnce(Fields) -> Fields>(
 )
     requires inside { number < length list.old }
     requires callable { W.IsAlwaysCallable change }
-    ensures { (f : Fields) × W.post change (fields_in (entry_at (entries_of list.old) number)) f × (entries_of list.new ≡ with_fields_at (entries_of list.old) number f) }
+    ensures { (f : Fields) × W.post change (fields_in (entry_at (entries_of list.old) number)) f × (entries_of list.new ≡ entries_with_fields (entries_of list.old) number f) }
 {
     let entry = &mut list[number as usize];
     let changed = change(fields_of(entry));

@@ -5,7 +5,8 @@ ghost use Rattle.cfb_format.specs.declared.objtype.ObjType.TheVariants.{Unalloca
 ghost use Rattle.cfb_format.specs.Refused.{IsMemory};
 ghost use Rattle.cfb_format.specs.Siblings.{entry_at};
 ghost use Rattle.cfb_codecs.specs.EntryModel.{entries_of};
-ghost use Rattle.cfb_entries.specs.EntryList.{ListsFree, max_entries};
+ghost use Rattle.cfb_format.specs.Full.{max_entries};
+ghost use Rattle.cfb_entries.specs.EntryList.{ListsFreeSlots};
 ghost use Rattle.cfb_entries.specs.Slots.{with_numbers};
 
 use cfb_codecs::direntry::DirEntry;
@@ -24,7 +25,7 @@ fn is_unused<A: Allocator>(list: &[DirEntry<A>], number: usize) -> bool
 /// The free slots, the greatest number first. `Memory` where memory for them is refused.
 pub(crate) fn free_slots<A: Allocator>(heap: A, list: &[DirEntry<A>]) -> Result<Vec<u32, A>, Error>
     requires { length list.now ≤ max_entries }
-    ensures ok { IfOk result (λ free. ListsFree (entries_of list.now) free.items) }
+    ensures ok { IfOk result (λ free. ListsFreeSlots (entries_of list.now) free.items) }
     ensures refused { IfErr result IsMemory }
 {
     let mut free = Vec::new(heap);

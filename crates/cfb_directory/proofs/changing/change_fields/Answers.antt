@@ -8,7 +8,7 @@ use Rattle.cfb_codecs.specs.EntryModel.{entry_of}
 use Rattle.cfb_tables.proofs.Members.{Contains-one}
 use Rattle.cfb_alloc.proofs.Answering.{all_ok, on_both}
 use Rattle.cfb_alloc.proofs.Spared.{spares_refl}
-use Rattle.cfb_entries.specs.Fields.{with_fields}
+use Rattle.cfb_entries.specs.Fields.{entry_with_fields}
 use Rattle.cfb_directory.specs.Slots.{HavePlaces, HoldSlotsBut}
 use Rattle.cfb_directory.specs.State.{directory_of}
 use Rattle.cfb_directory.proofs.ChangedFields.{changed_here, changed_length, changed_told, changed_writable, changed_beside}
@@ -66,7 +66,7 @@ returns-clause-holds g c told validation h valid =
     let long : length new ≡ length old = ap (λ (es : List Entry). length es) changed.2 ∙ changed_length old n changed.0 in
     let told_at : (k : ℕ) → (Contains (n ∷ []) k → ⊥) → entry_at new k ≡ entry_at old k = λ k out. ap (λ (es : List Entry). entry_at es k) changed.2 ∙ changed_told old n changed.0 k out in
     let beside : (k : ℕ) → k ≢ n → entry_at new k ≡ entry_at old k = λ k ne. ap (λ (es : List Entry). entry_at es k) changed.2 ∙ changed_beside old n changed.0 k ne in
-    let here : entry_at new n ≡ with_fields (entry_at old n) changed.0 = ap (λ (es : List Entry). entry_at es n) changed.2 ∙ changed_here old n changed.0 inside in
+    let here : entry_at new n ≡ entry_with_fields (entry_at old n) changed.0 = ap (λ (es : List Entry). entry_at es n) changed.2 ∙ changed_here old n changed.0 inside in
     let good : IsValidEntry v (entry_at new n) = subst (IsValidEntry v) (sym here) (valid changed.0 changed.1) in
     let fits : EntryFits (entry_at new n) = subst (λ (es : List Entry). EntryFits (entry_at es n)) same c.numbered_entry_fits.ensures in
     let late : HoldSlotsBut (n ∷ []) validation v a.file.bytes sectors new = entries-stay (n ∷ []) [] validation v a.file.bytes sectors old new h.slots long told_at in

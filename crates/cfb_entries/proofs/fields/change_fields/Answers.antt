@@ -5,7 +5,7 @@ use Rattle.cfb_format.specs.DirectoryEntry.{Entry}
 use Rattle.cfb_codecs.specs.EntryModel.{entry_of, entries_of}
 use Rattle.cfb_format.specs.Siblings.{entry_at}
 use Rattle.cfb_entries.specs.declared.fields.Fields.{Fields}
-use Rattle.cfb_entries.specs.Fields.{fields_in, with_fields}
+use Rattle.cfb_entries.specs.Fields.{fields_in, entry_with_fields}
 use Rattle.cfb_entries.proofs.Lent.{read-entry}
 use Rattle.cfb_entries.proofs.fields.change_fields.Goals as goal
 
@@ -16,5 +16,5 @@ returns g c =
       c.change-changed.result,
       subst (λ (f : Fields). g.W.FnOnce.post c.args.change (f, tt) c.change-changed.result) same c.change-changed.ensures,
       map-set entry_of c.args.list.now c.args.number c.put_fields.new.entry
-          ∙ ap (slice_set (entries_of c.args.list.now) c.args.number) (c.put_fields.ensures ∙ ap (λ (e : Entry). with_fields e c.change-changed.result) (sym entry)),
+          ∙ ap (slice_set (entries_of c.args.list.now) c.args.number) (c.put_fields.ensures ∙ ap (λ (e : Entry). entry_with_fields e c.change-changed.result) (sym entry)),
     )

@@ -2,7 +2,8 @@ use Rattle.std.proofs.Common.{◌≡◌, ◌≤◌, ◌+◌, ap, length, arith}
 use Rattle.std.specs.Prelude.{vec_len}
 use Rattle.cfb_codecs.specs.EntryModel.{entries_of}
 use Rattle.cfb_siblings.proofs.Held.{entries-length}
-use Rattle.cfb_entries.specs.EntryList.{EntryList, max_entries}
+use Rattle.cfb_format.specs.Full.{max_entries}
+use Rattle.cfb_entries.specs.EntryList.{EntryList}
 use Rattle.cfb_entries.specs.Slots.{with_numbers}
 use Rattle.cfb_entries.proofs.FreeSlots.{free-grown}
 use Rattle.cfb_entries.proofs.Contents.{grown-in-order}

@@ -6,7 +6,7 @@ use Rattle.cfb_outline.specs.Outlines.{IsReachedStorage}
 use Rattle.cfb_siblings.specs.Children.{HasChildren, HasRedApart, Inserts}
 use Rattle.cfb_siblings.specs.Order.{IsPlaceFor, steps_of}
 use Rattle.cfb_siblings.proofs.Held.{entries-length}
-use Rattle.cfb_entries.specs.EntryList.{EntryList, ListsFree, has_free}
+use Rattle.cfb_entries.specs.EntryList.{EntryList, ListsFreeSlots, has_free}
 use Rattle.cfb_entries.specs.Insertions.{name_in}
 use Rattle.cfb_entries.proofs.FreeSlots.{free-some, last-free}
 use Rattle.cfb_entries.proofs.Contents.{free-beside, free-outside}
@@ -23,7 +23,7 @@ take_slot-slot-requires g c =
 pub insert-touched-requires-clause-slot_in : goal.insert-touched-requires-clause-slot_in
 insert-touched-requires-clause-slot_in g c =
     let s = c.self.inside in
-    let listed : ListsFree (entries_of s.list.items) (c.take_slot-slot.new.free.items ++ c.take_slot-slot.result ∷ []) = rw c.take_slot-slot.ensures.items at c.self.invariant.1 in
+    let listed : ListsFreeSlots (entries_of s.list.items) (c.take_slot-slot.new.free.items ++ c.take_slot-slot.result ∷ []) = rw c.take_slot-slot.ensures.items at c.self.invariant.1 in
     let within = (last-free (entries_of s.list.items) c.take_slot-slot.new.free.items c.take_slot-slot.result listed).0 in
     omega (arith, within, entries-length s.list.items, ap length c.deref_mut.ensures.value)
 
@@ -33,7 +33,7 @@ insert-touched-requires-clause-beside g c =
     let cases : s.letters ≡ c.args.self.now.cases = ap (λ (e : EntryList). e.cases) c.self.view_is in
     let entries : entries_of s.list.items ≡ c.args.self.now.entries = ap (λ (e : EntryList). e.entries) c.self.view_is in
     let reached : IsReachedStorage s.letters (entries_of s.list.items) c.args.parent = rw (cases, entries) c.requires.parent in
-    let listed : ListsFree (entries_of s.list.items) (c.take_slot-slot.new.free.items ++ c.take_slot-slot.result ∷ []) = rw c.take_slot-slot.ensures.items at c.self.invariant.1 in
+    let listed : ListsFreeSlots (entries_of s.list.items) (c.take_slot-slot.new.free.items ++ c.take_slot-slot.result ∷ []) = rw c.take_slot-slot.ensures.items at c.self.invariant.1 in
     free-beside s.letters (entries_of s.list.items) c.args.parent c.take_slot-slot.result reached (last-free (entries_of s.list.items) c.take_slot-slot.new.free.items c.take_slot-slot.result listed).1
 
 pub insert-touched-requires-clause-vacant : goal.insert-touched-requires-clause-vacant
@@ -42,7 +42,7 @@ insert-touched-requires-clause-vacant g c =
     let cases : s.letters ≡ c.args.self.now.cases = ap (λ (e : EntryList). e.cases) c.self.view_is in
     let entries : entries_of s.list.items ≡ c.args.self.now.entries = ap (λ (e : EntryList). e.entries) c.self.view_is in
     let reached : IsReachedStorage s.letters (entries_of s.list.items) c.args.parent = rw (cases, entries) c.requires.parent in
-    let listed : ListsFree (entries_of s.list.items) (c.take_slot-slot.new.free.items ++ c.take_slot-slot.result ∷ []) = rw c.take_slot-slot.ensures.items at c.self.invariant.1 in
+    let listed : ListsFreeSlots (entries_of s.list.items) (c.take_slot-slot.new.free.items ++ c.take_slot-slot.result ∷ []) = rw c.take_slot-slot.ensures.items at c.self.invariant.1 in
     let (list, h, out) = free-outside s.letters (entries_of s.list.items) c.args.parent c.take_slot-slot.result reached (last-free (entries_of s.list.items) c.take_slot-slot.new.free.items c.take_slot-slot.result listed).1 in
     rw c.deref_mut.ensures.value (s.letters, list, h, out)
 
@@ -53,7 +53,7 @@ invariant_of-self g c =
     let cases : s.letters ≡ c.args.self.now.cases = ap (λ (e : EntryList). e.cases) c.self.view_is in
     let entries : entries_of s.list.items ≡ c.args.self.now.entries = ap (λ (e : EntryList). e.entries) c.self.view_is in
     let reached : IsReachedStorage s.letters (entries_of s.list.items) c.args.parent = rw (cases, entries) c.requires.parent in
-    let listed : ListsFree (entries_of s.list.items) (c.take_slot-slot.new.free.items ++ c.take_slot-slot.result ∷ []) = rw c.take_slot-slot.ensures.items at c.self.invariant.1 in
+    let listed : ListsFreeSlots (entries_of s.list.items) (c.take_slot-slot.new.free.items ++ c.take_slot-slot.result ∷ []) = rw c.take_slot-slot.ensures.items at c.self.invariant.1 in
     let name : chars (string_bytes c.new-entry.result.name) ≡ chars (string_bytes c.args.insertion.name) = ap (λ (e : Entry). e.name) c.new-entry.ensures in
     let placed : IsPlaceFor s.letters (entries_of s.list.items) c.args.parent (chars (string_bytes c.new-entry.result.name)) (steps_of c.args.insertion.place) = rw (cases, entries, name) c.requires.prepared.placed in
     let inserts : (list : List ℕ) → HasChildren s.letters (entries_of s.list.items) c.args.parent list → Inserts s.letters (entries_of s.list.items) (entries_of new) c.args.parent c.take_slot-slot.result (new_entry (name_in c.args.insertion) c.args.kind c.args.moment) list =
@@ -72,7 +72,7 @@ returns-clause-inserted g c =
     let cases : s.letters ≡ c.args.self.now.cases = ap (λ (e : EntryList). e.cases) c.self.view_is in
     let entries : entries_of s.list.items ≡ c.args.self.now.entries = ap (λ (e : EntryList). e.entries) c.self.view_is in
     let reached : IsReachedStorage s.letters (entries_of s.list.items) c.args.parent = rw (cases, entries) c.requires.parent in
-    let listed : ListsFree (entries_of s.list.items) (c.take_slot-slot.new.free.items ++ c.take_slot-slot.result ∷ []) = rw c.take_slot-slot.ensures.items at c.self.invariant.1 in
+    let listed : ListsFreeSlots (entries_of s.list.items) (c.take_slot-slot.new.free.items ++ c.take_slot-slot.result ∷ []) = rw c.take_slot-slot.ensures.items at c.self.invariant.1 in
     let name : chars (string_bytes c.new-entry.result.name) ≡ chars (string_bytes c.args.insertion.name) = ap (λ (e : Entry). e.name) c.new-entry.ensures in
     let placed : IsPlaceFor s.letters (entries_of s.list.items) c.args.parent (chars (string_bytes c.new-entry.result.name)) (steps_of c.args.insertion.place) = rw (cases, entries, name) c.requires.prepared.placed in
     let inserts : (list : List ℕ) → HasChildren s.letters (entries_of s.list.items) c.args.parent list → Inserts s.letters (entries_of s.list.items) (entries_of new) c.args.parent c.take_slot-slot.result (new_entry (name_in c.args.insertion) c.args.kind c.args.moment) list =

@@ -4,7 +4,7 @@ use Rattle.cfb_codecs.specs.EntryModel.{entries_of}
 use Rattle.cfb_format.specs.DirectoryEntry.{Entry}
 use Rattle.cfb_format.specs.Siblings.{entry_at}
 use Rattle.cfb_entries.specs.EntryList.{EntryList}
-use Rattle.cfb_entries.specs.Fields.{fields_in, with_fields_at}
+use Rattle.cfb_entries.specs.Fields.{fields_in, entries_with_fields}
 use Rattle.cfb_entries.proofs.Lent.{written-back}
 use Rattle.cfb_entries.proofs.Contents.{fields-in-order, fields-free}
 use Rattle.cfb_entries.proofs.entries.Entries.set_fields.Goals as goal
@@ -17,8 +17,8 @@ invariant_of-self g c =
     let back : take s.list.len (new ++ drop (length new) s.list.items) ≡ new = written-back s.list.len new (drop (length new) s.list.items) (c.change_fields.auto.list ∙ c.deref_mut.ensures.len) in
     let old : entries_of c.deref_mut.result.now ≡ entries_of s.list.items = ap entries_of c.deref_mut.ensures.value in
     let entries : entries_of s.list.items ≡ c.args.self.now.entries = ap (λ (e : EntryList). e.entries) c.self.view_is in
-    let changed : entries_of (take s.list.len (new ++ drop (length new) s.list.items)) ≡ with_fields_at (entries_of s.list.items) c.args.number f =
-    ap entries_of back ∙ (is ∙ ap (λ (es : List Entry). with_fields_at es c.args.number f) old) in
+    let changed : entries_of (take s.list.len (new ++ drop (length new) s.list.items)) ≡ entries_with_fields (entries_of s.list.items) c.args.number f =
+    ap entries_of back ∙ (is ∙ ap (λ (es : List Entry). entries_with_fields es c.args.number f) old) in
     let after = subst (λ (es : List Entry). g.W.FnOnce.post c.args.change (fields_in (entry_at es c.args.number), tt) f) (old ∙ entries) post in
     let whole : c.args.number ≡ 0 → f.stream_len % 64 ≡ 0 =
     λ e. c.requires.root_len e f (subst (λ (n : ℕ). g.W.FnOnce.post c.args.change (fields_in (entry_at c.args.self.now.entries n), tt) f) e after) in
@@ -33,5 +33,5 @@ returns-clause-changed g c =
     let same : entries_of c.deref_mut.result.now ≡ c.args.self.now.entries = ap entries_of c.deref_mut.ensures.value ∙ ap (λ (e : EntryList). e.entries) c.self.view_is in (
       f,
       subst (λ (es : List Entry). g.W.FnOnce.post c.args.change (fields_in (entry_at es c.args.number), tt) f) same post,
-      ap entries_of back ∙ (is ∙ ap (λ (es : List Entry). with_fields_at es c.args.number f) same),
+      ap entries_of back ∙ (is ∙ ap (λ (es : List Entry). entries_with_fields es c.args.number f) same),
     )
