@@ -12,7 +12,7 @@ use Rattle.cfb_tables.proofs.Members.{Contains-nil, Contains-here, Contains-ther
 use Rattle.cfb_format.specs.Siblings.{entry_at}
 use Rattle.cfb_format.specs.Soundness.{streams, mini_stream_sectors, used_sectors}
 use Rattle.cfb_tables.proofs.UseLemmas.{taken-takes, given-back-frees}
-use Rattle.cfb_soundness.specs.Parts.{table_sectors}
+use Rattle.cfb_soundness.specs.Parts.{tables_and_directory}
 use Rattle.cfb_soundness.specs.Streams.{own_sectors}
 use Rattle.cfb_soundness.proofs.Decision.{used-by-streams}
 use Rattle.cfb_sound_changes.specs.Grown.{GrowsBy, AnyOrder, UsedGrows, TakenIsUsed, GivenBackIsUnused}
@@ -153,7 +153,7 @@ used-grows r r' a b c d e f fats difats directory minifats minis streams_grow =
     (r'.fat_sectors ++ r'.difat_sectors ++ r'.directory ++ r'.minifat_sectors ++ mini_stream_sectors r')
     (a ++ b ++ c ++ d ++ e) (flat_map own (streams r)) (flat_map own' (streams r')) f all streams_grow in
     subst (λ (z : List ℕ). GrowsBy z (used_sectors r') (a ++ b ++ c ++ d ++ e ++ f)) (sym (used-by-streams r).0)
-    (subst (λ (z : List ℕ). GrowsBy (table_sectors r ++ mini_stream_sectors r ++ flat_map own (streams r)) z (a ++ b ++ c ++ d ++ e ++ f)) (sym (used-by-streams r').0) both)
+    (subst (λ (z : List ℕ). GrowsBy (tables_and_directory r ++ mini_stream_sectors r ++ flat_map own (streams r)) z (a ++ b ++ c ++ d ++ e ++ f)) (sym (used-by-streams r').0) both)
 
 turned : (xs ys : List ℕ) → IsDistinct nat_eq (xs ++ ys) → IsDistinct nat_eq (ys ++ xs)
 turned xs ys d = distinct-join ys xs (distinct-right xs ys d) (distinct-left xs ys d) (λ i m n. distinct-apart xs ys d i n m)

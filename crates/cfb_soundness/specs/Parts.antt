@@ -50,5 +50,5 @@ reading_of parts = record {
 }
 
 -- the sectors that hold the tables and the directory
-abbrev pub table_sectors : Reading → List ℕ
-table_sectors r = r.fat_sectors ++ r.difat_sectors ++ r.directory ++ r.minifat_sectors
+abbrev pub tables_and_directory : Reading → List ℕ
+tables_and_directory r = r.fat_sectors ++ r.difat_sectors ++ r.directory ++ r.minifat_sectors

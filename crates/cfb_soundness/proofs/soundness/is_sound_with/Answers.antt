@@ -8,7 +8,7 @@ use Rattle.cfb_codecs.specs.EntryModel.{entry_of}
 use Rattle.cfb_format.specs.Siblings.{entry_at}
 use Rattle.cfb_format.specs.Soundness.{mini_stream_sectors, KeepsLoose}
 use Rattle.cfb_soundness.specs.Marks.{Holds}
-use Rattle.cfb_soundness.specs.Parts.{reading_of, table_sectors}
+use Rattle.cfb_soundness.specs.Parts.{reading_of, tables_and_directory}
 use Rattle.cfb_soundness.specs.Streams.{own_sectors, own_mini_sectors, StreamsFit}
 use Rattle.cfb_soundness.proofs.Decision.{known-parts, decided-sound, decided-parts}
 use Rattle.cfb_soundness.proofs.MarkLemmas.{true_false, fresh-from, holds-more}
@@ -33,8 +33,8 @@ returns-then-not-mark_tables-clause-exact g c = λ cases bytes r reads are. (
       let k = known-parts c.args.parts.now cases bytes r reads are in
       absurd (c.mark_tables.ensures.refused c.if-not-mark_tables.true c.requires.unmarked
       (λ i m. subst (λ (n : ℕ). i < n) (sym c.requires.marks) (k.below i m))
-      (distinct-left (table_sectors r0) (mini_stream_sectors r0)
-      (distinct-left (table_sectors r0 ++ mini_stream_sectors r0) (flat_map (λ i. own_sectors r0 (entry_at r0.entries i)) c.args.parts.now.streams.now) s.fit.sectors))),
+      (distinct-left (tables_and_directory r0) (mini_stream_sectors r0)
+      (distinct-left (tables_and_directory r0 ++ mini_stream_sectors r0) (flat_map (λ i. own_sectors r0 (entry_at r0.entries i)) c.args.parts.now.streams.now) s.fit.sectors))),
 )
 
 pub returns-in_default-clause-exact : goal.returns-in_default-clause-exact
@@ -48,10 +48,10 @@ returns-in_default-clause-exact g c = λ cases bytes r reads are. (
       let none = rw c.in_default.is at c.in_ok-root.ensures.none in
       let entries : 0 < length c.args.parts.now.entries.now = let e = k.some_entry in let n = length-map c.args.parts.now.entries.now entry_of in omega (arith, e, n) in
       let tables = c.mark_tables.ensures.marked c.if-not-mark_tables.false c.requires.unmarked in
-      let distinct : IsDistinct nat_eq (table_sectors r0 ++ mini_stream_sectors r0) =
-      distinct-left (table_sectors r0 ++ mini_stream_sectors r0) (flat_map (λ i. own_sectors r0 (entry_at r0.entries i)) c.args.parts.now.streams.now) s.fit.sectors in
+      let distinct : IsDistinct nat_eq (tables_and_directory r0 ++ mini_stream_sectors r0) =
+      distinct-left (tables_and_directory r0 ++ mini_stream_sectors r0) (flat_map (λ i. own_sectors r0 (entry_at r0.entries i)) c.args.parts.now.streams.now) s.fit.sectors in
       let is : mini_stream_sectors r0 ≡ root.0 = ap (λ (o : Option (List ℕ)). unwrap_or o []) root.1 in
-      absurd (none entries root.0 root.1 (fresh-from (table_sectors r0) root.0 c.mark_tables.new.marks tables (subst (λ (z : List ℕ). IsDistinct nat_eq (table_sectors r0 ++ z)) is distinct))),
+      absurd (none entries root.0 root.1 (fresh-from (tables_and_directory r0) root.0 c.mark_tables.new.marks tables (subst (λ (z : List ℕ). IsDistinct nat_eq (tables_and_directory r0 ++ z)) is distinct))),
 )
 
 pub returns-then-not-has_room-clause-exact : goal.returns-then-not-has_room-clause-exact
@@ -77,11 +77,11 @@ returns-then-not-branch-clause-exact g c = λ cases bytes r reads are. (
       let chain : mini_stream_chain r0 ≡ Some root = rw c.in-Some.is at c.in_ok-root.ensures.chain in
       let is : mini_stream_sectors r0 ≡ root = ap (λ (o : Option (List ℕ)). unwrap_or o []) chain in
       let tables = c.mark_tables.ensures.marked c.if-not-mark_tables.false c.requires.unmarked in
-      let base : Holds (table_sectors r0 ++ root) c.mark_mini_stream.new.marks =
-      holds-more (table_sectors r0) root c.mark_tables.new.marks c.mark_mini_stream.new.marks tables
+      let base : Holds (tables_and_directory r0 ++ root) c.mark_mini_stream.new.marks =
+      holds-more (tables_and_directory r0) root c.mark_tables.new.marks c.mark_mini_stream.new.marks tables
       (rw c.in-Some.is at c.in_ok-root.ensures.fresh) (rw c.in-Some.is at c.in_ok-root.ensures.marked) in
-      let fit = subst (λ (z : List ℕ). StreamsFit bytes r0 c.args.parts.now.streams.now (table_sectors r0 ++ z) []) is s.fit in
-      absurd (true_false _ ((c.in_ok-mark_streams.ensures.fit bytes (table_sectors r0 ++ root) [] (sym are.len) base c.requires.mini_unmarked).1 fit) c.if-not-branch.true),
+      let fit = subst (λ (z : List ℕ). StreamsFit bytes r0 c.args.parts.now.streams.now (tables_and_directory r0 ++ z) []) is s.fit in
+      absurd (true_false _ ((c.in_ok-mark_streams.ensures.fit bytes (tables_and_directory r0 ++ root) [] (sym are.len) base c.requires.mini_unmarked).1 fit) c.if-not-branch.true),
 )
 
 pub returns-then-not-keeps_loose-clause-exact : goal.returns-then-not-keeps_loose-clause-exact
@@ -94,12 +94,12 @@ returns-then-not-keeps_loose-clause-exact g c = λ cases bytes r reads are. (
       let chain : mini_stream_chain r0 ≡ Some root = rw c.in-Some.is at c.in_ok-root.ensures.chain in
       let is : mini_stream_sectors r0 ≡ root = ap (λ (o : Option (List ℕ)). unwrap_or o []) chain in
       let tables = c.mark_tables.ensures.marked c.if-not-mark_tables.false c.requires.unmarked in
-      let base : Holds (table_sectors r0 ++ root) c.mark_mini_stream.new.marks =
-      holds-more (table_sectors r0) root c.mark_tables.new.marks c.mark_mini_stream.new.marks tables
+      let base : Holds (tables_and_directory r0 ++ root) c.mark_mini_stream.new.marks =
+      holds-more (tables_and_directory r0) root c.mark_tables.new.marks c.mark_mini_stream.new.marks tables
       (rw c.in-Some.is at c.in_ok-root.ensures.fresh) (rw c.in-Some.is at c.in_ok-root.ensures.marked) in
-      let used : List ℕ = table_sectors r0 ++ root ++ flat_map (λ i. own_sectors r0 (entry_at r0.entries i)) c.args.parts.now.streams.now in
-      let all : Holds used c.mark_streams.new.marks = c.in_ok-mark_streams.ensures.marked (table_sectors r0 ++ root) base c.if-not-branch.false in
-      let loose : KeepsLoose r0.fat used = subst (λ (z : List ℕ). KeepsLoose r0.fat (table_sectors r0 ++ z ++ flat_map (λ i. own_sectors r0 (entry_at r0.entries i)) c.args.parts.now.streams.now)) is s.loose in
+      let used : List ℕ = tables_and_directory r0 ++ root ++ flat_map (λ i. own_sectors r0 (entry_at r0.entries i)) c.args.parts.now.streams.now in
+      let all : Holds used c.mark_streams.new.marks = c.in_ok-mark_streams.ensures.marked (tables_and_directory r0 ++ root) base c.if-not-branch.false in
+      let loose : KeepsLoose r0.fat used = subst (λ (z : List ℕ). KeepsLoose r0.fat (tables_and_directory r0 ++ z ++ flat_map (λ i. own_sectors r0 (entry_at r0.entries i)) c.args.parts.now.streams.now)) is s.loose in
       absurd (true_false _ ((c.keeps_loose.ensures used all).1 loose) c.if-not-keeps_loose.true),
 )
 
@@ -110,22 +110,22 @@ returns-clause-exact g c = λ cases bytes r reads are.
     let chain : mini_stream_chain r0 ≡ Some root = rw c.in-Some.is at c.in_ok-root.ensures.chain in
     let is : mini_stream_sectors r0 ≡ root = ap (λ (o : Option (List ℕ)). unwrap_or o []) chain in
     let tables = c.mark_tables.ensures.marked c.if-not-mark_tables.false c.requires.unmarked in
-    let base : Holds (table_sectors r0 ++ root) c.mark_mini_stream.new.marks =
-    holds-more (table_sectors r0) root c.mark_tables.new.marks c.mark_mini_stream.new.marks tables
+    let base : Holds (tables_and_directory r0 ++ root) c.mark_mini_stream.new.marks =
+    holds-more (tables_and_directory r0) root c.mark_tables.new.marks c.mark_mini_stream.new.marks tables
     (rw c.in-Some.is at c.in_ok-root.ensures.fresh) (rw c.in-Some.is at c.in_ok-root.ensures.marked) in
-    let used : List ℕ = table_sectors r0 ++ root ++ flat_map (λ i. own_sectors r0 (entry_at r0.entries i)) c.args.parts.now.streams.now in
-    let all : Holds used c.mark_streams.new.marks = c.in_ok-mark_streams.ensures.marked (table_sectors r0 ++ root) base c.if-not-branch.false in
+    let used : List ℕ = tables_and_directory r0 ++ root ++ flat_map (λ i. own_sectors r0 (entry_at r0.entries i)) c.args.parts.now.streams.now in
+    let all : Holds used c.mark_streams.new.marks = c.in_ok-mark_streams.ensures.marked (tables_and_directory r0 ++ root) base c.if-not-branch.false in
     let mini_used : List ℕ = flat_map (λ i. own_mini_sectors r0 (entry_at r0.entries i)) c.args.parts.now.streams.now in
     let all_mini : Holds mini_used c.mark_streams.new.mini_marks = c.in_ok-mark_streams.ensures.mini_marked [] c.requires.mini_unmarked c.if-not-branch.false in
-    let fit = (c.in_ok-mark_streams.ensures.fit bytes (table_sectors r0 ++ root) [] (sym are.len) base c.requires.mini_unmarked).0 c.if-not-branch.false in
+    let fit = (c.in_ok-mark_streams.ensures.fit bytes (tables_and_directory r0 ++ root) [] (sym are.len) base c.requires.mini_unmarked).0 c.if-not-branch.false in
     let size : c.len.result ≡ length (mini_stream_sectors r0) = let n = c.len.ensures in let k = c.in-Some.root.ok.0 in let m = ap length is in omega (arith, n, k, m) in
     let room = c.has_room.ensures.0 c.if-not-has_room.false in (
       λ h. decided-sound c.args.parts.now cases bytes r reads are c.if-not-parts.false record {
         covers = c.covers.ensures.0 c.if-not-covers.false;
         mini_stream = subst IsSome (sym chain) refl;
-        fit = subst (λ (z : List ℕ). StreamsFit bytes r0 c.args.parts.now.streams.now (table_sectors r0 ++ z) []) (sym is) fit;
+        fit = subst (λ (z : List ℕ). StreamsFit bytes r0 c.args.parts.now.streams.now (tables_and_directory r0 ++ z) []) (sym is) fit;
         room = subst (λ (n : ℕ). length r0.minifat * mini_sector_len ≤ n * sector_len r0.header.version) size room;
-        loose = subst (λ (z : List ℕ). KeepsLoose r0.fat (table_sectors r0 ++ z ++ flat_map (λ i. own_sectors r0 (entry_at r0.entries i)) c.args.parts.now.streams.now)) (sym is)
+        loose = subst (λ (z : List ℕ). KeepsLoose r0.fat (tables_and_directory r0 ++ z ++ flat_map (λ i. own_sectors r0 (entry_at r0.entries i)) c.args.parts.now.streams.now)) (sym is)
             ((c.keeps_loose.ensures used all).0 c.if-not-keeps_loose.false);
         mini_loose = (c.keeps_loose-2.ensures mini_used all_mini).0 h;
       },
