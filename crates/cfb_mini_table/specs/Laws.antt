@@ -1,0 +1,89 @@
+-- What the words about the MiniFAT in memory promise about each other.
+use Rattle.std.specs.Prelude.{ℕ, ◌≡◌, ◌<◌, ◌≤◌, ◌↔◌, List, [], ◌∷◌, ◌++◌, length, take, flat_map, slice_index}
+use Rattle.cfb_format.specs.declared.version.Version.{Version}
+use Rattle.cfb_format.specs.Bytes.{max_regular_sector, sector_words}
+use Rattle.cfb_format.specs.Chain.{value, IsChain}
+use Rattle.cfb_format.specs.Full.{free_count}
+use Rattle.cfb_format.specs.Reading.{minifat_words}
+use Rattle.cfb_tables.specs.Changes.{AreDisjoint}
+use Rattle.cfb_tables.specs.Clean.{IsClean, IsUnnamed}
+use Rattle.cfb_tables.specs.Owners.{Takes, Frees}
+use Rattle.cfb_mini_table.specs.MiniTable.{trimmed, EndsBusy, SameValues, IsTooFewMini, TakesMini, MiniGivesBack}
+
+-- ---- the end of the table
+
+-- without the free entries at the end the values are the same, and the table ends busy
+pub record IsTrimmed (table new : List ℕ) : Type 0 where
+  pub values : SameValues table new
+  pub busy : EndsBusy new
+  pub shorter : length new ≤ length table
+
+abbrev pub TrimmedIsTrimmed : Type 0
+TrimmedIsTrimmed = (table : List ℕ) → IsTrimmed table (trimmed table)
+
+-- so the values alone say how long the table is
+abbrev pub ValuesFixTheTable : Type 0
+ValuesFixTheTable = (xs ys : List ℕ) → EndsBusy xs → EndsBusy ys → SameValues xs ys → xs ≡ ys
+
+-- the words of the MiniFAT's sectors begin with the table, and those behind it are free or count for nothing
+pub record AgreesWithWords (table words : List ℕ) : Type 0 where
+  pub covered : length table ≤ length words
+  pub same : (m : ℕ) → m < length table → slice_index words m ≡ value table m
+
+-- then opening reads just this table, where the mini stream has as many mini sectors as it has entries
+abbrev pub HeldMiniIsRead : Type 0
+HeldMiniIsRead = (version : Version) (bytes sectors table : List ℕ) (most : ℕ) → AgreesWithWords table (flat_map (sector_words version bytes) sectors)
+    → EndsBusy table → most ≡ length table → table ≡ take most (minifat_words version bytes sectors)
+
+-- ---- fullness
+
+-- of a table that is no longer than it may be: one more is too many exactly where none is free and the limit is reached
+abbrev pub FullOfMiniSectors : Type 0
+FullOfMiniSectors = (limit : ℕ) (table : List ℕ) → length table ≤ limit → IsTooFewMini limit table 1 ↔ ((free_count table ≡ 0) × (limit ≤ length table))
+
+-- ---- chains
+
+-- other chains stay as mini sectors are taken
+abbrev pub TakingLeavesChains : Type 0
+TakingLeavesChains = (limit : ℕ) (old new touched more : List ℕ) (start : ℕ) (list : List ℕ) → TakesMini limit old new touched more → AreDisjoint list touched
+    → IsChain old start list → IsChain new start list
+
+-- and the chain whose last member went on goes on
+abbrev pub TakingExtendsChain : Type 0
+TakingExtendsChain = (limit : ℕ) (old new : List ℕ) (last : ℕ) (more : List ℕ) (start : ℕ) (front : List ℕ) → TakesMini limit old new (last ∷ []) more
+    → IsChain new last (last ∷ more) → IsChain old start (front ++ last ∷ []) → IsChain new start (front ++ last ∷ more)
+
+-- other chains stay as mini sectors are given back
+abbrev pub FreeingLeavesChains : Type 0
+FreeingLeavesChains = (left gone old new : List ℕ) (start : ℕ) (list : List ℕ) → MiniGivesBack left gone old new → AreDisjoint list (left ++ gone)
+    → IsChain old start list → IsChain new start list
+
+-- and a chain that was cut ends at the member that is left
+abbrev pub CuttingShortensChain : Type 0
+CuttingShortensChain = (old new : List ℕ) (last : ℕ) (gone : List ℕ) (start : ℕ) (front : List ℕ) → MiniGivesBack (last ∷ []) gone old new
+    → IsChain old start (front ++ last ∷ gone) → IsChain new start (front ++ last ∷ [])
+
+-- ---- which numbers are in use
+
+-- what the table takes and frees is taken and given back as owners see it
+abbrev pub MiniTakenIsTaking : Type 0
+MiniTakenIsTaking = (limit : ℕ) (old new touched more : List ℕ) → TakesMini limit old new touched more → Takes old new touched more
+
+abbrev pub MiniFreedIsFreeing : Type 0
+MiniFreedIsFreeing = (left gone old new : List ℕ) → MiniGivesBack left gone old new → Frees old new left gone
+
+-- ---- tables in which no number is named twice
+
+-- they stay so while a chain is begun or goes on
+abbrev pub MiniTakenIsClean : Type 0
+MiniTakenIsClean = (limit : ℕ) (old new touched more : List ℕ) (start : ℕ) → TakesMini limit old new touched more → IsChain new start (touched ++ more)
+    → length touched ≤ 1 → IsClean old → IsClean new
+
+-- while a chain whose start nothing names is freed
+abbrev pub MiniFreedIsClean : Type 0
+MiniFreedIsClean = (old new list : List ℕ) (start : ℕ) → MiniGivesBack [] list old new → IsChain old start list → IsUnnamed old start → IsClean old → IsClean new
+
+-- and while a chain is cut behind a member
+abbrev pub MiniCutIsClean : Type 0
+MiniCutIsClean = (old new list : List ℕ) (last : ℕ) → MiniGivesBack (last ∷ []) list old new → last < length old → last ≤ max_regular_sector
+    → IsChain old (value old last) list → IsClean old → IsClean new
