@@ -77,14 +77,16 @@ gives-none ends old ended = record {
   free = λ i m. absurd (Contains-nil i m);
   only = λ i out. refl;
   shorter = omega arith;
+  counted = omega arith;
   trimmed = λ some. absurd (omega (arith, some));
   stays_trimmed = λ busy. busy;
   none = λ e. refl;
 }
 
 -- some were freed, and the table was trimmed
-pub freed-mini : (old list : List ℕ) → 0 < length list → AreBusy old list → MiniGivesBack [] list old (trimmed (wiped old list))
-freed-mini old list some can =
+pub freed-mini : (old list : List ℕ) (dropped : ℕ) → 0 < length list → AreBusy old list → free_count (trimmed (wiped old list)) + dropped ≡ free_count old + length list
+    → length (trimmed (wiped old list)) + dropped ≡ length old → MiniGivesBack [] list old (trimmed (wiped old list))
+freed-mini old list dropped some can count len =
     let w = wiped-freed list old (λ i m. value-below old i (can.busy i m)) in
     let same = w.same_length in
     let short = trimmed-shorter (wiped old list) in
@@ -93,6 +95,7 @@ freed-mini old list some can =
       free = λ i m. trimmed-values (wiped old list) i ∙ w.free i m;
       only = λ i out. trimmed-values (wiped old list) i ∙ w.only i out;
       shorter = omega (arith, same, short);
+      counted = omega (arith, count, len);
       trimmed = λ _. trimmed-busy (wiped old list);
       stays_trimmed = λ _. trimmed-busy (wiped old list);
       none = λ e. absurd (omega (arith, e, some));
@@ -110,9 +113,10 @@ pub behind-can : (table list : List ℕ) (x : ℕ) → x < length table → x �
 behind-can table list x lt regular c = record { busy = behind-busy table list x lt regular c; once = c.distinct }
 
 -- so a chain was cut behind x
-pub cut-mini : (old list : List ℕ) (x : ℕ) → 0 < length list → x < length old → x ≤ max_regular_sector → IsChain old (value old x) list
-    → MiniGivesBack (x ∷ []) list old (trimmed (wiped (set old x end_of_chain) list))
-cut-mini old list x some lt regular c =
+pub cut-mini : (old list : List ℕ) (x dropped : ℕ) → 0 < length list → x < length old → x ≤ max_regular_sector → IsChain old (value old x) list
+    → free_count (trimmed (wiped (set old x end_of_chain) list)) + dropped ≡ free_count old + length list
+    → length (trimmed (wiped (set old x end_of_chain) list)) + dropped ≡ length old → MiniGivesBack (x ∷ []) list old (trimmed (wiped (set old x end_of_chain) list))
+cut-mini old list x dropped some lt regular c count len =
     let next = set old x end_of_chain in
     let w = cut-freed old list x lt regular c in
     let same = w.same_length in
@@ -122,10 +126,18 @@ cut-mini old list x some lt regular c =
       free = λ i m. trimmed-values (wiped next list) i ∙ w.free i m;
       only = λ i out. trimmed-values (wiped next list) i ∙ w.only i out;
       shorter = omega (arith, same, short);
+      counted = omega (arith, count, len);
       trimmed = λ _. trimmed-busy (wiped next list);
       stays_trimmed = λ _. trimmed-busy (wiped next list);
       none = λ e. absurd (omega (arith, e, some));
     }
+
+pub freed-is : (old list new : List ℕ) (dropped : ℕ) → 0 < length list → AreBusy old list → new ≡ trimmed (wiped old list)
+    → free_count new + dropped ≡ free_count old + length list → length new + dropped ≡ length old → MiniGivesBack [] list old new
+freed-is old list new dropped some can is count len =
+    let count' = ap free_count is in
+    let len' = ap (λ (z : List ℕ). length z) is in
+    subst (MiniGivesBack [] list old) (sym is) (freed-mini old list dropped some can (omega (arith, count, count')) (omega (arith, len, len')))
 
 -- what is always so of the table in memory holds again
 pub mini-freed : (limit : ℕ) (old list new free queue : List ℕ) (unused dropped places : ℕ) → length old ≤ limit → limit ≤ max_regular_sector → AreBusy old list
@@ -167,8 +179,14 @@ module _ (limit : ℕ) (old list free : List ℕ) (x unused places : ℕ) (m : I
   pub cut-can : AreBusy (set old x end_of_chain) list
   cut-can = behind-can old list x lt cut-regular c
 
-  pub cut-is : (new : List ℕ) → 0 < length list → new ≡ trimmed (wiped (set old x end_of_chain) list) → MiniGivesBack (x ∷ []) list old new
-  cut-is new some is = subst (MiniGivesBack (x ∷ []) list old) (sym is) (cut-mini old list x some lt cut-regular c)
+  pub cut-is : (new : List ℕ) (dropped : ℕ) → 0 < length list → new ≡ trimmed (wiped (set old x end_of_chain) list)
+      → free_count new + dropped ≡ free_count (set old x end_of_chain) + length list → length new + dropped ≡ length old → MiniGivesBack (x ∷ []) list old new
+  cut-is new dropped some is count len =
+      let same = cut-count in
+      let count' = ap free_count is in
+      let len' = ap (λ (z : List ℕ). length z) is in
+      subst (MiniGivesBack (x ∷ []) list old) (sym is)
+      (cut-mini old list x dropped some lt cut-regular c (omega (arith, count, count', same)) (omega (arith, len, len')))
 
   pub cut-again : (new queue : List ℕ) (dropped : ℕ) → new ≡ trimmed (wiped (set old x end_of_chain) list) → ListsMiniFree queue new → queue ≡ free ++ list
       → free_count new + dropped ≡ free_count (set old x end_of_chain) + length list → IsMini limit new queue (unused + length list - dropped) places

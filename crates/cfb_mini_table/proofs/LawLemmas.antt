@@ -1,5 +1,5 @@
 -- The laws about the MiniFAT in memory.
-use Rattle.std.proofs.Common.{◌≡◌, ◌<◌, ◌≤◌, ◌-◌, inl, inr, min, ℕ, List, [], ◌∷◌, ◌++◌, length, take, sym, ◌∙◌, arith, get_or-take, length-take}
+use Rattle.std.proofs.Common.{◌≡◌, ◌<◌, ◌≤◌, ◌+◌, ◌-◌, inl, inr, min, ℕ, List, [], ◌∷◌, ◌++◌, length, take, sym, ◌∙◌, ap, subst, arith, append_assoc, get_or-take, length-take}
 use Rattle.std.specs.Prelude.{Contains, slice_index, ◌↔◌}
 use Rattle.std.specs.List.{suffix_len}
 use Rattle.std.proofs.lemmas.Bool.{cases_lt, eqb-true}
@@ -12,7 +12,10 @@ use Rattle.cfb_tables.specs.Changes.{AreDisjoint}
 use Rattle.cfb_tables.specs.Owners.{Takes, Frees}
 use Rattle.cfb_tables.proofs.Members.{Contains-here, distinct-apart, value-at, value-below}
 use Rattle.cfb_tables.proofs.ChainLemmas.{members-busy, chain-stays, other-chains-stay, chain-turn, chain-rest, chain_of}
-use Rattle.cfb_mini_table.specs.MiniTable.{trimmed, EndsBusy, IsTooFewMini, TakesMini, MiniGivesBack}
+use Rattle.cfb_tables.specs.Listed.{last_or_end, ends_of}
+use Rattle.cfb_tables.specs.Tables.{first_or_end}
+use Rattle.cfb_tables.proofs.ListedLemmas.{end_chain, last_split, what_is_left-ends}
+use Rattle.cfb_mini_table.specs.MiniTable.{MiniTableState, trimmed, EndsBusy, IsTooFewMini, IsPreparedMini, TakesMini, MiniGivesBack}
 use Rattle.cfb_mini_table.specs.Laws.{IsTrimmed, AgreesWithWords}
 use Rattle.cfb_mini_table.proofs.EndLemmas.{is_free, ends_at, trimmed-values, trimmed-busy, trimmed-shorter}
 
@@ -45,6 +48,42 @@ module _ (words table : List ℕ) (h : AgreesWithWords table words) (busy : Ends
 pub full-of-mini : (limit : ℕ) (table : List ℕ) → length table ≤ limit → IsTooFewMini limit table 1 ↔ ((free_count table ≡ 0) × (limit ≤ length table))
 full-of-mini limit table short = ((λ few. (omega (arith, few), omega (arith, few))), (λ both. omega (arith, both.0, both.1)))
 
+pub room-in-turn : (limit : ℕ) (old new touched more : List ℕ) (rest : ℕ) → TakesMini limit old new touched more
+    → IsTooFewMini limit new rest ↔ IsTooFewMini limit old (length more + rest)
+room-in-turn limit old new touched more rest t =
+    let len = t.len in
+    let left = t.left in
+    ((λ few. omega (arith, few, len, left)), (λ few. omega (arith, few, len, left)))
+
+pub prepared-in-turn : (old new : MiniTableState) (touched more : List ℕ) (rest : ℕ) → TakesMini old.limit old.minifat new.minifat touched more
+    → new ≡ record old { minifat = new.minifat } → IsPreparedMini old (length more + rest) → IsPreparedMini new rest
+prepared-in-turn old new touched more rest t same p =
+    let len = t.len in
+    let left = t.left in
+    let held = p.held in
+    let enough = p.enough in
+    let room = ap (λ (s : MiniTableState). s.room) same in
+    let limit = ap (λ (s : MiniTableState). s.limit) same in
+    record { held = omega (arith, held, len, left, room); enough = omega (arith, enough, len, left, limit) }
+
+pub room-given-back : (limit : ℕ) (ends gone old new : List ℕ) (count : ℕ) → MiniGivesBack ends gone old new → length old ≤ limit
+    → IsTooFewMini limit new count ↔ IsTooFewMini limit old (count - length gone)
+room-given-back limit ends gone old new count f short =
+    let counted = f.counted in
+    let shorter = f.shorter in
+    ((λ few. omega (arith, few, counted, shorter, short)), (λ few. omega (arith, few, counted, shorter, short)))
+
+pub prepared-given-back : (old new : MiniTableState) (ends gone : List ℕ) (count : ℕ) → MiniGivesBack ends gone old.minifat new.minifat
+    → new ≡ record old { minifat = new.minifat } → IsPreparedMini old (count - length gone) → IsPreparedMini new count
+prepared-given-back old new ends gone count f same p =
+    let counted = f.counted in
+    let shorter = f.shorter in
+    let held = p.held in
+    let enough = p.enough in
+    let room = ap (λ (s : MiniTableState). s.room) same in
+    let limit = ap (λ (s : MiniTableState). s.limit) same in
+    record { held = omega (arith, held, counted, shorter, room); enough = omega (arith, enough, counted, shorter, limit) }
+
 -- ---- chains
 
 pub taking-leaves : (limit : ℕ) (old new touched more : List ℕ) (start : ℕ) (list : List ℕ) → TakesMini limit old new touched more → AreDisjoint list touched
@@ -76,6 +115,20 @@ cutting-shortens old new last gone start front f was =
     let below = value-below new last (λ e. omega (arith, e, ended)) in
     let stays : (i : ℕ) → Contains front i → value new i ≡ value old i = λ i m. f.only i (λ n. distinct-apart front (last ∷ gone) was.distinct i m n) in
     chain-turn old new start front last gone [] stays below was (chain_of new (value new last) [] ended)
+
+pub left-is-chain : (old new left gone : List ℕ) → IsChain old (first_or_end (left ++ gone)) (left ++ gone) → MiniGivesBack (ends_of left) gone old new
+    → IsChain new (first_or_end left) left
+left-is-chain old new [] gone c f = end_chain new
+left-is-chain old new (x ∷ rest) gone c f =
+    let left = x ∷ rest in
+    let last = last_or_end left in
+    let front = take (length left - 1) left in
+    let split : left ≡ front ++ last ∷ [] = last_split left (omega arith) in
+    let whole : left ++ gone ≡ front ++ last ∷ gone = ap (λ (z : List ℕ). z ++ gone) split ∙ append_assoc front (last ∷ []) gone in
+    let ends = (what_is_left-ends old left gone (omega arith) c).0 in
+    let cut : IsChain new x (front ++ last ∷ []) =
+    cutting-shortens old new last gone x front (subst (λ (z : List ℕ). MiniGivesBack z gone old new) ends f) (subst (IsChain old x) whole c) in
+    subst (IsChain new x) (sym split) cut
 
 -- ---- owners
 

@@ -1,14 +1,15 @@
 -- Tables in which no number is named twice stay so.
-use Rattle.std.proofs.Common.{◌≡◌, ◌≢◌, ◌<◌, ◌≤◌, ℕ, inl, inr, List, [], ◌∷◌, ◌++◌, length, set, sym, ◌∙◌, ap, subst, arith}
+use Rattle.std.proofs.Common.{◌≡◌, ◌≢◌, ◌<◌, ◌≤◌, ℕ, inl, inr, List, [], ◌∷◌, ◌++◌, length, set, sym, ◌∙◌, ap, subst, arith, length-set}
 use Rattle.std.specs.Prelude.{Contains}
 use Rattle.std.proofs.lemmas.List.Elements.{Contains-append_right}
-use Rattle.cfb_format.specs.Bytes.{free_sector, end_of_chain, max_regular_sector}
+use Rattle.cfb_format.specs.Bytes.{free_sector, end_of_chain}
 use Rattle.cfb_format.specs.Chain.{value, IsChain}
 use Rattle.cfb_tables.specs.Clean.{IsClean, IsUnnamed}
 use Rattle.cfb_tables.specs.Tables.{wiped}
-use Rattle.cfb_tables.proofs.Members.{Contains-or, Contains-cases, Contains-here}
+use Rattle.cfb_tables.specs.Changes.{GivesBack}
+use Rattle.cfb_tables.proofs.Members.{Contains-or, Contains-one, Contains-cases, Contains-here, Contains-there, value-below, value-set, value-set_other}
 use Rattle.cfb_tables.proofs.ChainLemmas.{members-busy}
-use Rattle.cfb_tables.proofs.AttachLemmas.{wiped-freed, cut-freed}
+use Rattle.cfb_tables.proofs.AttachLemmas.{wiped-freed}
 use Rattle.cfb_tables.proofs.CleanLemmas.{Regular, IsCleanAt, clean-at, at-clean, follows-once, next-added, fewer-clean, freed-clean, cut-clean}
 use Rattle.cfb_mini_table.specs.MiniTable.{SameValues, TakesMini, MiniGivesBack}
 
@@ -81,11 +82,27 @@ mini-freed-clean old new list start f chain unnamed clean =
     ] in
     same-clean mid new same (freed-clean old mid list start w chain unnamed clean)
 
-pub mini-cut-clean : (old new list : List ℕ) (last : ℕ) → MiniGivesBack (last ∷ []) list old new → last < length old → last ≤ max_regular_sector
-    → IsChain old (value old last) list → IsClean old → IsClean new
-mini-cut-clean old new list last f lt regular chain clean =
+-- what is given back behind `last`, in a table that keeps its length
+cut-wiped : (old new list : List ℕ) (last : ℕ) → MiniGivesBack (last ∷ []) list old new → ((i : ℕ) → Contains list i → i < length old)
+    → GivesBack (last ∷ []) list old (wiped (set old last end_of_chain) list)
+cut-wiped old new list last f below =
+    let next = set old last end_of_chain in
+    let len = length-set old last end_of_chain in
+    let ended = f.ended last (Contains-here last []) in
+    let lt : last < length old = let b = value-below new last (λ e. omega (arith, e, ended)) in let s = f.shorter in omega (arith, b, s) in
+    let out : Contains list last → ⊥ = λ m. let e = f.free last m in omega (arith, e, ended) in
+    let w = wiped-freed list next (λ i m. let b = below i m in omega (arith, b, len)) in
+    record {
+      same_length = w.same_length ∙ len;
+      ended = λ i m. ap (value (wiped next list)) (sym (Contains-one last i m)) ∙ w.only last out ∙ value-set old last end_of_chain lt;
+      free = w.free;
+      only = λ i no. w.only i (λ m. no (Contains-there last list i m)) ∙ value-set_other old last i end_of_chain (λ e. no (0, omega arith, sym e));
+    }
+
+pub mini-cut-clean : (old new list : List ℕ) (last : ℕ) → MiniGivesBack (last ∷ []) list old new → IsChain old (value old last) list → IsClean old → IsClean new
+mini-cut-clean old new list last f chain clean =
     let mid = wiped (set old last end_of_chain) list in
-    let w = cut-freed old list last lt regular chain in
+    let w = cut-wiped old new list last f (λ i m. (members-busy old (value old last) list chain i m).1) in
     let same : SameValues mid new = λ i. elim (Contains-or list i) [
       | inl m ↦ f.free i m ∙ sym (w.free i m)
       | inr out ↦ elim (Contains-or (last ∷ []) i) [

@@ -1,14 +1,16 @@
 -- What the words about the MiniFAT in memory promise about each other.
-use Rattle.std.specs.Prelude.{ℕ, ◌≡◌, ◌<◌, ◌≤◌, ◌↔◌, List, [], ◌∷◌, ◌++◌, length, take, flat_map, slice_index}
+use Rattle.std.specs.Prelude.{ℕ, ◌≡◌, ◌+◌, ◌-◌, ◌<◌, ◌≤◌, ◌↔◌, List, [], ◌∷◌, ◌++◌, length, take, flat_map, slice_index}
 use Rattle.cfb_format.specs.declared.version.Version.{Version}
-use Rattle.cfb_format.specs.Bytes.{max_regular_sector, sector_words}
+use Rattle.cfb_format.specs.Bytes.{sector_words}
 use Rattle.cfb_format.specs.Chain.{value, IsChain}
 use Rattle.cfb_format.specs.Full.{free_count}
 use Rattle.cfb_format.specs.Reading.{minifat_words}
 use Rattle.cfb_tables.specs.Changes.{AreDisjoint}
 use Rattle.cfb_tables.specs.Clean.{IsClean, IsUnnamed}
 use Rattle.cfb_tables.specs.Owners.{Takes, Frees}
-use Rattle.cfb_mini_table.specs.MiniTable.{trimmed, EndsBusy, SameValues, IsTooFewMini, TakesMini, MiniGivesBack}
+use Rattle.cfb_tables.specs.Listed.{ends_of}
+use Rattle.cfb_tables.specs.Tables.{first_or_end}
+use Rattle.cfb_mini_table.specs.MiniTable.{MiniTableState, trimmed, EndsBusy, SameValues, IsTooFewMini, IsPreparedMini, TakesMini, MiniGivesBack, AreBusy}
 
 -- ---- the end of the table
 
@@ -41,6 +43,24 @@ HeldMiniIsRead = (version : Version) (bytes sectors table : List ℕ) (most : �
 abbrev pub FullOfMiniSectors : Type 0
 FullOfMiniSectors = (limit : ℕ) (table : List ℕ) → length table ≤ limit → IsTooFewMini limit table 1 ↔ ((free_count table ≡ 0) × (limit ≤ length table))
 
+-- what is needed can be taken in parts
+abbrev pub MiniRoomInTurn : Type 0
+MiniRoomInTurn = (limit : ℕ) (old new touched more : List ℕ) (rest : ℕ) → TakesMini limit old new touched more
+    → IsTooFewMini limit new rest ↔ IsTooFewMini limit old (length more + rest)
+
+abbrev pub MiniPreparedInTurn : Type 0
+MiniPreparedInTurn = (old new : MiniTableState) (touched more : List ℕ) (rest : ℕ) → TakesMini old.limit old.minifat new.minifat touched more
+    → new ≡ record old { minifat = new.minifat } → IsPreparedMini old (length more + rest) → IsPreparedMini new rest
+
+-- what is given back can be taken again
+abbrev pub MiniRoomGivenBack : Type 0
+MiniRoomGivenBack = (limit : ℕ) (ends gone old new : List ℕ) (count : ℕ) → MiniGivesBack ends gone old new → length old ≤ limit
+    → IsTooFewMini limit new count ↔ IsTooFewMini limit old (count - length gone)
+
+abbrev pub MiniPreparedGivenBack : Type 0
+MiniPreparedGivenBack = (old new : MiniTableState) (ends gone : List ℕ) (count : ℕ) → MiniGivesBack ends gone old.minifat new.minifat
+    → new ≡ record old { minifat = new.minifat } → IsPreparedMini old (count - length gone) → IsPreparedMini new count
+
 -- ---- chains
 
 -- other chains stay as mini sectors are taken
@@ -63,14 +83,23 @@ abbrev pub CuttingShortensChain : Type 0
 CuttingShortensChain = (old new : List ℕ) (last : ℕ) (gone : List ℕ) (start : ℕ) (front : List ℕ) → MiniGivesBack (last ∷ []) gone old new
     → IsChain old start (front ++ last ∷ gone) → IsChain new start (front ++ last ∷ [])
 
+-- what is left of a listed chain whose last members are given back is a chain
+abbrev pub MiniLeftIsChain : Type 0
+MiniLeftIsChain = (old new left gone : List ℕ) → IsChain old (first_or_end (left ++ gone)) (left ++ gone) → MiniGivesBack (ends_of left) gone old new
+    → IsChain new (first_or_end left) left
+
+-- the members of a chain can be given back
+abbrev pub ChainsCanBeGivenBack : Type 0
+ChainsCanBeGivenBack = (table : List ℕ) (start : ℕ) (list : List ℕ) → IsChain table start list → AreBusy table list
+
 -- ---- which numbers are in use
 
 -- what the table takes and frees is taken and given back as owners see it
 abbrev pub MiniTakenIsTaking : Type 0
 MiniTakenIsTaking = (limit : ℕ) (old new touched more : List ℕ) → TakesMini limit old new touched more → Takes old new touched more
 
-abbrev pub MiniFreedIsFreeing : Type 0
-MiniFreedIsFreeing = (left gone old new : List ℕ) → MiniGivesBack left gone old new → Frees old new left gone
+abbrev pub MiniGivenBackIsFreeing : Type 0
+MiniGivenBackIsFreeing = (left gone old new : List ℕ) → MiniGivesBack left gone old new → Frees old new left gone
 
 -- ---- tables in which no number is named twice
 
@@ -85,5 +114,4 @@ MiniFreedIsClean = (old new list : List ℕ) (start : ℕ) → MiniGivesBack [] 
 
 -- and while a chain is cut behind a member
 abbrev pub MiniCutIsClean : Type 0
-MiniCutIsClean = (old new list : List ℕ) (last : ℕ) → MiniGivesBack (last ∷ []) list old new → last < length old → last ≤ max_regular_sector
-    → IsChain old (value old last) list → IsClean old → IsClean new
+MiniCutIsClean = (old new list : List ℕ) (last : ℕ) → MiniGivesBack (last ∷ []) list old new → IsChain old (value old last) list → IsClean old → IsClean new

@@ -107,6 +107,8 @@ pub record MiniGivesBack (ends gone old new : List ℕ) : Type 0 where
   pub free : (i : ℕ) → Contains gone i → value new i ≡ free_sector
   pub only : ChangesOnlyValues (ends ++ gone) old new
   pub shorter : length new ≤ length old
+  -- so many more are free as are given back, but for those that are dropped
+  pub counted : free_count new + length old ≡ free_count old + length gone + length new
   pub trimmed : 0 < length gone → EndsBusy new
   pub stays_trimmed : EndsBusy old → EndsBusy new
   pub none : length gone ≡ 0 → new ≡ old

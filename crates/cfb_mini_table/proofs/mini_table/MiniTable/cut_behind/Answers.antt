@@ -35,7 +35,7 @@ returns-clause-cut g c =
     let some : 0 < length list = omega (arith, eqb-false (length list) 0 (sym c.is_empty.ensures ∙ c.if-is_empty.false)) in
     rw (← c.self.view_is)
     (cut-is s.limit s.minifat.items list s.free.items c.args.last s.unused _ c.self.invariant (rw (← c.self.view_is) at c.requires.below) (rw (← c.self.view_is) at c.requires.chain)
-    b.new.minifat.items some b.ensures.minifat)
+    b.new.minifat.items b.result some b.ensures.minifat b.ensures.counted (omega (arith, b.ensures.len, b.new.minifat.ok.0, s.minifat.ok.0)))
 
 pub returns-clause-prepared : goal.returns-clause-prepared
 returns-clause-prepared g c count p =

@@ -2,7 +2,7 @@ use Rattle.std.proofs.Common.{◌≡◌, ◌<◌, ℕ, List, [], length, subst, 
 use Rattle.std.proofs.lemmas.Bool.{eqb-true, eqb-false}
 use Rattle.std.proofs.lemmas.List.{nil_from_length}
 use Rattle.cfb_mini_table.specs.MiniTable.{MiniGivesBack}
-use Rattle.cfb_mini_table.proofs.FreedLemmas.{gives-none, mini-freed, freed-mini}
+use Rattle.cfb_mini_table.proofs.FreedLemmas.{gives-none, mini-freed, freed-is}
 use Rattle.cfb_tables.proofs.Members.{Contains-nil}
 use Rattle.cfb_mini_table.proofs.mini_table.MiniTable.free_listed.Goals as goal
 
@@ -29,7 +29,8 @@ returns-clause-freed g c =
     let b = c.give_back-dropped in
     let some : 0 < length list = omega (arith, eqb-false (length list) 0 (sym c.is_empty.ensures ∙ c.if-is_empty.false)) in
     rw (← c.self.view_is)
-    (subst (MiniGivesBack [] list s.minifat.items) (sym b.ensures.minifat) (freed-mini s.minifat.items list some (rw (← c.self.view_is) at c.requires.busy)))
+    (freed-is s.minifat.items list b.new.minifat.items b.result some (rw (← c.self.view_is) at c.requires.busy) b.ensures.minifat b.ensures.counted
+    (omega (arith, b.ensures.len, b.new.minifat.ok.0, s.minifat.ok.0)))
 
 pub returns-clause-prepared : goal.returns-clause-prepared
 returns-clause-prepared g c count p =
