@@ -3,11 +3,11 @@ use Rattle.std.proofs.Common.{◌≡◌, ℕ, ◌+◌, ◌-◌, ◌<◌, ◌≤�
 use Rattle.std.specs.Prelude.{Contains, slice_index}
 use Rattle.std.proofs.lemmas.List.{get_or_default}
 use Rattle.cfb_format.specs.Bytes.{end_of_chain}
-use Rattle.cfb_format.specs.Chain.{IsChain}
+use Rattle.cfb_format.specs.Chain.{value, IsChain}
 use Rattle.cfb_format.specs.Full.{free_count}
 use Rattle.cfb_tables.specs.Listed.{last_or_end, ends_of}
 use Rattle.cfb_tables.specs.Tables.{first_or_end}
-use Rattle.cfb_tables.proofs.ListedLemmas.{last_split, what_is_left-ends}
+use Rattle.cfb_tables.proofs.ListedLemmas.{last_is, last_split, what_is_left-ends}
 use Rattle.cfb_mini_table.specs.MiniTable.{IsMini, TakesMini, ListsMiniFree, TakesEndFirst}
 use Rattle.cfb_mini_table.proofs.LawLemmas.{taking-extends}
 
@@ -42,6 +42,18 @@ mini-taken limit old free new queue touched more unused left places count m t is
     }
 
 -- ---- listed chains
+
+-- a chain starts at its first member
+pub chain-start : (table : List ℕ) (start : ℕ) (list : List ℕ) → IsChain table start list → start ≡ first_or_end list
+chain-start table start [] c = c.follows
+chain-start table start (x ∷ list) c = c.follows.0
+
+pub listed-chain : (table : List ℕ) (start : ℕ) (list : List ℕ) → IsChain table start list → IsChain table (first_or_end list) list
+listed-chain table start list c = subst (λ (k : ℕ). IsChain table k list) (chain-start table start list c) c
+
+-- and ends at its last one
+pub listed-ended : (table list : List ℕ) → IsChain table (first_or_end list) list → 0 < length list → value table (last_or_end list) ≡ end_of_chain
+listed-ended table list c some = (last_is table (first_or_end list) list c some).0
 
 -- what was taken behind the last one of a listed chain is appended to the list
 pub listed-extends : (limit : ℕ) (old new list list' : List ℕ) (n last : ℕ) → n ≡ length list → 0 < n → last ≡ last_or_end list → take n list' ≡ list
