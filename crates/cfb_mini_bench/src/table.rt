@@ -226,7 +226,10 @@ fn mini_sectors_are_taken_and_freed(rt: HostRuntime) -> Result<(), Fail> {
                 Ok(numbers) => *number == 0 && are_ranges(&numbers, ranges),
                 Err(error) => error.number() == *number,
             };
-            assert!(rt; is_right && [table.len(), table.free_len()] == *sizes, "row {row}");
+            assert!(rt;
+                is_right && [table.len(), table.free_len()] == *sizes,
+                "row {row}"
+            );
             row = row.saturating_add(1);
         }
     }
