@@ -1,6 +1,6 @@
 //! The MiniFAT in memory: what comes after each mini sector, and which ones are free (MS-CFB 2.4). A change is made whole:
 //! what can be refused is refused before it begins, and giving back asks for no memory.
-ghost use Rattle.std.specs.Prelude.{◌≡◌, ◌+◌, ◌<◌, ◌≤◌, ◌↔◌, [], ◌∷◌, ◌++◌, List, ℕ, length, take, drop, IsTrue, IfOk, IfErr, OnErr, OnOk, vec_len, vec_capacity};
+ghost use Rattle.std.specs.Prelude.{◌≡◌, ◌+◌, ◌<◌, ◌≤◌, ◌↔◌, [], ◌∷◌, ◌++◌, List, ℕ, length, take, drop, IsTrue, IsOk, IfOk, IfErr, OnErr, OnOk, vec_len, vec_capacity};
 ghost use Rattle.cfb_format.specs.Bytes.{end_of_chain, max_regular_sector};
 ghost use Rattle.cfb_format.specs.Chain.{IsChain, value};
 ghost use Rattle.cfb_format.specs.Full.{free_count, max_mini_sectors};
@@ -159,10 +159,12 @@ impl<A: Allocator> MiniTable<A> {
     }
 
     /// Reserves the memory that taking so many mini sectors needs, and that freeing them will need. `Full` where there are too
-    /// few numbers, and `Memory`.
+    /// few numbers, and `Memory`. What was prepared before stays so, and can be prepared again without a refusal.
     pub fn prepare(&mut self, count: usize) -> Result<(), Error>
         ensures ok { OnOk result (IsPreparedMini self.new count) }
         ensures rest { self.new ≡ record self.old { room = self.new.room } }
+        ensures kept { self.old.room ≤ self.new.room }
+        ensures again { IsPreparedMini self.old count → IsOk result }
         ensures full { IsTooFewMini self.old.limit self.old.minifat count → result ≡ Err Full }
         ensures err { IfErr result (TableRefused ⊥ Unit (IsTooFewMini self.old.limit self.old.minifat count)) }
     {
@@ -249,6 +251,7 @@ impl<A: Allocator> MiniTable<A> {
         ensures chain { IfOk result (λ list. IsChain self.new.minifat (first_or_end list.items) list.items) }
         ensures count { IfOk result (λ list. vec_len list ≡ count) }
         ensures limit { self.new.limit ≡ self.old.limit }
+        ensures kept { self.old.room ≤ self.new.room }
         ensures unchanged { OnErr result (self.new ≡ record self.old { room = self.new.room }) }
         ensures full { IsTooFewMini self.old.limit self.old.minifat count → result ≡ Err Full }
         ensures err { IfErr result (TableRefused ⊥ Unit (IsTooFewMini self.old.limit self.old.minifat count)) }
@@ -267,6 +270,7 @@ impl<A: Allocator> MiniTable<A> {
         ensures chain { IfOk result (λ list. IsChain self.new.minifat last (last ∷ list.items)) }
         ensures count { IfOk result (λ list. vec_len list ≡ count) }
         ensures limit { self.new.limit ≡ self.old.limit }
+        ensures kept { self.old.room ≤ self.new.room }
         ensures unchanged { OnErr result (self.new ≡ record self.old { room = self.new.room }) }
         ensures full { IsTooFewMini self.old.limit self.old.minifat count → result ≡ Err Full }
         ensures err { IfErr result (TableRefused ⊥ Unit (IsTooFewMini self.old.limit self.old.minifat count)) }
