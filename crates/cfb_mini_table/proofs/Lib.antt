@@ -1,0 +1,9 @@
+pub mod CountLemmas
+pub mod EndLemmas
+pub mod MiniFreeLemmas
+pub mod TakenLemmas
+pub mod LinkLemmas
+pub mod FreedLemmas
+pub mod LawLemmas
+pub mod StateLemmas
+pub mod MiniClean
