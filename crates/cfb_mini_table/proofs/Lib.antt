@@ -6,4 +6,3 @@ pub mod LinkLemmas
 pub mod FreedLemmas
 pub mod LawLemmas
 pub mod StateLemmas
-pub mod MiniClean

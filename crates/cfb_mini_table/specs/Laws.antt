@@ -6,7 +6,6 @@ use Rattle.cfb_format.specs.Chain.{value, IsChain}
 use Rattle.cfb_format.specs.Full.{free_count}
 use Rattle.cfb_format.specs.Reading.{minifat_words}
 use Rattle.cfb_tables.specs.Changes.{AreDisjoint}
-use Rattle.cfb_tables.specs.Clean.{IsClean, IsUnnamed}
 use Rattle.cfb_tables.specs.Owners.{Takes, Frees}
 use Rattle.cfb_tables.specs.Listed.{ends_of}
 use Rattle.cfb_tables.specs.Tables.{first_or_end}
@@ -33,8 +32,8 @@ pub record AgreesWithWords (table words : List ℕ) : Type 0 where
   pub same : (m : ℕ) → m < length table → slice_index words m ≡ value table m
 
 -- then opening reads just this table, where the mini stream has as many mini sectors as it has entries
-abbrev pub HeldMiniIsRead : Type 0
-HeldMiniIsRead = (version : Version) (bytes sectors table : List ℕ) (most : ℕ) → AgreesWithWords table (flat_map (sector_words version bytes) sectors)
+abbrev pub HeldTableIsRead : Type 0
+HeldTableIsRead = (version : Version) (bytes sectors table : List ℕ) (most : ℕ) → AgreesWithWords table (flat_map (sector_words version bytes) sectors)
     → EndsBusy table → most ≡ length table → table ≡ take most (minifat_words version bytes sectors)
 
 -- ---- fullness
@@ -100,18 +99,3 @@ MiniTakenIsTaking = (limit : ℕ) (old new touched more : List ℕ) → TakesMin
 
 abbrev pub MiniGivenBackIsFreeing : Type 0
 MiniGivenBackIsFreeing = (left gone old new : List ℕ) → MiniGivesBack left gone old new → Frees old new left gone
-
--- ---- tables in which no number is named twice
-
--- they stay so while a chain is begun or goes on
-abbrev pub MiniTakenIsClean : Type 0
-MiniTakenIsClean = (limit : ℕ) (old new touched more : List ℕ) (start : ℕ) → TakesMini limit old new touched more → IsChain new start (touched ++ more)
-    → length touched ≤ 1 → IsClean old → IsClean new
-
--- while a chain whose start nothing names is freed
-abbrev pub MiniFreedIsClean : Type 0
-MiniFreedIsClean = (old new list : List ℕ) (start : ℕ) → MiniGivesBack [] list old new → IsChain old start list → IsUnnamed old start → IsClean old → IsClean new
-
--- and while a chain is cut behind a member
-abbrev pub MiniCutIsClean : Type 0
-MiniCutIsClean = (old new list : List ℕ) (last : ℕ) → MiniGivesBack (last ∷ []) list old new → IsChain old (value old last) list → IsClean old → IsClean new

@@ -22,10 +22,10 @@ use Rattle.cfb_tables.proofs.TakenLemmas.{taken-busy}
 abbrev pub Regular : ℕ → Type 0
 Regular w = IsTrue (is_regular w)
 
-regular-busy : (w : ℕ) → Regular w → w ≢ free_sector
+pub regular-busy : (w : ℕ) → Regular w → w ≢ free_sector
 regular-busy w r e = let le = regular-le w r in omega (arith, le, e)
 
-regular-goes_on : (w : ℕ) → Regular w → w ≢ end_of_chain
+pub regular-goes_on : (w : ℕ) → Regular w → w ≢ end_of_chain
 regular-goes_on w r e = let le = regular-le w r in omega (arith, le, e)
 
 -- a pointer is among the pointers
@@ -51,7 +51,7 @@ pointers-from (x ∷ xs) w m = go (is_regular x) refl m (λ n. let f = pointers-
 abbrev pub NamesOnce : List ℕ → Type 0
 NamesOnce table = (i j : ℕ) → Regular (value table i) → value table i ≡ value table j → i ≡ j
 
-distinct-once : (table : List ℕ) → HasDistinctPointers table → NamesOnce table
+pub distinct-once : (table : List ℕ) → HasDistinctPointers table → NamesOnce table
 unfolding IsDistinct
 distinct-once [] d i j r e = absurd (regular-busy free_sector r refl)
 distinct-once (x ∷ xs) d i j r e = go (is_regular x) refl d (distinct-once xs) i j r e
@@ -66,7 +66,7 @@ distinct-once (x ∷ xs) d i j r e = go (is_regular x) refl d (distinct-once xs)
     go false h d rest (suc i) zero r e = let q : Regular x = subst Regular e r in let f : true ≡ false = sym q ∙ h in cc
     go false h d rest (suc i) (suc j) r e = ap suc (rest d i j r e)
 
-once-distinct : (table : List ℕ) → NamesOnce table → HasDistinctPointers table
+pub once-distinct : (table : List ℕ) → NamesOnce table → HasDistinctPointers table
 unfolding IsDistinct
 once-distinct [] once = tt
 once-distinct (x ∷ xs) once = go (is_regular x) refl (once-distinct xs (λ i j r e. let s = once (suc i) (suc j) r e in omega (arith, s)))
@@ -149,7 +149,7 @@ follows-once table s (x ∷ list) f i j m n r e = elim (Contains-cases x list i 
 ]
 
 -- a member is the start, or another member names it
-follows-named : (table : List ℕ) (s : ℕ) (list : List ℕ) → Follows table s list → (y : ℕ) → Contains list y
+pub follows-named : (table : List ℕ) (s : ℕ) (list : List ℕ) → Follows table s list → (y : ℕ) → Contains list y
     → (y ≡ s) ⊎ ((j : ℕ) × Contains list j × (value table j ≡ y))
 follows-named table s [] f y m = absurd (Contains-nil y m)
 follows-named table s (x ∷ list) f y m = elim (Contains-cases x list y m) [
