@@ -19,7 +19,7 @@ use Rattle.cfb_tables.proofs.TakenLemmas.{taken-busy}
 
 -- ---- pointers one by one
 
-abbrev Regular : ℕ → Type 0
+abbrev pub Regular : ℕ → Type 0
 Regular w = IsTrue (is_regular w)
 
 regular-busy : (w : ℕ) → Regular w → w ≢ free_sector
@@ -48,7 +48,7 @@ pointers-from (x ∷ xs) w m = go (is_regular x) refl m (λ n. let f = pointers-
     go true h m rest = elim (Contains-cases x (filter is_regular xs) w m) [ inl e ↦ (0, e, subst Regular e h) | inr n ↦ rest n ]
     go false h m rest = rest m
 
-abbrev NamesOnce : List ℕ → Type 0
+abbrev pub NamesOnce : List ℕ → Type 0
 NamesOnce table = (i j : ℕ) → Regular (value table i) → value table i ≡ value table j → i ≡ j
 
 distinct-once : (table : List ℕ) → HasDistinctPointers table → NamesOnce table
@@ -86,19 +86,19 @@ marks-all table marks = list_all-from_AllPass (λ word. not (word == invalid_sec
     (λ i d lt. ap not (ne_eqb (get_or table i d) invalid_sector (λ e. marks i (get_or_default table i free_sector d lt ∙ e))))
 
 -- the same facts of each number
-record IsCleanAt (table : List ℕ) : Type 0 where
+pub record IsCleanAt (table : List ℕ) : Type 0 where
   pub once : NamesOnce table
   pub busy : (i : ℕ) → Regular (value table i) → value table (value table i) ≢ free_sector
   pub marks : (i : ℕ) → value table i ≢ invalid_sector
 
-clean-at : (table : List ℕ) → IsClean table → IsCleanAt table
+pub clean-at : (table : List ℕ) → IsClean table → IsCleanAt table
 clean-at table c = record {
   once = distinct-once table c.pointers;
   busy = λ i r. c.busy i (value-below table i (regular-busy (value table i) r)) r;
   marks = marks-at table c.marks;
 }
 
-at-clean : (table : List ℕ) → IsCleanAt table → IsClean table
+pub at-clean : (table : List ℕ) → IsCleanAt table → IsClean table
 at-clean table c = record {
   pointers = once-distinct table c.once;
   busy = λ i lt r. c.busy i r;
@@ -134,7 +134,7 @@ first-alone table s x (y ∷ list) f i m r e =
     distinct-apart (y ∷ []) list (Follows-distinct table (slice_index table x) (y ∷ list) f.3) y (Contains-here y []) (subst (Contains list) here there)
 
 -- members have pointers of their own
-follows-once : (table : List ℕ) (s : ℕ) (list : List ℕ) → Follows table s list → (i j : ℕ) → Contains list i → Contains list j
+pub follows-once : (table : List ℕ) (s : ℕ) (list : List ℕ) → Follows table s list → (i j : ℕ) → Contains list i → Contains list j
     → Regular (value table i) → value table i ≡ value table j → i ≡ j
 follows-once table s [] f i j m n r e = absurd (Contains-nil i m)
 follows-once table s (x ∷ list) f i j m n r e = elim (Contains-cases x list i m) [
@@ -161,7 +161,7 @@ follows-named table s (x ∷ list) f y m = elim (Contains-cases x list y m) [
 ]
 
 -- a chain's pointers name the members that were added
-next-added : (table : List ℕ) (s : ℕ) (touched more : List ℕ) → length touched ≤ 1 → Follows table s (touched ++ more)
+pub next-added : (table : List ℕ) (s : ℕ) (touched more : List ℕ) → length touched ≤ 1 → Follows table s (touched ++ more)
     → (i : ℕ) → Contains (touched ++ more) i → Regular (value table i) → Contains more (value table i)
 next-added table s [] [] few f i m r = absurd (Contains-nil i m)
 next-added table s [] (x ∷ more) few f i m r = Contains-there x more (value table i) (follows-next table s x more f i m r)
@@ -240,7 +240,7 @@ extended-clean old new start more e c =
 -- ---- sectors are freed
 
 -- where the pointers that stay name no number that is freed
-fewer-clean : (old new : List ℕ) → ((i : ℕ) → Regular (value new i) → value new i ≡ value old i)
+pub fewer-clean : (old new : List ℕ) → ((i : ℕ) → Regular (value new i) → value new i ≡ value old i)
     → ((i : ℕ) → Regular (value new i) → value old (value old i) ≢ free_sector → value new (value old i) ≢ free_sector)
     → ((i : ℕ) → value new i ≡ invalid_sector → value new i ≡ value old i) → IsClean old → IsClean new
 fewer-clean old new stays kept marks clean =
