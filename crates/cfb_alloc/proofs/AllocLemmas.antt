@@ -33,6 +33,19 @@ refused_changed invalid memory full medium Unsound r = absurd r
 refused_changed invalid memory full medium Failed r = absurd r
 refused_changed invalid memory full medium Unsupported r = absurd r
 
+-- a refusal that says less of invalid data
+pub refused-less : (P Q memory full medium : Type 0) → (P → Q) → (e : Error) → ChangeRefused P memory full medium e → ChangeRefused Q memory full medium e
+refused-less P Q memory full medium f (NotFound d) h = h
+refused-less P Q memory full medium f (AlreadyExists d) h = h
+refused-less P Q memory full medium f (InvalidInput d) h = h
+refused-less P Q memory full medium f (InvalidData d) h = f h
+refused-less P Q memory full medium f (Medium m) h = h
+refused-less P Q memory full medium f Memory h = h
+refused-less P Q memory full medium f Full h = h
+refused-less P Q memory full medium f Unsound h = h
+refused-less P Q memory full medium f Failed h = h
+refused-less P Q memory full medium f Unsupported h = h
+
 -- a sector with no next one does not end a chain
 pub next_refused : (invalid memory full medium : Type 0) (table : List ℕ) (i : ℕ) (e : Error) → NextRefused table i e
     → ChangeRefused (invalid ⊎ (value table i ≢ end_of_chain)) memory full medium e

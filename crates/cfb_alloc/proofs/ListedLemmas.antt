@@ -1,25 +1,31 @@
 -- A chain whose sectors the caller has listed, as it grows and is cut over a medium.
-use Rattle.std.proofs.Common.{◌≡◌, ℕ, zero, suc, ◌-◌, ◌<◌, ◌≤◌, List, [], ◌∷◌, ◌++◌, length, take, drop, refl, sym, ◌∙◌, ap, subst, arith, append-nil, append_assoc, length-take}
-use Rattle.std.specs.Prelude.{Contains}
+use Rattle.std.proofs.Common.{◌≡◌, ◌≢◌, ◌⊎◌, inl, inr, ℕ, zero, suc, ◌-◌, ◌<◌, ◌≤◌, List, [], ◌∷◌, ◌++◌, length, take, drop, refl, sym, ◌∙◌, ap, subst, arith, append-nil, append_assoc, length-take}
+use Rattle.std.specs.Prelude.{Contains, Some, slice_get}
 use Rattle.std.proofs.Transfers.{drop-appended}
+use Rattle.std.proofs.lemmas.Bool.{cases_eq}
+use Rattle.std.proofs.lemmas.Option.{slice_get_within, get_or_from_slice_get}
 use Rattle.std.proofs.lemmas.List.{take_all, length-drop, take-append-drop, nil_from_length}
 use Rattle.std.proofs.lemmas.List.Elements.{Contains-append_left, Contains-append_right}
+use Rattle.cfb_format.specs.declared.error.Error.{Error}
 use Rattle.cfb_format.specs.declared.validate.Validation.{Validation}
-use Rattle.cfb_format.specs.Bytes.{end_of_chain}
+use Rattle.cfb_format.specs.Bytes.{end_of_chain, max_regular_sector}
 use Rattle.cfb_format.specs.Chain.{value, IsChain}
 use Rattle.cfb_sectors.specs.Sectors.{SectorFile}
 use Rattle.cfb_tables.specs.Changes.{GivesBack}
 use Rattle.cfb_tables.specs.Clean.{IsClean, IsUnnamed}
-use Rattle.cfb_tables.specs.Listed.{ends_of, gained, last_or_end}
-use Rattle.cfb_tables.specs.Tables.{TableState, HasTaken, TablesGiveBack, AreSizes, first_or_end, sizes_of}
-use Rattle.cfb_tables.proofs.ChainLemmas.{chain_of, members-busy, follows-rest, follows-values}
+use Rattle.cfb_tables.specs.Listed.{EndsChain, ends_of, gained, last_or_end}
+use Rattle.cfb_tables.specs.Refused.{ChangeRefused, NextRefused}
+use Rattle.cfb_tables.specs.Tables.{TableState, HasTaken, TablesGiveBack, AreSizes, ending, first_or_end, sizes_of}
+use Rattle.cfb_tables.proofs.ChainLemmas.{members-busy, follows-values}
 use Rattle.cfb_tables.proofs.CleanLemmas.{freed-clean, cut-clean}
-use Rattle.cfb_tables.proofs.ListedLemmas.{gained_is, last_is, last_alone, last_split, what_is_left-ends, what_is_left-is-chain}
+use Rattle.cfb_tables.proofs.ListedLemmas.{end_chain, ended_alone, ended_regular, ending_other, gained_is, last_is, last_alone, last_split, what_is_left-ends, what_is_left-is-chain}
 use Rattle.cfb_tables.proofs.Members.{Contains-nil, Contains-one}
+use Rattle.cfb_tables.proofs.PreparedLemmas.{chain-one}
 use Rattle.cfb_tables.proofs.TakenLemmas.{taken-none, taken-nothing}
 use Rattle.cfb_alloc.specs.Alloc.{AllocatorState, HoldsBut, ChangesSectors}
 use Rattle.cfb_alloc.specs.Frame.{Spares}
 use Rattle.cfb_alloc.specs.ListedChain.{Lengthens, Shortens}
+use Rattle.cfb_alloc.proofs.AllocLemmas.{next_refused, refused-less}
 use Rattle.cfb_alloc.proofs.FreeingLemmas.{changed_holds}
 use Rattle.cfb_alloc.proofs.Frames.{spares-less}
 use Rattle.cfb_alloc.proofs.Spared.{freed_spares}
@@ -33,10 +39,10 @@ shown_gained ids ids' n is =
     take_all (length ids' - n) (drop n ids') (omega (arith, len)) ∙ ap (λ k. drop k ids') is
 
 -- the last one of the old ones
-pub shown_ends : (table : List ℕ) (s : ℕ) (ids ids' more : List ℕ) (n m : ℕ) → IsChain table s ids → ids' ≡ ids ++ more → n ≡ length ids → m ≡ length ids - 1
-    → take (n - m) (drop m ids') ≡ ends_of ids
-shown_ends table s [] ids' more n m c is len from = let none : n - m ≡ 0 = omega (arith, len) in ap (λ k. take k (drop m ids')) none
-shown_ends table s (x ∷ list) ids' more n m c is len from =
+pub shown_ends : (table ids ids' more : List ℕ) (n m : ℕ) → length table ≤ max_regular_sector → EndsChain table ids → ids' ≡ ids ++ more → n ≡ length ids
+    → m ≡ length ids - 1 → take (n - m) (drop m ids') ≡ ends_of ids
+shown_ends table [] ids' more n m short ends is len from = let none : n - m ≡ 0 = omega (arith, len) in ap (λ k. take k (drop m ids')) none
+shown_ends table (x ∷ list) ids' more n m short ends is len from =
     let ids = x ∷ list in
     let some : 0 < length ids = omega arith in
     let last = last_or_end ids in
@@ -47,45 +53,58 @@ shown_ends table s (x ∷ list) ids' more n m c is len from =
     let cutting = length-take (length ids - 1) ids in
     let size : m ≡ length front = omega (arith, cutting, from, some) in
     let whole : ids' ≡ front ++ last ∷ more = is ∙ ap (λ (z : List ℕ). z ++ more) split ∙ append_assoc front (last ∷ []) more in
-    (λ i. take (one i) (drop (size i) (whole i))) ∙ ap (take 1) cut ∙ sym (last_alone table s ids c some)
+    (λ i. take (one i) (drop (size i) (whole i))) ∙ ap (take 1) cut ∙ sym (ended_alone table ids short ends some)
+
+-- the last one of a list, if there is one
+pub shown_last : (ids : List ℕ) (last : ℕ) → slice_get ids (length ids - 1) ≡ Some last → (0 < length ids) × (last_or_end ids ≡ last)
+shown_last ids last e =
+    let lt = slice_get_within ids (length ids - 1) last e in
+    (omega (arith, lt), get_or_from_slice_get ids (length ids - 1) last end_of_chain e)
 
 -- ---- growth
 
-pub lengthened_none : (t : TableState) (ids : List ℕ) → IsChain t.fat (first_or_end ids) ids → AreSizes t.version (sizes_of t) → Lengthens 0 ids ids t t
-lengthened_none t ids c sizes =
+pub lengthened_none : (t : TableState) (ids : List ℕ) → EndsChain t.fat ids → AreSizes t.version (sizes_of t) → Lengthens 0 ids ids t t
+lengthened_none t ids ends sizes =
     let none : gained ids ids ≡ [] = gained_is ids ids [] (sym (append-nil ids)) in
     record {
       listed = sym (append-nil ids) ∙ ap (λ (z : List ℕ). ids ++ z) (sym none);
       count = ap (λ (z : List ℕ). length z) none;
-      taken = subst (HasTaken t t (ends_of ids)) (sym none) (took ids c);
+      taken = subst (HasTaken t t (ends_of ids)) (sym none) (took ids ends);
     }
   where
-    took : (list : List ℕ) → IsChain t.fat (first_or_end list) list → HasTaken t t (ends_of list) []
-    took [] c = taken-nothing t sizes.places
-    took (x ∷ list) c =
+    took : (list : List ℕ) → EndsChain t.fat list → HasTaken t t (ends_of list) []
+    took [] ends = taken-nothing t sizes.places
+    took (x ∷ list) ends =
         let some : 0 < length (x ∷ list) = omega arith in
-        subst (λ (e : List ℕ). HasTaken t t e []) (sym (last_alone t.fat x (x ∷ list) c some))
-        (taken-none t (last_or_end (x ∷ list)) sizes.places (last_is t.fat x (x ∷ list) c some).0)
+        subst (λ (e : List ℕ). HasTaken t t e []) (sym (ended_alone t.fat (x ∷ list) sizes.short ends some))
+        (taken-none t (last_or_end (x ∷ list)) sizes.places (ends some))
 
--- what goes on behind the old ones, with the last of these
-pub tail_chain : (old new ids ids' more : List ℕ) → IsChain old (first_or_end ids) ids → ids' ≡ ids ++ more → IsChain new (first_or_end ids') ids'
-    → (start : ℕ) × IsChain new start (ends_of ids ++ more)
-tail_chain old new [] ids' more c is chain = (first_or_end ids', subst (IsChain new (first_or_end ids')) is chain)
-tail_chain old new (x ∷ list) ids' more c is chain =
-    let ids = x ∷ list in
-    let some : 0 < length ids = omega arith in
-    let last = last_or_end ids in
-    let front = take (length ids - 1) ids in
-    let whole : ids' ≡ front ++ last ∷ more = is ∙ ap (λ (z : List ℕ). z ++ more) (last_split ids some) ∙ append_assoc front (last ∷ []) more in
-    let goes = subst (IsChain new (first_or_end ids')) whole chain in
-    let tail : IsChain new last (last ∷ more) = chain_of new last (last ∷ more) (follows-rest new (first_or_end ids') front last more goes.follows) in
-    (last, subst (λ (e : List ℕ). IsChain new last (e ++ more)) (sym (last_alone old x ids c some)) tail)
+-- then the last one is a chain of its own
+pub behind_none : (table ids : List ℕ) → length table ≤ max_regular_sector → EndsChain table ids
+    → IsChain table (first_or_end (ends_of ids ++ gained ids ids)) (ends_of ids ++ gained ids ids)
+behind_none table ids short ends =
+    let none : gained ids ids ≡ [] = gained_is ids ids [] (sym (append-nil ids)) in
+    subst (λ (z : List ℕ). IsChain table (first_or_end (ends_of ids ++ z)) (ends_of ids ++ z)) (sym none) (alone ids ends)
+  where
+    alone : (list : List ℕ) → EndsChain table list → IsChain table (first_or_end (ends_of list ++ [])) (ends_of list ++ [])
+    alone [] ends = end_chain table
+    alone (x ∷ list) ends =
+        let some : 0 < length (x ∷ list) = omega arith in
+        subst (λ (e : List ℕ). IsChain table (first_or_end (e ++ [])) (e ++ [])) (sym (ended_alone table (x ∷ list) short ends some))
+        (chain-one table (last_or_end (x ∷ list)) (ends some) (ended_regular table (x ∷ list) short ends some))
 
-pub ends_few : (table ids : List ℕ) → IsChain table (first_or_end ids) ids → length (ends_of ids) ≤ 1
-ends_few table [] c = omega arith
-ends_few table (x ∷ list) c =
-    let one = ap (λ (e : List ℕ). length e) (last_alone table x (x ∷ list) c (omega arith)) in
-    omega (arith, one)
+pub ends_few : (ids : List ℕ) → length (ends_of ids) ≤ 1
+ends_few ids = elim (cases_eq (last_or_end ids) end_of_chain) [
+  | inl e ↦ let none = ap (λ (k : ℕ). length (ending k)) e in omega (arith, none)
+  | inr ne ↦ let one = ap (λ (e : List ℕ). length e) (ending_other (last_or_end ids) ne) in omega (arith, one)
+]
+
+-- no chain ends at a last one that has no next one
+pub end_refused : (memory full medium : Type 0) (table ids : List ℕ) (e : Error) → 0 < length ids → NextRefused table (last_or_end ids) e
+    → ChangeRefused (EndsChain table ids → ⊥) memory full medium e
+end_refused memory full medium table ids e some r =
+    refused-less (⊥ ⊎ (value table (last_or_end ids) ≢ end_of_chain)) (EndsChain table ids → ⊥) memory full medium
+    (λ w ends. elim w [ inl never ↦ never | inr goes ↦ goes (ends some) ]) e (next_refused ⊥ memory full medium table (last_or_end ids) e r)
 
 -- ---- cuts
 

@@ -9,7 +9,7 @@ ghost use Rattle.cfb_tables.specs.ReadFat.{AcceptsFat, AcceptsNoFat};
 ghost use Rattle.cfb_tables.specs.Changes.{IsNextOf, NoChain};
 ghost use Rattle.cfb_tables.specs.Refused.{TableRefused, NextRefused, NoLast, WalkRefused, ChangeRefused};
 ghost use Rattle.cfb_alloc.specs.Broken.{BreaksOff};
-ghost use Rattle.cfb_tables.specs.Listed.{ends_of, gained};
+ghost use Rattle.cfb_tables.specs.Listed.{EndsChain, ends_of, gained};
 ghost use Rattle.cfb_tables.specs.Room.{IsTooFewAfter};
 ghost use Rattle.cfb_sectors.specs.Words.{with_word};
 ghost use Rattle.cfb_alloc.specs.Frame.{Spares, LieAmong, LieOutside, table_sectors};
@@ -318,6 +318,21 @@ impl<F: ReadMedium, A: Heap> Allocator<F, A> {
             difats: self.tables.difat_sectors().len(),
         })
     }
+
+    /// Whether a chain ends at the last of these sectors, if there are any. `InvalidData` where the last one is no sector of the
+    /// file, and where its chain goes on.
+    fn check_end(&self, ids: &[u32]) -> Result<(), Error>
+        ensures ends { OnOk result (EndsChain self.now.tables.fat ids.now) }
+        ensures err { IfErr result (ChangeRefused (EndsChain self.now.tables.fat ids.now → ⊥) ⊥ ⊥ ⊥) }
+    {
+        let Some(last) = ids.last() else {
+            return Ok(());
+        };
+        if self.tables.next(*last)? != END_OF_CHAIN {
+            return Err(goes_on(*last));
+        }
+        Ok(())
+    }
 }
 
 /// A refusal to change tables that the FAT sectors have no place for.
@@ -367,21 +382,25 @@ impl<F: Medium, A: Heap> Allocator<F, A> {
         Ok(sector)
     }
 
-    /// Adds so many sectors, which hold what `init` says, behind the chain that has just the listed ones, or as a new chain where none
-    /// is listed, and appends their numbers to the list. Where none is to be added nothing changes. It asks for memory before
-    /// anything changes, and for none where `reserve` asked for it and the list has room.
+    /// Adds so many sectors, which hold what `init` says, behind the last of the listed ones, or as a new chain where none is listed,
+    /// and appends their numbers to the list. The listed ones need be no chain: where they are one, the list is the chain again.
+    /// Where none is to be added nothing changes. It asks for memory before anything changes, and for none where `reserve` asked
+    /// for it and the list has room.
     ///
-    /// `InvalidData` where the FAT sectors do not cover the file, `Full` where there are too few numbers, and `Memory`: then nothing
-    /// has changed. After `Medium`, where the medium fails, the tables in memory have all of the sectors and so has the list, and of
-    /// the file's bytes no sector in use has changed but the table sectors.
+    /// `InvalidData` where the FAT sectors do not cover the file, and where the last listed one is no sector of it or its chain goes
+    /// on, `Full` where there are too few numbers, and `Memory`: then nothing has changed. After `Medium`, where the medium fails, the
+    /// tables in memory have all of the sectors and so has the list, and of the file's bytes no sector in use has changed but the
+    /// table sectors.
     pub fn extend_listed(
         &mut self,
         ids: &mut Vec<u32, A>,
         count: usize,
         init: SectorInit,
     ) -> Result<(), Error>
-        requires chain { IsChain self.old.tables.fat (first_or_end ids.old.items) ids.old.items }
-        ensures chain { IsChain self.new.tables.fat (first_or_end ids.new.items) ids.new.items }
+        ensures chain { IsChain self.old.tables.fat (first_or_end ids.old.items) ids.old.items → IsChain self.new.tables.fat (first_or_end ids.new.items) ids.new.items }
+        ensures behind { OnOk result (IsChain self.new.tables.fat (first_or_end (ends_of ids.old.items ++ gained ids.old.items ids.new.items))
+            (ends_of ids.old.items ++ gained ids.old.items ids.new.items)) }
+        ensures ends { OnOk result (EndsChain self.old.tables.fat ids.old.items) }
         ensures lengthened { OnOk result (Lengthens count ids.old.items ids.new.items self.old.tables self.new.tables) }
         ensures none { count ≡ 0 → (self.new ≡ self.old) × (ids.new.items ≡ ids.old.items) }
         ensures filled { IsTrue F.tells → (validation : Validation) → HoldsTables validation self.old
@@ -392,10 +411,12 @@ impl<F: Medium, A: Heap> Allocator<F, A> {
         ensures enough { OnOk result (IsTooFew self.old.tables count → ⊥) }
         ensures begun { OnOk result (IsRaised (0 < count) self.old.file self.new.file) }
         ensures refused { IfErr result (ListBreaksOff (Lengthens count) ids.old.items ids.new.items self.old self.new) }
-        ensures err { IfErr result (ChangeRefused (IsUsable self.old.tables → ⊥) (IsTooFew self.old.tables count → ⊥) (IsTooFew self.old.tables count) Unit) }
+        ensures err { IfErr result (ChangeRefused ((IsUsable self.old.tables → ⊥) ⊎ (EndsChain self.old.tables.fat ids.old.items → ⊥))
+            (IsTooFew self.old.tables count → ⊥) (IsTooFew self.old.tables count) Unit) }
         ensures counts { IsTrue F.tells → CountsFailure F.write_faults result self.old.file.failures self.new.file.failures }
     {
         let before = self.usable_sizes()?;
+        self.check_end(ids)?;
         if count == 0 {
             return Ok(());
         }

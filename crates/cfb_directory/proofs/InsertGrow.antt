@@ -31,7 +31,6 @@ use Rattle.cfb_tables.proofs.Members.{Contains-one}
 use Rattle.cfb_alloc.specs.Agreement.{HasSectors, KeepsSectors}
 use Rattle.cfb_format.specs.declared.error.Error.{Error}
 use Rattle.cfb_format.specs.declared.error.Error.TheVariants.{NotFound, AlreadyExists, InvalidInput, InvalidData, Medium, Memory, Full, Unsound, Failed, Unsupported}
-use Rattle.cfb_tables.specs.Refused.{ChangeRefused}
 use Rattle.cfb_alloc.specs.Alloc.{AllocatorState, HoldsTables, IsFilled, IsOtherHeaderByte, IsUsable, OthersStay}
 use Rattle.cfb_alloc.specs.Frame.{Spares}
 use Rattle.cfb_alloc.specs.ListedChain.{Lengthens}
@@ -267,19 +266,6 @@ lengthens-held d (inr goes_on) validation held = goes_on.1 (last_is (tables_in d
     some : (list : List ℕ) → list ≢ [] → 0 < length list
     some [] ne = absurd (ne refl)
     some (x ∷ xs) ne = omega arith
-
--- a refusal that says less of invalid data
-pub refused-less : (P Q memory full medium : Type 0) → (P → Q) → (e : Error) → ChangeRefused P memory full medium e → ChangeRefused Q memory full medium e
-refused-less P Q memory full medium f (NotFound d) h = h
-refused-less P Q memory full medium f (AlreadyExists d) h = h
-refused-less P Q memory full medium f (InvalidInput d) h = h
-refused-less P Q memory full medium f (InvalidData d) h = f h
-refused-less P Q memory full medium f (Medium m) h = h
-refused-less P Q memory full medium f Memory h = h
-refused-less P Q memory full medium f Full h = h
-refused-less P Q memory full medium f Unsound h = h
-refused-less P Q memory full medium f Failed h = h
-refused-less P Q memory full medium f Unsupported h = h
 
 -- after the medium's error what was begun is known
 pub medium-broke : (broken kept : Type 0) → broken → (e : Error) → IsMediumError e → AfterMedium broken kept e

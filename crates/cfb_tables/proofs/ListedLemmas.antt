@@ -9,7 +9,7 @@ use Rattle.cfb_format.specs.Chain.{value, IsChain}
 use Rattle.cfb_tables.specs.Changes.{GivesBack}
 use Rattle.cfb_format.proofs.Unique.{IsChain-unique}
 use Rattle.cfb_tables.specs.Tables.{TableState, IsKept, HasTaken, Added, wiped, ending, first_or_end}
-use Rattle.cfb_tables.specs.Listed.{WhatIsLeftIsChain, WhatIsLeftEnds, last_or_end, ends_of, gained}
+use Rattle.cfb_tables.specs.Listed.{WhatIsLeftIsChain, WhatIsLeftEnds, EndsChain, last_or_end, ends_of, gained}
 use Rattle.cfb_tables.proofs.Members.{Contains-here, distinct-apart, value-below}
 use Rattle.cfb_tables.proofs.ChainLemmas.{chain_of, chain-turn, chain-rest, members-busy, regular-le}
 use Rattle.cfb_tables.proofs.FreeLemmas.{lists-count, count-most}
@@ -168,19 +168,36 @@ grown_chain t t' s (x ∷ list) more c taken chain =
     let whole : ext.front ++ ext.last ∷ more ≡ x ∷ (list ++ more) = sym (append_assoc ext.front (ext.last ∷ []) more) ∙ ap (λ (z : List ℕ). z ++ more) (sym was) in
     subst (λ k. IsChain t'.fat k (x ∷ (list ++ more))) c.follows.0 (subst (IsChain t'.fat s) whole ext.chain)
 
--- sectors were added behind the last one of a listed chain, and appended to the list
-module _ (t t' : TableState) (s last : ℕ) (ids ids' : List ℕ) (c : IsChain t.fat s ids) (some : 0 < length ids) (is : last ≡ last_or_end ids)
-    (added : Added t t' last ids ids') where
+-- ---- growth of a list whose last one ends a chain
+
+pub chain_ends : (table : List ℕ) (s : ℕ) (ids : List ℕ) → IsChain table s ids → EndsChain table ids
+chain_ends table s ids c some = (last_is table s ids c some).0
+
+module _ (table ids : List ℕ) (short : length table ≤ max_regular_sector) (ends : EndsChain table ids) (some : 0 < length ids) where
+  pub ended_regular : last_or_end ids ≤ max_regular_sector
+  ended_regular = let is = ends some in let lt = value-below table (last_or_end ids) (λ e. omega (arith, e, is)) in omega (arith, lt, short)
+
+  pub ended_alone : ends_of ids ≡ last_or_end ids ∷ []
+  ended_alone = let le = ended_regular in ending_other (last_or_end ids) (λ e. omega (arith, le, e))
+
+-- sectors were added behind the last one of a list, and appended to it
+module _ (t t' : TableState) (last : ℕ) (ids ids' : List ℕ) (short : length t.fat ≤ max_regular_sector) (ends : EndsChain t.fat ids) (some : 0 < length ids)
+    (is : last ≡ last_or_end ids) (added : Added t t' last ids ids') where
   added_ends : ends_of ids ≡ last ∷ []
-  added_ends = last_alone t.fat s ids c some ∙ ap (λ k. k ∷ []) (sym is)
+  added_ends = ended_alone t.fat ids short ends some ∙ ap (λ k. k ∷ []) (sym is)
 
   took_more : HasTaken t t' (ends_of ids) added.more
   took_more = subst (λ (e : List ℕ). HasTaken t t' e added.more) (sym added_ends) added.taken
 
+  goes_behind : IsChain t'.fat (first_or_end (ends_of ids ++ added.more)) (ends_of ids ++ added.more)
+  goes_behind = subst (λ (e : List ℕ). IsChain t'.fat (first_or_end (e ++ added.more)) (e ++ added.more)) (sym added_ends) added.chain
+
   pub added_taken : HasTaken t t' (ends_of ids) (gained ids ids')
   added_taken = subst (HasTaken t t' (ends_of ids)) (sym (gained_is ids ids' added.more added.listed)) took_more
 
-  pub added_chain : IsChain t'.fat (first_or_end ids') ids'
-  added_chain = subst (λ (z : List ℕ). IsChain t'.fat (first_or_end z) z) (sym added.listed)
-      (grown_chain t t' s ids added.more c took_more
-      (subst (λ (e : List ℕ). IsChain t'.fat (first_or_end (e ++ added.more)) (e ++ added.more)) (sym added_ends) added.chain))
+  pub added_behind : IsChain t'.fat (first_or_end (ends_of ids ++ gained ids ids')) (ends_of ids ++ gained ids ids')
+  added_behind =
+      subst (λ (z : List ℕ). IsChain t'.fat (first_or_end (ends_of ids ++ z)) (ends_of ids ++ z)) (sym (gained_is ids ids' added.more added.listed)) goes_behind
+
+  pub added_chain : IsChain t.fat (first_or_end ids) ids → IsChain t'.fat (first_or_end ids') ids'
+  added_chain c = subst (λ (z : List ℕ). IsChain t'.fat (first_or_end z) z) (sym added.listed) (grown_chain t t' (first_or_end ids) ids added.more c took_more goes_behind)

@@ -13,6 +13,10 @@ last_or_end list = slice_index_or list (length list - 1) end_of_chain
 abbrev pub ends_of : List ℕ → List ℕ
 ends_of left = ending (last_or_end left)
 
+-- the list is empty, or a chain ends at its last one
+abbrev pub EndsChain : List ℕ → List ℕ → Type 0
+EndsChain table list = 0 < length list → value table (last_or_end list) ≡ end_of_chain
+
 -- what the new list has behind the old one
 abbrev pub gained : List ℕ → List ℕ → List ℕ
 gained old new = drop (length old) new

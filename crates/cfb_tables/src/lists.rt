@@ -8,7 +8,7 @@ ghost use Rattle.std.specs.List.{IsDistinct};
 ghost use Rattle.cfb_tables.specs.Changes.{IsNextOf, ListsFree, GivesBack};
 ghost use Rattle.cfb_tables.specs.Tables.{TableState, Kept, IsKept, AreSizes, CanHold, TakesNext, IsPrepared, IsTooFew, PassesLimit, HasTaken, Added, Extended, first_or_end, wiped, tables_of, sizes_of, sizes_after, grown_sizes, numbers_needed, grown, grown_fats, grown_difats};
 ghost use Rattle.cfb_tables.specs.Room.{IsTooFewAfter};
-ghost use Rattle.cfb_tables.specs.Listed.{ends_of, gained, last_or_end};
+ghost use Rattle.cfb_tables.specs.Listed.{EndsChain, ends_of, gained, last_or_end};
 ghost use Rattle.cfb_tables.specs.Refused.{TableRefused, WalkRefused, LastRefused, NextRefused, ExtendRefused};
 
 use crate::walk::{last_of, next_in, walk};
@@ -445,17 +445,19 @@ impl<A: Allocator> Lists<A> {
         }
     }
 
-    /// Adds so many sectors behind the chain that has just the listed ones, or as a new chain where none is listed, with the
-    /// memory that was prepared for them, and appends them to the list.
+    /// Adds so many sectors behind the last of the listed ones, which ends a chain, or as a new chain where none is listed, with
+    /// the memory that was prepared for them, and appends them to the list.
     fn extend_prepared(&mut self, list: &mut Vec<u32, A>, count: usize)
         requires prepared { IsPrepared self.old count }
         requires sizes { AreSizes self.old.state.version (sizes_of self.old.state) }
-        requires chain { IsChain self.old.state.fat (first_or_end list.old.items) list.old.items }
+        requires ends { EndsChain self.old.state.fat list.old.items }
         requires room { vec_len list.old + count ≤ vec_capacity list.old }
         ensures listed { list.new.items ≡ list.old.items ++ gained list.old.items list.new.items }
         ensures count { length (gained list.old.items list.new.items) ≡ count }
         ensures taken { HasTaken self.old.state self.new.state (ends_of list.old.items) (gained list.old.items list.new.items) }
-        ensures chain { IsChain self.new.state.fat (first_or_end list.new.items) list.new.items }
+        ensures behind { IsChain self.new.state.fat (first_or_end (ends_of list.old.items ++ gained list.old.items list.new.items))
+            (ends_of list.old.items ++ gained list.old.items list.new.items) }
+        ensures chain { IsChain self.old.state.fat (first_or_end list.old.items) list.old.items → IsChain self.new.state.fat (first_or_end list.new.items) list.new.items }
         ensures none { count ≡ 0 → (self.new.state ≡ self.old.state) × (list.new.items ≡ list.old.items) }
     {
         if list.is_empty() {
@@ -628,14 +630,16 @@ impl<A: Allocator> Lists<A> {
         Ok(list)
     }
 
-    /// Adds so many sectors behind the chain that has just the listed ones, or as a new chain where none is listed, and appends
-    /// them to the list. `Full` and `Memory`: then nothing has changed.
+    /// Adds so many sectors behind the last of the listed ones, which ends a chain, or as a new chain where none is listed, and
+    /// appends them to the list. `Full` and `Memory`: then nothing has changed.
     pub fn extend_listed(&mut self, list: &mut Vec<u32, A>, count: usize) -> Result<(), Error>
-        requires chain { IsChain self.old.state.fat (first_or_end list.old.items) list.old.items }
+        requires ends { EndsChain self.old.state.fat list.old.items }
         ensures listed { OnOk result (list.new.items ≡ list.old.items ++ gained list.old.items list.new.items) }
         ensures count { OnOk result (length (gained list.old.items list.new.items) ≡ count) }
         ensures taken { OnOk result (HasTaken self.old.state self.new.state (ends_of list.old.items) (gained list.old.items list.new.items)) }
-        ensures chain { IsChain self.new.state.fat (first_or_end list.new.items) list.new.items }
+        ensures behind { OnOk result (IsChain self.new.state.fat (first_or_end (ends_of list.old.items ++ gained list.old.items list.new.items))
+            (ends_of list.old.items ++ gained list.old.items list.new.items)) }
+        ensures chain { IsChain self.old.state.fat (first_or_end list.old.items) list.old.items → IsChain self.new.state.fat (first_or_end list.new.items) list.new.items }
         ensures none { count ≡ 0 → (self.new.state ≡ self.old.state) × (list.new.items ≡ list.old.items) }
         ensures enough { OnOk result (IsTooFew self.old.state count → ⊥) }
         ensures unchanged { OnErr result ((self.new.state ≡ self.old.state) × (list.new.items ≡ list.old.items)) }

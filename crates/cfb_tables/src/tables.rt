@@ -6,7 +6,7 @@ ghost use Rattle.cfb_format.specs.Chain.{IsChain, value};
 ghost use Rattle.cfb_tables.specs.Changes.{IsNextOf, GivesBack};
 ghost use Rattle.cfb_tables.specs.Tables.{AreSizes, HasTaken, Extended, IsTooFew, sizes_of, first_or_end, tables_of};
 ghost use Rattle.cfb_tables.specs.Room.{IsTooFewAfter};
-ghost use Rattle.cfb_tables.specs.Listed.{ends_of, gained};
+ghost use Rattle.cfb_tables.specs.Listed.{EndsChain, ends_of, gained};
 ghost use Rattle.cfb_tables.specs.Refused.{TableRefused, WalkRefused, LastRefused, NextRefused, ExtendRefused};
 
 use crate::lists::Lists;
@@ -252,15 +252,18 @@ impl<A: Allocator> Tables<A> {
         self.lists.prepare(count)
     }
 
-    /// Adds so many sectors behind the chain that has just the listed ones, or takes them as a new chain where none is listed, and
-    /// appends their numbers to the list. It asks for memory before anything changes, and for none where `reserve` asked for
+    /// Adds so many sectors behind the last of the listed ones, which ends a chain, or takes them as a new chain where none is
+    /// listed, and appends their numbers to the list. The listed ones need be no chain: where they are one, the list is the chain
+    /// again. It asks for memory before anything changes, and for none where `reserve` asked for
     /// it and the list has room. `Full` where there are too few numbers, and `Memory`; tables and list then stay as they were.
     pub fn extend_listed(&mut self, list: &mut Vec<u32, A>, count: usize) -> Result<(), Error>
-        requires chain { IsChain self.old.fat (first_or_end list.old.items) list.old.items }
+        requires ends { EndsChain self.old.fat list.old.items }
         ensures listed { OnOk result (list.new.items ≡ list.old.items ++ gained list.old.items list.new.items) }
         ensures count { OnOk result (length (gained list.old.items list.new.items) ≡ count) }
         ensures taken { OnOk result (HasTaken self.old self.new (ends_of list.old.items) (gained list.old.items list.new.items)) }
-        ensures chain { IsChain self.new.fat (first_or_end list.new.items) list.new.items }
+        ensures behind { OnOk result (IsChain self.new.fat (first_or_end (ends_of list.old.items ++ gained list.old.items list.new.items))
+            (ends_of list.old.items ++ gained list.old.items list.new.items)) }
+        ensures chain { IsChain self.old.fat (first_or_end list.old.items) list.old.items → IsChain self.new.fat (first_or_end list.new.items) list.new.items }
         ensures none { count ≡ 0 → (self.new ≡ self.old) × (list.new.items ≡ list.old.items) }
         ensures enough { OnOk result (IsTooFew self.old count → ⊥) }
         ensures unchanged { OnErr result ((self.new ≡ self.old) × (list.new.items ≡ list.old.items)) }

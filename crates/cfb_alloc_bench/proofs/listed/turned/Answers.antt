@@ -4,7 +4,8 @@ use Rattle.cfb_tables.specs.Tables.{first_or_end}
 use Rattle.cfb_tables.proofs.ChainLemmas.{chain_of}
 use Rattle.cfb_alloc_bench.proofs.listed.turned.Goals as goal
 
-pub extend_listed-requires : goal.extend_listed-requires
-extend_listed-requires g c =
+pub cut_listed-requires : goal.cut_listed-requires
+cut_listed-requires g c =
     let fat = c.args.allocator.now.tables.fat in
-    record { chain = subst (λ (z : List ℕ). IsChain fat (first_or_end z) z) (sym c.requires) (chain_of fat _ _ refl) }
+    let none = subst (λ (z : List ℕ). IsChain fat (first_or_end z) z) (sym c.requires) (chain_of fat _ _ refl) in
+    record { chain = c.extend_listed-3.ensures.chain (c.extend_listed-2.ensures.chain (c.extend_listed.ensures.chain none)) }

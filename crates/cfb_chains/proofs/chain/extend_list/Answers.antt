@@ -1,22 +1,21 @@
-use Rattle.std.proofs.Common.{◌≡◌, ◌≤◌, ◌++◌, ◌∙◌, ℕ, List, length, length-append, inl, inr, ap, arith}
-use Rattle.std.specs.Prelude.{Contains}
-use Rattle.cfb_alloc.specs.Alloc.{AllocatorState}
+use Rattle.std.proofs.Common.{◌⊎◌, ◌∙◌, ℕ, List, length, length-append, inl, inr, ap, arith}
+use Rattle.cfb_alloc.specs.Alloc.{AllocatorState, IsUsable}
 use Rattle.cfb_alloc.specs.ListedChain.{Lengthens}
+use Rattle.cfb_alloc.proofs.AllocLemmas.{refused-less}
 use Rattle.cfb_alloc.proofs.Answering.{on_ok}
 use Rattle.cfb_alloc.proofs.ChainView.{chain_few}
 use Rattle.cfb_alloc.proofs.Frames.{spares-less}
-use Rattle.cfb_tables.specs.Listed.{ends_of, gained}
-use Rattle.cfb_tables.specs.Tables.{first_or_end}
-use Rattle.cfb_chains.proofs.ChainLists.{ends_among, listed_chain, listed_found, made_or_not}
+use Rattle.cfb_tables.specs.Listed.{EndsChain, ends_of, gained}
+use Rattle.cfb_tables.specs.Tables.{IsTooFew, first_or_end}
+use Rattle.cfb_tables.proofs.ListedLemmas.{chain_ends}
+use Rattle.cfb_chains.proofs.ChainLists.{ends_among, listed_chain, listed_found, made_or_not, on_err}
 use Rattle.cfb_chains.proofs.chain.extend_list.Goals as goal
-
-pub extend_listed-extended-requires : goal.extend_listed-extended-requires
-extend_listed-extended-requires g c = record { chain = listed_chain c.args.allocator.now.tables.fat c.args.start.now c.args.ids.now.items c.requires }
 
 pub returns-clause-chained : goal.returns-clause-chained
 returns-clause-chained g c =
     listed_found c.extend_listed-extended.new.self.tables.fat c.first_number.result c.extend_listed-extended.new.ids.items
-    (c.first_number.ensures ∙ ap first_or_end c.deref.ensures.value) c.extend_listed-extended.ensures.chain
+    (c.first_number.ensures ∙ ap first_or_end c.deref.ensures.value)
+    (c.extend_listed-extended.ensures.chain (listed_chain c.args.allocator.now.tables.fat c.args.start.now c.args.ids.now.items c.requires))
 
 pub returns-clause-few : goal.returns-clause-few
 returns-clause-few g c = chain_few _ _ _ (returns-clause-chained g c)
@@ -54,3 +53,14 @@ pub returns-clause-spares : goal.returns-clause-spares
 returns-clause-spares g c told =
     let ids = c.args.ids.now.items in
     spares-less (ends_of ids) ids c.args.allocator.now c.extend_listed-extended.new.self (ends_among ids) (c.extend_listed-extended.ensures.spares told)
+
+pub returns-clause-err : goal.returns-clause-err
+returns-clause-err g c =
+    let t = c.args.allocator.now.tables in
+    let ids = c.args.ids.now.items in
+    let e = c.extend_listed-extended in
+    let ends = chain_ends t.fat (first_or_end ids) ids (listed_chain t.fat c.args.start.now ids c.requires) in
+    on_err _ _ e.result
+    (refused-less ((IsUsable t → ⊥) ⊎ (EndsChain t.fat ids → ⊥)) (IsUsable t → ⊥) (IsTooFew t c.args.count → ⊥) (IsTooFew t c.args.count) (Unit {0})
+    (λ w. elim w [ inl unusable ↦ unusable | inr none ↦ absurd (none ends) ]))
+    e.ensures.err

@@ -12,13 +12,14 @@ use Rattle.cfb_tables.specs.Tables.{TableState, IsTooFew}
 use Rattle.cfb_alloc.specs.Alloc.{IsFilled, IsUsable}
 use Rattle.cfb_alloc.specs.Frame.{Spares}
 use Rattle.cfb_alloc.specs.ListedChain.{Lengthens}
+use Rattle.cfb_alloc.proofs.AllocLemmas.{refused-less}
 use Rattle.cfb_alloc.proofs.Frames.{spares-less}
 use Rattle.cfb_alloc.proofs.Spared.{spares_refl}
 use Rattle.cfb_entries.specs.EntryList.{EntryList}
 use Rattle.cfb_directory.specs.Growing.{AreSectorsOf, IsListedChain}
 use Rattle.cfb_directory.specs.State.{directory_of}
 use Rattle.cfb_directory.specs.Steps.{IsNotHeld}
-use Rattle.cfb_directory.proofs.InsertGrow.{ends-among, few-sectors, grown-entries, grown-header, grown-holds, grown-many, grown-placed, grown-spares, lengthens-held, medium-broke, refused-less, slots-kept}
+use Rattle.cfb_directory.proofs.InsertGrow.{ends-among, few-sectors, grown-entries, grown-header, grown-holds, grown-many, grown-placed, grown-spares, lengthens-held, medium-broke, slots-kept}
 use Rattle.cfb_directory.proofs.inserting.grow.Goals as goal
 
 pub returns-in_err-fresh-clause-spares : goal.returns-in_err-fresh-clause-spares

@@ -1,15 +1,16 @@
 use Rattle.std.proofs.Common.{refl, sym, ◌∙◌, ap, subst, arith, ◌≡◌, ◌++◌, ◌-◌, ◌≤◌, ℕ, List, length, take, drop}
 use Rattle.std.specs.Prelude.{Contains}
+use Rattle.cfb_format.specs.Bytes.{max_regular_sector}
 use Rattle.cfb_format.specs.Chain.{IsChain}
 use Rattle.cfb_format.specs.Refused.{CountsFailure}
 use Rattle.cfb_sectors.specs.Sectors.{SectorFile}
 use Rattle.cfb_alloc.specs.Alloc.{AllocatorState}
 use Rattle.cfb_tables.specs.Tables.{HasTaken, first_or_end}
 use Rattle.cfb_alloc.proofs.Answering.{on_ok}
-use Rattle.cfb_tables.specs.Listed.{ends_of, gained}
+use Rattle.cfb_tables.specs.Listed.{EndsChain, ends_of, gained}
 use Rattle.cfb_alloc.specs.ListedChain.{Lengthens}
 use Rattle.cfb_alloc.proofs.AllocLemmas.{others_refl, others_unchanged, others_written, placed_reserved, placed_written, touched_below, shown_below, shown_taken, fats_apart_shown, clean_taken, fats_known, difats_known, held_counted}
-use Rattle.cfb_alloc.proofs.ListedLemmas.{lengthened_none, shown_ends, shown_gained, tail_chain, ends_few}
+use Rattle.cfb_alloc.proofs.ListedLemmas.{behind_none, lengthened_none, shown_ends, shown_gained, ends_few}
 use Rattle.cfb_alloc.proofs.Spared.{spares_refl, spares_unchanged, taken_written}
 use Rattle.cfb_alloc.proofs.alloc.Allocator.extend_listed.Goals as goal
 
@@ -20,7 +21,20 @@ pub returns-then-count-eq0-clause-lengthened : goal.returns-then-count-eq0-claus
 returns-then-count-eq0-clause-lengthened g c =
     let t = c.args.self.now.tables in
     let ids = c.args.ids.now.items in
-    subst (λ n. Lengthens n ids ids t t) (sym c.if-count-eq0.true) (lengthened_none t ids c.requires.chain c.in_ok-before.ensures.sizes)
+    let ended = subst (EndsChain t.fat) c.deref.ensures.value c.in_ok-check_end.ensures.ends in
+    subst (λ n. Lengthens n ids ids t t) (sym c.if-count-eq0.true) (lengthened_none t ids ended c.in_ok-before.ensures.sizes)
+
+pub returns-then-count-eq0-clause-behind : goal.returns-then-count-eq0-clause-behind
+returns-then-count-eq0-clause-behind g c =
+    let t = c.args.self.now.tables in
+    let ids = c.args.ids.now.items in
+    behind_none t.fat ids c.in_ok-before.ensures.sizes.short (subst (EndsChain t.fat) c.deref.ensures.value c.in_ok-check_end.ensures.ends)
+
+pub returns-in_err-check_end-clause-others : goal.returns-in_err-check_end-clause-others
+returns-in_err-check_end-clause-others g c told = others_refl c.args.self.now
+
+pub returns-in_err-check_end-clause-spares : goal.returns-in_err-check_end-clause-spares
+returns-in_err-check_end-clause-spares g c told = spares_refl (ends_of c.args.ids.now.items) c.args.self.now
 
 pub returns-then-count-eq0-clause-others : goal.returns-then-count-eq0-clause-others
 returns-then-count-eq0-clause-others g c told = others_refl c.args.self.now
@@ -45,13 +59,15 @@ write_taken-requires-clause-touched g c =
     let e = c.in_ok-extend_listed.ensures in
     let t0 = c.self.inside.tables in
     let t = c.extend_listed.new.self in
-    let chain = subst (λ (a : AllocatorState). IsChain a.tables.fat (first_or_end ids) ids) (sym c.self.view_is) c.requires.chain in
+    let short = subst (λ (a : AllocatorState). length a.tables.fat ≤ max_regular_sector) (sym c.self.view_is) c.in_ok-before.ensures.sizes.short in
+    let ended = subst (EndsChain c.args.self.now.tables.fat) c.deref.ensures.value c.in_ok-check_end.ensures.ends in
+    let ends0 = subst (λ (a : AllocatorState). EndsChain a.tables.fat ids) (sym c.self.view_is) ended in
     let n : c.len-len.result ≡ length ids = omega (arith, c.len-len.ensures, c.args.ids.now.ok.0) in
     let m : c.saturating_sub.result ≡ length ids - 1 = omega (arith, c.saturating_sub.ensures, n) in
-    let ends : take (c.len-len.result - c.saturating_sub.result) (drop c.saturating_sub.result c.deref.result.now) ≡ ends_of ids =
-    shown_ends t0.fat (first_or_end ids) ids c.deref.result.now (gained ids ids') c.len-len.result c.saturating_sub.result chain (c.deref.ensures.value ∙ e.listed) n m in
-    let more : take (length c.deref-2.result.now - c.len-len.result) (drop c.len-len.result c.deref-2.result.now) ≡ gained ids ids' =
-    shown_gained ids c.deref-2.result.now c.len-len.result n ∙ ap (gained ids) c.deref-2.ensures.value in
+    let ends : take (c.len-len.result - c.saturating_sub.result) (drop c.saturating_sub.result c.deref-2.result.now) ≡ ends_of ids =
+    shown_ends t0.fat ids c.deref-2.result.now (gained ids ids') c.len-len.result c.saturating_sub.result short ends0 (c.deref-2.ensures.value ∙ e.listed) n m in
+    let more : take (length c.deref-3.result.now - c.len-len.result) (drop c.len-len.result c.deref-3.result.now) ≡ gained ids ids' =
+    shown_gained ids c.deref-3.result.now c.len-len.result n ∙ ap (gained ids) c.deref-3.ensures.value in
     let taken = subst (λ (z : List ℕ). HasTaken t0 t z (gained ids ids')) (sym ends) e.taken in
     touched_below _ more c.self.view_is taken
 
@@ -62,13 +78,15 @@ write_taken-requires-clause-more g c =
     let e = c.in_ok-extend_listed.ensures in
     let t0 = c.self.inside.tables in
     let t = c.extend_listed.new.self in
-    let chain = subst (λ (a : AllocatorState). IsChain a.tables.fat (first_or_end ids) ids) (sym c.self.view_is) c.requires.chain in
+    let short = subst (λ (a : AllocatorState). length a.tables.fat ≤ max_regular_sector) (sym c.self.view_is) c.in_ok-before.ensures.sizes.short in
+    let ended = subst (EndsChain c.args.self.now.tables.fat) c.deref.ensures.value c.in_ok-check_end.ensures.ends in
+    let ends0 = subst (λ (a : AllocatorState). EndsChain a.tables.fat ids) (sym c.self.view_is) ended in
     let n : c.len-len.result ≡ length ids = omega (arith, c.len-len.ensures, c.args.ids.now.ok.0) in
     let m : c.saturating_sub.result ≡ length ids - 1 = omega (arith, c.saturating_sub.ensures, n) in
-    let ends : take (c.len-len.result - c.saturating_sub.result) (drop c.saturating_sub.result c.deref.result.now) ≡ ends_of ids =
-    shown_ends t0.fat (first_or_end ids) ids c.deref.result.now (gained ids ids') c.len-len.result c.saturating_sub.result chain (c.deref.ensures.value ∙ e.listed) n m in
-    let more : take (length c.deref-2.result.now - c.len-len.result) (drop c.len-len.result c.deref-2.result.now) ≡ gained ids ids' =
-    shown_gained ids c.deref-2.result.now c.len-len.result n ∙ ap (gained ids) c.deref-2.ensures.value in
+    let ends : take (c.len-len.result - c.saturating_sub.result) (drop c.saturating_sub.result c.deref-2.result.now) ≡ ends_of ids =
+    shown_ends t0.fat ids c.deref-2.result.now (gained ids ids') c.len-len.result c.saturating_sub.result short ends0 (c.deref-2.ensures.value ∙ e.listed) n m in
+    let more : take (length c.deref-3.result.now - c.len-len.result) (drop c.len-len.result c.deref-3.result.now) ≡ gained ids ids' =
+    shown_gained ids c.deref-3.result.now c.len-len.result n ∙ ap (gained ids) c.deref-3.ensures.value in
     let taken = subst (λ (z : List ℕ). HasTaken t0 t z (gained ids ids')) (sym ends) e.taken in
     shown_below _ more c.self.view_is taken
 
@@ -79,13 +97,15 @@ returns-clause-filled g c told validation h =
     let e = c.in_ok-extend_listed.ensures in
     let t0 = c.self.inside.tables in
     let t = c.extend_listed.new.self in
-    let chain = subst (λ (a : AllocatorState). IsChain a.tables.fat (first_or_end ids) ids) (sym c.self.view_is) c.requires.chain in
+    let short = subst (λ (a : AllocatorState). length a.tables.fat ≤ max_regular_sector) (sym c.self.view_is) c.in_ok-before.ensures.sizes.short in
+    let ended = subst (EndsChain c.args.self.now.tables.fat) c.deref.ensures.value c.in_ok-check_end.ensures.ends in
+    let ends0 = subst (λ (a : AllocatorState). EndsChain a.tables.fat ids) (sym c.self.view_is) ended in
     let n : c.len-len.result ≡ length ids = omega (arith, c.len-len.ensures, c.args.ids.now.ok.0) in
     let m : c.saturating_sub.result ≡ length ids - 1 = omega (arith, c.saturating_sub.ensures, n) in
-    let ends : take (c.len-len.result - c.saturating_sub.result) (drop c.saturating_sub.result c.deref.result.now) ≡ ends_of ids =
-    shown_ends t0.fat (first_or_end ids) ids c.deref.result.now (gained ids ids') c.len-len.result c.saturating_sub.result chain (c.deref.ensures.value ∙ e.listed) n m in
-    let more : take (length c.deref-2.result.now - c.len-len.result) (drop c.len-len.result c.deref-2.result.now) ≡ gained ids ids' =
-    shown_gained ids c.deref-2.result.now c.len-len.result n ∙ ap (gained ids) c.deref-2.ensures.value in
+    let ends : take (c.len-len.result - c.saturating_sub.result) (drop c.saturating_sub.result c.deref-2.result.now) ≡ ends_of ids =
+    shown_ends t0.fat ids c.deref-2.result.now (gained ids ids') c.len-len.result c.saturating_sub.result short ends0 (c.deref-2.ensures.value ∙ e.listed) n m in
+    let more : take (length c.deref-3.result.now - c.len-len.result) (drop c.len-len.result c.deref-3.result.now) ≡ gained ids ids' =
+    shown_gained ids c.deref-3.result.now c.len-len.result n ∙ ap (gained ids) c.deref-3.ensures.value in
     let taken = subst (λ (z : List ℕ). HasTaken t0 t z (gained ids ids')) (sym ends) e.taken in
     on_ok _ _ c.write_taken.result (λ filled i mine. filled i (subst (λ (z : List ℕ). Contains z i) (sym more) mine))
     (c.write_taken.ensures.filled told (fats_apart_shown _ more c.self.view_is taken validation h))
@@ -97,19 +117,19 @@ returns-clause-holds g c told validation h =
     let e = c.in_ok-extend_listed.ensures in
     let t0 = c.self.inside.tables in
     let t = c.extend_listed.new.self in
-    let chain = subst (λ (a : AllocatorState). IsChain a.tables.fat (first_or_end ids) ids) (sym c.self.view_is) c.requires.chain in
+    let short = subst (λ (a : AllocatorState). length a.tables.fat ≤ max_regular_sector) (sym c.self.view_is) c.in_ok-before.ensures.sizes.short in
+    let ended = subst (EndsChain c.args.self.now.tables.fat) c.deref.ensures.value c.in_ok-check_end.ensures.ends in
+    let ends0 = subst (λ (a : AllocatorState). EndsChain a.tables.fat ids) (sym c.self.view_is) ended in
     let n : c.len-len.result ≡ length ids = omega (arith, c.len-len.ensures, c.args.ids.now.ok.0) in
     let m : c.saturating_sub.result ≡ length ids - 1 = omega (arith, c.saturating_sub.ensures, n) in
-    let ends : take (c.len-len.result - c.saturating_sub.result) (drop c.saturating_sub.result c.deref.result.now) ≡ ends_of ids =
-    shown_ends t0.fat (first_or_end ids) ids c.deref.result.now (gained ids ids') c.len-len.result c.saturating_sub.result chain (c.deref.ensures.value ∙ e.listed) n m in
-    let more : take (length c.deref-2.result.now - c.len-len.result) (drop c.len-len.result c.deref-2.result.now) ≡ gained ids ids' =
-    shown_gained ids c.deref-2.result.now c.len-len.result n ∙ ap (gained ids) c.deref-2.ensures.value in
+    let ends : take (c.len-len.result - c.saturating_sub.result) (drop c.saturating_sub.result c.deref-2.result.now) ≡ ends_of ids =
+    shown_ends t0.fat ids c.deref-2.result.now (gained ids ids') c.len-len.result c.saturating_sub.result short ends0 (c.deref-2.ensures.value ∙ e.listed) n m in
+    let more : take (length c.deref-3.result.now - c.len-len.result) (drop c.len-len.result c.deref-3.result.now) ≡ gained ids ids' =
+    shown_gained ids c.deref-3.result.now c.len-len.result n ∙ ap (gained ids) c.deref-3.ensures.value in
     let taken = subst (λ (z : List ℕ). HasTaken t0 t z (gained ids ids')) (sym ends) e.taken in
-    let goes = tail_chain t0.fat t.fat ids ids' (gained ids ids') chain e.listed e.chain in
-    let few : length (ends_of ids) ≤ 1 = ends_few t0.fat ids chain in
-    let clean = clean_taken _ more c.self.view_is taken validation h goes.0
-    (subst (λ (z : List ℕ). IsChain t.fat goes.0 (z ++ gained ids ids')) (sym ends) goes.1)
-    (subst (λ (z : List ℕ). length z ≤ 1) (sym ends) few) in
+    let clean = clean_taken _ more c.self.view_is taken validation h (first_or_end (ends_of ids ++ gained ids ids'))
+    (subst (λ (z : List ℕ). IsChain t.fat (first_or_end (ends_of ids ++ gained ids ids')) (z ++ gained ids ids')) (sym ends) e.behind)
+    (subst (λ (z : List ℕ). length z ≤ 1) (sym ends) (ends_few ids)) in
     on_ok _ _ c.write_taken.result (λ b. record { holds = b; clean = clean })
     (c.write_taken.ensures.holds told validation t0 (shown_taken _ more c.self.view_is taken) clean
     (fats_known _ more c.self.view_is taken c.in_ok-before.before.fats c.in_ok-before.ensures.ok.0)
@@ -123,13 +143,15 @@ returns-clause-others g c told =
     let e = c.in_ok-extend_listed.ensures in
     let t0 = c.self.inside.tables in
     let t = c.extend_listed.new.self in
-    let chain = subst (λ (a : AllocatorState). IsChain a.tables.fat (first_or_end ids) ids) (sym c.self.view_is) c.requires.chain in
+    let short = subst (λ (a : AllocatorState). length a.tables.fat ≤ max_regular_sector) (sym c.self.view_is) c.in_ok-before.ensures.sizes.short in
+    let ended = subst (EndsChain c.args.self.now.tables.fat) c.deref.ensures.value c.in_ok-check_end.ensures.ends in
+    let ends0 = subst (λ (a : AllocatorState). EndsChain a.tables.fat ids) (sym c.self.view_is) ended in
     let n : c.len-len.result ≡ length ids = omega (arith, c.len-len.ensures, c.args.ids.now.ok.0) in
     let m : c.saturating_sub.result ≡ length ids - 1 = omega (arith, c.saturating_sub.ensures, n) in
-    let ends : take (c.len-len.result - c.saturating_sub.result) (drop c.saturating_sub.result c.deref.result.now) ≡ ends_of ids =
-    shown_ends t0.fat (first_or_end ids) ids c.deref.result.now (gained ids ids') c.len-len.result c.saturating_sub.result chain (c.deref.ensures.value ∙ e.listed) n m in
-    let more : take (length c.deref-2.result.now - c.len-len.result) (drop c.len-len.result c.deref-2.result.now) ≡ gained ids ids' =
-    shown_gained ids c.deref-2.result.now c.len-len.result n ∙ ap (gained ids) c.deref-2.ensures.value in
+    let ends : take (c.len-len.result - c.saturating_sub.result) (drop c.saturating_sub.result c.deref-2.result.now) ≡ ends_of ids =
+    shown_ends t0.fat ids c.deref-2.result.now (gained ids ids') c.len-len.result c.saturating_sub.result short ends0 (c.deref-2.ensures.value ∙ e.listed) n m in
+    let more : take (length c.deref-3.result.now - c.len-len.result) (drop c.len-len.result c.deref-3.result.now) ≡ gained ids ids' =
+    shown_gained ids c.deref-3.result.now c.len-len.result n ∙ ap (gained ids) c.deref-3.ensures.value in
     let taken = subst (λ (z : List ℕ). HasTaken t0 t z (gained ids ids')) (sym ends) e.taken in
     others_written _ more c.self.view_is taken
     c.reserve_sectors.new.self c.write_taken.new.sectors c.len.result c.reserve_sectors.ensures (c.write_taken.ensures.changes told)
@@ -156,13 +178,15 @@ returns-clause-spares g c told =
     let e = c.in_ok-extend_listed.ensures in
     let t0 = c.self.inside.tables in
     let t = c.extend_listed.new.self in
-    let chain = subst (λ (a : AllocatorState). IsChain a.tables.fat (first_or_end ids) ids) (sym c.self.view_is) c.requires.chain in
+    let short = subst (λ (a : AllocatorState). length a.tables.fat ≤ max_regular_sector) (sym c.self.view_is) c.in_ok-before.ensures.sizes.short in
+    let ended = subst (EndsChain c.args.self.now.tables.fat) c.deref.ensures.value c.in_ok-check_end.ensures.ends in
+    let ends0 = subst (λ (a : AllocatorState). EndsChain a.tables.fat ids) (sym c.self.view_is) ended in
     let n : c.len-len.result ≡ length ids = omega (arith, c.len-len.ensures, c.args.ids.now.ok.0) in
     let m : c.saturating_sub.result ≡ length ids - 1 = omega (arith, c.saturating_sub.ensures, n) in
-    let ends : take (c.len-len.result - c.saturating_sub.result) (drop c.saturating_sub.result c.deref.result.now) ≡ ends_of ids =
-    shown_ends t0.fat (first_or_end ids) ids c.deref.result.now (gained ids ids') c.len-len.result c.saturating_sub.result chain (c.deref.ensures.value ∙ e.listed) n m in
-    let more : take (length c.deref-2.result.now - c.len-len.result) (drop c.len-len.result c.deref-2.result.now) ≡ gained ids ids' =
-    shown_gained ids c.deref-2.result.now c.len-len.result n ∙ ap (gained ids) c.deref-2.ensures.value in
+    let ends : take (c.len-len.result - c.saturating_sub.result) (drop c.saturating_sub.result c.deref-2.result.now) ≡ ends_of ids =
+    shown_ends t0.fat ids c.deref-2.result.now (gained ids ids') c.len-len.result c.saturating_sub.result short ends0 (c.deref-2.ensures.value ∙ e.listed) n m in
+    let more : take (length c.deref-3.result.now - c.len-len.result) (drop c.len-len.result c.deref-3.result.now) ≡ gained ids ids' =
+    shown_gained ids c.deref-3.result.now c.len-len.result n ∙ ap (gained ids) c.deref-3.ensures.value in
     let taken = subst (λ (z : List ℕ). HasTaken t0 t z (gained ids ids')) (sym ends) e.taken in
     taken_written _ more c.self.view_is e.taken
     c.reserve_sectors.new.self c.write_taken.new.sectors c.len.result c.reserve_sectors.ensures (c.write_taken.ensures.changes told)
