@@ -1,0 +1,10 @@
+pub mod Outlines
+pub mod Owned
+pub mod Apart
+pub mod Kept
+pub mod Readable
+pub mod Rewritten
+pub mod InUse
+pub mod Changing
+pub mod Sound
+pub mod Fullness

@@ -1,0 +1,117 @@
+-- The contents of a file's streams, and how one of them changes while the others stay (MS-CFB 2.3, 2.4 and 2.6.3).
+use Rattle.std.specs.Prelude.{ℕ, ◌≡◌, ◌≢◌, ◌+◌, ◌*◌, ◌/◌, ◌%◌, ◌<◌, ◌⊎◌, List, [], true, false, length, slice_index, unwrap_or, Contains}
+use Rattle.cfb_format.specs.declared.error.Error.{Error}
+use Rattle.cfb_format.specs.declared.validate.Validation.{Validation}
+use Rattle.cfb_format.specs.Content.{content_chain, is_large, mini_chain, mini_sector_len, mini_stream_chain, sector_chain}
+use Rattle.cfb_format.specs.DirectoryEntry.{Entry}
+use Rattle.cfb_format.specs.Full.{IsTooLong, minifat_len_for}
+use Rattle.cfb_format.specs.Reading.{IsOutline, Outline, Reading, stream_numbers}
+use Rattle.cfb_format.specs.Refused.{HasReason, at_every_error}
+use Rattle.cfb_format.specs.Siblings.{entry_at}
+use Rattle.cfb_format.specs.Soundness.{used_sectors, used_mini_sectors}
+use Rattle.cfb_sectors.specs.Sectors.{SectorStays}
+use Rattle.cfb_sectors.specs.Words.{Stays}
+use Rattle.cfb_soundness.specs.Streams.{own_sectors, own_mini_sectors}
+use Rattle.cfb_tables.specs.Owners.{AllUsed}
+use Rattle.cfb_tables.specs.Tables.{AreFullTables}
+use Rattle.cfb_alloc.specs.Alloc.{IsMeasured}
+use Rattle.cfb_mini.specs.State.{IsChangeable, MiniState, bytes_of, cases_of, entries_of, mini_place, parts_of, root_len_of, table_of, tables_in, version_of}
+use Rattle.cfb_mini.specs.Steps.{ButContent}
+
+-- ---- which stream
+
+-- the entry is a stream of the tree
+pub record IsStreamOf (s : MiniState) (k : ℕ) : Type 0 where
+  pub outline : Outline
+  pub is : IsOutline (cases_of s) (entries_of s) outline
+  pub reached : Contains (stream_numbers outline) k
+
+-- the length of the stream of that entry
+abbrev pub len_of : MiniState → ℕ → ℕ
+len_of s k = (entry_at (entries_of s) k).stream_len
+
+-- the parts under this outline
+abbrev pub parts_with : MiniState → Outline → Reading
+parts_with s o = record (parts_of s) { outline = o }
+
+-- the sectors that the stream of that entry lies in: none where it is short
+abbrev pub sectors_owned : MiniState → ℕ → List ℕ
+sectors_owned s k = own_sectors (parts_of s) (entry_at (entries_of s) k)
+
+-- and the mini sectors: none where it is long
+abbrev pub mini_sectors_owned : MiniState → ℕ → List ℕ
+mini_sectors_owned s k = own_mini_sectors (parts_of s) (entry_at (entries_of s) k)
+
+-- where byte k of these mini sectors, one after the other, stands
+abbrev pub mini_place_along : MiniState → List ℕ → ℕ → ℕ
+mini_place_along s list k = mini_place s (slice_index list (k / mini_sector_len)) + k % mini_sector_len
+
+-- what memory keeps says where the bytes of the streams stand, be the file sound or not: the file's length is known, and the mini stream
+pub record TellsPlaces (s : MiniState) : Type 0 where
+  pub measured : IsMeasured (table_of s).file
+  pub mini_stream : s.mini_stream ≡ mini_stream_chain (parts_of s)
+
+-- ---- what stays
+
+-- the content of a stream with this entry stays: its chain, and every byte of its sectors or mini sectors
+pub record KeepsContent (old new : MiniState) (e : Entry) : Type 0 where
+  pub chain : content_chain (parts_of new) e ≡ content_chain (parts_of old) e
+  pub sectors : is_large e ≡ true → (i : ℕ) → Contains (unwrap_or (sector_chain (parts_of old) e) []) i → SectorStays (version_of old) i (bytes_of old) (bytes_of new)
+  pub places : is_large e ≡ false → (m : ℕ) → Contains (unwrap_or (mini_chain (parts_of old) e) []) m → mini_place new m ≡ mini_place old m
+  pub mini_sectors : is_large e ≡ false → (m : ℕ) → Contains (unwrap_or (mini_chain (parts_of old) e) []) m
+      → Stays (mini_place old m) (mini_place old m + mini_sector_len) (bytes_of old) (bytes_of new)
+
+-- the contents of all streams of the tree stay, but for that of one entry
+abbrev pub KeepsOthers : ℕ → MiniState → MiniState → Type 0
+KeepsOthers i old new = (o : Outline) → IsOutline (cases_of old) (entries_of old) o → (k : ℕ) → Contains (stream_numbers o) k → k ≢ i
+    → KeepsContent old new (entry_at (entries_of old) k)
+
+-- of the entries only the stream's own and the root's change, and of these start and length alone; the root's length stays whole mini
+-- sectors
+pub record MovesContent (old new : MiniState) (i : ℕ) : Type 0 where
+  pub same_length : length (entries_of new) ≡ length (entries_of old)
+  pub own : ButContent (entry_at (entries_of old) i) (entry_at (entries_of new) i)
+  pub root : ButContent (entry_at (entries_of old) 0) (entry_at (entries_of new) 0)
+  pub root_len : (root_len_of new ≡ root_len_of old) ⊎ ((k : ℕ) × (root_len_of new ≡ mini_sector_len * k))
+  pub others : (k : ℕ) → k ≢ i → k ≢ 0 → entry_at (entries_of new) k ≡ entry_at (entries_of old) k
+
+-- each sector and each mini sector is free or in use
+pub record AreAllUsed (s : MiniState) : Type 0 where
+  pub sectors : (o : Outline) → IsOutline (cases_of s) (entries_of s) o → AllUsed (tables_in s).fat (used_sectors (parts_with s o))
+  pub mini_sectors : (o : Outline) → IsOutline (cases_of s) (entries_of s) o → AllUsed s.minifat (used_mini_sectors (parts_with s o))
+
+-- ---- fullness
+
+-- the length needs more sectors than there are numbers for, once the chain that the stream leaves is given back, or more mini sectors
+abbrev pub IsTooLongFor : MiniState → ℕ → ℕ → Type 0
+IsTooLongFor s i len = IsTooLong (tables_in s).max_sectors (parts_of s) i len ⊎ (s.max_mini_sectors < minifat_len_for (parts_of s) i len)
+
+-- ---- refusals
+
+-- the file is sound in no mode
+abbrev pub IsNotChangeable : MiniState → Type 0
+IsNotChangeable s = (validation : Validation) → IsChangeable validation s → ⊥
+
+-- all is as before but what the medium alone has: its bytes, which stay where it tells of them, and the count of failures
+abbrev pub IsStill : MiniState → MiniState → Type 0
+IsStill old new = new ≡ record old {
+  directory = record old.directory {
+    table = record (table_of old) {
+      file = record (table_of old).file {
+        bytes = (table_of new).file.bytes;
+        failures = (table_of new).file.failures;
+      };
+    };
+  };
+}
+
+-- after the medium's error the change was begun, or all is as before; after any other error nothing has changed
+abbrev pub StopsStillOrBegun : MiniState → MiniState → Error → Type 0
+StopsStillOrBegun old new = HasReason (record (at_every_error (new ≡ old)) { medium = λ f. IsStill old new ⊎ ((table_of new).file.begun ≡ true) })
+
+-- the same where `Full` may come after sectors were taken that are too few: with full tables then
+abbrev pub StopsOrIsFull : MiniState → MiniState → Error → Type 0
+StopsOrIsFull old new = HasReason (record (at_every_error (new ≡ old)) {
+  medium = λ f. IsStill old new ⊎ ((table_of new).file.begun ≡ true);
+  full = (new ≡ old) ⊎ (((table_of new).file.begun ≡ true) × AreFullTables (tables_in new));
+})

@@ -1,0 +1,89 @@
+//! What the definitions promise about each other. None of these functions does anything: each has a law
+//! as its contract.
+ghost use Rattle.cfb_content.specs.Laws.{AllUsedIsKept, ChangedIsChangeable, ContentMovesInTurn, EmptyOwnsNothing, EnoughIsNotTooLong, KeptIsReadable, KeptMiniIsSpared, LackIsTooLong, LargeIsReadByPlaces, LargeIsResized, LargeIsThere, LargeIsWritten, LargeOwnsItsChain, MovedIsOutline, MovedRootIsMoved, NothingIsMoved, OthersAreKeptInTurn, OthersAreReadable, OwnIsApart, OwnStays, SameEntriesAreMoved, SmallIsReadByPlaces, SmallIsResized, SmallIsThere, SmallIsWritten, SmallOwnsItsChain, SparedIsKept, SparedSectorsAreKept, StreamIsNoRoot, StreamOwnsItsOwn, StreamStartIsUnnamed, StreamStays};
+ghost use Rattle.cfb_content.specs.Uses.{GrowthStays, LargeBecomesSmall, LargeGoesOn, LargeIsCut, SameUse, SmallBecomesLarge, SmallGoesOn, SmallIsCut, UsedByOwners};
+
+/// Start and length of a stream's entry and of the root's are none of what the tree hangs on (MS-CFB 2.6).
+pub fn entries_keep_the_tree()
+    ensures outline { MovedIsOutline }
+    ensures no_root { StreamIsNoRoot }
+    ensures stream { StreamStays }
+    ensures same { SameEntriesAreMoved }
+    ensures root { MovedRootIsMoved }
+    ensures in_turn { ContentMovesInTurn }
+{}
+
+/// A change of sectors and mini sectors that are one stream's own, or that hold the directory, the MiniFAT or the mini stream, leaves the
+/// other streams.
+pub fn changes_keep_other_streams()
+    ensures nothing { NothingIsMoved }
+    ensures in_turn { OthersAreKeptInTurn }
+    ensures spared { SparedIsKept }
+    ensures mini { KeptMiniIsSpared }
+    ensures sectors { SparedSectorsAreKept }
+{}
+
+/// What was kept of a stream reads as before.
+pub fn kept_streams_read_as_before()
+    ensures kept { KeptIsReadable }
+    ensures others { OthersAreReadable }
+{}
+
+/// In a file that can be changed no sector and no mini sector has two owners, nothing names where a stream starts, and each stream has its
+/// chain and all its bytes.
+pub fn streams_own_their_sectors()
+    ensures apart { OwnIsApart }
+    ensures start { StreamStartIsUnnamed }
+    ensures large { LargeIsThere }
+    ensures small { SmallIsThere }
+{}
+
+/// A stream reads as the bytes that stand in their places of its sectors, or of its mini sectors.
+pub fn streams_are_read_by_places()
+    ensures large { LargeIsReadByPlaces }
+    ensures small { SmallIsReadByPlaces }
+{}
+
+/// A stream was resized, or written over, where its bytes stand so.
+pub fn changed_streams_read_as_they_stand()
+    ensures large_resized { LargeIsResized }
+    ensures small_resized { SmallIsResized }
+    ensures large_written { LargeIsWritten }
+    ensures small_written { SmallIsWritten }
+{}
+
+/// A chain in the table where an entry's stream lies is what the stream owns.
+pub fn chains_are_owned()
+    ensures own { StreamOwnsItsOwn }
+    ensures large { LargeOwnsItsChain }
+    ensures small { SmallOwnsItsChain }
+    ensures empty { EmptyOwnsNothing }
+    ensures stays { OwnStays }
+{}
+
+/// What is in use follows each kind of change of one stream's content: its chain goes on or is cut, in sectors and in mini sectors, or it
+/// moves from the ones to the others.
+pub fn uses_follow_the_content()
+    ensures owners { UsedByOwners }
+    ensures same { SameUse }
+    ensures large_longer { LargeGoesOn }
+    ensures large_shorter { LargeIsCut }
+    ensures small_longer { SmallGoesOn }
+    ensures growth { GrowthStays }
+    ensures small_shorter { SmallIsCut }
+    ensures to_small { LargeBecomesSmall }
+    ensures to_large { SmallBecomesLarge }
+{}
+
+/// Where the tables are used in order, and the stream that changed has its chain and its bytes, the file can be changed again, and nothing
+/// is lost in it, if nothing was.
+pub fn files_stay_changeable()
+    ensures changeable { ChangedIsChangeable }
+    ensures all_used { AllUsedIsKept }
+{}
+
+/// A length is too long for the format exactly where memory has too few numbers for it.
+pub fn fullness_is_want_of_numbers()
+    ensures too_long { LackIsTooLong }
+    ensures enough { EnoughIsNotTooLong }
+{}
