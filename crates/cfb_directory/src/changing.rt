@@ -7,11 +7,13 @@ ghost use Rattle.cfb_format.specs.Refused.{CountsFailure};
 ghost use Rattle.cfb_format.specs.Siblings.{entry_at};
 ghost use Rattle.cfb_outline.specs.Outlines.{IsReachedStorage};
 ghost use Rattle.cfb_siblings.specs.Children.{HasChildren, IsChildNamed, KeepsColors};
+ghost use Rattle.cfb_sectors.specs.Sectors.{IsMediumError};
 ghost use Rattle.cfb_tables.specs.Refused.{ChangeRefused};
 ghost use Rattle.cfb_alloc.specs.Frame.{Spares};
 ghost use Rattle.cfb_entries.specs.declared.fields.Fields.{Fields};
 ghost use Rattle.cfb_entries.specs.EntryList.{RemovesEntry};
 ghost use Rattle.cfb_entries.specs.Fields.{fields_in, entry_with_fields, entries_with_fields};
+ghost use Rattle.cfb_directory.specs.Growing.{ArePlaced};
 ghost use Rattle.cfb_directory.specs.State.{HoldsDirectory, KeepsLimits, directory_of};
 ghost use Rattle.cfb_directory.specs.Steps.{IsNotHeld, KeepsOtherSlots, StaysRedApart, KeepsSlotsBut, KeepsWholeHeader, StopsShort};
 
@@ -94,6 +96,7 @@ pub(crate) fn change_fields<F: Medium, A: Heap, W: FnOnce(Fields) -> Fields>(
     ensures begun { OnOk result (allocator.new.file.begun ≡ true) }
     ensures refused { IfErr result (StopsShort (directory_of allocator.old sectors.now entries.old) (directory_of allocator.new sectors.now entries.new)) }
     ensures err { IfErr result (ChangeRefused (IsNotHeld (directory_of allocator.old sectors.now entries.old)) ⊥ ⊥ Unit) }
+    ensures placed { ArePlaced (directory_of allocator.old sectors.now entries.old) → IfErr result IsMediumError }
     ensures counts { IsTrue F.tells → CountsFailure F.write_faults result allocator.old.file.failures allocator.new.file.failures }
 {
     let count = entries.list().len();

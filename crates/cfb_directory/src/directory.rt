@@ -1,10 +1,10 @@
 //! The directory of a file (MS-CFB 2.6): its entries in memory, and each change of them written into the slots of its sectors.
-ghost use Rattle.std.specs.Prelude.{◌≡◌, ◌≢◌, ◌⊎◌, ℕ, ◌*◌, ◌%◌, ◌<◌, ◌≤◌, ◌∷◌, List, [], length, map, min, chars, true, false, Contains, IsTrue, MatchOption, vec_len, IfOk, IfErr, IfSome, OnOk, slice_index};
+ghost use Rattle.std.specs.Prelude.{◌≡◌, ◌≢◌, ◌↔◌, ◌⊎◌, ℕ, ◌*◌, ◌%◌, ◌<◌, ◌≤◌, ◌∷◌, List, [], length, map, min, chars, true, false, Contains, IsTrue, MatchOption, vec_len, IfOk, IfErr, IfSome, OnOk, slice_index};
 ghost use Rattle.cfb_format.specs.declared.objtype.ObjType.TheVariants.{Root, Storage, Stream};
 ghost use Rattle.cfb_format.specs.declared.version.Version.TheVariants.{V4};
 ghost use Rattle.cfb_format.specs.Names.{is_valid_name};
 ghost use Rattle.cfb_alloc.specs.ListedChain.{Lengthens};
-ghost use Rattle.cfb_directory.specs.Growing.{IsListedChain};
+ghost use Rattle.cfb_directory.specs.Growing.{ArePlaced, IsListedChain};
 ghost use Rattle.cfb_format.specs.declared.validate.Validation.{Validation};
 ghost use Rattle.cfb_format.specs.Bytes.{end_of_chain, entries_per_sector, max_regular_sector, no_stream, sector_len, word_at};
 ghost use Rattle.cfb_format.specs.Chain.{IsChain};
@@ -33,6 +33,7 @@ ghost use Rattle.cfb_directory.specs.Steps.{IsNotHeld, KeepsOtherSlots, StaysRed
 
 use crate::changing::{change_fields, remove_entry};
 use crate::inserting::insert_entry;
+use crate::slots::are_placed;
 use cfb_alloc::alloc::Allocator;
 use cfb_codecs::direntry::DirEntry;
 use cfb_codecs::path::CaseMapper;
@@ -189,6 +190,13 @@ impl<F: ReadMedium, A: Heap> Directory<F, A> {
         ensures { result.now ≡ self.now.sectors }
     {
         &self.sectors
+    }
+
+    /// Whether each entry has a slot in sectors of the file, and no slot is left over, as in each directory that the bytes hold.
+    pub fn is_placed(&self) -> bool
+        ensures { IsTrue result ↔ ArePlaced self.now }
+    {
+        are_placed(&self.allocator, &self.sectors, self.entries.list().len())
     }
 
     /// The letters by which names are compared.
@@ -373,6 +381,7 @@ impl<F: Medium, A: Heap> Directory<F, A> {
         ensures begun { OnOk result (self.new.table.file.begun ≡ true) }
         ensures refused { IfErr result (StopsShort self.old self.new) }
         ensures err { IfErr result (ChangeRefused (IsNotHeld self.old) ⊥ ⊥ Unit) }
+        ensures placed { ArePlaced self.old → IfErr result IsMediumError }
         ensures counts { IsTrue F.tells → CountsFailure F.write_faults result self.old.table.file.failures self.new.table.file.failures }
     {
         change_fields(
@@ -406,6 +415,7 @@ impl<F: Medium, A: Heap> Directory<F, A> {
         ensures begun { OnOk result (self.new.table.file.begun ≡ true) }
         ensures refused { IfErr result (StopsShort self.old self.new) }
         ensures err { IfErr result (ChangeRefused (IsNotHeld self.old) ⊥ ⊥ Unit) }
+        ensures placed { ArePlaced self.old → IfErr result IsMediumError }
         ensures counts { IsTrue F.tells → CountsFailure F.write_faults result self.old.table.file.failures self.new.table.file.failures }
     {
         let _root = self.root_dir_entry();

@@ -100,3 +100,12 @@ returns-clause-refused g c = err_map _ _ (λ e. medium_stops (c.write_entry.new.
 
 pub returns-clause-err : goal.returns-clause-err
 returns-clause-err g c = err_map _ _ (λ e. medium_refused _ ⊥ ⊥ (c.write_entry.new.allocator.file.begun ≡ true) e) c.write_entry.result c.write_entry.ensures.err
+
+pub returns-then-not-are_placed-clause-placed : goal.returns-then-not-are_placed-clause-placed
+returns-then-not-are_placed-clause-placed g c here =
+    let len : length c.list-count.result.now ≡ length c.args.entries.now.entries =
+    sym (length-map c.list-count.result.now entry_of) ∙ ap (λ (es : List Entry). length es) c.list-count.ensures.list in
+    let yes : c.are_placed.result ≡ true = c.are_placed.ensures.1
+    (subst (λ n. HavePlaces c.args.allocator.now.tables.version c.args.sectors.now n (length c.args.allocator.now.tables.fat)) (sym len) here) in
+    let no : c.are_placed.result ≡ false = c.if-not-are_placed.true in
+    absurd (cc)
