@@ -4,6 +4,7 @@ use Rattle.cfb_format.specs.declared.medium.MediumFault.{MediumFault}
 use Rattle.cfb_format.specs.declared.error.Error.{Error}
 use Rattle.cfb_format.specs.declared.error.Error.TheVariants.{NotFound, AlreadyExists, InvalidInput, InvalidData, Medium, Memory, Full, Unsound, Failed, Unsupported}
 use Rattle.cfb_format.specs.Refused.{HasReason, IsInvalidOrMemory, AfterMedium, CountsError, no_error}
+use Rattle.cfb_sectors.specs.Sectors.{IsMediumError}
 use Rattle.cfb_tables.specs.Refused.{TableRefused, ChangeRefused}
 
 -- a chain that is refused
@@ -87,3 +88,16 @@ invalid_counts can_give n Full r = absurd r
 invalid_counts can_give n Unsound r = absurd r
 invalid_counts can_give n Failed r = absurd r
 invalid_counts can_give n Unsupported r = absurd r
+
+-- and the medium's error is it
+pub medium_is : (begun : Type 0) (e : Error) → HasReason (record no_error { medium = λ f. begun }) e → IsMediumError e
+medium_is begun (Medium g) r = refl
+medium_is begun (InvalidData d) r = absurd r
+medium_is begun Memory r = absurd r
+medium_is begun (NotFound d) r = absurd r
+medium_is begun (AlreadyExists d) r = absurd r
+medium_is begun (InvalidInput d) r = absurd r
+medium_is begun Full r = absurd r
+medium_is begun Unsound r = absurd r
+medium_is begun Failed r = absurd r
+medium_is begun Unsupported r = absurd r

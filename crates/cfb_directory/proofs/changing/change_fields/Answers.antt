@@ -12,7 +12,7 @@ use Rattle.cfb_entries.specs.Fields.{entry_with_fields}
 use Rattle.cfb_directory.specs.Slots.{HavePlaces, HoldSlotsBut}
 use Rattle.cfb_directory.specs.State.{directory_of}
 use Rattle.cfb_directory.proofs.ChangedFields.{changed_here, changed_length, changed_told, changed_writable, changed_beside}
-use Rattle.cfb_directory.proofs.DirectoryRefusals.{invalid_for, medium_refused, medium_stops, err_map}
+use Rattle.cfb_directory.proofs.DirectoryRefusals.{invalid_for, medium_is, medium_refused, medium_stops, err_map}
 use Rattle.cfb_directory.proofs.Placed.{held_places, held_no_tables, header_left, slot_left}
 use Rattle.cfb_directory.proofs.Rewritten.{rewritten}
 use Rattle.cfb_directory.proofs.SlotWrites.{entries-stay}
@@ -109,3 +109,6 @@ returns-then-not-are_placed-clause-placed g c here =
     (subst (λ n. HavePlaces c.args.allocator.now.tables.version c.args.sectors.now n (length c.args.allocator.now.tables.fat)) (sym len) here) in
     let no : c.are_placed.result ≡ false = c.if-not-are_placed.true in
     absurd (cc)
+
+pub returns-clause-placed : goal.returns-clause-placed
+returns-clause-placed g c here = err_map _ _ (λ e. medium_is (c.write_entry.new.allocator.file.begun ≡ true) e) c.write_entry.result c.write_entry.ensures.err
