@@ -321,7 +321,7 @@ impl<F: ReadMedium, A: Heap> Allocator<F, A> {
 
     /// Whether a chain ends at the last of these sectors, if there are any. `InvalidData` where the last one is no sector of the
     /// file, and where its chain goes on.
-    fn check_end(&self, ids: &[u32]) -> Result<(), Error>
+    pub fn check_end(&self, ids: &[u32]) -> Result<(), Error>
         ensures ends { OnOk result (EndsChain self.now.tables.fat ids.now) }
         ensures err { IfErr result (ChangeRefused (EndsChain self.now.tables.fat ids.now → ⊥) ⊥ ⊥ ⊥) }
     {
