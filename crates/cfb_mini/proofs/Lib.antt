@@ -6,3 +6,7 @@ pub mod HeldSteps
 pub mod HeldGrown
 pub mod MiniPlaces
 pub mod MiniFrames
+pub mod PiecePlaces
+pub mod PieceWrites
+pub mod MinifatNamed
+pub mod MinifatGrown
