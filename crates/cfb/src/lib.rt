@@ -23,5 +23,7 @@ pub mod internal {
     pub use cfb_format::header::Header;
     pub use cfb_format::objtype::ObjType;
     pub use cfb_format::validate::Validation;
+    pub use cfb_mini::mini_allocator::MiniAllocator;
+    pub use cfb_mini_chains::mini_chain::MiniChain;
     pub use cfb_sectors::sector::{Sector, SectorInit, Sectors};
 }

@@ -36,7 +36,7 @@ use Rattle.cfb_alloc.proofs.Listed.{among-Contains, Contains-among}
 use Rattle.cfb_tables.proofs.Members.{Contains-nil, Contains-here, Contains-there, Contains-cases, Contains-or, value-at, distinct-left, distinct-apart}
 use Rattle.cfb_alloc.proofs.TableWords.{raw_fat-at, fat_words-at, length-fat_words}
 
-not-among : (xs : List ℕ) (x : ℕ) → (Contains xs x → ⊥) → is_among xs x ≡ false
+pub not-among : (xs : List ℕ) (x : ℕ) → (Contains xs x → ⊥) → is_among xs x ≡ false
 not-among xs x out = go (is_among xs x) refl
   where
     go : (b : Bool) → is_among xs x ≡ b → is_among xs x ≡ false
@@ -56,37 +56,37 @@ flat-Contains f (y ∷ xs) x m = elim (Contains-append_cases (f y) (flat_map f x
 
 -- ---- whole sectors
 
-difat-whole : (v : Version) (bytes : List ℕ) (s : ℕ) (own : List ℕ) → FollowsDifat v bytes s own → (i : ℕ) → Contains own i → is_whole_sector v bytes i ≡ true
+pub difat-whole : (v : Version) (bytes : List ℕ) (s : ℕ) (own : List ℕ) → FollowsDifat v bytes s own → (i : ℕ) → Contains own i → is_whole_sector v bytes i ≡ true
 difat-whole v bytes s [] f i m = absurd (Contains-nil i m)
 difat-whole v bytes s (x ∷ own) f i m = elim (Contains-cases x own i m) [
   | inl same ↦ subst (λ k. is_whole_sector v bytes k ≡ true) same f.2
   | inr r ↦ difat-whole v bytes (next_difat v bytes x) own f.4 i r
 ]
 
-whole-below : (v : Version) (bytes : List ℕ) (i : ℕ) → is_whole_sector v bytes i ≡ true → i < sector_count v bytes
+pub whole-below : (v : Version) (bytes : List ℕ) (i : ℕ) → is_whole_sector v bytes i ≡ true → i < sector_count v bytes
 whole-below V3 bytes i w = let fits : (i + 1) * 512 + 512 ≤ length bytes = leb-true ((i + 1) * 512 + 512) (length bytes) w in omega (arith, fits)
 whole-below V4 bytes i w = let fits : (i + 1) * 4096 + 4096 ≤ length bytes = leb-true ((i + 1) * 4096 + 4096) (length bytes) w in omega (arith, fits)
 
 -- ---- the values of the FAT that was read
 
-raw_length : (v : Version) (bytes list : List ℕ) → length (raw_fat v bytes list) ≡ min (sector_count v bytes) (length list * words_per_sector v)
+pub raw_length : (v : Version) (bytes list : List ℕ) → length (raw_fat v bytes list) ≡ min (sector_count v bytes) (length list * words_per_sector v)
 raw_length v bytes list = length-take (sector_count v bytes) (fat_words v bytes list) ∙ ap (min (sector_count v bytes)) (length-fat_words v bytes list)
 
 module _ (v : Version) (bytes list own fat : List ℕ) (is : fat ≡ fat_of v bytes list own) where
-  fat-length : length fat ≡ sector_count v bytes
+  pub fat-length : length fat ≡ sector_count v bytes
   unfolding fat_of
   fat-length = ap length is ∙ length-map-range_with_len (fat_value (sector_count v bytes) list own (raw_fat v bytes list)) 0 (sector_count v bytes)
 
-  fat-at : (i : ℕ) → i < sector_count v bytes → slice_index fat i ≡ fat_value (sector_count v bytes) list own (raw_fat v bytes list) i
+  pub fat-at : (i : ℕ) → i < sector_count v bytes → slice_index fat i ≡ fat_value (sector_count v bytes) list own (raw_fat v bytes list) i
   unfolding fat_of
   fat-at i lt = ap (λ l. slice_index l i) is
       ∙ get_or-map-range_with_len (fat_value (sector_count v bytes) list own (raw_fat v bytes list)) 0 (sector_count v bytes) i i 0 lt (omega arith)
 
-  fat-listed : (i : ℕ) → i < sector_count v bytes → Contains list i → slice_index fat i ≡ fat_sector
+  pub fat-listed : (i : ℕ) → i < sector_count v bytes → Contains list i → slice_index fat i ≡ fat_sector
   fat-listed i lt m = fat-at i lt ∙ ap (λ b. if b then fat_sector
       else (if is_among own i then difat_sector else ended_past_file (sector_count v bytes) (slice_index_or (raw_fat v bytes list) i free_sector))) (Contains-among list i m)
 
-  difat-listed : (i : ℕ) → i < sector_count v bytes → (Contains list i → ⊥) → Contains own i → slice_index fat i ≡ difat_sector
+  pub difat-listed : (i : ℕ) → i < sector_count v bytes → (Contains list i → ⊥) → Contains own i → slice_index fat i ≡ difat_sector
   difat-listed i lt out m = fat-at i lt ∙ (λ j. if not-among list i out j then fat_sector
       else (if Contains-among own i m j then difat_sector else ended_past_file (sector_count v bytes) (slice_index_or (raw_fat v bytes list) i free_sector)))
 
@@ -98,7 +98,7 @@ module _ (v : Version) (bytes list own fat : List ℕ) (is : fat ≡ fat_of v by
 -- ---- pointers of used sectors
 
 -- what a number's pointer names isn't free
-abbrev NamesBusy : List ℕ → ℕ → Type 0
+abbrev pub NamesBusy : List ℕ → ℕ → Type 0
 NamesBusy table i = IsTrue (is_regular (value table i)) → value table (value table i) ≢ free_sector
 
 follows-names_busy : (table : List ℕ) (s : ℕ) (list : List ℕ) → Follows table s list → (i : ℕ) → Contains list i → NamesBusy table i
@@ -110,7 +110,7 @@ chain-names_busy : (table : List ℕ) (s : ℕ) (o : Option (List ℕ)) → chai
 chain-names_busy table s None w i m = absurd (Contains-nil i m)
 chain-names_busy table s (Some list) w i m = follows-names_busy table s list ((chain_from-IsChain table s list).0 w).follows i m
 
-maybe-names_busy : (table : List ℕ) (b : Bool) (s i : ℕ) → Contains (unwrap_or (if b then Some [] else chain_from table s) []) i → NamesBusy table i
+pub maybe-names_busy : (table : List ℕ) (b : Bool) (s i : ℕ) → Contains (unwrap_or (if b then Some [] else chain_from table s) []) i → NamesBusy table i
 maybe-names_busy table true s i m = absurd (Contains-nil i m)
 maybe-names_busy table false s i m = chain-names_busy table s (chain_from table s) refl i m
 

@@ -228,7 +228,8 @@ impl<F: ReadMedium, A: Heap> Allocator<F, A> {
 
     /// How many sectors the file may grow to.
     pub fn max_sectors(&self) -> u32
-        ensures { result ≡ self.now.tables.max_sectors }
+        ensures value { result ≡ self.now.tables.max_sectors }
+        ensures limited { self.now.tables.max_sectors ≤ max_regular_sector }
     {
         self.tables.max_sectors()
     }

@@ -25,8 +25,8 @@ use Rattle.cfb_tables.proofs.ClosedLemmas.{chains-closed, closed-together, marks
 use Rattle.cfb_tables.proofs.Counts.{distinct-tally, in-tally, tally-distinct, tally-in}
 use Rattle.cfb_tables.proofs.Members.{Contains-nil, distinct-apart, distinct-left, value-at}
 use Rattle.cfb_alloc.specs.Frame.{table_sectors}
-use Rattle.cfb_mini.specs.State.{HoldsMini, IsChangeable, MiniState, bytes_of, cases_of, content_of, entries_of, header_of_version, mini_stream_of, parts_of, reading_of, tables_in, version_of}
-use Rattle.cfb_mini.specs.Steps.{system_sectors}
+use Rattle.cfb_mini_sectors.specs.State.{HoldsMini, IsChangeable, MiniState, bytes_of, cases_of, content_of, entries_of, header_of_version, mini_stream_of, parts_of, reading_of, tables_in, version_of}
+use Rattle.cfb_mini_sectors.specs.Steps.{system_sectors}
 use Rattle.cfb_format.specs.Reading.{no_more}
 use Rattle.cfb_content.specs.Contents.{IsStreamOf, mini_sectors_owned, parts_with, sectors_owned}
 use Rattle.cfb_content.specs.Uses.{mini_sectors_by_owners, other_streams, sectors_by_owners}
@@ -174,7 +174,7 @@ module _ (v : Validation) (s : MiniState) (held : HoldsMini v s) where
   stream-closed = subst (λ (l : List ℕ). IsClosed fat l) stream-is
       (maybe-closed fat ((entry_at (entries_of s) 0).stream_len == 0 && not (is_regular (entry_at (entries_of s) 0).start_sector)) (entry_at (entries_of s) 0).start_sector)
 
-  system-busy : (n : ℕ) → Contains (system_sectors s) n → value fat n ≢ free_sector
+  pub system-busy : (n : ℕ) → Contains (system_sectors s) n → value fat n ≢ free_sector
   system-busy n m = elim (Contains-append_cases (s.directory.sectors ++ s.minifat_sectors) (mini_stream_of s) n m) [
     | inr c ↦ stream-busy n c
     | inl x ↦ elim (Contains-append_cases s.directory.sectors s.minifat_sectors n x) [

@@ -12,8 +12,8 @@ use Rattle.cfb_tables.proofs.UseLemmas.{use-changes-follow, uses-kept}
 use Rattle.cfb_soundness.specs.Streams.{own_mini_sectors, own_sectors}
 use Rattle.cfb_alloc.specs.ListedChain.{Lengthens}
 use Rattle.cfb_mini_table.specs.MiniTable.{MiniGivesBack, TakesMini}
-use Rattle.cfb_mini.specs.State.{MiniState, cases_of, entries_of, mini_stream_of, parts_of, tables_in}
-use Rattle.cfb_mini.specs.Steps.{mini_stream_lacks, minifat_lacks}
+use Rattle.cfb_mini_sectors.specs.State.{MiniState, cases_of, entries_of, mini_stream_of, parts_of, tables_in}
+use Rattle.cfb_mini_sectors.specs.Steps.{mini_stream_lacks, minifat_lacks}
 use Rattle.cfb_content.specs.Contents.{mini_sectors_owned, parts_with, sectors_owned}
 use Rattle.cfb_content.specs.Uses.{ChangesContent, GrowthStays, LargeBecomesSmall, LargeGoesOn, LargeIsCut, SameUse, SmallBecomesLarge, SmallGoesOn, SmallIsCut, mini_sectors_by_owners, other_streams, sectors_by_owners}
 use Rattle.cfb_content.proofs.Apart.{owners-use, same-reached}

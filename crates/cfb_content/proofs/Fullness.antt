@@ -13,8 +13,8 @@ use Rattle.cfb_format.specs.Soundness.{mini_sectors_of, mini_stream_sectors, sec
 use Rattle.cfb_tables.specs.Room.{IsTooFewAfter}
 use Rattle.cfb_tables.specs.Tables.{IsTooFew}
 use Rattle.cfb_tables.proofs.RoomLemmas.{enough-is-room-after, nothing-given-back, too-few-is-no-room-after}
-use Rattle.cfb_mini.specs.State.{HoldsMini, MiniState, entries_of, mini_stream_of, parts_of, tables_in, version_of}
-use Rattle.cfb_mini.specs.Steps.{IsTooFewAfterFor, minifat_lacks, mini_stream_lacks}
+use Rattle.cfb_mini_sectors.specs.State.{HoldsMini, MiniState, entries_of, mini_stream_of, parts_of, tables_in, version_of}
+use Rattle.cfb_mini_sectors.specs.Steps.{IsTooFewAfterFor, minifat_lacks, mini_stream_lacks}
 use Rattle.cfb_content.specs.Contents.{IsTooLongFor, mini_sectors_owned, sectors_owned}
 use Rattle.cfb_content.specs.Laws.{EnoughIsNotTooLong, LackIsTooLong}
 

@@ -19,8 +19,9 @@ use Rattle.cfb_tables.specs.Listed.{gained}
 use Rattle.cfb_tables.proofs.ChainLemmas.{chain-stays}
 use Rattle.cfb_alloc.specs.Frame.{IsForeign, Spares}
 use Rattle.cfb_tables.proofs.Members.{Contains-nil, distinct-apart, value-below}
-use Rattle.cfb_mini.specs.State.{HoldsMini, IsChangeable, MiniState, bytes_of, entries_of, mini_place, mini_start, mini_stream_of, parts_of, table_of, tables_in, version_of}
-use Rattle.cfb_mini.specs.Steps.{system_sectors}
+use Rattle.cfb_soundness.specs.Places.{mini_start}
+use Rattle.cfb_mini_sectors.specs.State.{HoldsMini, IsChangeable, MiniState, bytes_of, entries_of, mini_place, mini_stream_of, parts_of, table_of, tables_in, version_of}
+use Rattle.cfb_mini_sectors.specs.Steps.{system_sectors}
 use Rattle.cfb_content.specs.Contents.{IsStreamOf, KeepsContent, mini_sectors_owned, sectors_owned}
 use Rattle.cfb_content.specs.Laws.{IsApart, KeptMiniIsSpared, NothingIsMoved, OthersAreKeptInTurn, SparedIsKept, SparedSectorsAreKept}
 use Rattle.cfb_content.proofs.Apart.{minis-busy, own-is-apart, sectors-busy, sound-at, stream-busy, system-no-table}
@@ -56,7 +57,7 @@ module _ (old mid new : MiniState) (e : Entry) (version : version_of mid ≡ ver
   there-small l n c = subst (λ (w : Option (List ℕ)). Contains (unwrap_or w []) n)
       (sym (sym (small-content mid e l) ∙ a.chain ∙ small-content old e l)) c
 
-  keeps-then : KeepsContent old new e
+  pub keeps-then : KeepsContent old new e
   unfolding SectorStays
   keeps-then = record {
     chain = b.chain ∙ a.chain;
@@ -89,7 +90,7 @@ pub next-start : (v : Version) (i : ℕ) → sector_start v (i + 1) ≡ sector_s
 next-start V3 i = omega arith
 next-start V4 i = omega arith
 
-stays-inside : (v : Version) (i n at : ℕ) (a b : List ℕ) → at ≡ sector_start v i + 64 * n % sector_len v → SectorStays v i a b → Stays at (at + 64) a b
+pub stays-inside : (v : Version) (i n at : ℕ) (a b : List ℕ) → at ≡ sector_start v i + 64 * n % sector_len v → SectorStays v i a b → Stays at (at + 64) a b
 unfolding SectorStays
 stays-inside v i n at a b e s = record {
   no_shorter = s.no_shorter;

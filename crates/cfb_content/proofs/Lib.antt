@@ -8,3 +8,13 @@ pub mod InUse
 pub mod Changing
 pub mod Sound
 pub mod Fullness
+pub mod StreamEntry
+pub mod Refusals
+pub mod Named
+pub mod Turned
+pub mod PlacedOnce
+pub mod Written
+pub mod PlacedWrites
+pub mod PutAlong
+pub mod MinisPut
+pub mod ReadablePlaces

@@ -10,8 +10,8 @@ use Rattle.cfb_siblings.proofs.Tallies.{counted, once-distinct}
 use Rattle.cfb_trees.specs.Changes.{ButFields}
 use Rattle.cfb_trees.proofs.Members.{below-once, no-root, stream-reached}
 use Rattle.cfb_trees.proofs.Same.{outline-kept}
-use Rattle.cfb_mini.specs.State.{MiniState, cases_of, entries_of, root_len_of}
-use Rattle.cfb_mini.specs.Steps.{ButContent}
+use Rattle.cfb_mini_sectors.specs.State.{MiniState, cases_of, entries_of, root_len_of}
+use Rattle.cfb_mini_sectors.specs.Steps.{ButContent}
 use Rattle.cfb_content.specs.Contents.{MovesContent}
 use Rattle.cfb_content.specs.Laws.{ContentMovesInTurn, MovedIsOutline, MovedRootIsMoved, SameEntriesAreMoved, StreamIsNoRoot, StreamStays}
 

@@ -17,10 +17,10 @@ use Rattle.cfb_sectors.specs.Sectors.{SectorStays}
 use Rattle.cfb_sectors.specs.Words.{Stays}
 use Rattle.cfb_tables.proofs.ChainLemmas.{members-busy}
 use Rattle.cfb_soundness.specs.Layout.{LiesInPieces}
-use Rattle.cfb_soundness.specs.Places.{SamePiece, Stand, place_by}
+use Rattle.cfb_soundness.specs.Places.{SamePiece, Stand, mini_start, place_by}
 use Rattle.cfb_soundness.proofs.Layouts.{content-stands, content-stays, large-lies, small-lies}
 use Rattle.cfb_soundness.proofs.Placed.{in_file-some, lies-place_by}
-use Rattle.cfb_mini.specs.State.{HoldsMiniStream, IsChangeable, MiniState, bytes_of, content_of, entries_of, mini_place, mini_start, mini_stream_of, parts_of, tables_in, version_of}
+use Rattle.cfb_mini_sectors.specs.State.{HoldsMiniStream, IsChangeable, MiniState, bytes_of, content_of, entries_of, mini_place, mini_stream_of, parts_of, tables_in, version_of}
 use Rattle.cfb_content.specs.Contents.{IsStreamOf, KeepsContent, len_of, mini_sectors_owned, sectors_owned}
 use Rattle.cfb_content.specs.Laws.{KeptIsReadable, LargeIsReadByPlaces, LargeIsThere, OthersAreReadable, SmallIsReadByPlaces, SmallIsThere, StreamOwnsItsOwn}
 use Rattle.cfb_content.proofs.Apart.{content-is, maybe-chain, sound-at}
@@ -116,7 +116,7 @@ others-readable v i old new change o is k m ne =
 -- ---- bytes in their places
 
 -- the piece that a place lies in
-lies : (len : ℕ) (start : ℕ → ℕ) (bytes list : List ℕ) (k at : ℕ) → place_by len start bytes list k ≡ Some at
+pub lies : (len : ℕ) (start : ℕ → ℕ) (bytes list : List ℕ) (k at : ℕ) → place_by len start bytes list k ≡ Some at
     → (i : ℕ) × (slice_get list (k / len) ≡ Some i) × (at ≡ start i + k % len) × (at < length bytes)
 lies len start bytes list k at e = go (slice_get list (k / len)) refl e
   where

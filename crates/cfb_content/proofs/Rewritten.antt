@@ -1,21 +1,37 @@
 -- The content of a stream that was resized or written over.
-use Rattle.std.proofs.Common.{◌≡◌, ◌<◌, ◌≤◌, ◌+◌, ◌-◌, inl, inr, ℕ, List, sym, ◌∙◌, ap, length, take, replicate, arith}
+use Rattle.std.proofs.Common.{◌≡◌, ◌<◌, ◌≤◌, ◌+◌, ◌-◌, inl, inr, ℕ, List, refl, sym, ◌∙◌, ap, length, take, replicate, ◌++◌, arith}
 use Rattle.std.specs.Prelude.{slice_index}
 use Rattle.std.proofs.lemmas.Bool.{cases_lt}
-use Rattle.std.proofs.lemmas.List.{get_or-append_right, get_or_append_left, get_or-replicate, get_or-take, length-append, length-replicate, length-take}
+use Rattle.std.proofs.lemmas.List.{append-nil, get_or-append_right, get_or_append_left, get_or-replicate, get_or-take, length-append, length-replicate, length-take}
+use Rattle.std.proofs.Math.Seq.{take-length}
 use Rattle.cfb_format.specs.Medium.{written}
 use Rattle.cfb_format.specs.Siblings.{entry_at}
-use Rattle.cfb_format.proofs.ByteLemmas.{length-written, written_above, written_at, written_below}
+use Rattle.cfb_format.proofs.ByteLemmas.{length-written, written_above, written_at, written_below, written_from_bytes}
 use Rattle.cfb_rules.specs.StreamCalls.{resized}
 use Rattle.cfb_chains.specs.ChainPlaces.{place_along}
-use Rattle.cfb_mini.specs.State.{MiniState, bytes_of, content_of, entries_of, version_of}
+use Rattle.cfb_mini_sectors.specs.State.{MiniState, bytes_of, content_of, entries_of, version_of}
 use Rattle.cfb_content.specs.Contents.{len_of, mini_place_along}
 use Rattle.cfb_content.specs.Laws.{LargeIsResized, LargeIsWritten, SmallIsResized, SmallIsWritten, StandsResized, StandsWritten}
 use Rattle.cfb_content.proofs.Readable.{large-read-by-places, small-read-by-places, whole-of}
 
+-- ---- nothing is written, or it has the length already
+
+pub written-none : (c from : List ℕ) (at : ℕ) → length from ≡ 0 → at ≤ length c → c ≡ written c at from
+written-none c from at none inside = written_from_bytes c at from c (omega (arith, none, inside)) (λ i low lt. refl) (λ i lt. absurd (omega (arith, lt, none))) (λ i high lt. refl)
+
+pub resized-same : (c : List ℕ) (n : ℕ) → length c ≡ n → c ≡ resized c n
+resized-same c n e = sym (
+    (λ i. take (sym e i) c ++ replicate (sym e i - length c) 0)
+    ∙ (λ i. take-length c i ++ replicate (none i) 0)
+    ∙ append-nil c
+    )
+  where
+    none : length c - length c ≡ 0
+    none = omega arith
+
 -- ---- cut, or padded
 
-resized-len : (c : List ℕ) (n : ℕ) → length (resized c n) ≡ n
+pub resized-len : (c : List ℕ) (n : ℕ) → length (resized c n) ≡ n
 resized-len c n = omega (arith, length-append (take n c) (replicate (n - length c) 0), length-take n c, length-replicate {A = ℕ} (n - length c) 0)
 
 resized-front : (c : List ℕ) (n k : ℕ) → k < n → k < length c → slice_index (resized c n) k ≡ slice_index c k

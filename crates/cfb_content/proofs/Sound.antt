@@ -17,7 +17,7 @@ use Rattle.cfb_tables.proofs.UseLemmas.{nothing-loose, uses-kept}
 use Rattle.cfb_alloc.specs.Agreement.{Agrees}
 use Rattle.cfb_sound_changes.specs.Kept.{IsReady}
 use Rattle.cfb_sound_changes.proofs.Kept.{used-sound}
-use Rattle.cfb_mini.specs.State.{MiniState, bytes_of, cases_of, content_of, entries_of, parts_of, reading_of, tables_in}
+use Rattle.cfb_mini_sectors.specs.State.{MiniState, bytes_of, cases_of, content_of, entries_of, parts_of, reading_of, tables_in}
 use Rattle.cfb_content.specs.Contents.{len_of, parts_with}
 use Rattle.cfb_content.specs.Uses.{ChangesContent, ChangesUse, mini_sectors_by_owners, sectors_by_owners}
 use Rattle.cfb_content.specs.Laws.{AllUsedIsKept, ChangedIsChangeable}

@@ -13,10 +13,10 @@ use Rattle.cfb_sectors.specs.Sectors.{SectorStays}
 use Rattle.cfb_sectors.specs.Words.{Stays}
 use Rattle.cfb_soundness.specs.Streams.{own_sectors, own_mini_sectors}
 use Rattle.cfb_tables.specs.Owners.{AllUsed}
-use Rattle.cfb_tables.specs.Tables.{AreFullTables}
 use Rattle.cfb_alloc.specs.Alloc.{IsMeasured}
-use Rattle.cfb_mini.specs.State.{IsChangeable, MiniState, bytes_of, cases_of, entries_of, mini_place, parts_of, root_len_of, table_of, tables_in, version_of}
-use Rattle.cfb_mini.specs.Steps.{ButContent}
+use Rattle.cfb_mini_sectors.specs.State.{IsChangeable, MiniState, bytes_of, cases_of, entries_of, mini_place, parts_of, root_len_of, table_of, tables_in, version_of}
+use Rattle.cfb_mini_sectors.specs.Steps.{ButContent}
+use Rattle.cfb_mini.specs.MiniSectors.{IsStill}
 
 -- ---- which stream
 
@@ -92,26 +92,6 @@ IsTooLongFor s i len = IsTooLong (tables_in s).max_sectors (parts_of s) i len �
 abbrev pub IsNotChangeable : MiniState → Type 0
 IsNotChangeable s = (validation : Validation) → IsChangeable validation s → ⊥
 
--- all is as before but what the medium alone has: its bytes, which stay where it tells of them, and the count of failures
-abbrev pub IsStill : MiniState → MiniState → Type 0
-IsStill old new = new ≡ record old {
-  directory = record old.directory {
-    table = record (table_of old) {
-      file = record (table_of old).file {
-        bytes = (table_of new).file.bytes;
-        failures = (table_of new).file.failures;
-      };
-    };
-  };
-}
-
 -- after the medium's error the change was begun, or all is as before; after any other error nothing has changed
 abbrev pub StopsStillOrBegun : MiniState → MiniState → Error → Type 0
 StopsStillOrBegun old new = HasReason (record (at_every_error (new ≡ old)) { medium = λ f. IsStill old new ⊎ ((table_of new).file.begun ≡ true) })
-
--- the same where `Full` may come after sectors were taken that are too few: with full tables then
-abbrev pub StopsOrIsFull : MiniState → MiniState → Error → Type 0
-StopsOrIsFull old new = HasReason (record (at_every_error (new ≡ old)) {
-  medium = λ f. IsStill old new ⊎ ((table_of new).file.begun ≡ true);
-  full = (new ≡ old) ⊎ (((table_of new).file.begun ≡ true) × AreFullTables (tables_in new));
-})

@@ -15,8 +15,8 @@ use Rattle.cfb_tables.specs.Clean.{IsUnnamed}
 use Rattle.cfb_tables.specs.Tables.{IsTooFew}
 use Rattle.cfb_alloc.specs.Frame.{Spares, table_sectors}
 use Rattle.cfb_chains.specs.ChainPlaces.{place_along}
-use Rattle.cfb_mini.specs.State.{HoldsMini, HoldsMiniStream, IsChangeable, MiniState, bytes_of, cases_of, content_of, entries_of, parts_of, table_of, tables_in, version_of}
-use Rattle.cfb_mini.specs.Steps.{IsTooFewAfterFor, KeepsLimits, KeepsMini, MovesRoot, SparesMini, system_sectors}
+use Rattle.cfb_mini_sectors.specs.State.{HoldsMini, HoldsMiniStream, IsChangeable, MiniState, bytes_of, cases_of, content_of, entries_of, parts_of, table_of, tables_in, version_of}
+use Rattle.cfb_mini_sectors.specs.Steps.{IsTooFewAfterFor, KeepsLimits, KeepsMini, MovesRoot, SparesMini, system_sectors}
 use Rattle.cfb_content.specs.Contents.{AreAllUsed, IsStreamOf, IsTooLongFor, KeepsContent, KeepsOthers, MovesContent, len_of, mini_place_along, mini_sectors_owned, sectors_owned}
 use Rattle.cfb_content.specs.Uses.{ChangesContent, ChangesUse, Owns}
 

@@ -10,8 +10,8 @@ use Rattle.cfb_tables.specs.Owners.{UseChanges, tally}
 use Rattle.cfb_alloc.specs.Frame.{table_sectors}
 use Rattle.cfb_alloc.specs.ListedChain.{Lengthens, Shortens}
 use Rattle.cfb_mini_table.specs.MiniTable.{MiniGivesBack, TakesMini}
-use Rattle.cfb_mini.specs.State.{HoldsMini, HoldsMiniStream, IsChangeable, MiniState, cases_of, entries_of, parts_of, tables_in}
-use Rattle.cfb_mini.specs.Steps.{GrowsFor, KeepsLimits, KeepsMini, KeepsSystem, system_sectors}
+use Rattle.cfb_mini_sectors.specs.State.{HoldsMini, HoldsMiniStream, IsChangeable, MiniState, cases_of, entries_of, parts_of, tables_in}
+use Rattle.cfb_mini_sectors.specs.Steps.{GrowsFor, KeepsLimits, KeepsMini, KeepsSystem, system_sectors}
 use Rattle.cfb_content.specs.Contents.{IsStreamOf, KeepsOthers, MovesContent, mini_sectors_owned, parts_with, sectors_owned}
 
 -- ---- owners

@@ -1,4 +1,9 @@
-//! The contents of streams (MS-CFB 2.3, 2.4 and 2.6.3): what a change of one of them leaves of the others, and how the file stays sound.
+//! The contents of streams (MS-CFB 2.3, 2.4 and 2.6.3): read where they stand, written inside their length, and made longer or shorter,
+//! across 4096 bytes both ways.
 #![tactic(auto)]
 
+pub mod content;
+mod in_minis;
+mod in_sectors;
 pub mod laws;
+pub mod reading;

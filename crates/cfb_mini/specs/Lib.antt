@@ -1,6 +1,3 @@
-pub mod State
-pub mod Steps
-pub mod Pieces
-pub mod Growing
-pub mod Held
-pub mod Laws
+pub mod MiniSectors
+pub mod Changing
+pub mod Lending

@@ -1,6 +1,6 @@
-//! Mini sectors (MS-CFB 2.4): the MiniFAT and the mini stream over the directory of a file, and chains of mini sectors as lists of bytes.
+//! Mini sectors (MS-CFB 2.4): the MiniFAT and the mini stream over the directory of a file.
 #![tactic(auto)]
 
-mod growing;
-pub mod laws;
-mod pieces;
+mod changing;
+pub mod mini_allocator;
+mod opening;

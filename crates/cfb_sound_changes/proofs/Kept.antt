@@ -23,59 +23,11 @@ use Rattle.cfb_tables.proofs.ChainLemmas.{follows-busy}
 use Rattle.cfb_alloc.proofs.HeldLemmas.{every_member}
 use Rattle.cfb_alloc.proofs.Listed.{among-Contains, Contains-among}
 use Rattle.cfb_tables.proofs.Members.{Contains-nil, Contains-cases, value-at, distinct-left, distinct-apart}
-use Rattle.cfb_alloc.proofs.SoundTables.{sound-held}
+use Rattle.cfb_alloc.proofs.SoundTables.{difat-listed, difat-whole, fat-length, fat-listed, raw_length, sound-held, whole-below}
 use Rattle.cfb_alloc.proofs.TableWords.{raw_fat-at, length-fat_words}
 use Rattle.cfb_tables.proofs.UseLemmas.{uses-kept}
 use Rattle.cfb_soundness.proofs.Members.{flat-Contains, among-not}
 use Rattle.cfb_sound_changes.specs.Kept.{IsReady}
-
--- ---- listed sectors
-
-not-among : (xs : List ℕ) (x : ℕ) → (Contains xs x → ⊥) → is_among xs x ≡ false
-not-among xs x out = go (is_among xs x) refl
-  where
-    go : (b : Bool) → is_among xs x ≡ b → is_among xs x ≡ false
-    go true h = absurd (out (among-Contains xs x h))
-    go false h = h
-
-not_joined : (xs ys : List ℕ) (i : ℕ) → (Contains xs i → ⊥) → (Contains ys i → ⊥) → is_among (xs ++ ys) i ≡ false
-not_joined xs ys i out out' = not-among (xs ++ ys) i (λ m. elim (Contains-append_cases xs ys i m) [ inl a ↦ out a | inr b ↦ out' b ])
-
--- ---- whole sectors
-
-difat-whole : (v : Version) (bytes : List ℕ) (s : ℕ) (own : List ℕ) → FollowsDifat v bytes s own → (i : ℕ) → Contains own i → is_whole_sector v bytes i ≡ true
-difat-whole v bytes s [] f i m = absurd (Contains-nil i m)
-difat-whole v bytes s (x ∷ own) f i m = elim (Contains-cases x own i m) [
-  | inl same ↦ subst (λ k. is_whole_sector v bytes k ≡ true) same f.2
-  | inr r ↦ difat-whole v bytes (next_difat v bytes x) own f.4 i r
-]
-
-whole-below : (v : Version) (bytes : List ℕ) (i : ℕ) → is_whole_sector v bytes i ≡ true → i < sector_count v bytes
-whole-below V3 bytes i w = let fits : (i + 1) * 512 + 512 ≤ length bytes = leb-true ((i + 1) * 512 + 512) (length bytes) w in omega (arith, fits)
-whole-below V4 bytes i w = let fits : (i + 1) * 4096 + 4096 ≤ length bytes = leb-true ((i + 1) * 4096 + 4096) (length bytes) w in omega (arith, fits)
-
--- ---- the values of the FAT that was read
-
-raw_length : (v : Version) (bytes list : List ℕ) → length (raw_fat v bytes list) ≡ min (sector_count v bytes) (length list * words_per_sector v)
-raw_length v bytes list = length-take (sector_count v bytes) (fat_words v bytes list) ∙ ap (min (sector_count v bytes)) (length-fat_words v bytes list)
-
-module _ (v : Version) (bytes list own fat : List ℕ) (is : fat ≡ fat_of v bytes list own) where
-  fat-length : length fat ≡ sector_count v bytes
-  unfolding fat_of
-  fat-length = ap length is ∙ length-map-range_with_len (fat_value (sector_count v bytes) list own (raw_fat v bytes list)) 0 (sector_count v bytes)
-
-  fat-at : (i : ℕ) → i < sector_count v bytes → slice_index fat i ≡ fat_value (sector_count v bytes) list own (raw_fat v bytes list) i
-  unfolding fat_of
-  fat-at i lt = ap (λ l. slice_index l i) is
-      ∙ get_or-map-range_with_len (fat_value (sector_count v bytes) list own (raw_fat v bytes list)) 0 (sector_count v bytes) i i 0 lt (omega arith)
-
-  fat-listed : (i : ℕ) → i < sector_count v bytes → Contains list i → slice_index fat i ≡ fat_sector
-  fat-listed i lt m = fat-at i lt ∙ ap (λ b. if b then fat_sector
-      else (if is_among own i then difat_sector else ended_past_file (sector_count v bytes) (slice_index_or (raw_fat v bytes list) i free_sector))) (Contains-among list i m)
-
-  difat-listed : (i : ℕ) → i < sector_count v bytes → (Contains list i → ⊥) → Contains own i → slice_index fat i ≡ difat_sector
-  difat-listed i lt out m = fat-at i lt ∙ (λ j. if not-among list i out j then fat_sector
-      else (if Contains-among own i m j then difat_sector else ended_past_file (sector_count v bytes) (slice_index_or (raw_fat v bytes list) i free_sector)))
 
 -- ---- what is used isn't free
 

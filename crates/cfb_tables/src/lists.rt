@@ -711,7 +711,8 @@ impl<A: Allocator> Lists<A> {
 
     /// How many sectors the file may grow to.
     pub fn max_sectors(&self) -> u32
-        ensures { result ≡ self.now.state.max_sectors }
+        ensures value { result ≡ self.now.state.max_sectors }
+        ensures limited { self.now.state.max_sectors ≤ max_regular_sector }
     {
         self.max_sectors
     }

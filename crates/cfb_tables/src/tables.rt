@@ -64,7 +64,8 @@ impl<A: Allocator> Tables<A> {
 
     /// How many sectors the file may grow to.
     pub fn max_sectors(&self) -> u32
-        ensures { result ≡ self.now.max_sectors }
+        ensures value { result ≡ self.now.max_sectors }
+        ensures limited { self.now.max_sectors ≤ max_regular_sector }
     {
         self.lists.max_sectors()
     }

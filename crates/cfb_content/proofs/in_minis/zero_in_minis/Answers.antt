@@ -1,0 +1,95 @@
+use Rattle.std.proofs.Common.{◌≡◌, ◌<◌, ◌+◌, ◌-◌, ℕ, refl, sym, ◌∙◌, subst, arith, length, take, replicate}
+use Rattle.std.specs.Prelude.{IsTrue, slice_index}
+use Rattle.std.proofs.lemmas.List.{get_or-replicate, length-replicate}
+use Rattle.cfb_alloc.proofs.Spared.{spares_refl}
+use Rattle.cfb_mini_sectors.specs.State.{bytes_of, mini_stream_of, table_of}
+use Rattle.cfb_mini.proofs.MiniWritten.{spares-mini-refl}
+use Rattle.cfb_content.specs.Contents.{mini_place_along}
+use Rattle.cfb_content.specs.Parts.{ChangesOnlyPlaces, StandAlong}
+use Rattle.cfb_content.proofs.MinisPut.{file-in-turn, minis-once, minis-spared, same-along, stream-spared}
+use Rattle.cfb_content.proofs.PlacedWrites.{only_refl, only_then}
+use Rattle.cfb_content.proofs.PutAlong.{StandsTo, stands-none, stands-on, zeros-at, zeros-length}
+use Rattle.cfb_content.proofs.in_minis.zero_in_minis.Goals as goal
+
+pub loop-at-init : goal.loop-at-init
+loop-at-init g c =
+    let s = c.args.mini.now in
+    record {
+      behind = omega arith;
+      within = λ less. omega (arith, less);
+      kept = refl;
+      put = λ told validation h once. stands-none (mini_place_along s c.args.ids.now) c.args.from (λ k. 0) (c.args.from - c.args.from) (bytes_of s) (omega arith);
+      others = λ told. only_refl (mini_place_along s c.args.ids.now) c.args.from (c.args.to - c.args.from) (bytes_of s);
+      spares = λ told. spares_refl (mini_stream_of s) (table_of s);
+      mini_spares = λ told validation h. spares-mini-refl c.args.ids.now s;
+      holds = λ told validation h. h;
+      begun = λ less. absurd (omega (arith, less));
+      none = λ same. refl;
+      counts = λ told. refl;
+    }
+
+pub returns-in_err-put_in_minis-clause-spares : goal.returns-in_err-put_in_minis-clause-spares
+returns-in_err-put_in_minis-clause-spares g c told =
+    let inv = c.loop-at.invariant in
+    stream-spared c.args.mini.now c.loop-at.mini c.put_in_minis.new.mini inv.kept (inv.spares told) (c.put_in_minis.ensures.spares told)
+
+pub returns-in_err-put_in_minis-clause-mini_spares : goal.returns-in_err-put_in_minis-clause-mini_spares
+returns-in_err-put_in_minis-clause-mini_spares g c told validation h =
+    let inv = c.loop-at.invariant in
+    minis-spared validation c.args.ids.now c.args.ids.now c.args.mini.now c.loop-at.mini c.put_in_minis.new.mini h inv.kept (λ m x. x)
+    (inv.mini_spares told validation h) (c.put_in_minis.ensures.mini_spares told validation (inv.holds told validation h))
+
+pub loop-at-preserved : goal.loop-at-preserved
+loop-at-preserved g c =
+    let s = c.args.mini.now in
+    let b = c.loop-at.mini in
+    let new = c.put_in_minis.new.mini in
+    let ids = c.args.ids.now in
+    let from = c.args.from in
+    let at = c.loop-at.at in
+    let n = c.min-count.result in
+    let inv = c.loop-at.invariant in
+    let e = c.in_ok-put_in_minis.ensures in
+    let more = c.loop-at-test.true in
+    let count = c.min-count.ensures in
+    let behind = inv.behind in
+    let place = mini_place_along s ids in
+    let zeros = take n (replicate {A = ℕ} 64 0) in
+    let size : length zeros ≡ n = zeros-length 64 n (omega (arith, count)) in
+    let same = same-along s b inv.kept ids in
+    let change : IsTrue g.F.ReadMedium.tells → ChangesOnlyPlaces place at n (bytes_of b) (bytes_of new) =
+    λ told. subst (λ m. ChangesOnlyPlaces place at m (bytes_of b) (bytes_of new)) size
+    (subst (λ (p : ℕ → ℕ). ChangesOnlyPlaces p at (length zeros) (bytes_of b) (bytes_of new)) same (e.others told)) in
+    let done : from + (at - from) ≡ at = omega (arith, behind) in
+    record {
+      behind = omega (arith, behind);
+      within = λ less. omega (arith, count, more);
+      kept = file-in-turn s b new inv.kept e.kept;
+      put = λ told validation h once.
+          let stands : StandAlong place at zeros (bytes_of new) =
+          subst (λ (p : ℕ → ℕ). StandAlong p at zeros (bytes_of new)) same (e.put told validation (inv.holds told validation h) once) in
+          let whole : at - from + n ≡ at + n - from = omega (arith, behind) in
+          subst (λ m. StandsTo place from (λ k. 0) m (bytes_of new)) whole
+          (stands-on place from (at - from) n (λ k. 0) (bytes_of b) (bytes_of new)
+          (λ k j low before high to.
+          minis-once validation s ids h once j k (c.requires.placed j (omega (arith, low, before, high)) (omega (arith, to, done, count, more)))
+          (c.requires.placed k low (omega (arith, before, done, more))) (omega (arith, before, high)))
+          (subst (λ m. ChangesOnlyPlaces place m n (bytes_of b) (bytes_of new)) (sym done) (change told)) (inv.put told validation h once)
+          (λ j low. subst (λ m. (place (m + j) < length (bytes_of new)) × (slice_index (bytes_of new) (place (m + j)) ≡ 0)) (sym done)
+          (let put = stands j (omega (arith, low, size)) in (put.0, put.1 ∙ zeros-at 64 n j low (omega (arith, low, count))))));
+      others = λ told.
+          only_then place from (c.args.to - from) at n (bytes_of s) (bytes_of b) (bytes_of new) behind (omega (arith, count, more, behind)) (inv.others told) (change told);
+      spares = λ told. stream-spared s b new inv.kept (inv.spares told) (e.spares told);
+      mini_spares = λ told validation h. minis-spared validation ids ids s b new h inv.kept (λ m x. x) (inv.mini_spares told validation h) (e.mini_spares told validation (inv.holds told validation h));
+      holds = λ told validation h. e.holds told validation (inv.holds told validation h);
+      begun = λ less. e.begun (omega (arith, size, count, more));
+      none = λ is. absurd (omega (arith, is, behind, count, more));
+      counts = λ told. e.counts told ∙ inv.counts told;
+    }
+
+pub returns-clause-put : goal.returns-clause-put
+returns-clause-put g c told validation h once k low =
+    let past = c.loop-at-test.false in
+    let size = length-replicate {A = ℕ} (c.args.to - c.args.from) 0 in
+    let put = c.loop-at.invariant.put told validation h once k (omega (arith, low, past, size)) in
+    (put.0, put.1 ∙ sym (get_or-replicate (c.args.to - c.args.from) k 0 0 (omega (arith, low, size))))

@@ -1,0 +1,22 @@
+use Rattle.std.proofs.Common.{sym, subst}
+use Rattle.cfb_format.specs.Chain.{IsChain}
+use Rattle.cfb_tables.specs.Changes.{AreDisjoint}
+use Rattle.cfb_tables.specs.Clean.{IsUnnamed}
+use Rattle.cfb_tables.specs.Tables.{AreSizes, sizes_of}
+use Rattle.cfb_alloc.specs.Alloc.{AllocatorState}
+use Rattle.cfb_mini_sectors.specs.State.{HoldsMini, MiniState, tables_in}
+use Rattle.cfb_mini_sectors.specs.Steps.{system_sectors}
+use Rattle.cfb_mini.proofs.MiniDirectory.{chains-held}
+use Rattle.cfb_mini.proofs.mini_allocator.MiniAllocator.free_chain.Goals as goal
+
+pub returns-clause-holds : goal.returns-clause-holds
+returns-clause-holds g c told validation h list chain apart unnamed =
+    let back = sym c.self.view_is in
+    let here = subst (λ (s : MiniState). HoldsMini validation s) back h in
+    let there = subst (λ (s : MiniState). IsChain (tables_in s).fat c.args.start list) back chain in
+    let out = subst (λ (s : MiniState). AreDisjoint (system_sectors s) list) back apart in
+    let alone = subst (λ (s : MiniState). IsUnnamed (tables_in s).fat c.args.start) back unnamed in
+    let sizes = subst (λ (a : AllocatorState). AreSizes a.tables.version (sizes_of a.tables)) c.allocator.ensures c.file_len-len.ensures.sizes in
+    let was = c.free_chain-freed.ensures in
+    chains-held c.free_chain-freed.result validation list _ c.free_chain-freed.new.self here was.rest (was.holds told validation here.directory.tables alone) sizes
+    (was.spares told list there) out (was.changes told).header

@@ -1,0 +1,69 @@
+use Rattle.std.proofs.Common.{inr, ℕ, List, [], ◌∷◌, drop, subst, arith}
+use Rattle.std.specs.Prelude.{Contains, OnOk}
+use Rattle.std.proofs.lemmas.Result.{on_ok_weaker}
+use Rattle.cfb_format.specs.Chain.{IsChain}
+use Rattle.cfb_format.proofs.Unique.{IsChain-unique}
+use Rattle.cfb_tables.proofs.ChainLemmas.{chain_of}
+use Rattle.cfb_alloc.proofs.Spared.{spares_refl}
+use Rattle.cfb_mini_sectors.specs.Steps.{IsZeroMini, SparesMini}
+use Rattle.cfb_mini.specs.MiniSectors.{KeepsMiniBytesBut}
+use Rattle.cfb_mini.proofs.MiniBehind.{begun-at, cut-behind, ends-at-start}
+use Rattle.cfb_mini.proofs.MiniExtended.{invalid-refused}
+use Rattle.cfb_mini.proofs.MiniWritten.{spares-mini-refl}
+use Rattle.cfb_mini.proofs.mini_allocator.MiniAllocator.free_mini_chain_after.Goals as goal
+
+pub returns-then-mini-eq-END_OF_CHAIN-clause-spares : goal.returns-then-mini-eq-END_OF_CHAIN-clause-spares
+returns-then-mini-eq-END_OF_CHAIN-clause-spares g c told = spares_refl _ _
+
+pub returns-then-mini-eq-END_OF_CHAIN-clause-err : goal.returns-then-mini-eq-END_OF_CHAIN-clause-err
+returns-then-mini-eq-END_OF_CHAIN-clause-err g c =
+    let minifat = c.args.self.now.minifat in
+    let mini = c.args.mini in
+    invalid-refused _ _ _ _ c.no_mini_chain.result c.no_mini_chain.ensures
+    (inr (λ list chain some. some (IsChain-unique minifat mini list [] chain (chain_of minifat mini [] c.if-mini-eq-END_OF_CHAIN.true))))
+
+pub returns-in_err-ids-clause-spares : goal.returns-in_err-ids-clause-spares
+returns-in_err-ids-clause-spares g c told = spares_refl _ _
+
+pub returns-in_err-ids-clause-mini_spares : goal.returns-in_err-ids-clause-mini_spares
+returns-in_err-ids-clause-mini_spares g c told validation h list chain = spares-mini-refl (c.args.mini ∷ list) c.args.self.now
+
+pub returns-clause-cut : goal.returns-clause-cut
+returns-clause-cut g c =
+    let old = c.args.self.now.minifat in
+    let new = c.cut_mini_listed.new.self.minifat in
+    let mini = c.args.mini in
+    let ids = c.in_ok-ids.ids.items in
+    let chain = c.in_ok-ids.ensures.ok in
+    let ne = c.if-mini-eq-END_OF_CHAIN.false in
+    let whole = subst (λ (l : List ℕ). IsChain old mini l) (begun-at old mini ids ne chain) chain in
+    on_ok_weaker c.cut_mini_listed.result (λ cut. (drop 1 ids, whole, cut-behind old new mini ids ne chain cut)) c.cut_mini_listed.ensures.given_back
+
+pub returns-clause-none : goal.returns-clause-none
+returns-clause-none g c ended =
+    let short = ends-at-start c.args.self.now.minifat c.args.mini c.in_ok-ids.ids.items c.if-mini-eq-END_OF_CHAIN.false c.in_ok-ids.ensures.ok ended in
+    (c.cut_mini_listed.ensures.none short).1
+
+pub returns-clause-holds : goal.returns-clause-holds
+returns-clause-holds g c told validation h = c.cut_mini_listed.ensures.holds told validation h (λ none. absurd (omega (arith, none)))
+
+pub returns-clause-wiped : goal.returns-clause-wiped
+returns-clause-wiped g c told validation h list chain =
+    let cut = c.cut_mini_listed in
+    let mini = c.args.mini in
+    let same = IsChain-unique c.args.self.now.minifat mini c.in_ok-ids.ids.items (mini ∷ list) c.in_ok-ids.ensures.ok chain in
+    subst (λ (l : List ℕ). OnOk cut.result ((m : ℕ) → Contains (drop 1 l) m → IsZeroMini cut.new.self m)) same (cut.ensures.wiped told validation h)
+
+pub returns-clause-mini_spares : goal.returns-clause-mini_spares
+returns-clause-mini_spares g c told validation h list chain =
+    let cut = c.cut_mini_listed in
+    let mini = c.args.mini in
+    let same = IsChain-unique c.args.self.now.minifat mini c.in_ok-ids.ids.items (mini ∷ list) c.in_ok-ids.ensures.ok chain in
+    subst (λ (l : List ℕ). SparesMini l c.args.self.now cut.new.self) same (cut.ensures.mini_spares told validation h)
+
+pub returns-clause-bytes : goal.returns-clause-bytes
+returns-clause-bytes g c told validation h list chain =
+    let cut = c.cut_mini_listed in
+    let mini = c.args.mini in
+    let same = IsChain-unique c.args.self.now.minifat mini c.in_ok-ids.ids.items (mini ∷ list) c.in_ok-ids.ensures.ok chain in
+    subst (λ (l : List ℕ). KeepsMiniBytesBut (drop 1 l) c.args.self.now cut.new.self) same (cut.ensures.bytes told validation h)

@@ -1,0 +1,37 @@
+use Rattle.std.proofs.Common.{◌≡◌, ◌/◌, length, sym, ap, subst, arith}
+use Rattle.std.proofs.lemmas.Result.{err_from_is_err_and}
+use Rattle.cfb_format.specs.Content.{mini_sector_len}
+use Rattle.cfb_format.specs.DirectoryEntry.{Entry}
+use Rattle.cfb_format.specs.Full.{max_mini_sectors}
+use Rattle.cfb_codecs.proofs.Refusals.{refusal_follows}
+use Rattle.cfb_directory.proofs.DirectoryRefusals.{walk_invalid}
+use Rattle.cfb_mini_table.specs.MiniTable.{AcceptsMini}
+use Rattle.cfb_mini.specs.Changing.{root_len_in}
+use Rattle.cfb_mini.proofs.mini_allocator.MiniAllocator.new.Goals as goal
+
+pub returns-in_err-minifat_sectors-clause-refused : goal.returns-in_err-minifat_sectors-clause-refused
+returns-in_err-minifat_sectors-clause-refused g c =
+    let p = err_from_is_err_and c.from_residual.result c.from_residual.ensures.1 in
+    let long : length c.args.words.items ≡ c.len.result = omega (arith, c.len.ensures, c.args.words.ok.0) in
+    rw (p.1, p.2) (refusal_follows c.in_err-minifat_sectors.field-0.0 _ _ (λ none list are accepts strict. none c.args.words.items list long are strict)
+    c.in_err-minifat_sectors.ensures.refused)
+
+pub returns-in_err-mini_stream-clause-refused : goal.returns-in_err-mini_stream-clause-refused
+returns-in_err-mini_stream-clause-refused g c =
+    let p = err_from_is_err_and c.from_residual-in_err-mini_stream.result c.from_residual-in_err-mini_stream.ensures.1 in
+    rw (p.1, p.2) (walk_invalid ⊥ _ (λ no. absurd no) c.in_err-mini_stream.field-0.0 c.in_err-mini_stream.ensures.err)
+
+pub returns-in_err-clone-clause-refused : goal.returns-in_err-clone-clause-refused
+returns-in_err-clone-clause-refused g c =
+    let p = err_from_is_err_and c.from_residual-in_err-clone.result c.from_residual-in_err-clone.ensures.1 in
+    rw (p.1, p.2) tt
+
+pub returns-in_err-table-clause-refused : goal.returns-in_err-table-clause-refused
+returns-in_err-table-clause-refused g c =
+    let p = err_from_is_err_and c.from_residual-in_err-table.result c.from_residual-in_err-table.ensures.1 in
+    let d = c.args.directory in
+    let len : c.root_dir_entry.result.now.stream_len ≡ root_len_in d = ap (λ (e : Entry). e.stream_len) c.root_dir_entry.ensures.entry in
+    rw (p.1, p.2) (walk_invalid _ _ (λ none list are accepts strict.
+    none (subst (λ v. AcceptsMini c.args.validation (max_mini_sectors v) (c.root_dir_entry.result.now.stream_len / mini_sector_len) c.args.words.items) (sym c.version.ensures)
+    (subst (λ n. AcceptsMini c.args.validation (max_mini_sectors d.table.tables.version) (n / mini_sector_len) c.args.words.items) (sym len) accepts)))
+    c.in_err-table.field-0.0 c.in_err-table.ensures.err)

@@ -1,0 +1,8 @@
+pub mod MiniChainPlaces
+pub mod MiniChainHeld
+pub mod MiniChainFrames
+pub mod MiniChainBytes
+pub mod MiniChainAnswers
+pub mod MiniChainLists
+pub mod MiniChainReads
+pub mod MiniChainSteps

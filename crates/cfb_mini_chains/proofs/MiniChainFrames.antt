@@ -1,0 +1,150 @@
+-- What changes of mini chains leave alone, one after the other.
+use Rattle.std.proofs.Common.{◌≡◌, ◌≢◌, ◌≤◌, ◌<◌, ◌+◌, ◌*◌, ◌⊎◌, inl, inr, ℕ, List, [], ◌∷◌, ◌++◌, refl, sym, ◌∙◌, ap, subst, length, arith}
+use Rattle.std.specs.Prelude.{Contains, Option, unwrap_or}
+use Rattle.std.proofs.lemmas.List.{append-nil}
+use Rattle.std.proofs.lemmas.List.Elements.{Contains-append_right, Contains-append_cases}
+use Rattle.cfb_format.specs.declared.validate.Validation.{Validation}
+use Rattle.cfb_format.specs.Bytes.{free_sector}
+use Rattle.cfb_format.specs.Chain.{value}
+use Rattle.cfb_format.specs.Medium.{ChangesOnlyBytes}
+use Rattle.cfb_sectors.specs.Words.{Stays}
+use Rattle.cfb_sectors.proofs.SectorLemmas.{Stays_trans}
+use Rattle.cfb_tables.specs.Listed.{gained}
+use Rattle.cfb_tables.specs.Tables.{HasTaken, TableState}
+use Rattle.cfb_tables.proofs.Members.{Contains-one, Contains-or, in_three, first_of_three}
+use Rattle.cfb_alloc.specs.Frame.{Spares}
+use Rattle.cfb_alloc.proofs.Frames.{spares-less, spares-then}
+use Rattle.cfb_mini_table.specs.MiniTable.{TakesMini}
+use Rattle.cfb_mini_sectors.specs.State.{MiniState, HoldsMini, bytes_of, mini_place, mini_stream_of, table_of, tables_in, version_of}
+use Rattle.cfb_mini_sectors.specs.Steps.{GrowsFor, KeepsHeader, KeepsLimits, KeepsSystem, MovesRoot, SparesMini, system_sectors}
+use Rattle.cfb_mini_sectors.proofs.MiniFrames.{held-places, place-stays, spares-less as minis-less}
+use Rattle.cfb_mini.specs.MiniSectors.{ChangesFileOnly, KeepsDirectory, KeepsMiniBytesBut}
+
+-- ---- other mini sectors
+
+pub one_spared : (own : List ℕ) (m : ℕ) (old new : MiniState) → Contains own m → SparesMini (m ∷ []) old new → SparesMini own old new
+one_spared own m old new member = minis-less (m ∷ []) own old new (λ i c. subst (Contains own) (Contains-one m i c) member)
+
+-- ---- the bytes of mini sectors in use
+
+pub bytes_less : (own more : List ℕ) (old new : MiniState) → ((m : ℕ) → Contains own m → Contains more m) → KeepsMiniBytesBut own old new → KeepsMiniBytesBut more old new
+bytes_less own more old new among keeps m busy out = keeps m busy (λ c. out (among m c))
+
+-- a change, and then one of some of the same mini sectors
+pub bytes_then : (validation : Validation) (own own' : List ℕ) (a b c : MiniState) → HoldsMini validation a → version_of b ≡ version_of a
+    → mini_stream_of b ≡ mini_stream_of a → ((m : ℕ) → value a.minifat m ≢ free_sector → (Contains own m → ⊥) → value b.minifat m ≢ free_sector)
+    → ((m : ℕ) → Contains own' m → Contains own m) → KeepsMiniBytesBut own a b → SparesMini own' b c → KeepsMiniBytesBut own a c
+bytes_then validation own own' a b c h version stream still among first second m busy out =
+    let at = place-stays a b m [] (held-places a h.mini_stream) version (stream ∙ sym (append-nil (mini_stream_of a))) busy in
+    Stays_trans (mini_place a m) (mini_place a m + 64) (bytes_of a) (bytes_of b) (bytes_of c) (first m busy out)
+    (subst (λ p. Stays p (p + 64) (bytes_of b) (bytes_of c)) at (second.bytes m (still m busy out) (λ member. out (among m member))))
+
+-- ---- the directory, the entries and the limits
+
+pub directory_refl : (s : MiniState) → KeepsDirectory s s
+directory_refl s = record {
+  sectors = refl;
+  entries = record {
+    same_length = refl;
+    root = refl;
+    root_len = inl refl;
+    others = λ k other. refl;
+  };
+  limits = record {
+    version = refl;
+    cases = refl;
+    max_sectors = refl;
+    max_mini_sectors = refl;
+  };
+}
+
+-- then the file alone changes
+pub directory_then_file : (a b c : MiniState) → KeepsDirectory a b → ChangesFileOnly b c → KeepsDirectory a c
+directory_then_file a b c first second =
+    let limits : KeepsLimits a c = record {
+      version = ap version_of second ∙ first.limits.version;
+      cases = ap (λ (s : MiniState). s.directory.cases) second ∙ first.limits.cases;
+      max_sectors = ap (λ (s : MiniState). (tables_in s).max_sectors) second ∙ first.limits.max_sectors;
+      max_mini_sectors = ap (λ (s : MiniState). s.max_mini_sectors) second ∙ first.limits.max_mini_sectors;
+    } in
+    record {
+      sectors = ap (λ (s : MiniState). s.directory.sectors) second ∙ first.sectors;
+      entries = subst (λ (s : MiniState). MovesRoot a s) (sym second) (record {
+        same_length = first.entries.same_length;
+        root = first.entries.root;
+        root_len = first.entries.root_len;
+        others = first.entries.others;
+      });
+      limits = limits;
+    }
+
+-- ---- the header
+
+pub header_refl : (s : MiniState) → KeepsHeader s s
+header_refl s i within outside = refl
+
+pub outside_first : (i : ℕ) → (i < 44) ⊎ ((48 ≤ i) × (i < 60)) → i < 512
+outside_first i (inl low) = omega (arith, low)
+outside_first i (inr high) = let top = high.1 in omega (arith, top)
+
+pub header_then_write : (a b c : MiniState) (at n : ℕ) → length (bytes_of a) ≤ length (bytes_of b) → 512 ≤ at → KeepsHeader a b
+    → ChangesOnlyBytes at n (bytes_of b) (bytes_of c) → KeepsHeader a c
+header_then_write a b c at n longer behind first change i within outside =
+    let low = outside_first i outside in
+    change.below i (omega (arith, within, longer)) (omega (arith, low, behind)) ∙ first i within outside
+
+-- ---- sectors
+
+-- a sector that the tables took is free before
+pub taken_was_free : (touched more : List ℕ) (old new : TableState) (i : ℕ) → HasTaken old new touched more → value new.fat i ≡ free_sector → value old.fat i ≡ free_sector
+taken_was_free touched more old new i taken free =
+    elim (Contains-or (touched ++ more ++ taken.fats ++ taken.difats) i) [
+      | inl member ↦ absurd (never (in_three (touched ++ more) taken.fats taken.difats i member))
+      | inr out ↦ sym (taken.only i out) ∙ free
+    ]
+  where
+    never : Contains (touched ++ more) i ⊎ (Contains taken.fats i ⊎ Contains taken.difats i) → ⊥
+    never (inl own) = elim (taken.busy i own) [ inl regular ↦ omega (arith, regular, free) | inr end ↦ omega (arith, end, free) ]
+    never (inr (inl fat)) = let mark = taken.fat_marks i fat in omega (arith, mark, free)
+    never (inr (inr difat)) = let mark = taken.difat_marks i difat in omega (arith, mark, free)
+
+-- a mini sector that was in use is in use still once others are taken
+pub still_busy : (limit : ℕ) (touched more old new : List ℕ) (m : ℕ) → TakesMini limit old new touched more → value old m ≢ free_sector → value new m ≢ free_sector
+still_busy limit touched more old new m taken busy free =
+    elim (Contains-or (touched ++ more) m) [
+      | inl member ↦ elim (taken.busy m member) [ inl regular ↦ omega (arith, regular, free) | inr end ↦ omega (arith, end, free) ]
+      | inr out ↦ busy (sym (taken.only m out) ∙ free)
+    ]
+
+-- the sectors of the mini stream once it has grown
+pub grown_stream : (count : ℕ) (old new : MiniState) → GrowsFor count old new → (i : ℕ) → Contains (mini_stream_of new) i
+    → (value (tables_in old).fat i ≡ free_sector) ⊎ Contains (system_sectors old) i
+grown_stream count old new grown i member =
+    let is : mini_stream_of new ≡ mini_stream_of old ++ gained (mini_stream_of old) grown.stream =
+    ap (λ (o : Option (List ℕ)). unwrap_or o []) grown.kept ∙ grown.mini_stream.listed in
+    elim (Contains-append_cases (mini_stream_of old) (gained (mini_stream_of old) grown.stream) i (subst (λ (xs : List ℕ). Contains xs i) is member)) [
+      | inl own ↦ inr (Contains-append_right (old.directory.sectors ++ old.minifat_sectors) (mini_stream_of old) i own)
+      | inr more ↦
+          inl (taken_was_free _ _ (tables_in old) grown.between i grown.minifat.taken
+          (grown.mini_stream.taken.fresh i (first_of_three _ _ _ i more)))
+    ]
+
+-- mini sectors are gained, and then one is written
+pub grown_spared : (count : ℕ) (old mid : MiniState) (new : MiniState) → GrowsFor count old mid → Spares (system_sectors old) (table_of old) (table_of mid)
+    → Spares (mini_stream_of mid) (table_of mid) (table_of new) → Spares (system_sectors old) (table_of old) (table_of new)
+grown_spared count old mid new grown first second =
+    spares-then (system_sectors old) (mini_stream_of mid) (table_of old) (table_of mid) (table_of new) (grown_stream count old mid grown) first second
+
+-- the mini stream's own sectors alone
+pub stream_spared : (old new : MiniState) → Spares (mini_stream_of old) (table_of old) (table_of new) → Spares (system_sectors old) (table_of old) (table_of new)
+stream_spared old new =
+    spares-less (mini_stream_of old) (system_sectors old) (table_of old) (table_of new)
+    (λ i m. Contains-append_right (old.directory.sectors ++ old.minifat_sectors) (mini_stream_of old) i m)
+
+-- mini sectors are given back, and then one is written
+pub cut_spared : (old mid new : MiniState) → KeepsSystem old mid → Spares (system_sectors old) (table_of old) (table_of mid)
+    → Spares (mini_stream_of mid) (table_of mid) (table_of new) → Spares (system_sectors old) (table_of old) (table_of new)
+cut_spared old mid new system first second =
+    let is : mini_stream_of mid ≡ mini_stream_of old = ap (λ (o : Option (List ℕ)). unwrap_or o []) system.mini_stream in
+    spares-then (system_sectors old) (mini_stream_of mid) (table_of old) (table_of mid) (table_of new)
+    (λ i m. inr (Contains-append_right (old.directory.sectors ++ old.minifat_sectors) (mini_stream_of old) i (subst (λ (xs : List ℕ). Contains xs i) is m))) first second

@@ -1,0 +1,58 @@
+-- What holding the mini sectors says of their places.
+use Rattle.std.proofs.Common.{◌≡◌, ◌≢◌, ◌≤◌, ◌<◌, ◌+◌, ◌*◌, ◌/◌, ◌⊎◌, inl, inr, ℕ, List, [], ◌++◌, sym, ◌∙◌, ap, subst, length, arith}
+use Rattle.std.specs.Prelude.{Contains, Option, Some, unwrap_or, slice_index, nat_eq, if◌then◌else◌}
+use Rattle.std.specs.List.{IsDistinct}
+use Rattle.std.proofs.lemmas.Bool.{cases_lt}
+use Rattle.cfb_format.specs.declared.validate.Validation.{Validation}
+use Rattle.cfb_format.specs.Bytes.{sector_len, free_sector}
+use Rattle.cfb_format.specs.Chain.{value, chain_from}
+use Rattle.cfb_tables.specs.Tables.{TableState}
+use Rattle.cfb_alloc.proofs.ChainView.{found_chain}
+use Rattle.cfb_tables.proofs.ChainLemmas.{members-busy}
+use Rattle.cfb_tables.proofs.Members.{distinct-right}
+use Rattle.cfb_mini_sectors.specs.State.{MiniState, HoldsMini, mini_place, mini_stream_of, table_of, tables_in, version_of}
+use Rattle.cfb_mini_sectors.specs.Steps.{KeepsSystem}
+use Rattle.cfb_mini.proofs.MiniKnown.{mini-or-not}
+use Rattle.cfb_mini.specs.MiniSectors.{HasMiniByte, HasMiniSector}
+
+-- the mini stream's sectors differ
+pub held_distinct : (validation : Validation) (s : MiniState) → HoldsMini validation s → IsDistinct nat_eq (mini_stream_of s)
+held_distinct validation s h = distinct-right (s.directory.sectors ++ s.minifat_sectors) (mini_stream_of s) h.apart
+
+-- and it has all of each mini sector
+pub held_whole : (validation : Validation) (s : MiniState) (m : ℕ) → HoldsMini validation s → m < length s.minifat → 64 * m + 64 ≤ length (mini_stream_of s) * sector_len (version_of s)
+held_whole validation s m h below =
+    let is = ap (λ (o : Option (List ℕ)). length (unwrap_or o []) * sector_len (version_of s)) h.mini_stream.kept in
+    let room = h.mini_stream.room in
+    omega (arith, is, room, below)
+
+-- the members of a mini chain are in use
+pub member_busy : (table : List ℕ) (start : ℕ) (ids : List ℕ) (m : ℕ) → chain_from table start ≡ Some ids → Contains ids m → value table m ≢ free_sector
+member_busy table start ids m chained member = (members-busy table start ids (found_chain table start ids chained) m member).0
+
+pub member_below : (table : List ℕ) (start : ℕ) (ids : List ℕ) (m : ℕ) → chain_from table start ≡ Some ids → Contains ids m → m < length table
+member_below table start ids m chained member = (members-busy table start ids (found_chain table start ids chained) m member).1
+
+-- the file has a byte of a mini sector or not
+pub byte_or : (s : MiniState) (m offset : ℕ) → HasMiniByte s m offset ⊎ (HasMiniByte s m offset → ⊥)
+byte_or s m offset =
+    elim (mini-or-not s m) [
+      | inl has ↦
+          elim (cases_lt (mini_place s m + offset) (table_of s).file.len) [
+            | inl reached ↦ inl (record { mini_sector = has; reached = reached })
+            | inr past ↦ inr (λ h. let is = h.reached in omega (arith, past, is))
+          ]
+      | inr none ↦ inr (λ h. none h.mini_sector)
+    ]
+
+-- and has it still where neither the mini stream nor the tables change
+pub has_kept : (old new : MiniState) (m : ℕ) → KeepsSystem old new → HasMiniSector old m → HasMiniSector new m
+has_kept old new m kept has =
+    let stream : mini_stream_of new ≡ mini_stream_of old = ap (λ (o : Option (List ℕ)). unwrap_or o []) kept.mini_stream in
+    let tables = kept.tables in
+    record {
+      in_stream = subst (λ (t : TableState). 64 * m < length (mini_stream_of new) * sector_len t.version) (sym tables)
+          (subst (λ (xs : List ℕ). 64 * m < length xs * sector_len (version_of old)) (sym stream) has.in_stream);
+      in_file = subst (λ (t : TableState). slice_index (mini_stream_of new) (64 * m / sector_len t.version) < length t.fat) (sym tables)
+          (subst (λ (xs : List ℕ). slice_index xs (64 * m / sector_len (version_of old)) < length (tables_in old).fat) (sym stream) has.in_file);
+    }

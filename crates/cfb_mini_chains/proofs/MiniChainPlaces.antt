@@ -1,0 +1,109 @@
+-- Where the bytes of a mini chain stand in the mini stream and in the file.
+use Rattle.std.proofs.Common.{◌≡◌, ◌≢◌, ◌≤◌, ◌<◌, ◌+◌, ◌-◌, ◌*◌, ◌/◌, ◌%◌, ◌⊎◌, ◌∙◌, inl, inr, ℕ, List, ◌++◌, refl, sym, ap, subst, length, take, drop, replicate, arith, length-append}
+use Rattle.std.specs.Prelude.{Contains, slice_index, nat_eq}
+use Rattle.std.specs.List.{IsDistinct}
+use Rattle.std.proofs.lemmas.Bool.{cases_eq, cases_lt}
+use Rattle.std.proofs.lemmas.List.{take-append-drop, take-replicate, get_or_append_left, get_or-append_right, get_or-take}
+use Rattle.std.proofs.lemmas.List.Elements.{Contains-append_left, Contains-get_or}
+use Rattle.cfb_format.specs.declared.version.Version.{Version}
+use Rattle.cfb_format.specs.declared.version.Version.TheVariants.{V3, V4}
+use Rattle.cfb_format.specs.Bytes.{sector_len, sector_start}
+use Rattle.cfb_chains.specs.ChainPlaces.{place_along}
+use Rattle.cfb_alloc.proofs.Listed.{place_once}
+use Rattle.cfb_soundness.specs.Places.{mini_start}
+
+pub zeros_of : (zeros : List ℕ) (n : ℕ) → zeros ≡ replicate 64 0 → n ≤ 64 → take n zeros ≡ replicate n 0
+zeros_of zeros n is few = ap (take n) is ∙ take-replicate n 64 0 few
+
+-- ---- a mini sector lies inside one sector
+
+stream_quotient : (v : Version) (m r : ℕ) → r < 64 → (64 * m + r) / sector_len v ≡ 64 * m / sector_len v
+stream_quotient V3 m r short = omega arith
+stream_quotient V4 m r short = omega arith
+
+stream_rest : (v : Version) (m r : ℕ) → r < 64 → (64 * m + r) % sector_len v ≡ 64 * m % sector_len v + r
+stream_rest V3 m r short = omega arith
+stream_rest V4 m r short = omega arith
+
+-- a byte of a mini sector is one of the mini stream
+pub mini_along : (v : Version) (sectors : List ℕ) (m r : ℕ) → r < 64 → place_along v sectors (64 * m + r) ≡ mini_start v sectors m + r
+mini_along v sectors m r short =
+    (λ j. sector_start v (slice_index sectors (stream_quotient v m r short j)) + stream_rest v m r short j)
+    ∙ omega arith
+
+pub fits_along : (v : Version) (m r n : ℕ) → r < 64 → r + n ≤ 64 → (64 * m + r) % sector_len v + n ≤ sector_len v
+fits_along V3 m r n inside short = omega arith
+fits_along V4 m r n inside short = omega arith
+
+-- the mini stream has all of a mini sector of which it has a byte
+pub whole_mini : (v : Version) (m n : ℕ) → 64 * m < n * sector_len v → 64 * m + 64 ≤ n * sector_len v
+whole_mini V3 m n h = omega arith
+whole_mini V4 m n h = omega arith
+
+-- sectors stand behind the header
+pub behind_header : (v : Version) (sectors : List ℕ) (m r : ℕ) → 512 ≤ mini_start v sectors m + r
+behind_header V3 sectors m r = omega arith
+behind_header V4 sectors m r = omega arith
+
+-- ---- the mini sectors of a mini chain
+
+-- which byte of the mini stream byte k of the mini chain is
+abbrev pub in_stream : List ℕ → ℕ → ℕ
+in_stream ids k = 64 * slice_index ids (k / 64) + k % 64
+
+pub mini_inside : (k n : ℕ) → k < n * 64 → k / 64 < n
+mini_inside k n h = omega arith
+
+pub mini_member : (ids : List ℕ) (k : ℕ) → k < length ids * 64 → Contains ids (slice_index ids (k / 64))
+mini_member ids k inside = Contains-get_or ids (k / 64) 0 (mini_inside k (length ids) inside)
+
+-- another byte of it than those that are written lies beside them in the mini stream
+pub beside_stream : (ids : List ℕ) (k p n : ℕ) → IsDistinct nat_eq ids → k < length ids * 64 → p < length ids * 64 → p % 64 + n ≤ 64
+    → (k < p) ⊎ (p + n ≤ k) → (in_stream ids k < in_stream ids p) ⊎ (in_stream ids p + n ≤ in_stream ids k)
+beside_stream ids k p n once low inside short other =
+    elim (cases_eq (k / 64) (p / 64)) [
+      | inl same ↦
+          let at = ap (λ q. slice_index ids q) same in
+          elim other [ inl below ↦ inl (omega (arith, at, same, below)) | inr above ↦ inr (omega (arith, at, same, above)) ]
+      | inr differ ↦
+          elim (cases_lt (slice_index ids (k / 64)) (slice_index ids (p / 64))) [
+            | inl less ↦ inl (omega (arith, less))
+            | inr more ↦
+                let another : slice_index ids (k / 64) ≢ slice_index ids (p / 64) =
+                λ e. differ (place_once ids once (k / 64) (p / 64) (mini_inside k (length ids) low) (mini_inside p (length ids) inside) e) in
+                elim (cases_lt (slice_index ids (p / 64)) (slice_index ids (k / 64))) [
+                  | inl less ↦ inr (omega (arith, less, short))
+                  | inr not_less ↦ absurd (another (omega (arith, more, not_less)))
+                ]
+          ]
+    ]
+
+-- bytes that follow each other in one mini sector
+pub later_stream : (ids : List ℕ) (p j : ℕ) → p % 64 + j < 64 → in_stream ids (p + j) ≡ in_stream ids p + j
+later_stream ids p j short =
+    let q : (p + j) / 64 ≡ p / 64 = omega (arith, short) in
+    let r : (p + j) % 64 ≡ p % 64 + j = omega (arith, short) in
+    let at = ap (λ n. slice_index ids n) q in
+    omega (arith, at, r)
+
+-- ---- growth and cuts
+
+pub index_before : (ids more : List ℕ) (k : ℕ) → k < length ids * 64 → slice_index (ids ++ more) (k / 64) ≡ slice_index ids (k / 64)
+index_before ids more k inside = get_or_append_left ids more 0 (k / 64) (mini_inside k (length ids) inside)
+
+pub gained_member : (ids more : List ℕ) (k : ℕ) → length ids * 64 ≤ k → k < length (ids ++ more) * 64 → Contains more (slice_index (ids ++ more) (k / 64))
+gained_member ids more k low high =
+    let q = k / 64 in
+    let long = length-append ids more in
+    let from : length ids ≤ q = omega (arith, low) in
+    let there : q - length ids < length more = omega (arith, high, long, from) in
+    let right : slice_index (ids ++ more) q ≡ slice_index more (q - length ids) = get_or-append_right ids more (length ids) q 0 refl from in
+    subst (Contains more) (sym right) (Contains-get_or more (q - length ids) 0 there)
+
+pub taken_at : (ids : List ℕ) (n k : ℕ) → k < n * 64 → slice_index (take n ids) (k / 64) ≡ slice_index ids (k / 64)
+taken_at ids n k inside = get_or-take n ids (k / 64) 0 (mini_inside k n inside)
+
+-- whose mini sectors the members of a list are that is cut
+pub kept_own : (ids ids' : List ℕ) (n : ℕ) → ids' ≡ take n ids → (m : ℕ) → Contains ids' m → Contains ids m
+kept_own ids ids' n is m member =
+    subst (λ (xs : List ℕ). Contains xs m) (take-append-drop n ids) (Contains-append_left (take n ids) (drop n ids) m (subst (λ (xs : List ℕ). Contains xs m) is member))

@@ -1,0 +1,126 @@
+-- What is read of a mini chain.
+use Rattle.std.proofs.Common.{◌≡◌, ◌≤◌, ◌<◌, ◌+◌, ◌*◌, ◌/◌, ◌%◌, ◌-◌, inl, inr, min, ℕ, zero, suc, List, ◌∷◌, [], refl, sym, ◌∙◌, ap, subst, length, take, drop, arith, drop-cons, add-one, length-take, length-drop}
+use Rattle.std.specs.Prelude.{if◌then◌else◌, Result, Ok, Err, IfOk, IsErrAnd, OnOk, Option, Some, None, option_and_then, slice_index, unwrap_or}
+use Rattle.std.specs.Option.{option_map_or}
+use Rattle.std.proofs.lemmas.Bool.{lt-ltb}
+use Rattle.std.proofs.lemmas.Option.{slice_get-get_or}
+use Rattle.cfb_format.specs.declared.version.Version.{Version}
+use Rattle.cfb_format.specs.declared.version.Version.TheVariants.{V3, V4}
+use Rattle.cfb_format.specs.Bytes.{byte_at, sector_len, sector_start}
+use Rattle.cfb_format.specs.Content.{in_file, place_in_chain, placed_from}
+use Rattle.cfb_format.specs.Medium.{part}
+use Rattle.cfb_format.specs.declared.error.Error.{Error}
+use Rattle.cfb_format.specs.Refused.{IsInvalidData}
+use Rattle.cfb_chains.specs.ChainPlaces.{place_along}
+use Rattle.cfb_mini_sectors.specs.State.{MiniState, bytes_of, mini_place, mini_stream_of, table_of, version_of}
+use Rattle.cfb_mini.specs.MiniSectors.{HasMiniByte, HasMiniSector, place_in_mini_sectors}
+use Rattle.cfb_mini_chains.proofs.MiniChainHeld.{byte_or}
+use Rattle.cfb_mini_chains.proofs.MiniChainPlaces.{mini_along, whole_mini}
+
+index_inside : (v : Version) (k m : ℕ) → k < m * sector_len v → k / sector_len v < m
+index_inside V3 k m h = omega arith
+index_inside V4 k m h = omega arith
+
+in_file_at : (bytes : List ℕ) (at : ℕ) → at < length bytes → in_file bytes at ≡ Some at
+in_file_at bytes at h = ap (λ b. if b then Some at else None) (lt-ltb at (length bytes) h)
+
+placed_part : (bytes : List ℕ) (p : ℕ → Option ℕ) (n k at : ℕ) → ((j : ℕ) → j < n → p (k + j) ≡ Some (at + j)) → (0 < n → at + n ≤ length bytes)
+    → placed_from bytes p k n ≡ part bytes at n
+unfolding placed_from
+placed_part bytes p zero k at here fits = refl
+placed_part bytes p (suc n) k at here fits =
+    let long = fits (omega arith) in
+    let k0 : k + 0 ≡ k = omega arith in
+    let at0 : at + 0 ≡ at = omega arith in
+    let first : p k ≡ Some at = subst (λ m. p k ≡ Some m) at0 (subst (λ m. p m ≡ Some (at + 0)) k0 (here 0 (omega arith))) in
+    ap (λ o. option_map_or (λ m. byte_at bytes m ∷ placed_from bytes p (k + 1) n) o []) first
+    ∙ ap (λ xs. byte_at bytes at ∷ xs) (placed_part bytes p n (k + 1) (at + 1) next (λ some. omega (arith, long)))
+    ∙ ap (λ m. byte_at bytes at ∷ take n (drop m bytes)) (add-one at)
+    ∙ sym (ap (take (suc n)) (drop-cons bytes at 0 (omega (arith, long))))
+  where
+    next : (j : ℕ) → j < n → p (k + 1 + j) ≡ Some (at + 1 + j)
+    next j h =
+        let k1 : k + suc j ≡ k + 1 + j = omega arith in
+        let at1 : at + suc j ≡ at + 1 + j = omega arith in
+        subst (λ m. p (k + 1 + j) ≡ Some m) at1 (subst (λ m. p m ≡ Some (at + suc j)) k1 (here (suc j) (omega arith)))
+
+-- where a byte of the mini stream stands
+stream_place : (v : Version) (bytes sectors : List ℕ) (k : ℕ) → k < length sectors * sector_len v → place_along v sectors k < length bytes
+    → place_in_chain v bytes sectors k ≡ Some (place_along v sectors k)
+stream_place v bytes sectors k inside there =
+    ap (option_and_then (λ i. in_file bytes (sector_start v i + k % sector_len v))) (slice_get-get_or sectors (k / sector_len v) 0 (index_inside v k (length sectors) inside))
+    ∙ in_file_at bytes (place_along v sectors k) there
+
+some_stream : (o : Option (List ℕ)) (f : List ℕ → Option ℕ) → 0 < length (unwrap_or o []) → option_and_then f o ≡ f (unwrap_or o [])
+some_stream None f some = absurd (omega (arith, some))
+some_stream (Some xs) f some = refl
+
+-- where byte k of a mini chain stands
+pub mini_placed : (s : MiniState) (ids : List ℕ) (k : ℕ) → k < length ids * 64 → HasMiniSector s (slice_index ids (k / 64))
+    → mini_place s (slice_index ids (k / 64)) + k % 64 < length (bytes_of s) → place_in_mini_sectors s ids k ≡ Some (mini_place s (slice_index ids (k / 64)) + k % 64)
+mini_placed s ids k inside has there =
+    let m = slice_index ids (k / 64) in
+    let short : k % 64 < 64 = omega arith in
+    let at = mini_along (version_of s) (mini_stream_of s) m (k % 64) short in
+    let some = has.in_stream in
+    let all = whole_mini (version_of s) m (length (mini_stream_of s)) some in
+    ap (option_and_then (λ i. option_and_then (λ list. place_in_chain (version_of s) (bytes_of s) list (64 * i + k % 64)) s.mini_stream))
+    (slice_get-get_or ids (k / 64) 0 (omega (arith, inside)))
+    ∙ some_stream s.mini_stream (λ list. place_in_chain (version_of s) (bytes_of s) list (64 * m + k % 64)) (some_of (length (mini_stream_of s)) (version_of s) (64 * m) some)
+    ∙ stream_place (version_of s) (bytes_of s) (mini_stream_of s) (64 * m + k % 64) (omega (arith, all, short)) (omega (arith, at, there))
+    ∙ ap (λ p. Some p) at
+  where
+    some_of : (n : ℕ) (v : Version) (x : ℕ) → x < n * sector_len v → 0 < n
+    some_of n V3 x h = omega (arith, h)
+    some_of n V4 x h = omega (arith, h)
+
+-- what was read of a mini sector is what stands in the mini chain from there on
+pub read_is_placed : (s : MiniState) (ids : List ℕ) (k n : ℕ) (into : List ℕ) → k < length ids * 64 → k % 64 + n ≤ 64 → (0 < n → HasMiniSector s (slice_index ids (k / 64)))
+    → n ≤ length into → take n into ≡ part (bytes_of s) (mini_place s (slice_index ids (k / 64)) + k % 64) n
+    → take n into ≡ placed_from (bytes_of s) (place_in_mini_sectors s ids) k n
+read_is_placed s ids k n into inside short has within read =
+    let at = mini_place s (slice_index ids (k / 64)) + k % 64 in
+    let count = ap (λ (xs : List ℕ). length xs) read in
+    let left = length-take n into in
+    let right = length-take n (drop at (bytes_of s)) in
+    let behind = length-drop at (bytes_of s) in
+    let fits : 0 < n → at + n ≤ length (bytes_of s) = λ some. omega (arith, count, left, right, behind, within, some) in
+    read ∙ sym (placed_part (bytes_of s) (place_in_mini_sectors s ids) n k at
+    (λ j less.
+    let some : 0 < n = omega (arith, less) in
+    let long = fits some in
+    let q : (k + j) / 64 ≡ k / 64 = omega (arith, short, less) in
+    let r : (k + j) % 64 ≡ k % 64 + j = omega (arith, short, less) in
+    let here = ap (λ i. mini_place s (slice_index ids i)) q in
+    mini_placed s ids (k + j) (omega (arith, inside, short, less)) (subst (λ i. HasMiniSector s (slice_index ids i)) (sym q) (has some)) (omega (arith, here, r, long, less))
+    ∙ ap (λ p. Some p) (omega (arith, here, r)))
+    fits)
+
+-- bytes that follow one that is there in the same mini sector
+pub later_there : (s : MiniState) (ids : List ℕ) (k j : ℕ) → k % 64 + j < 64 → HasMiniSector s (slice_index ids (k / 64))
+    → mini_place s (slice_index ids (k / 64)) + k % 64 + j < (table_of s).file.len → HasMiniByte s (slice_index ids ((k + j) / 64)) ((k + j) % 64)
+later_there s ids k j short has reached =
+    let q : (k + j) / 64 ≡ k / 64 = omega (arith, short) in
+    let r : (k + j) % 64 ≡ k % 64 + j = omega (arith, short) in
+    let here = ap (λ i. mini_place s (slice_index ids i)) q in
+    record {
+      mini_sector = subst (λ i. HasMiniSector s (slice_index ids i)) (sym q) has;
+      reached = omega (arith, here, r, reached);
+    }
+
+-- a read of a mini sector gives a byte only where there is one
+pub read_there : (s : MiniState) (m offset len : ℕ) (r : Result ℕ Error) → 0 < len → offset < 64
+    → (0 < min len (64 - offset) → (HasMiniByte s m offset → ⊥) → IsErrAnd r IsInvalidData) → OnOk r (HasMiniByte s m offset)
+read_there s m offset len (Err e) some within cut = tt
+read_there s m offset len (Ok n) some within cut =
+    elim (byte_or s m offset) [ inl has ↦ has | inr none ↦ absurd (cut (omega (arith, some, within)) none) ]
+
+pub read_some : (s : MiniState) (m offset len : ℕ) (r : Result ℕ Error) → 0 < len → offset < 64
+    → IfOk r (λ n. n ≡ min (min len (64 - offset)) ((table_of s).file.len - (mini_place s m + offset)))
+    → (0 < min len (64 - offset) → (HasMiniByte s m offset → ⊥) → IsErrAnd r IsInvalidData) → IfOk r (λ n. 0 < n)
+read_some s m offset len (Err e) some within count cut = tt
+read_some s m offset len (Ok n) some within count cut =
+    elim (byte_or s m offset) [
+      | inl has ↦ (let reached = has.reached in omega (arith, some, within, count, reached))
+      | inr none ↦ absurd (cut (omega (arith, some, within)) none)
+    ]

@@ -1,0 +1,51 @@
+use Rattle.std.proofs.Common.{◌≡◌, ◌∙◌, sym, ap, subst}
+use Rattle.cfb_alloc.proofs.Answering.{on_ok}
+use Rattle.cfb_alloc.proofs.ChainView.{chain_few}
+use Rattle.cfb_tables.specs.Clean.{IsUnnamed}
+use Rattle.cfb_tables.specs.Tables.{first_or_end}
+use Rattle.cfb_chains.proofs.ChainLists.{after_map, listed_chain, listed_found, start_is}
+use Rattle.cfb_mini_chains.proofs.MiniChainAnswers.{on_err}
+use Rattle.cfb_mini_chains.proofs.MiniChainLists.{shortened}
+use Rattle.cfb_mini_chains.proofs.mini_chain.shorten_list.Goals as goal
+
+pub cut_mini_listed-cut-requires : goal.cut_mini_listed-cut-requires
+cut_mini_listed-cut-requires g c = record { chain = listed_chain c.args.minialloc.now.minifat c.args.start.now c.args.ids.now.items c.requires.chained }
+
+pub returns-clause-chained : goal.returns-clause-chained
+returns-clause-chained g c =
+    listed_found c.cut_mini_listed-cut.new.self.minifat c.first_number.result c.cut_mini_listed-cut.new.ids.items
+    (c.first_number.ensures ∙ ap first_or_end c.deref.ensures.value) c.cut_mini_listed-cut.ensures.chain
+
+pub returns-clause-few : goal.returns-clause-few
+returns-clause-few g c = chain_few _ _ _ (returns-clause-chained g c)
+
+pub returns-clause-cut : goal.returns-clause-cut
+returns-clause-cut g c =
+    let e = c.cut_mini_listed-cut in
+    shortened e.result c.args.count c.args.ids.now.items e.new.ids.items c.args.minialloc.now e.new.self e.ensures.listed e.ensures.given_back e.ensures.system e.ensures.measured
+
+pub returns-clause-directory : goal.returns-clause-directory
+returns-clause-directory g c =
+    let e = c.cut_mini_listed-cut.ensures in
+    record { sectors = e.system.directory; entries = e.entries; limits = e.limits }
+
+pub returns-clause-holds : goal.returns-clause-holds
+returns-clause-holds g c told validation h unnamed =
+    let minifat = c.args.minialloc.now.minifat in
+    c.cut_mini_listed-cut.ensures.holds told validation h
+    (λ none. subst (IsUnnamed minifat) (start_is minifat c.args.start.now c.args.ids.now.items c.requires.chained) (unnamed none))
+
+pub returns-clause-kept : goal.returns-clause-kept
+returns-clause-kept g c =
+    let e = c.cut_mini_listed-cut in
+    let ids = c.args.ids.now.items in
+    on_err _ _ e.result
+    (after_map _ _ _ _ (λ b. b)
+    (λ same. (
+      same,
+      c.first_number.ensures ∙ ap first_or_end c.deref.ensures.value ∙ ap first_or_end same ∙ sym (start_is c.args.minialloc.now.minifat c.args.start.now ids c.requires.chained),
+    )))
+    e.ensures.kept
+
+pub returns-clause-begun : goal.returns-clause-begun
+returns-clause-begun g c = let e = c.cut_mini_listed-cut in on_ok _ _ e.result (λ raised. raised.1 c.requires.fewer) e.ensures.begun

@@ -1,0 +1,13 @@
+pub mod MiniClean
+pub mod MiniStreams
+pub mod MiniWords
+pub mod HeldMini
+pub mod HeldSteps
+pub mod HeldGrown
+pub mod MiniPlaces
+pub mod MiniFrames
+pub mod PiecePlaces
+pub mod PieceWrites
+pub mod MinifatNamed
+pub mod MinifatGrown
+pub mod BothGrown

@@ -1,0 +1,158 @@
+-- What writes of words of the MiniFAT and of mini sectors leave of the others (MS-CFB 2.4).
+use Rattle.std.proofs.Common.{◌≡◌, ◌≢◌, ◌≤◌, ◌<◌, ◌+◌, ◌-◌, ◌*◌, ◌/◌, ◌^◌, inl, inr, ℕ, List, refl, ap, sym, ◌∙◌, subst, length, replicate, arith}
+use Rattle.std.specs.Prelude.{slice_index, nat_eq, Contains}
+use Rattle.std.specs.List.{IsDistinct}
+use Rattle.std.proofs.lemmas.Bool.{cases_lt}
+use Rattle.std.proofs.lemmas.List.{get_or-replicate, length-replicate}
+use Rattle.std.proofs.lemmas.List.Elements.{Contains-get_or}
+use Rattle.cfb_format.specs.declared.version.Version.{Version}
+use Rattle.cfb_format.specs.Bytes.{byte_at, sector_len, word_at, words_per_sector}
+use Rattle.cfb_format.specs.Chain.{value}
+use Rattle.cfb_format.specs.Content.{mini_sector_len}
+use Rattle.cfb_format.specs.Medium.{ChangesOnlyBytes, part, written}
+use Rattle.cfb_format.proofs.ByteLemmas.{length-written, part_at, part_written}
+use Rattle.cfb_sectors.specs.Sectors.{SectorFile}
+use Rattle.cfb_sectors.specs.Words.{Stays, with_word}
+use Rattle.cfb_sectors.proofs.SectorLemmas.{SectorStays_next, SectorStays_refl}
+use Rattle.cfb_sectors.proofs.WordLemmas.{length-with_word, word_apart, word_same, word_with_word}
+use Rattle.cfb_tables.specs.Tables.{TableState}
+use Rattle.cfb_alloc.specs.Agreement.{word_home, word_of}
+use Rattle.cfb_alloc.specs.Alloc.{AllocatorState}
+use Rattle.cfb_alloc.proofs.Frames.{spares-then}
+use Rattle.cfb_alloc.proofs.Spared.{spares_refl}
+use Rattle.cfb_alloc.proofs.TableWords.{homes_apart}
+use Rattle.cfb_mini_sectors.specs.Pieces.{AreZeros, ChangesMinis, ChangesPieces, ChangesWords, HaveMinis, HaveWords, WritesAmong}
+use Rattle.cfb_soundness.specs.Places.{mini_start}
+use Rattle.cfb_mini_sectors.proofs.PiecePlaces.{minis_apart, word_below}
+
+-- all that a write leaves of a file, over two of them
+pub kept_after : (c b a : SectorFile) → c ≡ record b { len = c.len; bytes = c.bytes; failures = c.failures; begun = c.begun }
+    → b ≡ record a { len = b.len; bytes = b.bytes; failures = b.failures; begun = b.begun } → c ≡ record a { len = c.len; bytes = c.bytes; failures = c.failures; begun = c.begun }
+kept_after c b a second first = second ∙ ap (λ (f : SectorFile). record f { len = c.len; bytes = c.bytes; failures = c.failures; begun = c.begun }) first
+
+-- ---- pieces
+
+pub pieces_refl : (size : ℕ) (place : ℕ → ℕ) (numbers a : List ℕ) → ChangesPieces size place numbers a a
+pieces_refl size place numbers a = record { no_shorter = omega arith; others = λ i lt out. refl }
+
+-- some were written, and then the one that is named at a place of their list
+pub pieces_after : (size : ℕ) (place : Version → ℕ → ℕ) (numbers : List ℕ) (i : ℕ) → i < length numbers → {v w : Version} → w ≡ v → {a b c : List ℕ}
+    → ChangesPieces size (place v) numbers a b → ChangesOnlyBytes (place w (slice_index numbers i)) size b c → ChangesPieces size (place v) numbers a c
+pieces_after size place numbers i lt {v} {w} same {a} {b} {c} first change =
+    let second = subst (λ (u : Version). ChangesOnlyBytes (place u (slice_index numbers i)) size b c) same change in
+    let longer = first.no_shorter in
+    let more = second.no_shorter in
+    record {
+      no_shorter = omega (arith, longer, more);
+      others = λ j low out.
+          let there : j < length b = omega (arith, low, longer) in
+          elim (out (slice_index numbers i) (Contains-get_or numbers i 0 lt)) [
+            | inl before ↦ second.below j there before ∙ first.others j low out
+            | inr behind ↦ second.above j there behind ∙ first.others j low out
+          ];
+    }
+
+pub among_refl : (sectors : List ℕ) (a : AllocatorState) → WritesAmong sectors a a
+among_refl sectors a = record {
+  others = λ i out. SectorStays_refl a.tables.version i a.file.bytes;
+  header = λ i lt low. refl;
+  spares = spares_refl sectors a;
+}
+
+-- the same sectors were written in turn
+pub among_after : (sectors : List ℕ) (a b c : AllocatorState) → b.tables ≡ a.tables → WritesAmong sectors a b → WritesAmong sectors b c → WritesAmong sectors a c
+among_after sectors a b c tables first second =
+    let v : b.tables.version ≡ a.tables.version = ap (λ (t : TableState). t.version) tables in
+    let longer = first.spares.no_shorter in
+    record {
+      others = λ i out. SectorStays_next a.tables.version b.tables.version i a.file.bytes b.file.bytes c.file.bytes v (first.others i out) (second.others i out);
+      header = λ i lt low.
+          second.header i (omega (arith, lt, longer)) (subst (λ (u : Version). i < sector_len u) (sym v) low) ∙ first.header i lt low;
+      spares = spares-then sectors sectors a b c (λ j m. inr m) first.spares second.spares;
+    }
+
+-- ---- words
+
+-- a word stands at its home
+pub record WordStands (v : Version) (bytes sectors table : List ℕ) (m : ℕ) : Type 0 where
+  pub there : word_home v sectors m + 4 ≤ length bytes
+  pub word : word_of v bytes sectors m ≡ value table m
+
+pub word_written : (v : Version) (bytes new sectors table : List ℕ) (m w : ℕ) → new ≡ with_word bytes (word_home v sectors m) w → w ≡ value table m → w < 2 ^ 32
+    → WordStands v new sectors table m
+word_written v bytes new sectors table m w is same fits = record {
+  there = let long : length new ≡ length (with_word bytes (word_home v sectors m) w) = ap (λ (b : List ℕ). length b) is in
+      omega (arith, long, length-with_word bytes (word_home v sectors m) w);
+  word = ap (λ (b : List ℕ). word_at b (word_home v sectors m)) is ∙ word_with_word bytes (word_home v sectors m) w fits ∙ same;
+}
+
+-- another one is written
+pub word_still : (v : Version) (a b sectors table : List ℕ) (m n : ℕ) → IsDistinct nat_eq sectors → m / words_per_sector v < length sectors
+    → n / words_per_sector v < length sectors → m ≢ n → ChangesOnlyBytes (word_home v sectors n) 4 a b → WordStands v a sectors table m → WordStands v b sectors table m
+word_still v a b sectors table m n once lm ln ne change stands = record {
+  there = let low = stands.there in let longer = change.no_shorter in omega (arith, low, longer);
+  word = word_apart (word_home v sectors n) 4 (word_home v sectors m) a b change stands.there
+      (λ before. elim (homes_apart v sectors once m n ne (word_below v m (length sectors) lm) (word_below v n (length sectors) ln)) [
+        | inl low ↦ absurd (omega (arith, low, before))
+        | inr high ↦ high
+      ])
+      ∙ stands.word;
+}
+
+-- every other word stays
+pub other_word_stays : (v : Version) (sectors numbers a b : List ℕ) (count m : ℕ) → HaveWords v sectors count numbers → ChangesWords numbers v sectors a b
+    → IsDistinct nat_eq sectors → m / words_per_sector v < length sectors → (Contains numbers m → ⊥) → word_home v sectors m + 4 ≤ length a
+    → word_of v b sectors m ≡ word_of v a sectors m
+other_word_stays v sectors numbers a b count m known change once lm out there = word_same a b (word_home v sectors m) (λ k small.
+    change.others (word_home v sectors m + k) (omega (arith, small, there)) (λ n member.
+    elim (homes_apart v sectors once m n (λ e. out (subst (λ x. Contains numbers x) (sym e) member)) (word_below v m (length sectors) lm)
+    (word_below v n (length sectors) (known n member).listed)) [
+      | inl low ↦ inl (omega (arith, low, small))
+      | inr high ↦ inr (omega (arith, high))
+    ]))
+
+-- ---- mini sectors
+
+pub zeros_written : (bytes new : List ℕ) (at : ℕ) → new ≡ written bytes at (replicate mini_sector_len 0) → AreZeros new at
+zeros_written bytes new at is =
+    let rep = length-replicate {A = ℕ} mini_sector_len 0 in
+    let long : length new ≡ length (written bytes at (replicate mini_sector_len 0)) = ap (λ (b : List ℕ). length b) is in
+    let whole : part new at mini_sector_len ≡ replicate mini_sector_len 0 =
+    ap (λ (b : List ℕ). part b at mini_sector_len) is ∙ part_written bytes at mini_sector_len (replicate mini_sector_len 0) (sym rep) in
+    record {
+      there = omega (arith, long, rep, length-written bytes at (replicate mini_sector_len 0));
+      zeros = λ i lt. sym (part_at new at mini_sector_len i lt) ∙ ap (λ (b : List ℕ). slice_index b i) whole ∙ get_or-replicate mini_sector_len i 0 0 lt;
+    }
+
+-- zeros stay under zeros
+pub zeros_still : (p at : ℕ) (a b : List ℕ) → ChangesOnlyBytes at mini_sector_len a b → AreZeros b at → AreZeros a p → AreZeros b p
+zeros_still p at a b change new old =
+    let there = old.there in
+    let longer = change.no_shorter in
+    record {
+      there = omega (arith, there, longer);
+      zeros = λ i lt.
+          let inside : p + i < length a = omega (arith, lt, there) in
+          elim (cases_lt (p + i) at) [
+            | inl low ↦ change.below (p + i) inside low ∙ old.zeros i lt
+            | inr ge ↦ elim (cases_lt (p + i) (at + mini_sector_len)) [
+              | inl within ↦
+                  let same : at + (p + i - at) ≡ p + i = omega (arith, ge) in
+                  ap (λ k. byte_at b k) (sym same) ∙ new.zeros (p + i - at) (omega (arith, ge, within))
+              | inr high ↦ change.above (p + i) inside high ∙ old.zeros i lt
+            ]
+          ];
+    }
+
+-- every other mini sector stays
+pub other_mini_stays : (v : Version) (stream minis a b : List ℕ) (count m : ℕ) → HaveMinis v stream count minis → ChangesMinis minis v stream a b
+    → IsDistinct nat_eq stream → mini_sector_len * m / sector_len v < length stream → (Contains minis m → ⊥)
+    → Stays (mini_start v stream m) (mini_start v stream m + mini_sector_len) a b
+other_mini_stays v stream minis a b count m known change once lm out = record {
+  no_shorter = change.no_shorter;
+  each = λ i lt from to. change.others i lt (λ n member.
+      elim (minis_apart v stream once m n (λ e. out (subst (λ x. Contains minis x) (sym e) member)) lm (known n member).listed) [
+        | inl low ↦ inl (omega (arith, low, to))
+        | inr high ↦ inr (omega (arith, high, from))
+      ]);
+}
