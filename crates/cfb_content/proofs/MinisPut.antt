@@ -1,8 +1,7 @@
 -- Bytes that are put into mini sectors by their list: their places, and what stays beside them.
-use Rattle.std.proofs.Common.{◌≡◌, ◌≢◌, ◌≤◌, ◌<◌, ◌+◌, ◌-◌, ◌*◌, ◌/◌, ◌%◌, inl, inr, ℕ, List, [], ◌∷◌, ◌++◌, sym, ◌∙◌, ap, subst, length, arith}
+use Rattle.std.proofs.Common.{◌≡◌, ◌≢◌, ◌≤◌, ◌<◌, ◌+◌, ◌-◌, ◌*◌, ◌/◌, ◌%◌, inr, ℕ, List, [], ◌∷◌, ◌++◌, sym, ◌∙◌, ap, subst, length, arith}
 use Rattle.std.specs.Prelude.{Contains, slice_index, nat_eq}
 use Rattle.std.specs.List.{IsDistinct}
-use Rattle.std.proofs.lemmas.Bool.{cases_eq, cases_lt}
 use Rattle.std.proofs.lemmas.List.Elements.{Contains-get_or}
 use Rattle.cfb_format.specs.declared.validate.Validation.{Validation}
 use Rattle.cfb_format.specs.Content.{mini_sector_len}
@@ -11,16 +10,15 @@ use Rattle.cfb_format.proofs.ByteLemmas.{length-written, written_at}
 use Rattle.cfb_tables.proofs.Members.{Contains-one, distinct-right}
 use Rattle.cfb_alloc.specs.Frame.{Spares}
 use Rattle.cfb_alloc.proofs.Frames as frames
-use Rattle.cfb_alloc.proofs.Listed.{place_once}
 use Rattle.cfb_soundness.specs.Places.{mini_start}
 use Rattle.cfb_mini_sectors.specs.State.{HoldsMini, MiniState, bytes_of, mini_place, mini_stream_of, table_of, version_of}
 use Rattle.cfb_mini_sectors.specs.Steps.{SparesMini}
 use Rattle.cfb_mini_sectors.proofs.MiniFrames.{held-places, spares-then}
-use Rattle.cfb_mini_sectors.proofs.MiniPlaces.{minis_apart}
 use Rattle.cfb_mini.specs.MiniSectors.{ChangesFileOnly, HasMiniSector}
 use Rattle.cfb_content.specs.Contents.{mini_place_along}
 use Rattle.cfb_content.specs.Parts.{ChangesOnlyPlaces}
-use Rattle.cfb_content.proofs.PutAlong.{StandsTo}
+use Rattle.cfb_content.proofs.PlacedOnce.{minis-placed-once}
+use Rattle.cfb_content.proofs.PutAlong.{StandsTo, only-range}
 
 -- the list has a mini sector for that byte, which the mini stream has
 abbrev pub IsPlacedInMinis : MiniState → List ℕ → ℕ → Type 0
@@ -29,17 +27,9 @@ IsPlacedInMinis s ids k = (k / mini_sector_len < length ids) × HasMiniSector s 
 -- two of them stand at two places
 pub minis-once : (validation : Validation) (s : MiniState) (ids : List ℕ) → HoldsMini validation s → IsDistinct nat_eq ids → (i k : ℕ) → IsPlacedInMinis s ids i → IsPlacedInMinis s ids k
     → i ≢ k → mini_place_along s ids i ≢ mini_place_along s ids k
-minis-once validation s ids h once i k low high ne same = elim (cases_eq (i / 64) (k / 64)) [
-  | inl here ↦
-      let start : mini_place s (slice_index ids (i / 64)) ≡ mini_place s (slice_index ids (k / 64)) = ap (λ q. mini_place s (slice_index ids q)) here in
-      ne (omega (arith, here, start, same))
-  | inr other ↦
-      elim (minis_apart (version_of s) (mini_stream_of s) (distinct-right (s.directory.sectors ++ s.minifat_sectors) (mini_stream_of s) h.apart)
-      (slice_index ids (i / 64)) (slice_index ids (k / 64)) (λ e. other (place_once ids once (i / 64) (k / 64) low.0 high.0 e)) low.1.in_stream high.1.in_stream) [
-        | inl before ↦ omega (arith, before, same)
-        | inr behind ↦ omega (arith, behind, same)
-      ]
-]
+minis-once validation s ids h once i k low high =
+    minis-placed-once (version_of s) (mini_stream_of s) ids i k (distinct-right (s.directory.sectors ++ s.minifat_sectors) (mini_stream_of s) h.apart) once low.0 high.0
+    low.1.in_stream high.1.in_stream
 
 -- ---- a piece within one mini sector
 
@@ -52,21 +42,8 @@ module _ (s : MiniState) (ids : List ℕ) (p index offset : ℕ) (is : index * 6
 
   pub piece-places : (n : ℕ) (b c : List ℕ) → offset + n ≤ 64 → ChangesOnlyBytes (mini_place s (slice_index ids index) + offset) n b c
       → ChangesOnlyPlaces (mini_place_along s ids) p n b c
-  piece-places n b c short change = record {
-    no_shorter = change.no_shorter;
-    others = λ i within other.
-        let at = mini_place s (slice_index ids index) + offset in
-        elim (cases_lt i at) [
-          | inl below ↦ change.below i within below
-          | inr from ↦
-              elim (cases_lt i (at + n)) [
-                | inr above ↦ change.above i within above
-                | inl inside ↦
-                    (let on = place-on (i - at) (omega (arith, short, from, inside)) in
-                    absurd (other (p + (i - at)) (omega arith) (omega (arith, from, inside)) (on ∙ omega (arith, from))))
-              ]
-        ];
-  }
+  piece-places n b c short change =
+      only-range (mini_place_along s ids) p n (mini_place s (slice_index ids index) + offset) b c (λ j less. place-on j (omega (arith, short, less))) change
 
   pub piece-stands : (f b c : List ℕ) → offset + length f ≤ 64 → c ≡ written b (mini_place s (slice_index ids index) + offset) f
       → StandsTo (mini_place_along s ids) p (slice_index f) (length f) c

@@ -30,18 +30,25 @@ placed-once v ids i k once low high ne same =
     ]
 
 pub minis-placed-once : (v : Version) (stream ids : List ℕ) (i k : ℕ) → IsDistinct nat_eq stream → IsDistinct nat_eq ids → i / 64 < length ids → k / 64 < length ids
-    → ((m : ℕ) → Contains ids m → 64 * m < length stream * sector_len v) → i ≢ k
+    → 64 * slice_index ids (i / 64) < length stream * sector_len v → 64 * slice_index ids (k / 64) < length stream * sector_len v → i ≢ k
     → mini_start v stream (slice_index ids (i / 64)) + i % 64 ≢ mini_start v stream (slice_index ids (k / 64)) + k % 64
-minis-placed-once v stream ids i k once ids-once low high room ne same = elim (cases_eq (i / 64) (k / 64)) [
+minis-placed-once v stream ids i k once ids-once low high room room' ne same = elim (cases_eq (i / 64) (k / 64)) [
   | inl here ↦
       let start : mini_start v stream (slice_index ids (i / 64)) ≡ mini_start v stream (slice_index ids (k / 64)) = ap (λ q. mini_start v stream (slice_index ids q)) here in
       ne (omega (arith, here, start, same))
   | inr other ↦
       let x = slice_index ids (i / 64) in
       let y = slice_index ids (k / 64) in
-      elim (minis_apart v stream once x y (λ e. other (place_once ids ids-once (i / 64) (k / 64) low high e))
-      (room x (Contains-get_or ids (i / 64) 0 low)) (room y (Contains-get_or ids (k / 64) 0 high))) [
+      elim (minis_apart v stream once x y (λ e. other (place_once ids ids-once (i / 64) (k / 64) low high e)) room room') [
         | inl before ↦ omega (arith, before, same)
         | inr behind ↦ omega (arith, behind, same)
       ]
 ]
+
+-- the same where the stream has room for all of them
+pub all-minis-placed-once : (v : Version) (stream ids : List ℕ) (i k : ℕ) → IsDistinct nat_eq stream → IsDistinct nat_eq ids → i / 64 < length ids → k / 64 < length ids
+    → ((m : ℕ) → Contains ids m → 64 * m < length stream * sector_len v) → i ≢ k
+    → mini_start v stream (slice_index ids (i / 64)) + i % 64 ≢ mini_start v stream (slice_index ids (k / 64)) + k % 64
+all-minis-placed-once v stream ids i k once ids-once low high room =
+    minis-placed-once v stream ids i k once ids-once low high (room (slice_index ids (i / 64)) (Contains-get_or ids (i / 64) 0 low))
+    (room (slice_index ids (k / 64)) (Contains-get_or ids (k / 64) 0 high))

@@ -28,7 +28,7 @@ use Rattle.cfb_content.specs.Contents.{TellsPlaces, mini_place_along}
 use Rattle.cfb_content.specs.Parts.{HasFirst, IsThereInMinis, IsThereInSectors}
 use Rattle.cfb_content.proofs.Apart.{maybe-chain}
 use Rattle.cfb_content.proofs.Readable.{lies}
-use Rattle.cfb_content.proofs.Refusals.{refused_for}
+use Rattle.cfb_content.proofs.Refusals.{refused-as}
 
 none_some : {A : Type 0} (x : A) → None ≡ Some x → ⊥
 none_some x e = let f : false ≡ true = ap is_some e in cc
@@ -194,7 +194,7 @@ module _ (s : MiniState) (e : Entry) (There : ℕ → Type 0) where
     pub read-refused : (r : Result ℕ Error) (at : ℕ) → IfErr r (ChangeRefused (IsCutBy There at) Unit ⊥ Unit)
         → IfErr r (ChangeRefused (length (content_of s e) ≤ at) Unit ⊥ Unit)
     read-refused (Ok n) at h = tt
-    read-refused (Err f) at h = refused_for (IsCutBy There at) (length (content_of s e) ≤ at) Unit ⊥ Unit (cut-short at) f h
+    read-refused (Err f) at h = refused-as (IsCutBy There at) (length (content_of s e) ≤ at) Unit Unit ⊥ ⊥ Unit Unit (cut-short at) (λ x. x) (λ x. x) (λ x. x) f h
 
 pub content-most : (s : MiniState) (e : Entry) → length (content_of s e) ≤ e.stream_len
 content-most s e = placed-most (bytes_of s) (place_in_stream (bytes_of s) (parts_of s) e) 0 e.stream_len

@@ -1,15 +1,14 @@
 -- How the refusal of a step is one of the whole.
-use Rattle.std.proofs.Common.{◌≡◌, ◌⊎◌, inl, inr, ℕ, Bool, true, false, refl, sym, ◌∙◌, arith}
+use Rattle.std.proofs.Common.{◌≡◌, inl, inr, ℕ, Bool, true, false, refl, sym, ◌∙◌, arith}
 use Rattle.std.specs.Prelude.{Err, IfErr, IsTrue, Ok, Result, ◌||◌}
 use Rattle.cfb_format.specs.declared.error.Error.{Error}
 use Rattle.cfb_format.specs.declared.error.Error.TheVariants.{AlreadyExists, Failed, Full, InvalidData, InvalidInput, Medium, Memory, NotFound, Unsound, Unsupported}
 use Rattle.cfb_format.specs.declared.medium.MediumFault.{MediumFault}
-use Rattle.cfb_format.specs.Medium.{FailsBy}
 use Rattle.cfb_format.specs.Refused.{AfterMedium, CountsError, CountsFailure, IsInvalidData}
 use Rattle.cfb_sectors.specs.Sectors.{IsMediumError}
 use Rattle.cfb_tables.specs.Refused.{ChangeRefused}
 use Rattle.cfb_mini_sectors.specs.State.{MiniState, table_of}
-use Rattle.cfb_mini_sectors.specs.Steps.{StopsShort, StopsShortOrFull}
+use Rattle.cfb_mini_sectors.specs.Steps.{StopsShortOrFull}
 use Rattle.cfb_content.specs.Parts.{StopsOrBegun}
 
 -- nothing has changed
@@ -144,32 +143,6 @@ counts-none can (Err e) n invalid memory full h = still e h
     still Unsupported r = refl
 
 -- a refusal of the bytes has this reason
-pub refused_by : (invalid memory full medium : Type 0) (e : Error) → IsInvalidData e → invalid → ChangeRefused invalid memory full medium e
-refused_by invalid memory full medium (NotFound d) is h = absurd (omega (arith, is))
-refused_by invalid memory full medium (AlreadyExists d) is h = absurd (omega (arith, is))
-refused_by invalid memory full medium (InvalidInput d) is h = absurd (omega (arith, is))
-refused_by invalid memory full medium (InvalidData d) is h = h
-refused_by invalid memory full medium (Medium m) is h = absurd (omega (arith, is))
-refused_by invalid memory full medium Memory is h = absurd (omega (arith, is))
-refused_by invalid memory full medium Full is h = absurd (omega (arith, is))
-refused_by invalid memory full medium Unsound is h = absurd (omega (arith, is))
-refused_by invalid memory full medium Failed is h = absurd (omega (arith, is))
-refused_by invalid memory full medium Unsupported is h = absurd (omega (arith, is))
-
--- a refusal of the bytes for one reason is one for what follows from it
-pub refused_for : (invalid invalid' memory full medium : Type 0) → (invalid → invalid') → (e : Error) → ChangeRefused invalid memory full medium e
-    → ChangeRefused invalid' memory full medium e
-refused_for invalid invalid' memory full medium f (NotFound d) h = h
-refused_for invalid invalid' memory full medium f (AlreadyExists d) h = h
-refused_for invalid invalid' memory full medium f (InvalidInput d) h = h
-refused_for invalid invalid' memory full medium f (InvalidData d) h = f h
-refused_for invalid invalid' memory full medium f (Medium m) h = h
-refused_for invalid invalid' memory full medium f Memory h = h
-refused_for invalid invalid' memory full medium f Full h = h
-refused_for invalid invalid' memory full medium f Unsound h = h
-refused_for invalid invalid' memory full medium f Failed h = h
-refused_for invalid invalid' memory full medium f Unsupported h = h
-
 pub invalid-refused : (invalid memory full medium : Type 0) (e : Error) → IsInvalidData e → invalid → ChangeRefused invalid memory full medium e
 invalid-refused invalid memory full medium (NotFound d) is why = absurd (omega (arith, is))
 invalid-refused invalid memory full medium (AlreadyExists d) is why = absurd (omega (arith, is))

@@ -1,6 +1,6 @@
 -- A stream whose bytes are written over where they lie: all of it is there, it reads as it was written, and the file stays sound.
-use Rattle.std.proofs.Common.{◌≡◌, ◌<◌, ◌≤◌, ◌+◌, ◌*◌, ◌/◌, ◌⊎◌, inl, inr, ℕ, List, [], ◌++◌, true, false, refl, sym, ◌∙◌, ap, subst, length, arith}
-use Rattle.std.specs.Prelude.{Contains, Option, slice_index, unwrap_or}
+use Rattle.std.proofs.Common.{◌≡◌, ◌<◌, ◌≤◌, ◌+◌, ◌/◌, ◌⊎◌, inl, inr, ℕ, List, ◌++◌, true, false, refl, sym, ◌∙◌, ap, subst, length, arith}
+use Rattle.std.specs.Prelude.{Contains, slice_index}
 use Rattle.std.proofs.lemmas.List.Elements.{Contains-append_left, Contains-append_right, Contains-get_or}
 use Rattle.cfb_format.specs.declared.validate.Validation.{Validation}
 use Rattle.cfb_format.specs.declared.version.Version.{Version}
@@ -13,7 +13,6 @@ use Rattle.cfb_format.specs.Medium.{written}
 use Rattle.cfb_format.specs.Siblings.{entry_at}
 use Rattle.cfb_format.proofs.ByteLemmas.{length-written}
 use Rattle.cfb_sectors.specs.Sectors.{SectorFile}
-use Rattle.cfb_tables.specs.Tables.{first_or_end}
 use Rattle.cfb_tables.proofs.ChainLemmas.{members-busy}
 use Rattle.cfb_tables.proofs.Members.{distinct-right}
 use Rattle.cfb_alloc.specs.Alloc.{AllocatorState, HoldsTables}
@@ -22,69 +21,21 @@ use Rattle.cfb_chains.specs.ChainPlaces.{place_along}
 use Rattle.cfb_mini_sectors.specs.State.{HoldsMini, IsChangeable, MiniState, bytes_of, content_of, entries_of, mini_stream_of, table_of, tables_in, version_of}
 use Rattle.cfb_mini_sectors.specs.Steps.{KeepsMini, KeepsSystem, SparesMini, system_sectors}
 use Rattle.cfb_mini_sectors.specs.Held.{with_table}
-use Rattle.cfb_mini_sectors.proofs.MiniStreams.{chain-is-stream, stream-chain}
 use Rattle.cfb_mini.specs.MiniSectors.{ChangesFileOnly, HasMiniSector}
 use Rattle.cfb_mini.proofs.MiniDirectory.{chains-changed}
-use Rattle.cfb_content.specs.Contents.{IsNotChangeable, IsStreamOf, KeepsOthers, len_of, mini_place_along, mini_sectors_owned, sectors_owned}
+use Rattle.cfb_content.specs.Contents.{IsStreamOf, KeepsOthers, len_of, mini_place_along, mini_sectors_owned, sectors_owned}
 use Rattle.cfb_content.specs.Laws.{LiesInMiniSectors, LiesInSectors}
 use Rattle.cfb_content.specs.Parts.{ChangesOnlyPlaces, IsWholeChain, IsWholeMiniChain, StandAlong}
 use Rattle.cfb_content.specs.Uses.{ChangesContent}
-use Rattle.cfb_content.proofs.Apart.{minis-busy, own-is-apart}
+use Rattle.cfb_content.proofs.Apart.{own-is-apart}
 use Rattle.cfb_content.proofs.Changing.{same-is-used}
-use Rattle.cfb_content.proofs.Kept.{mini-below, spared-is-kept, spared-sectors-kept, stream-room}
+use Rattle.cfb_content.proofs.Kept.{spared-is-kept, spared-sectors-kept, stream-room}
 use Rattle.cfb_content.proofs.Outlines.{same-entries-moved}
-use Rattle.cfb_content.proofs.Owned.{empty-owns-nothing, large-owns-its-chain, own-stays, small-owns-its-chain}
-use Rattle.cfb_content.proofs.PlacedOnce.{inside-of, minis-placed-once, placed-once}
+use Rattle.cfb_content.proofs.Owned.{large-owns-its-chain, own-stays, small-owns-its-chain}
+use Rattle.cfb_content.proofs.PlacedOnce.{all-minis-placed-once, inside-of, placed-once}
 use Rattle.cfb_content.proofs.Readable.{large-is-there, small-is-there, stream-owns-its-own, whole-of}
 use Rattle.cfb_content.proofs.Rewritten.{large-is-written, small-is-written}
 use Rattle.cfb_content.proofs.Sound.{changed-is-changeable}
-
--- ---- all of it is there
-
-module _ (v : Validation) (s : MiniState) (i : ℕ) (change : IsChangeable v s) (stream : IsStreamOf s i) where
-  abbrev e : Entry
-  e = entry_at (entries_of s) i
-
-  measured : (table_of s).file.len ≡ length (bytes_of s)
-  measured = change.held.directory.tables.holds.measured
-
-  pub whole-large : is_large e ≡ true → IsWholeChain (version_of s) (tables_in s).fat (table_of s).file.len e.start_sector (len_of s i) (sectors_owned s i)
-  whole-large b =
-      let lies = large-is-there v s i change stream b in
-      record {
-        chain = lies.chain;
-        there = λ k lt. record { listed = lies.enough k lt; reached = (let there = lies.there k lt in omega (arith, there, measured)) };
-      }
-
-  in-stream : (m : ℕ) → m < length s.minifat → HasMiniSector s m
-  in-stream m lt =
-      let room = stream-room v s m change.held lt in
-      let list = change.held.mini_stream.sectors in
-      let root = entry_at (entries_of s) 0 in
-      let index = 64 * m / sector_len (version_of s) in
-      let same : mini_stream_of s ≡ list = ap (λ (w : Option (List ℕ)). unwrap_or w []) change.held.mini_stream.kept in
-      let chain = stream-chain (tables_in s).fat root list (chain-is-stream (tables_in s).fat root list change.held.mini_stream.chain) in
-      let member = Contains-get_or (mini_stream_of s) index 0 (mini-below (version_of s) m (length (mini_stream_of s)) room) in
-      record {
-        in_stream = room;
-        in_file = (members-busy (tables_in s).fat (first_or_end list) list chain (slice_index (mini_stream_of s) index) (subst (λ (l : List ℕ). Contains l (slice_index (mini_stream_of s) index)) same member)).1;
-      }
-
-  pub whole-small : is_large e ≡ false → IsWholeMiniChain s e.start_sector (len_of s i) (mini_sectors_owned s i)
-  whole-small b =
-      let lies = small-is-there v s i change stream b in
-      record {
-        chain = lies.chain;
-        none = λ z. (empty-owns-nothing s i z).mini_sectors_are;
-        there = λ k lt. record {
-          listed = lies.enough k lt;
-          reached = record {
-            mini_sector = in-stream (slice_index (mini_sectors_owned s i) (k / mini_sector_len))
-                (minis-busy s i (slice_index (mini_sectors_owned s i) (k / mini_sector_len)) (Contains-get_or (mini_sectors_owned s i) (k / mini_sector_len) 0 (lies.enough k lt))).1;
-            reached = (let there = lies.there k lt in omega (arith, there, measured));
-          };
-        };
-      }
 
 -- ---- the bytes of the file change alone
 
@@ -201,7 +152,7 @@ module _ (v : Validation) (old : MiniState) (file : SectorFile) (i at : ℕ) (fr
       mini-still : (k : ℕ) → k < len_of old i → (k < at) ⊎ (at + length from ≤ k)
           → slice_index (bytes_of new) (mini_place_along old ids k) ≡ slice_index (bytes_of old) (mini_place_along old ids k)
       mini-still k lt out = changes.others (mini_place_along old ids k) (mini-there k lt) (λ j low high same.
-          minis-placed-once (version_of old) (mini_stream_of old) ids j k
+          all-minis-placed-once (version_of old) (mini_stream_of old) ids j k
           (distinct-right (old.directory.sectors ++ old.minifat_sectors) (mini_stream_of old) change.held.apart) chain.distinct
           (mini-listed j (omega (arith, high, inside))) (mini-listed k lt)
           (λ m c. stream-room v old m change.held (members-busy old.minifat entry.start_sector ids chain m c).1)
@@ -244,37 +195,6 @@ module _ (old : MiniState) (lent a : AllocatorState) (ids ids' : List ℕ) (valu
 
   pub held-as : (v : Validation) → HoldsTables v a → HoldsTables v (record (table_of old) { file = a.file })
   held-as v held = subst (λ (t : AllocatorState). HoldsTables v t) table-is held
-
--- a chain that is one in the allocator
-pub whole-as : (s : MiniState) (a : AllocatorState) (i start len : ℕ) (list : List ℕ) → a ≡ table_of s → start ≡ (entry_at (entries_of s) i).start_sector → len ≡ len_of s i
-    → IsWholeChain a.tables.version a.tables.fat a.file.len start len list
-    → IsWholeChain (version_of s) (tables_in s).fat (table_of s).file.len (entry_at (entries_of s) i).start_sector (len_of s i) list
-whole-as s a i start len list same from long whole =
-    subst (λ (t : AllocatorState). IsWholeChain t.tables.version t.tables.fat t.file.len (entry_at (entries_of s) i).start_sector (len_of s i) list) same
-    (subst (λ n. IsWholeChain a.tables.version a.tables.fat a.file.len n (len_of s i) list) from
-    (subst (λ n. IsWholeChain a.tables.version a.tables.fat a.file.len start n list) long whole))
-
-pub mini-whole-as : (s : MiniState) (i start len : ℕ) (list : List ℕ) → start ≡ (entry_at (entries_of s) i).start_sector → len ≡ len_of s i
-    → IsWholeMiniChain s start len list → IsWholeMiniChain s (entry_at (entries_of s) i).start_sector (len_of s i) list
-mini-whole-as s i start len list from long whole =
-    subst (λ n. IsWholeMiniChain s n (len_of s i) list) from (subst (λ n. IsWholeMiniChain s start n list) long whole)
-
--- where there is none, the file can not be changed
-pub no-whole-large : (s : MiniState) (a : AllocatorState) (i start len : ℕ) → a ≡ table_of s → start ≡ (entry_at (entries_of s) i).start_sector → len ≡ len_of s i → IsStreamOf s i
-    → is_large (entry_at (entries_of s) i) ≡ true → ((list : List ℕ) → IsWholeChain a.tables.version a.tables.fat a.file.len start len list → ⊥) → IsNotChangeable s
-no-whole-large s a i start len same from long stream b none v change =
-    none (sectors_owned s i)
-    (subst (λ n. IsWholeChain a.tables.version a.tables.fat a.file.len n len (sectors_owned s i)) (sym from)
-    (subst (λ n. IsWholeChain a.tables.version a.tables.fat a.file.len (entry_at (entries_of s) i).start_sector n (sectors_owned s i)) (sym long)
-    (subst (λ (t : AllocatorState). IsWholeChain t.tables.version t.tables.fat t.file.len (entry_at (entries_of s) i).start_sector (len_of s i) (sectors_owned s i)) (sym same)
-    (whole-large v s i change stream b))))
-
-pub no-whole-small : (s : MiniState) (i start len : ℕ) → start ≡ (entry_at (entries_of s) i).start_sector → len ≡ len_of s i → IsStreamOf s i
-    → is_large (entry_at (entries_of s) i) ≡ false → ((list : List ℕ) → IsWholeMiniChain s start len list → ⊥) → IsNotChangeable s
-no-whole-small s i start len from long stream b none v change =
-    none (mini_sectors_owned s i)
-    (subst (λ n. IsWholeMiniChain s n len (mini_sectors_owned s i)) (sym from)
-    (subst (λ n. IsWholeMiniChain s (entry_at (entries_of s) i).start_sector n (mini_sectors_owned s i)) (sym long) (whole-small v s i change stream b)))
 
 -- each byte that is written has its sector
 pub places-listed : (version : Version) (fat : List ℕ) (file_len start len at count : ℕ) (list : List ℕ) → IsWholeChain version fat file_len start len list → at + count ≤ len

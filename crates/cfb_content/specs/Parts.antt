@@ -1,25 +1,24 @@
 -- Contents by the places of their bytes in lists of sectors and mini sectors (MS-CFB 2.3 and 2.4): what of them the file has, what is
 -- put there, and what becomes of a stream's content before its entry says so.
-use Rattle.std.specs.Prelude.{ℕ, ◌≡◌, ◌≢◌, ◌+◌, ◌-◌, ◌*◌, ◌/◌, ◌%◌, ◌<◌, ◌≤◌, ◌⊎◌, List, [], ◌++◌, true, false, length, take, drop, nat_eq, slice_index, Contains}
-use Rattle.std.specs.List.{IsDistinct}
+use Rattle.std.specs.Prelude.{ℕ, ◌≡◌, ◌+◌, ◌/◌, ◌%◌, ◌<◌, ◌≤◌, ◌⊎◌, List, [], ◌++◌, true, false, length, take, drop, slice_index}
 use Rattle.cfb_format.specs.declared.version.Version.{Version}
 use Rattle.cfb_format.specs.declared.error.Error.{Error}
 use Rattle.cfb_format.specs.Bytes.{end_of_chain, sector_len}
 use Rattle.cfb_format.specs.Chain.{IsChain}
 use Rattle.cfb_format.specs.Content.{is_large, mini_sector_len, mini_stream_cutoff}
-use Rattle.cfb_format.specs.Full.{IsFullOfMiniSectors}
+use Rattle.cfb_format.specs.Full.{rounded_up}
 use Rattle.cfb_format.specs.Refused.{HasReason, at_every_error}
 use Rattle.cfb_format.specs.Siblings.{entry_at}
 use Rattle.cfb_tables.specs.Changes.{AreDisjoint, NoneFree}
 use Rattle.cfb_tables.specs.Listed.{ends_of, gained}
-use Rattle.cfb_tables.specs.Tables.{AreExactTables, AreFullTables}
+use Rattle.cfb_tables.specs.Tables.{AreExactTables, AreFullTables, IsTooFew}
 use Rattle.cfb_alloc.specs.Frame.{table_sectors}
 use Rattle.cfb_alloc.specs.ListedChain.{Lengthens, Shortens}
 use Rattle.cfb_chains.specs.ChainPlaces.{place_along}
-use Rattle.cfb_mini_table.specs.MiniTable.{MiniGivesBack, TakesMini}
-use Rattle.cfb_mini_sectors.specs.State.{MiniState, bytes_of, content_of, entries_of, parts_of, table_of, tables_in, version_of}
-use Rattle.cfb_mini_sectors.specs.Steps.{GrowsFor, KeepsLimits, KeepsMini, KeepsSystem, MovesRoot, system_sectors}
-use Rattle.cfb_mini.specs.MiniSectors.{HasMiniByte, HasMiniSector, IsStill}
+use Rattle.cfb_mini_table.specs.MiniTable.{IsTooFewMini, MiniGivesBack, TakesMini}
+use Rattle.cfb_mini_sectors.specs.State.{MiniState, bytes_of, content_of, entries_of, table_of, tables_in, version_of}
+use Rattle.cfb_mini_sectors.specs.Steps.{GrowsFor, IsTooFewFor, KeepsLimits, KeepsMini, KeepsSystem, MovesRoot, system_sectors}
+use Rattle.cfb_mini.specs.MiniSectors.{HasMiniByte, IsStill}
 use Rattle.cfb_content.specs.Contents.{len_of, mini_place_along, mini_sectors_owned, sectors_owned}
 
 -- ---- what is there
@@ -156,6 +155,14 @@ pub record TurnsLarge (old new : MiniState) (i size start : ℕ) : Type 0 where
   pub longer : Lengthens count [] ys (tables_in mid) (tables_in new)
   pub lies : LiesTurnedInSectors old new i size start ys
 
+-- a chain of these sectors was freed, and then a mini chain of so many mini sectors began, or none
+pub record CarriesToMinis (count : ℕ) (list ns : List ℕ) (old new : MiniState) : Type 0 where
+  pub mid : MiniState
+  pub mini : KeepsMini old mid
+  pub freed : Shortens 0 list [] (tables_in old) (tables_in mid)
+  pub grown : (GrowsFor count mid new × TakesMini old.max_mini_sectors mid.minifat new.minifat [] ns)
+      ⊎ ((ns ≡ []) × KeepsSystem mid new × KeepsMini mid new)
+
 -- the content of that stream was given this length in one of these six ways, and starts there now
 abbrev pub Turns : MiniState → MiniState → ℕ → ℕ → ℕ → Type 0
 Turns old new i size start = TurnsByGrowth old new i size start ⊎ TurnsByCut old new i size start ⊎ TurnsByMiniGrowth old new i size start
@@ -187,12 +194,19 @@ StopsOrBegun old new = HasReason (record (at_every_error (new ≡ old)) {
   invalid_data = (new ≡ old) ⊎ ((table_of new).file.begun ≡ true);
 })
 
--- the same where `Full` comes with full tables, or with all mini sectors in use that there may be: the sectors that there were, too few,
--- may have been taken then
+-- not one byte more can be had for the stream: a large one has no sector to go on with, one that is to move has too few, and a small one
+-- has no mini sector, or none of the sectors for it
+abbrev pub CannotGrow : MiniState → ℕ → Type 0
+CannotGrow s i = ((mini_stream_cutoff ≤ len_of s i) × AreFullTables (tables_in s))
+    ⊎ ((len_of s i + 1 ≡ mini_stream_cutoff) × IsTooFew (tables_in s) (rounded_up mini_stream_cutoff (sector_len (version_of s))))
+    ⊎ ((len_of s i + 1 < mini_stream_cutoff) × IsTooFewFor s 1)
+
+-- the same where `Full` comes with full tables, or where all mini sectors are in use that there may be: the sectors that there were, too
+-- few, may have been taken then
 abbrev pub StopsOrIsFull : MiniState → MiniState → Error → Type 0
 StopsOrIsFull old new = HasReason (record (at_every_error (new ≡ old)) {
   medium = λ f. IsStill old new ⊎ ((table_of new).file.begun ≡ true);
   memory = (new ≡ old) ⊎ ((table_of new).file.begun ≡ true);
   invalid_data = (new ≡ old) ⊎ ((table_of new).file.begun ≡ true);
-  full = ((new ≡ old) ⊎ ((table_of new).file.begun ≡ true)) × (AreFullTables (tables_in new) ⊎ IsFullOfMiniSectors (parts_of new));
+  full = ((new ≡ old) ⊎ ((table_of new).file.begun ≡ true)) × (IsTooFewMini old.max_mini_sectors old.minifat 1 ⊎ AreFullTables (tables_in new));
 })

@@ -3,7 +3,10 @@
 #![tactic(auto)]
 
 pub mod content;
+pub mod growing;
 mod in_minis;
+mod in_place;
 mod in_sectors;
 pub mod laws;
+mod moving;
 pub mod reading;

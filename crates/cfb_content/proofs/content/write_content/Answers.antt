@@ -1,4 +1,4 @@
-use Rattle.std.proofs.Common.{◌≡◌, ◌<◌, ◌≤◌, ◌+◌, ◌/◌, ℕ, List, false, true, refl, sym, ◌∙◌, subst, length, arith}
+use Rattle.std.proofs.Common.{◌≡◌, ◌<◌, ◌≤◌, ◌+◌, ◌/◌, ℕ, List, refl, sym, ◌∙◌, subst, length, arith}
 use Rattle.std.specs.Prelude.{IsTrue, OnOk, nat_eq, slice_index}
 use Rattle.std.specs.List.{IsDistinct}
 use Rattle.std.proofs.lemmas.Bool.{eqb-false, eqb-true}
@@ -20,7 +20,9 @@ use Rattle.cfb_content.proofs.Refusals.{refused-as}
 use Rattle.cfb_content.proofs.Rewritten.{written-none}
 use Rattle.cfb_content.proofs.StreamEntry.{stream-inside}
 use Rattle.cfb_content.proofs.Turned.{both-on-ok, large-by-len, small-by-len}
-use Rattle.cfb_content.proofs.Written.{LentWrite, MiniWrite, large-write-changeable, large-write-content, large-write-others, mini-whole-as, mini-write-changeable, mini-write-content, mini-write-others, no-whole-large, no-whole-small, places-listed, whole-as}
+use Rattle.cfb_content.proofs.TurnedInMinis.{not-whole-minis, whole-minis-as}
+use Rattle.cfb_content.proofs.TurnedInSectors.{not-whole, whole-as}
+use Rattle.cfb_content.proofs.Written.{LentWrite, MiniWrite, large-write-changeable, large-write-content, large-write-others, mini-write-changeable, mini-write-content, mini-write-others, places-listed}
 use Rattle.cfb_content.proofs.content.write_content.Goals as goal
 
 pub content_in-start-requires : goal.content_in-start-requires
@@ -51,8 +53,8 @@ returns-in_err-ids-clause-err g c =
     let long : 4096 ≤ len_of s i = (let len = c.content_in-start.ensures.len in let most = c.if-len.true in omega (arith, len, most)) in
     let p = err_from_is_err_and c.from_residual.result c.from_residual.ensures.1 in
     rw (p.1, p.2) (refused-as _ _ _ _ _ _ _ _
-    (no-whole-large s c.allocator.result.now i c.content_in-start.result.0 c.content_in-start.result.1 c.allocator.ensures c.content_in-start.ensures.start c.content_in-start.ensures.len
-    c.requires.stream (large-by-len (entry_at (entries_of s) i) (len_of s i) refl long))
+    (not-whole s i c.allocator.result.now c.content_in-start.result.0 c.content_in-start.result.1 c.allocator.ensures c.content_in-start.ensures.start c.content_in-start.ensures.len
+    c.requires.stream long)
     (λ u. u) (λ no. no) (λ no. absurd no) c.in_err-ids.field-0.0 c.in_err-ids.ensures.err)
 
 pub returns-in_err-ids-2-clause-others : goal.returns-in_err-ids-2-clause-others
@@ -65,8 +67,8 @@ returns-in_err-ids-2-clause-err g c =
     let short : len_of s i < 4096 = (let len = c.content_in-start.ensures.len in let most = c.if-len.false in omega (arith, len, most)) in
     let p = err_from_is_err_and c.from_residual-in_err-ids-2.result c.from_residual-in_err-ids-2.ensures.1 in
     rw (p.1, p.2) (refused-as _ _ _ _ _ _ _ _
-    (no-whole-small s i c.content_in-start.result.0 c.content_in-start.result.1 c.content_in-start.ensures.start c.content_in-start.ensures.len
-    c.requires.stream (small-by-len (entry_at (entries_of s) i) (len_of s i) refl short))
+    (not-whole-minis s i c.content_in-start.result.0 c.content_in-start.result.1 c.content_in-start.ensures.start c.content_in-start.ensures.len
+    c.requires.stream short)
     (λ u. u) (λ no. no) (λ no. absurd no) c.in_err-ids-2.field-0.0 c.in_err-ids-2.ensures.err)
 
 -- ---- in sectors
@@ -75,7 +77,7 @@ pub put_in_sectors-requires : goal.put_in_sectors-requires
 put_in_sectors-requires g c =
     let s = c.args.mini.now in
     let i = c.args.entry in
-    let whole = whole-as s c.allocator.result.now i c.content_in-start.result.0 c.content_in-start.result.1 c.in_ok-ids.ids.items c.allocator.ensures c.content_in-start.ensures.start
+    let whole = whole-as s i c.allocator.result.now c.content_in-start.result.0 c.content_in-start.result.1 c.in_ok-ids.ids.items c.allocator.ensures c.content_in-start.ensures.start
     c.content_in-start.ensures.len c.in_ok-ids.ensures.whole in
     let listed = places-listed (version_of s) (tables_in s).fat (table_of s).file.len (entry_at (entries_of s) i).start_sector (len_of s i) c.args.at (length c.args.bytes.now)
     c.in_ok-ids.ids.items whole c.requires.inside in
@@ -98,7 +100,7 @@ sector-write g c =
       stream = c.requires.stream;
       inside = c.requires.inside;
       large = large-by-len (entry_at (entries_of s) i) (len_of s i) refl (omega (arith, len, most));
-      whole = whole-as s c.allocator.result.now i c.content_in-start.result.0 c.content_in-start.result.1 c.in_ok-ids.ids.items c.allocator.ensures c.content_in-start.ensures.start
+      whole = whole-as s i c.allocator.result.now c.content_in-start.result.0 c.content_in-start.result.1 c.in_ok-ids.ids.items c.allocator.ensures c.content_in-start.ensures.start
           c.content_in-start.ensures.len c.in_ok-ids.ensures.whole;
       value = c.allocator_mut.ensures.value;
       tables = c.put_in_sectors.ensures.tables;
@@ -148,7 +150,7 @@ mini-write g c =
       inside = c.requires.inside;
       small = small-by-len (entry_at (entries_of s) i) (len_of s i) refl (omega (arith, len, most));
       some = (let ne = eqb-false (length c.args.bytes.now) 0 (sym c.is_empty.ensures ∙ c.if-is_empty.false) in omega (arith, ne));
-      whole = mini-whole-as s i c.content_in-start.result.0 c.content_in-start.result.1 c.in_ok-ids-2.ids.items c.content_in-start.ensures.start c.content_in-start.ensures.len
+      whole = whole-minis-as s i c.content_in-start.result.0 c.content_in-start.result.1 c.in_ok-ids-2.ids.items c.content_in-start.ensures.start c.content_in-start.ensures.len
           c.in_ok-ids-2.ensures.whole;
       kept = c.put_in_minis.ensures.kept;
       listed = c.deref-2.ensures.value;

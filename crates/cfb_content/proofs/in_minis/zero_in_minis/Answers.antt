@@ -1,6 +1,6 @@
-use Rattle.std.proofs.Common.{◌≡◌, ◌<◌, ◌+◌, ◌-◌, ℕ, refl, sym, ◌∙◌, subst, arith, length, take, replicate}
-use Rattle.std.specs.Prelude.{IsTrue, slice_index}
-use Rattle.std.proofs.lemmas.List.{get_or-replicate, length-replicate}
+use Rattle.std.proofs.Common.{◌≡◌, ◌-◌, ℕ, List, refl, ap, ◌∙◌, subst, arith, length, take, replicate}
+use Rattle.std.specs.Prelude.{IsTrue}
+use Rattle.std.proofs.lemmas.List.{length-replicate, take-replicate}
 use Rattle.cfb_alloc.proofs.Spared.{spares_refl}
 use Rattle.cfb_mini_sectors.specs.State.{bytes_of, mini_stream_of, table_of}
 use Rattle.cfb_mini.proofs.MiniWritten.{spares-mini-refl}
@@ -8,7 +8,7 @@ use Rattle.cfb_content.specs.Contents.{mini_place_along}
 use Rattle.cfb_content.specs.Parts.{ChangesOnlyPlaces, StandAlong}
 use Rattle.cfb_content.proofs.MinisPut.{file-in-turn, minis-once, minis-spared, same-along, stream-spared}
 use Rattle.cfb_content.proofs.PlacedWrites.{only_refl, only_then}
-use Rattle.cfb_content.proofs.PutAlong.{StandsTo, stands-none, stands-on, zeros-at, zeros-length}
+use Rattle.cfb_content.proofs.PutAlong.{stands-none, zeros-on, zeros-put, zeros-stand}
 use Rattle.cfb_content.proofs.in_minis.zero_in_minis.Goals as goal
 
 pub loop-at-init : goal.loop-at-init
@@ -54,13 +54,13 @@ loop-at-preserved g c =
     let count = c.min-count.ensures in
     let behind = inv.behind in
     let place = mini_place_along s ids in
-    let zeros = take n (replicate {A = ℕ} 64 0) in
-    let size : length zeros ≡ n = zeros-length 64 n (omega (arith, count)) in
+    let zeros : List ℕ = take n (replicate 64 0) in
+    let is : zeros ≡ replicate n 0 = take-replicate n 64 0 (omega (arith, count)) in
+    let size : length {A = ℕ} zeros ≡ n = ap (λ (xs : List ℕ). length xs) is ∙ length-replicate {A = ℕ} n 0 in
     let same = same-along s b inv.kept ids in
     let change : IsTrue g.F.ReadMedium.tells → ChangesOnlyPlaces place at n (bytes_of b) (bytes_of new) =
     λ told. subst (λ m. ChangesOnlyPlaces place at m (bytes_of b) (bytes_of new)) size
-    (subst (λ (p : ℕ → ℕ). ChangesOnlyPlaces p at (length zeros) (bytes_of b) (bytes_of new)) same (e.others told)) in
-    let done : from + (at - from) ≡ at = omega (arith, behind) in
+    (subst (λ (p : ℕ → ℕ). ChangesOnlyPlaces p at (length {A = ℕ} zeros) (bytes_of b) (bytes_of new)) same (e.others told)) in
     record {
       behind = omega (arith, behind);
       within = λ less. omega (arith, count, more);
@@ -68,15 +68,11 @@ loop-at-preserved g c =
       put = λ told validation h once.
           let stands : StandAlong place at zeros (bytes_of new) =
           subst (λ (p : ℕ → ℕ). StandAlong p at zeros (bytes_of new)) same (e.put told validation (inv.holds told validation h) once) in
-          let whole : at - from + n ≡ at + n - from = omega (arith, behind) in
-          subst (λ m. StandsTo place from (λ k. 0) m (bytes_of new)) whole
-          (stands-on place from (at - from) n (λ k. 0) (bytes_of b) (bytes_of new)
-          (λ k j low before high to.
-          minis-once validation s ids h once j k (c.requires.placed j (omega (arith, low, before, high)) (omega (arith, to, done, count, more)))
-          (c.requires.placed k low (omega (arith, before, done, more))) (omega (arith, before, high)))
-          (subst (λ m. ChangesOnlyPlaces place m n (bytes_of b) (bytes_of new)) (sym done) (change told)) (inv.put told validation h once)
-          (λ j low. subst (λ m. (place (m + j) < length (bytes_of new)) × (slice_index (bytes_of new) (place (m + j)) ≡ 0)) (sym done)
-          (let put = stands j (omega (arith, low, size)) in (put.0, put.1 ∙ zeros-at 64 n j low (omega (arith, low, count))))));
+          zeros-on place from at n (bytes_of b) (bytes_of new) behind
+          (λ k j low before high till.
+          minis-once validation s ids h once j k (c.requires.placed j (omega (arith, low, before, high)) (omega (arith, till, count, more)))
+          (c.requires.placed k low (omega (arith, before, more))) (omega (arith, before, high)))
+          (change told) (inv.put told validation h once) (zeros-put place at n zeros (bytes_of new) is stands);
       others = λ told.
           only_then place from (c.args.to - from) at n (bytes_of s) (bytes_of b) (bytes_of new) behind (omega (arith, count, more, behind)) (inv.others told) (change told);
       spares = λ told. stream-spared s b new inv.kept (inv.spares told) (e.spares told);
@@ -88,8 +84,7 @@ loop-at-preserved g c =
     }
 
 pub returns-clause-put : goal.returns-clause-put
-returns-clause-put g c told validation h once k low =
+returns-clause-put g c told validation h once =
     let past = c.loop-at-test.false in
-    let size = length-replicate {A = ℕ} (c.args.to - c.args.from) 0 in
-    let put = c.loop-at.invariant.put told validation h once k (omega (arith, low, past, size)) in
-    (put.0, put.1 ∙ sym (get_or-replicate (c.args.to - c.args.from) k 0 0 (omega (arith, low, size))))
+    zeros-stand (mini_place_along c.args.mini.now c.args.ids.now) c.args.from (c.loop-at.at - c.args.from) (c.args.to - c.args.from) (bytes_of c.loop-at.mini)
+    (omega (arith, past)) (c.loop-at.invariant.put told validation h once)

@@ -1,7 +1,6 @@
 use Rattle.std.proofs.Common.{◌≡◌, ◌≤◌, ◌+◌, ◌/◌, ◌%◌, inr, refl, sym, ◌∙◌, ap, subst, arith, length}
-use Rattle.std.specs.Prelude.{slice_range}
+use Rattle.std.specs.Prelude.{slice_index, slice_range}
 use Rattle.cfb_format.specs.Bytes.{sector_len}
-use Rattle.cfb_format.specs.Medium.{written}
 use Rattle.cfb_tables.specs.Changes.{AreDisjoint}
 use Rattle.cfb_tables.specs.Tables.{TableState}
 use Rattle.cfb_alloc.specs.Frame.{table_sectors}
@@ -10,7 +9,8 @@ use Rattle.cfb_alloc.proofs.Spared.{spares_refl}
 use Rattle.cfb_chains.specs.ChainPlaces.{place_along}
 use Rattle.cfb_chains.proofs.ChainContent.{rest_short}
 use Rattle.cfb_mini_sectors.proofs.PieceWrites.{kept_after}
-use Rattle.cfb_content.proofs.PlacedWrites.{StandFirst, next_piece, only_piece, only_refl, piece_at, piece_long, piece_place, stand_more}
+use Rattle.cfb_content.proofs.PlacedWrites.{next_piece, only_piece, only_refl, piece_at, piece_long, piece_place, stand_more}
+use Rattle.cfb_content.proofs.PutAlong.{StandsTo, stands-none}
 use Rattle.cfb_content.proofs.in_sectors.put_in_sectors.Goals as goal
 
 pub loop-done-init : goal.loop-done-init
@@ -23,7 +23,7 @@ loop-done-init g c =
       piece = λ some. (λ j. start j / l j, λ j. start j % l j);
       tables = refl;
       kept = refl;
-      put = λ told once k low. absurd (omega (arith, low));
+      put = λ told once. stands-none (place_along a.tables.version c.args.ids.now) c.args.at (slice_index c.args.bytes.now) 0 a.file.bytes refl;
       others = λ told. only_refl (place_along a.tables.version c.args.ids.now) c.args.at (length c.args.bytes.now) a.file.bytes;
       spares = λ told. spares_refl c.args.ids.now a;
       holds = λ told validation h free. h;
@@ -89,10 +89,10 @@ loop-done-preserved g c =
       tables = e.tables ∙ inv.tables;
       kept = kept_after n.file b.file a.file e.kept inv.kept;
       put = λ told once.
-          subst (λ m. StandFirst (place_along v ids) c.args.at bytes (done + m) n.file.bytes) size
-          (stand_more v ids c.args.at done bytes (slice_range bytes done (done + count)) b.file.bytes n.file.bytes once (λ k low. (c.requires.placed k low).0) lt short
-          (λ j less. piece_at bytes done count j (omega (arith, less, size)))
-          (e.ok told ∙ ap (λ p. written b.file.bytes p (slice_range bytes done (done + count))) place) (inv.put told once));
+          subst (λ m. StandsTo (place_along v ids) c.args.at (slice_index bytes) (done + m) n.file.bytes) size
+          (stand_more v ids c.args.at done _ bytes (slice_range bytes done (done + count)) b.file.bytes n.file.bytes once (λ k low. (c.requires.placed k low).0)
+          (omega (arith, size, few)) (omega (arith, size, room, lt, off, wide, rest)) place short (λ j less. piece_at bytes done count j (omega (arith, less, size)))
+          (e.ok told) (e.others told) (inv.put told once));
       others = λ told.
           only_piece v ids c.args.at (length bytes) done _ _ a.file.bytes b.file.bytes n.file.bytes place short (omega (arith, size, few)) (inv.others told) (e.others told);
       spares = λ told. spares-then ids ids a b n (λ i m. inr m) (inv.spares told) (e.spares told);

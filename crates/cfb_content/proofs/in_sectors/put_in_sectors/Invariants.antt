@@ -1,5 +1,5 @@
 use Rattle.std.proofs.Common.{length, ◌-◌, ◌≡◌, ◌+◌, ◌/◌, ◌%◌, ◌<◌, ◌≤◌, nat_eq}
-use Rattle.std.specs.Prelude.{IsTrue}
+use Rattle.std.specs.Prelude.{IsTrue, slice_index}
 use Rattle.std.specs.List.{IsDistinct}
 use Rattle.cfb_format.specs.declared.validate.Validation.{Validation}
 use Rattle.cfb_format.specs.Bytes.{sector_len}
@@ -9,7 +9,7 @@ use Rattle.cfb_alloc.specs.Alloc.{HoldsTables}
 use Rattle.cfb_alloc.specs.Frame.{Spares, table_sectors}
 use Rattle.cfb_chains.specs.ChainPlaces.{place_along}
 use Rattle.cfb_content.specs.Parts.{ChangesOnlyPlaces}
-use Rattle.cfb_content.proofs.PlacedWrites.{StandFirst}
+use Rattle.cfb_content.proofs.PutAlong.{StandsTo}
 use Rattle.cfb_content.proofs.in_sectors.put_in_sectors.Given as goal
 
 abbrev pub invariant-loop-done : goal.invariant-loop-done
@@ -23,7 +23,7 @@ invariant-loop-done g l = record {
     failures = l.allocator.file.failures;
     begun = l.allocator.file.begun;
   };
-  put : IsTrue g.F.ReadMedium.tells → IsDistinct nat_eq l.ids → StandFirst (place_along l.fn.allocator.tables.version l.ids) l.at l.bytes l.done l.allocator.file.bytes;
+  put : IsTrue g.F.ReadMedium.tells → IsDistinct nat_eq l.ids → StandsTo (place_along l.fn.allocator.tables.version l.ids) l.at (slice_index l.bytes) l.done l.allocator.file.bytes;
   others : IsTrue g.F.ReadMedium.tells
       → ChangesOnlyPlaces (place_along l.fn.allocator.tables.version l.ids) l.at (length l.bytes) l.fn.allocator.file.bytes l.allocator.file.bytes;
   spares : IsTrue g.F.ReadMedium.tells → Spares l.ids l.fn.allocator l.allocator;

@@ -1,7 +1,7 @@
 use Rattle.std.proofs.Common.{ℕ, List, sym, ◌∙◌, subst}
 use Rattle.cfb_format.proofs.Unique.{IsChain-unique}
 use Rattle.cfb_content.specs.Parts.{IsThereInSectors}
-use Rattle.cfb_content.proofs.Refusals.{refused_by}
+use Rattle.cfb_content.proofs.Refusals.{invalid-refused}
 use Rattle.cfb_content.proofs.in_sectors.whole_chain.Goals as goal
 
 pub returns-then-there-len-clause-err : goal.returns-then-there-len-clause-err
@@ -9,7 +9,7 @@ returns-then-there-len-clause-err g c =
     let a = c.args.allocator.now in
     let ids = c.in_ok-ids.ids.items in
     let less = c.if-there-len.true in
-    refused_by _ _ _ _ c.cut_short.result c.cut_short.ensures
+    invalid-refused _ _ _ _ c.cut_short.result c.cut_short.ensures
     (λ list whole. c.there_in_sectors-there.ensures.cut less
     (subst (λ (l : List ℕ). IsThereInSectors a.tables.version l a.file.len c.there_in_sectors-there.result)
     (IsChain-unique a.tables.fat c.args.start list ids whole.chain c.in_ok-ids.ensures.ok ∙ sym c.deref.ensures.value) (whole.there c.there_in_sectors-there.result less)))

@@ -1,6 +1,6 @@
 use Rattle.std.proofs.Common.{◌≡◌, ◌≤◌, ◌+◌, ◌-◌, inr, ℕ, List, refl, sym, ◌∙◌, ap, subst, arith, length, take, replicate}
-use Rattle.std.specs.Prelude.{slice_index}
-use Rattle.std.proofs.lemmas.List.{get_or-replicate, length-replicate}
+use Rattle.std.specs.Prelude.{IsTrue}
+use Rattle.std.proofs.lemmas.List.{length-replicate}
 use Rattle.cfb_format.specs.declared.version.Version.{Version}
 use Rattle.cfb_tables.specs.Changes.{AreDisjoint}
 use Rattle.cfb_tables.specs.Tables.{TableState}
@@ -12,6 +12,7 @@ use Rattle.cfb_chains.proofs.ChainWrites.{zeros_of}
 use Rattle.cfb_mini_sectors.proofs.PieceWrites.{kept_after}
 use Rattle.cfb_content.specs.Parts.{ChangesOnlyPlaces, StandAlong}
 use Rattle.cfb_content.proofs.PlacedWrites.{only_refl, only_then, zeros_more}
+use Rattle.cfb_content.proofs.PutAlong.{stands-none, zeros-put, zeros-stand}
 use Rattle.cfb_content.proofs.in_sectors.zero_in_sectors.Goals as goal
 
 pub loop-at-init : goal.loop-at-init
@@ -23,7 +24,7 @@ loop-at-init g c =
       still = λ none. refl;
       tables = refl;
       kept = refl;
-      put = λ told once k low high. absurd (omega (arith, low, high));
+      put = λ told once. stands-none (place_along a.tables.version c.args.ids.now) c.args.from (λ k. 0) (c.args.from - c.args.from) a.file.bytes (omega arith);
       others = λ told. only_refl (place_along a.tables.version c.args.ids.now) c.args.from (c.args.to - c.args.from) a.file.bytes;
       spares = λ told. spares_refl c.args.ids.now a;
       holds = λ told validation h free. h;
@@ -58,6 +59,9 @@ loop-at-preserved g c =
     let is : zs ≡ replicate count 0 = zeros_of (replicate 4096 0) count refl (omega (arith, room)) in
     let size : length {A = ℕ} zs ≡ count = ap (λ (xs : List ℕ). length xs) is ∙ length-replicate {A = ℕ} count 0 in
     let same : b.tables.version ≡ v = ap (λ (t : TableState). t.version) inv.tables in
+    let change : IsTrue g.F.ReadMedium.tells → ChangesOnlyPlaces (place_along v ids) at count b.file.bytes n.file.bytes =
+    λ told. subst (λ m. ChangesOnlyPlaces (place_along v ids) at m b.file.bytes n.file.bytes) size
+    (subst (λ (u : Version). ChangesOnlyPlaces (place_along u ids) at (length {A = ℕ} zs) b.file.bytes n.file.bytes) same (e.others told)) in
     record {
       behind = omega (arith, behind);
       within = λ ordered. few;
@@ -65,15 +69,10 @@ loop-at-preserved g c =
       tables = e.tables ∙ inv.tables;
       kept = kept_after n.file b.file a.file e.kept inv.kept;
       put = λ told once.
-          zeros_more v ids from at to count zs b.file.bytes n.file.bytes once (λ k low high. (c.requires.placed k low high).0) behind few size
-          (λ j less. ap (λ (xs : List ℕ). slice_index xs j) is ∙ get_or-replicate count j 0 0 less)
-          (subst (λ (u : Version). ChangesOnlyPlaces (place_along u ids) at (length {A = ℕ} zs) b.file.bytes n.file.bytes) same (e.others told))
-          (subst (λ (u : Version). StandAlong (place_along u ids) at zs n.file.bytes) same (e.put told once))
-          (inv.put told once);
+          zeros_more v ids from at to count b.file.bytes n.file.bytes once (λ k low high. (c.requires.placed k low high).0) behind few (change told) (inv.put told once)
+          (zeros-put (place_along v ids) at count zs n.file.bytes is (subst (λ (u : Version). StandAlong (place_along u ids) at zs n.file.bytes) same (e.put told once)));
       others = λ told.
-          only_then (place_along v ids) from (to - from) at (length {A = ℕ} zs) a.file.bytes b.file.bytes n.file.bytes behind (omega (arith, size, few, behind))
-          (inv.others told)
-          (subst (λ (u : Version). ChangesOnlyPlaces (place_along u ids) at (length {A = ℕ} zs) b.file.bytes n.file.bytes) same (e.others told));
+          only_then (place_along v ids) from (to - from) at count a.file.bytes b.file.bytes n.file.bytes behind (omega (arith, few, behind)) (inv.others told) (change told);
       spares = λ told. spares-then ids ids a b n (λ i m. inr m) (inv.spares told) (e.spares told);
       holds = λ told validation h free. e.holds told validation (inv.holds told validation h free)
           (subst (λ (t : TableState). AreDisjoint ids (table_sectors t)) (sym inv.tables) free);
@@ -84,3 +83,9 @@ loop-at-preserved g c =
 
 pub returns-clause-none : goal.returns-clause-none
 returns-clause-none g c none = (tt, c.loop-at.invariant.none (c.loop-at.invariant.still none))
+
+pub returns-clause-put : goal.returns-clause-put
+returns-clause-put g c told once =
+    let past = c.loop-at-test.false in
+    zeros-stand (place_along c.args.allocator.now.tables.version c.args.ids.now) c.args.from (c.loop-at.at - c.args.from) (c.args.to - c.args.from) c.loop-at.allocator.file.bytes
+    (omega (arith, past)) (c.loop-at.invariant.put told once)

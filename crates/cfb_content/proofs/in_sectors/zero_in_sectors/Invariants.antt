@@ -8,7 +8,7 @@ use Rattle.cfb_alloc.specs.Alloc.{HoldsTables}
 use Rattle.cfb_alloc.specs.Frame.{Spares, table_sectors}
 use Rattle.cfb_chains.specs.ChainPlaces.{place_along}
 use Rattle.cfb_content.specs.Parts.{ChangesOnlyPlaces}
-use Rattle.cfb_content.proofs.PlacedWrites.{AreZerosAlong}
+use Rattle.cfb_content.proofs.PutAlong.{StandsTo}
 use Rattle.cfb_content.proofs.in_sectors.zero_in_sectors.Given as goal
 
 abbrev pub invariant-loop-at : goal.invariant-loop-at
@@ -23,7 +23,7 @@ invariant-loop-at g l = record {
     failures = l.allocator.file.failures;
     begun = l.allocator.file.begun;
   };
-  put : IsTrue g.F.ReadMedium.tells → IsDistinct nat_eq l.ids → AreZerosAlong (place_along l.fn.allocator.tables.version l.ids) l.from l.at l.allocator.file.bytes;
+  put : IsTrue g.F.ReadMedium.tells → IsDistinct nat_eq l.ids → StandsTo (place_along l.fn.allocator.tables.version l.ids) l.from (λ k. 0) (l.at - l.from) l.allocator.file.bytes;
   others : IsTrue g.F.ReadMedium.tells
       → ChangesOnlyPlaces (place_along l.fn.allocator.tables.version l.ids) l.from (l.to - l.from) l.fn.allocator.file.bytes l.allocator.file.bytes;
   spares : IsTrue g.F.ReadMedium.tells → Spares l.ids l.fn.allocator l.allocator;

@@ -4,7 +4,7 @@ use Rattle.cfb_format.specs.Chain.{IsChain}
 use Rattle.cfb_chains.proofs.ChainWrites.{if_ok}
 use Rattle.cfb_content.specs.Along.{IsThereAlong}
 use Rattle.cfb_content.proofs.ReadablePlaces.{first-along}
-use Rattle.cfb_content.proofs.Refusals.{refused_by}
+use Rattle.cfb_content.proofs.Refusals.{invalid-refused}
 use Rattle.cfb_content.proofs.reading.read_along.Goals as goal
 
 pub returns-then-at-there-clause-err : goal.returns-then-at-there-clause-err
@@ -15,7 +15,7 @@ returns-then-at-there-clause-err g c =
     let some = c.requires.some in
     let inside = c.requires.inside in
     let chain = subst (λ (l : List ℕ). IsChain a.tables.fat c.args.start l) (sym c.deref.ensures.value) c.in_ok-ids.ensures.ok in
-    refused_by _ _ _ _ c.cut_short.result c.cut_short.ensures (
+    invalid-refused _ _ _ _ c.cut_short.result c.cut_short.ensures (
       there,
       omega (arith, past),
       (first-along a c.args.start c.deref.result.now c.args.len there chain c.there_in_sectors-there.ensures).cut (omega (arith, past, some, inside)),
