@@ -12,7 +12,7 @@ use Rattle.cfb_format.specs.Chain.{IsChain, chain_from, value}
 use Rattle.cfb_format.specs.Content.{is_large, mini_chain, mini_stream_chain, readable}
 use Rattle.cfb_format.specs.DirectoryEntry.{Entry}
 use Rattle.cfb_format.specs.Header.{IsHeader}
-use Rattle.cfb_format.specs.Reading.{IsOutline, Outline, stream_numbers}
+use Rattle.cfb_format.specs.Reading.{IsOutline, Outline, stream_numbers, no_more}
 use Rattle.cfb_format.specs.Siblings.{entry_at}
 use Rattle.cfb_format.specs.Soundness.{IsSound, KeepsLoose, used_mini_sectors, used_sectors}
 use Rattle.cfb_format.proofs.Chains.{chain_from-IsChain}
@@ -27,7 +27,6 @@ use Rattle.cfb_tables.proofs.Members.{Contains-nil, distinct-apart, distinct-lef
 use Rattle.cfb_alloc.specs.Frame.{table_sectors}
 use Rattle.cfb_mini_sectors.specs.State.{HoldsMini, IsChangeable, MiniState, bytes_of, cases_of, content_of, entries_of, header_of_version, mini_stream_of, parts_of, reading_of, tables_in, version_of}
 use Rattle.cfb_mini_sectors.specs.Steps.{system_sectors}
-use Rattle.cfb_format.specs.Reading.{no_more}
 use Rattle.cfb_content.specs.Contents.{IsStreamOf, mini_sectors_owned, parts_with, sectors_owned}
 use Rattle.cfb_content.specs.Uses.{mini_sectors_by_owners, other_streams, sectors_by_owners}
 use Rattle.cfb_content.specs.Laws.{OwnIsApart, StreamStartIsUnnamed}

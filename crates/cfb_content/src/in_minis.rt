@@ -65,7 +65,7 @@ pub(crate) fn there_in_minis<F: ReadMedium, A: Heap>(
 
 /// The mini sectors of a stream of so many bytes that starts there; an empty one has none. `InvalidData` where there is no such mini
 /// chain or the file has not all of these bytes, and `Memory`.
-pub(crate) fn whole_mini_chain<F: ReadMedium, A: Heap + Clone>(
+pub fn whole_mini_chain<F: ReadMedium, A: Heap + Clone>(
     mini: &MiniAllocator<F, A>,
     start: u32,
     len: u64,
@@ -110,7 +110,7 @@ pub(crate) fn read_in_minis<F: ReadMedium, A: Heap>(
 }
 
 /// Reads the first bytes of these mini sectors, as many as `into` has room for, all of which the file has.
-pub(crate) fn get_from_minis<F: ReadMedium, A: Heap>(
+pub fn get_from_minis<F: ReadMedium, A: Heap>(
     mini: &mut MiniAllocator<F, A>,
     ids: &[u32],
     into: &mut [u8],
@@ -133,7 +133,7 @@ pub(crate) fn get_from_minis<F: ReadMedium, A: Heap>(
 }
 
 /// Writes all of these bytes into these mini sectors, from byte `at` of them on. `Medium` where the medium fails.
-pub(crate) fn put_in_minis<F: Medium, A: Heap>(
+pub fn put_in_minis<F: Medium, A: Heap>(
     mini: &mut MiniAllocator<F, A>,
     ids: &[u32],
     at: u64,
@@ -166,7 +166,7 @@ pub(crate) fn put_in_minis<F: Medium, A: Heap>(
 }
 
 /// Makes the bytes of these mini sectors zeros from one to before another. `Medium` where the medium fails.
-pub(crate) fn zero_in_minis<F: Medium, A: Heap>(
+pub fn zero_in_minis<F: Medium, A: Heap>(
     mini: &mut MiniAllocator<F, A>,
     ids: &[u32],
     from: u64,

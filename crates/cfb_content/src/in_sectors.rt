@@ -1,5 +1,5 @@
 //! Contents that lie in sectors (MS-CFB 2.3), by the list of a chain's sectors.
-ghost use Rattle.std.specs.Prelude.{◌≡◌, ◌≢◌, ℕ, ◌+◌, ◌-◌, ◌/◌, ◌<◌, ◌≤◌, List, length, min, take, drop, replicate, true, nat_eq, slice_index, IsTrue, IfOk, IfErr, OnOk, OnErr};
+ghost use Rattle.std.specs.Prelude.{◌≡◌, ℕ, ◌+◌, ◌-◌, ◌/◌, ◌<◌, ◌≤◌, List, length, min, take, drop, replicate, true, nat_eq, slice_index, IsTrue, IfOk, IfErr, OnOk, OnErr};
 ghost use Rattle.std.specs.List.{IsDistinct};
 ghost use Rattle.cfb_format.specs.declared.validate.Validation.{Validation};
 ghost use Rattle.cfb_format.specs.Bytes.{sector_len, sector_start};
@@ -8,24 +8,15 @@ ghost use Rattle.cfb_format.specs.Refused.{CountsFailure, IsInvalidData};
 ghost use Rattle.cfb_sectors.specs.Sectors.{IsMediumError};
 ghost use Rattle.cfb_tables.specs.Changes.{AreDisjoint};
 ghost use Rattle.cfb_tables.specs.Refused.{ChangeRefused};
-ghost use Rattle.cfb_tables.specs.Tables.{first_or_end};
 ghost use Rattle.cfb_alloc.specs.Alloc.{HoldsTables};
 ghost use Rattle.cfb_alloc.specs.Frame.{Spares, table_sectors};
 ghost use Rattle.cfb_chains.specs.ChainPlaces.{place_along};
 ghost use Rattle.cfb_content.specs.Parts.{ChangesOnlyPlaces, HasFirst, IsThereInSectors, IsWholeChain, StandAlong};
 
 use cfb_alloc::alloc::Allocator;
-use cfb_format::consts::END_OF_CHAIN;
 use cfb_format::error::{Detail, Error};
 use cfb_format::medium::{Medium, ReadMedium};
 use std::alloc::Allocator as Heap;
-
-/// The first number of a list, or END.
-pub(crate) fn first_number(numbers: &[u32]) -> u32
-    ensures { result ≡ first_or_end numbers.now }
-{
-    numbers.first().copied().unwrap_or(END_OF_CHAIN)
-}
 
 /// A refusal of a stream whose chain has not all of its bytes in the file.
 pub(crate) fn cut_short(len: u64, there: u64) -> Error
@@ -62,7 +53,7 @@ pub(crate) fn there_in_sectors<F: ReadMedium, A: Heap>(
 
 /// The sectors of the chain from `start`, which has so many bytes. `InvalidData` where there is no such chain or the file has not
 /// all of these bytes, and `Memory`.
-pub(crate) fn whole_chain<F: ReadMedium, A: Heap + Clone>(
+pub fn whole_chain<F: ReadMedium, A: Heap + Clone>(
     allocator: &Allocator<F, A>,
     start: u32,
     len: u64,
@@ -167,7 +158,7 @@ pub(crate) fn read_in_sectors<F: ReadMedium, A: Heap>(
 }
 
 /// Reads the first bytes of these sectors, as many as `into` has room for, all of which the file has.
-pub(crate) fn get_from_sectors<F: ReadMedium, A: Heap>(
+pub fn get_from_sectors<F: ReadMedium, A: Heap>(
     allocator: &mut Allocator<F, A>,
     ids: &[u32],
     into: &mut [u8],
@@ -227,7 +218,7 @@ fn put_listed<F: Medium, A: Heap>(
 }
 
 /// Writes all of these bytes into these sectors, from byte `at` of them on. `Medium` where the medium fails.
-pub(crate) fn put_in_sectors<F: Medium, A: Heap>(
+pub fn put_in_sectors<F: Medium, A: Heap>(
     allocator: &mut Allocator<F, A>,
     ids: &[u32],
     at: u64,
@@ -269,7 +260,7 @@ pub(crate) fn put_in_sectors<F: Medium, A: Heap>(
 }
 
 /// Makes the bytes of these sectors zeros from one to before another. `Medium` where the medium fails.
-pub(crate) fn zero_in_sectors<F: Medium, A: Heap>(
+pub fn zero_in_sectors<F: Medium, A: Heap>(
     allocator: &mut Allocator<F, A>,
     ids: &[u32],
     from: u64,

@@ -10,7 +10,6 @@ ghost use Rattle.cfb_content.specs.Along.{IsByteAlong, IsCutBy, IsMiniByteAlong,
 ghost use Rattle.cfb_content.specs.Contents.{TellsPlaces, len_of};
 ghost use Rattle.cfb_content.specs.Parts.{HasFirst};
 
-use crate::content::content_in;
 use crate::in_minis::{read_in_minis, there_in_minis};
 use crate::in_sectors::{cut_short, read_in_sectors, there_in_sectors};
 use cfb_alloc::alloc::Allocator;
@@ -19,6 +18,16 @@ use cfb_format::error::Error;
 use cfb_format::medium::ReadMedium;
 use cfb_mini::mini_allocator::MiniAllocator;
 use std::alloc::Allocator as Heap;
+
+/// Where the content of an entry starts, and how long it is.
+pub fn content_in<F: ReadMedium, A: Heap>(mini: &MiniAllocator<F, A>, entry: u32) -> (u32, u64)
+    requires inside { entry < length (entries_of mini.now) }
+    ensures start { result.0 ≡ (entry_at (entries_of mini.now) entry).start_sector }
+    ensures len { result.1 ≡ len_of mini.now entry }
+{
+    let entry = mini.dir_entry(entry);
+    (entry.start_sector, entry.stream_len)
+}
 
 /// How many bytes of the stream of that entry can be read, from its first one on: all of its length in a sound file. `Memory`.
 pub fn readable_len<F: ReadMedium, A: Heap + Clone>(

@@ -12,3 +12,4 @@ pub mod InsertGrow
 pub mod InsertPut
 pub mod InsertWhole
 pub mod NamesFound
+pub mod LeastAbove

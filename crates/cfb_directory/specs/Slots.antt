@@ -1,5 +1,5 @@
 -- The directory's slots by their places, and the entries in memory (MS-CFB 2.6).
-use Rattle.std.specs.Prelude.{ℕ, ◌≡◌, ◌+◌, ◌*◌, ◌/◌, ◌%◌, ◌<◌, ◌≤◌, ◌⊎◌, List, length, slice_index, Contains}
+use Rattle.std.specs.Prelude.{ℕ, ◌≡◌, ◌↔◌, ◌+◌, ◌*◌, ◌/◌, ◌%◌, ◌<◌, ◌≤◌, ◌⊎◌, List, length, slice_index, Contains}
 use Rattle.cfb_format.specs.declared.version.Version.{Version}
 use Rattle.cfb_format.specs.declared.validate.Validation.{Validation}
 use Rattle.cfb_format.specs.Bytes.{entries_per_sector, sector_start}
@@ -24,6 +24,10 @@ pub record HoldSlotsBut (late : List ℕ) (validation : Validation) (version : V
 pub record HavePlaces (version : Version) (sectors : List ℕ) (entries count : ℕ) : Type 0 where
   pub slots : entries ≡ length sectors * entries_per_sector version
   pub within : (i : ℕ) → Contains sectors i → i < count
+
+-- this number is above all of them, and each lower one is not
+abbrev pub IsLeastAbove : List ℕ → ℕ → Type 0
+IsLeastAbove sectors above = (n : ℕ) → (above ≤ n) ↔ ((i : ℕ) → Contains sectors i → i < n)
 
 -- of the bytes those of these slots alone change, and none is lost; what lies past the old end is open
 pub record ChangesSlots (touched : List ℕ) (version : Version) (sectors old new : List ℕ) : Type 0 where

@@ -14,6 +14,7 @@ ghost use Rattle.cfb_entries.specs.declared.fields.Fields.{Fields};
 ghost use Rattle.cfb_entries.specs.EntryList.{RemovesEntry};
 ghost use Rattle.cfb_entries.specs.Fields.{fields_in, entry_with_fields, entries_with_fields};
 ghost use Rattle.cfb_directory.specs.Growing.{ArePlaced};
+ghost use Rattle.cfb_directory.specs.Slots.{IsLeastAbove};
 ghost use Rattle.cfb_directory.specs.State.{HoldsDirectory, KeepsLimits, directory_of};
 ghost use Rattle.cfb_directory.specs.Steps.{IsNotHeld, KeepsOtherSlots, StaysRedApart, KeepsSlotsBut, KeepsWholeHeader, StopsShort};
 
@@ -36,11 +37,13 @@ pub(crate) fn unplaced(entries: usize) -> Error
 pub(crate) fn remove_entry<F: Medium, A: Heap + Clone>(
     allocator: &mut Allocator<F, A>,
     sectors: &[u32],
+    above: usize,
     entries: &mut Entries<A>,
     heap: &A,
     parent: u32,
     name: &str,
 ) -> Result<(), Error>
+    requires above { IsLeastAbove sectors.now above }
     requires parent { IsReachedStorage entries.old.cases entries.old.entries parent }
     requires there { (list : List ℕ) → HasChildren entries.old.cases entries.old.entries parent list
         → (n : ℕ) × IsChildNamed entries.old.cases entries.old.entries (chars name.now) list n × ((entry_at entries.old.entries n).child ≡ no_stream) }
@@ -60,7 +63,7 @@ pub(crate) fn remove_entry<F: Medium, A: Heap + Clone>(
     ensures counts { IsTrue F.tells → CountsFailure F.write_faults result allocator.old.file.failures allocator.new.file.failures }
 {
     let count = entries.list().len();
-    if !are_placed(allocator, sectors, count) {
+    if !are_placed(allocator, sectors, above, count) {
         return Err(unplaced(count));
     }
     let touched = entries.remove(heap, parent, name)?;
@@ -72,10 +75,12 @@ pub(crate) fn remove_entry<F: Medium, A: Heap + Clone>(
 pub(crate) fn change_fields<F: Medium, A: Heap, W: FnOnce(Fields) -> Fields>(
     allocator: &mut Allocator<F, A>,
     sectors: &[u32],
+    above: usize,
     entries: &mut Entries<A>,
     number: u32,
     change: W,
 ) -> Result<(), Error>
+    requires above { IsLeastAbove sectors.now above }
     requires inside { number < length entries.old.entries }
     requires callable { W.IsAlwaysCallable change }
     requires root_len { number ≡ 0 → (f : Fields) → W.post change (fields_in (entry_at entries.old.entries 0)) f → f.stream_len % 64 ≡ 0 }
@@ -100,7 +105,7 @@ pub(crate) fn change_fields<F: Medium, A: Heap, W: FnOnce(Fields) -> Fields>(
     ensures counts { IsTrue F.tells → CountsFailure F.write_faults result allocator.old.file.failures allocator.new.file.failures }
 {
     let count = entries.list().len();
-    if !are_placed(allocator, sectors, count) {
+    if !are_placed(allocator, sectors, above, count) {
         return Err(unplaced(count));
     }
     entries.set_fields(number, change);

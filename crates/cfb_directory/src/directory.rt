@@ -31,6 +31,7 @@ ghost use Rattle.cfb_entries.specs.Fields.{fields_in, entry_with_fields, entries
 ghost use Rattle.cfb_directory.specs.State.{HoldsDirectory, IsFullForEntry, KeepsHeader, KeepsLimits, bytes_of, tables_in, version_of, with_room};
 ghost use Rattle.cfb_directory.specs.Steps.{IsNotHeld, KeepsOtherSlots, StaysRedApart, KeepsSlotsBut, KeepsWholeHeader, StopsShort};
 
+use crate::bounds::least_above;
 use crate::changing::{change_fields, remove_entry};
 use crate::inserting::insert_entry;
 use crate::slots::are_placed;
@@ -54,16 +55,21 @@ use std::marker::Model;
 pub struct Directory<F: ReadMedium, A: Heap = Global> {
     allocator: Allocator<F, A>,
     sectors: Vec<u32, A>,
+    // The least number above all sectors of the directory.
+    above: usize,
     entries: Entries<A>,
     heap: A,
 }
 
 impl<F: ReadMedium, A: Heap> Model for Directory<F, A> {
+    ghost use Rattle.cfb_directory.specs.Slots.{IsLeastAbove};
     ghost use Rattle.cfb_directory.specs.State.{DirectoryState};
 
     ghost Value = { DirectoryState };
 
     ghost view = { λ d. record { table = d.allocator; sectors = d.sectors.items; cases = d.entries.cases; entries = d.entries.entries } };
+
+    ghost invariant = { λ d. IsLeastAbove d.sectors.items d.above };
 }
 
 impl<F: ReadMedium, A: Heap + Clone> Directory<F, A> {
@@ -98,9 +104,11 @@ impl<F: ReadMedium, A: Heap + Clone> Directory<F, A> {
             return Err(unslotted(sectors.len(), entries.len()));
         }
         let entries = Entries::new(&heap, letters, entries, validation)?;
+        let above = least_above(0, &sectors);
         Ok(Directory {
             allocator,
             sectors,
+            above,
             entries,
             heap,
         })
@@ -149,6 +157,7 @@ impl<F: ReadMedium, A: Heap> Directory<F, A> {
         let Directory {
             allocator,
             sectors: _,
+            above: _,
             entries: _,
             heap: _,
         } = self;
@@ -196,7 +205,12 @@ impl<F: ReadMedium, A: Heap> Directory<F, A> {
     pub fn is_placed(&self) -> bool
         ensures { IsTrue result ↔ ArePlaced self.now }
     {
-        are_placed(&self.allocator, &self.sectors, self.entries.list().len())
+        are_placed(
+            &self.allocator,
+            &self.sectors,
+            self.above,
+            self.entries.list().len(),
+        )
     }
 
     /// The letters by which names are compared.
@@ -306,6 +320,7 @@ impl<F: Medium, A: Heap + Clone> Directory<F, A> {
         insert_entry(
             &mut self.allocator,
             &mut self.sectors,
+            &mut self.above,
             &mut self.entries,
             &self.heap,
             parent,
@@ -343,6 +358,7 @@ impl<F: Medium, A: Heap + Clone> Directory<F, A> {
         remove_entry(
             &mut self.allocator,
             &self.sectors,
+            self.above,
             &mut self.entries,
             &self.heap,
             parent,
@@ -387,6 +403,7 @@ impl<F: Medium, A: Heap> Directory<F, A> {
         change_fields(
             &mut self.allocator,
             &self.sectors,
+            self.above,
             &mut self.entries,
             number,
             change,

@@ -24,9 +24,11 @@ ghost use Rattle.cfb_format.specs.Full.{max_entries};
 ghost use Rattle.cfb_entries.specs.EntryList.{InsertsEntry, has_free};
 ghost use Rattle.cfb_entries.specs.Insertions.{IsInsertionOf, name_in};
 ghost use Rattle.cfb_directory.specs.Growing.{ArePlaced, AreSectorsOf, IsListedChain, KeepsBounds, KeepsSlots};
+ghost use Rattle.cfb_directory.specs.Slots.{IsLeastAbove};
 ghost use Rattle.cfb_directory.specs.State.{HoldsDirectory, IsFullForEntry, KeepsHeader, KeepsLimits, bytes_of, directory_of, version_of, with_room};
 ghost use Rattle.cfb_directory.specs.Steps.{IsNotHeld, KeepsOtherSlots, StaysRedApart, StopsShort};
 
+use crate::bounds::least_above;
 use crate::slots::{are_placed, write_entries};
 use cfb_alloc::alloc::{Allocator, HeaderWord};
 use cfb_codecs::timestamp::Timestamp;
@@ -49,15 +51,17 @@ const MAX_ENTRIES: usize = 0xFFFF_FFFB;
 fn check_room<F: ReadMedium, A: Heap>(
     allocator: &Allocator<F, A>,
     sectors: &[u32],
+    above: usize,
     entries: &Entries<A>,
 ) -> Result<(), Error>
+    requires above { IsLeastAbove sectors.now above }
     ensures placed { OnOk result (ArePlaced (directory_of allocator.now sectors.now entries.now)) }
     ensures enough { OnOk result (IsFullForEntry (directory_of allocator.now sectors.now entries.now) → ⊥) }
     ensures err { IfErr result (TableRefused (ArePlaced (directory_of allocator.now sectors.now entries.now) → ⊥) ⊥
         (IsFullForEntry (directory_of allocator.now sectors.now entries.now))) }
 {
     let count = entries.list().len();
-    if !are_placed(allocator, sectors, count) {
+    if !are_placed(allocator, sectors, above, count) {
         return Err(Error::InvalidData(Detail::text("directory without a slot for each entry")));
     }
     if !entries.is_full() {
@@ -95,10 +99,12 @@ fn append_reserved<A: Heap>(list: &mut Vec<u32, A>, more: &[u32])
 fn lengthen<F: Medium, A: Heap + Clone>(
     allocator: &mut Allocator<F, A>,
     sectors: &mut Vec<u32, A>,
+    above: &mut usize,
 ) -> Result<(), Error>
     requires room { vec_len sectors.old + 1 ≤ vec_capacity sectors.old }
     ensures lengthened { OnOk result (Lengthens 1 sectors.old.items sectors.new.items allocator.old.tables allocator.new.tables) }
     ensures kept { OnErr result (sectors.new.items ≡ sectors.old.items) }
+    ensures above { IsLeastAbove sectors.old.items above.old → IsLeastAbove sectors.new.items above.new }
     ensures chain { IsListedChain allocator.old.tables sectors.old.items → OnOk result (IsListedChain allocator.new.tables sectors.new.items) }
     ensures within { AreSectorsOf allocator.old.tables sectors.old.items → OnOk result (AreSectorsOf allocator.new.tables sectors.new.items) }
     ensures sizes { OnOk result (AreSizes allocator.new.tables.version (sizes_of allocator.new.tables)) }
@@ -121,6 +127,7 @@ fn lengthen<F: Medium, A: Heap + Clone>(
         Err(error) => return Err(error),
     };
     append_reserved(sectors, &more);
+    *above = least_above(*above, &more);
     let len = allocator.file_len();
     let _met = len;
     Ok(())
@@ -155,11 +162,13 @@ fn count_sectors<F: Medium, A: Heap>(
 fn grow<F: Medium, A: Heap + Clone>(
     allocator: &mut Allocator<F, A>,
     sectors: &mut Vec<u32, A>,
+    above: &mut usize,
     entries: &mut Entries<A>,
     heap: &A,
 ) -> Result<(), Error>
     requires few { length entries.old.entries + entries_per_sector allocator.old.tables.version ≤ max_entries }
     requires placed { ArePlaced (directory_of allocator.old sectors.old.items entries.old) }
+    ensures above { IsLeastAbove sectors.old.items above.old → IsLeastAbove sectors.new.items above.new }
     ensures entries { OnOk result (entries.new.entries ≡ grown_by entries.old.entries (entries_per_sector allocator.old.tables.version)) }
     ensures placed { OnOk result (ArePlaced (directory_of allocator.new sectors.new.items entries.new)) }
     ensures lengthened { OnOk result (Lengthens 1 sectors.old.items sectors.new.items allocator.old.tables allocator.new.tables) }
@@ -182,7 +191,7 @@ fn grow<F: Medium, A: Heap + Clone>(
     let fresh = fresh_entries(heap, per)?;
     entries.reserve(per)?;
     sectors.reserve(1)?;
-    lengthen(allocator, sectors)?;
+    lengthen(allocator, sectors, above)?;
     entries.grow(fresh);
     count_sectors(allocator, sectors.len())?;
     Ok(())
@@ -194,11 +203,13 @@ fn grow<F: Medium, A: Heap + Clone>(
 fn make_room<F: Medium, A: Heap + Clone>(
     allocator: &mut Allocator<F, A>,
     sectors: &mut Vec<u32, A>,
+    above: &mut usize,
     entries: &mut Entries<A>,
     heap: &A,
 ) -> Result<(), Error>
     requires placed { ArePlaced (directory_of allocator.old sectors.old.items entries.old) }
     requires enough { IsFullForEntry (directory_of allocator.old sectors.old.items entries.old) → ⊥ }
+    ensures above { IsLeastAbove sectors.old.items above.old → IsLeastAbove sectors.new.items above.new }
     ensures entries { OnOk result (entries.new.entries ≡ with_room (directory_of allocator.old sectors.old.items entries.old)) }
     ensures free { OnOk result (has_free entries.new.entries ≡ true) }
     ensures placed { OnOk result (ArePlaced (directory_of allocator.new sectors.new.items entries.new)) }
@@ -222,7 +233,7 @@ fn make_room<F: Medium, A: Heap + Clone>(
     if !entries.is_full() {
         return Ok(());
     }
-    grow(allocator, sectors, entries, heap)
+    grow(allocator, sectors, above, entries, heap)
 }
 
 /// Puts an entry that was prepared into a free slot, and writes the slots that changed. `Medium` where the medium fails.
@@ -270,6 +281,7 @@ fn put<F: Medium, A: Heap>(
 pub(crate) fn insert_entry<F: Medium, A: Heap + Clone>(
     allocator: &mut Allocator<F, A>,
     sectors: &mut Vec<u32, A>,
+    above: &mut usize,
     entries: &mut Entries<A>,
     heap: &A,
     parent: u32,
@@ -277,10 +289,12 @@ pub(crate) fn insert_entry<F: Medium, A: Heap + Clone>(
     kind: ObjType,
     moment: Timestamp,
 ) -> Result<u32, Error>
+    requires above { IsLeastAbove sectors.old.items above.old }
     requires parent { IsReachedStorage entries.old.cases entries.old.entries parent }
     requires valid { IsTrue (is_valid_name (chars name.now)) }
     requires absent { (list : List ℕ) → HasChildren entries.old.cases entries.old.entries parent list → IsAbsent entries.old.cases entries.old.entries (chars name.now) list }
     requires kind { (kind ≡ Storage) ⊎ (kind ≡ Stream) }
+    ensures above { IsLeastAbove sectors.new.items above.new }
     ensures inserted { IfOk result (λ n. InsertsEntry entries.old.cases (with_room (directory_of allocator.old sectors.old.items entries.old)) entries.new.entries parent n (new_entry (chars name.now) kind moment)) }
     ensures balanced { OnOk result (KeepsBalance entries.old.entries entries.new.entries parent) }
     ensures red_apart { OnOk result (StaysRedApart (directory_of allocator.old sectors.old.items entries.old) (directory_of allocator.new sectors.new.items entries.new) parent) }
@@ -306,8 +320,8 @@ pub(crate) fn insert_entry<F: Medium, A: Heap + Clone>(
         (IsFullForEntry (directory_of allocator.old sectors.old.items entries.old)) Unit) }
     ensures counts { IsTrue F.tells → CountsFailure F.write_faults result allocator.old.file.failures allocator.new.file.failures }
 {
-    check_room(allocator, sectors, entries)?;
+    check_room(allocator, sectors, *above, entries)?;
     let insertion = entries.prepare(heap, parent, name)?;
-    make_room(allocator, sectors, entries, heap)?;
+    make_room(allocator, sectors, above, entries, heap)?;
     put(allocator, sectors, entries, insertion, parent, kind, moment)
 }

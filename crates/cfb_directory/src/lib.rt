@@ -1,6 +1,7 @@
 //! The directory of a file: its entries in memory, and their slots in the chain of its sectors (MS-CFB 2.6).
 #![tactic(auto)]
 
+pub mod bounds;
 mod changing;
 pub mod directory;
 mod inserting;

@@ -1,6 +1,6 @@
 //! The slots of the directory, by their places in its sectors (MS-CFB 2.6).
-ghost use Rattle.std.specs.Prelude.{◌≡◌, ◌↔◌, ℕ, List, ◌∷◌, [], ◌++◌, ◌+◌, ◌*◌, ◌/◌, ◌^◌, ◌<◌, ◌≤◌, true, length, nat_eq, nat_lt, slice_index, Contains, IsTrue, IfErr, OnOk};
-ghost use Rattle.std.specs.List.{IsDistinct, list_all};
+ghost use Rattle.std.specs.Prelude.{◌≡◌, ◌↔◌, ℕ, List, ◌∷◌, [], ◌++◌, ◌+◌, ◌*◌, ◌/◌, ◌^◌, ◌<◌, ◌≤◌, true, length, nat_eq, slice_index, Contains, IsTrue, IfErr, OnOk};
+ghost use Rattle.std.specs.List.{IsDistinct};
 ghost use Rattle.cfb_format.specs.declared.validate.Validation.{Validation};
 ghost use Rattle.cfb_format.specs.Bytes.{entries_per_sector, sector_start};
 ghost use Rattle.cfb_format.specs.DirectoryEntry.{EntryFits, IsValidEntry, entry_bytes};
@@ -14,7 +14,7 @@ ghost use Rattle.cfb_alloc.specs.Agreement.{HasSectors};
 ghost use Rattle.cfb_alloc.specs.Alloc.{HoldsTables};
 ghost use Rattle.cfb_alloc.specs.Frame.{Spares};
 ghost use Rattle.cfb_alloc.specs.InSector.{IsNoTableSector};
-ghost use Rattle.cfb_directory.specs.Slots.{ChangesSlots, HavePlaces, HoldSlotsBut, slot_place};
+ghost use Rattle.cfb_directory.specs.Slots.{ChangesSlots, HavePlaces, HoldSlotsBut, IsLeastAbove, slot_place};
 
 use cfb_alloc::alloc::Allocator;
 use cfb_codecs::direntry::DirEntry;
@@ -25,25 +25,19 @@ use cfb_format::medium::{Medium, ReadMedium};
 use std::alloc::Allocator as Heap;
 use uuid::Uuid;
 
-/// Whether these sectors of the file have a slot for each of so many entries, and no more.
+/// Whether these sectors, above which that is the least number, are in the file and have a slot for each of so many entries, and no
+/// more.
 pub(crate) fn are_placed<F: ReadMedium, A: Heap>(
     allocator: &Allocator<F, A>,
     sectors: &[u32],
+    above: usize,
     entries: usize,
 ) -> bool
+    requires { IsLeastAbove sectors.now above }
     ensures { IsTrue result ↔ HavePlaces allocator.now.tables.version sectors.now entries (length allocator.now.tables.fat) }
 {
     let per = allocator.version().dir_entries_per_sector();
-    entries % per == 0
-        && entries / per == sectors.len()
-        && are_below(sectors, allocator.fat().len())
-}
-
-/// Whether all of these numbers are below this one.
-fn are_below(numbers: &[u32], count: usize) -> bool
-    ensures { result ≡ list_all (λ i. nat_lt i count) numbers.now }
-{
-    numbers.iter().all(|number| (*number as usize) < count)
+    entries % per == 0 && entries / per == sectors.len() && above <= allocator.fat().len()
 }
 
 /// Writes the slot with that index of a sector. `Medium` where the medium fails.

@@ -13,3 +13,4 @@ pub mod MiniExtended
 pub mod MiniCut
 pub mod MiniBehind
 pub mod MiniBegun
+pub mod LeastAbove

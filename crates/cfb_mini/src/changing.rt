@@ -1,7 +1,7 @@
 //! How mini chains become longer and shorter: what must be so, the MiniFAT in memory, the sectors that it lacks, and then what is written:
 //! zeros, words, and the root's entry (MS-CFB 2.4 and 2.6.2).
-ghost use Rattle.std.specs.Prelude.{◌≡◌, ◌≢◌, ◌↔◌, ◌⊎◌, ℕ, List, ◌+◌, ◌-◌, ◌*◌, ◌/◌, ◌<◌, ◌≤◌, ◌++◌, [], Some, length, nat_eq, nat_lt, take, drop, true, Contains, IsTrue, vec_len, vec_capacity, IfErr, OnOk};
-ghost use Rattle.std.specs.List.{IsDistinct, list_all};
+ghost use Rattle.std.specs.Prelude.{◌≡◌, ◌≢◌, ◌↔◌, ◌⊎◌, ℕ, List, ◌+◌, ◌-◌, ◌*◌, ◌/◌, ◌<◌, ◌≤◌, ◌++◌, [], Some, length, nat_eq, take, drop, true, Contains, IsTrue, vec_len, vec_capacity, IfErr, OnOk};
+ghost use Rattle.std.specs.List.{IsDistinct};
 ghost use Rattle.cfb_format.specs.declared.validate.Validation.{Validation};
 ghost use Rattle.cfb_format.specs.Bytes.{end_of_chain, max_regular_sector, sector_len, words_per_sector};
 ghost use Rattle.cfb_format.specs.Chain.{IsChain, value};
@@ -17,6 +17,7 @@ ghost use Rattle.cfb_tables.specs.Refused.{ChangeRefused};
 ghost use Rattle.cfb_tables.specs.Tables.{first_or_end};
 ghost use Rattle.cfb_alloc.specs.Frame.{Spares};
 ghost use Rattle.cfb_directory.specs.Growing.{ArePlaced, AreSectorsOf};
+ghost use Rattle.cfb_directory.specs.Slots.{IsLeastAbove};
 ghost use Rattle.cfb_directory.specs.State.{HoldsDirectory};
 ghost use Rattle.cfb_directory.specs.State.{KeepsLimits as KeepsDirectoryLimits};
 ghost use Rattle.cfb_directory.specs.Steps.{KeepsWholeHeader};
@@ -28,6 +29,7 @@ ghost use Rattle.cfb_mini_sectors.specs.Pieces.{HaveMinis, HaveWords};
 ghost use Rattle.cfb_mini.specs.MiniSectors.{HasMiniSector, KeepsMiniBytesBut};
 ghost use Rattle.cfb_mini.specs.Changing.{HaveSectors, mini_of};
 
+use cfb_directory::bounds::least_above;
 use cfb_directory::directory::Directory;
 use cfb_entries::fields::Fields;
 use cfb_format::consts::{END_OF_CHAIN, MINI_SECTOR_LEN};
@@ -38,20 +40,16 @@ use cfb_mini_sectors::pieces::{are_known_minis, are_known_words, wipe, write_wor
 use cfb_mini_table::mini_table::MiniTable;
 use std::alloc::Allocator as Heap;
 
-/// Whether all of these numbers are below this one.
-fn are_below(numbers: &[u32], count: usize) -> bool
-    ensures { result ≡ list_all (λ i. nat_lt i count) numbers.now }
-{
-    numbers.iter().all(|number| (*number as usize) < count)
-}
-
-/// Whether each mini sector of the MiniFAT has its word and its bytes in sectors of the file, and each entry its slot.
+/// Whether each mini sector of the MiniFAT has its word and its bytes in sectors of the file, and each entry its slot. That is the least
+/// number above the sectors of the MiniFAT and of the mini stream.
 fn have_sectors<F: ReadMedium, A: Heap>(
     directory: &Directory<F, A>,
     table: &MiniTable<A>,
     minifat_sectors: &[u32],
     stream: &[u32],
+    above: usize,
 ) -> bool
+    requires { IsLeastAbove (minifat_sectors.now ++ stream.now) above }
     ensures { IsTrue result ↔ HaveSectors (mini_of directory.now table.now minifat_sectors.now (Some stream.now)) }
 {
     let lacks = lacks_for(
@@ -63,8 +61,7 @@ fn have_sectors<F: ReadMedium, A: Heap>(
     if lacks.minifat > 0 || lacks.mini_stream > 0 {
         return false;
     }
-    let count = directory.allocator().fat().len();
-    are_below(minifat_sectors, count) && are_below(stream, count) && directory.is_placed()
+    above <= directory.allocator().fat().len() && directory.is_placed()
 }
 
 /// Whether a mini chain ends at the last of these, if there are any.
@@ -260,9 +257,11 @@ fn prepare_extension<F: ReadMedium, A: Heap>(
     table: &mut MiniTable<A>,
     minifat_sectors: &[u32],
     stream: &[u32],
+    above: usize,
     ids: &mut Vec<u32, A>,
     count: usize,
 ) -> Result<(), Error>
+    requires above { IsLeastAbove (minifat_sectors.now ++ stream.now) above }
     ensures table { table.new ≡ record table.old { room = table.new.room } }
     ensures ids { ids.new.items ≡ ids.old.items }
     ensures prepared { OnOk result (IsPreparedMini table.new count) }
@@ -277,11 +276,27 @@ fn prepare_extension<F: ReadMedium, A: Heap>(
     if !end_chain(table, ids) {
         return Err(unended(table.len()));
     }
-    if !have_sectors(directory, table, minifat_sectors, stream) {
+    if !have_sectors(directory, table, minifat_sectors, stream, above) {
         return Err(unheld(table.len()));
     }
     ids.reserve(count)?;
     table.prepare(count)
+}
+
+/// The least number above the sectors of both lists, where `above` is the least above the first ones of each, so many of both.
+fn above_both(
+    above: usize,
+    minifat_sectors: &[u32],
+    words: usize,
+    stream: &[u32],
+    minis: usize,
+) -> usize
+    requires words { words ≤ length minifat_sectors.now }
+    requires minis { minis ≤ length stream.now }
+    ensures { IsLeastAbove (take words minifat_sectors.now ++ take minis stream.now) above → IsLeastAbove (minifat_sectors.now ++ stream.now) result }
+{
+    let above_minifat = least_above(above, &minifat_sectors[words..]);
+    least_above(above_minifat, &stream[minis..])
 }
 
 /// Adds the sectors that the MiniFAT and the mini stream lack for so many more mini sectors, the MiniFAT's first, which have FREE words,
@@ -293,11 +308,13 @@ fn grow_sectors<F: Medium, A: Heap>(
     table: &MiniTable<A>,
     minifat_sectors: &mut Vec<u32, A>,
     stream: &mut Vec<u32, A>,
+    above: &mut usize,
     count: usize,
 ) -> Result<(), Error>
     requires numbers { length table.now.minifat + (count - free_count table.now.minifat) ≤ table.now.limit }
     requires sectors { HaveSectors (mini_of directory.old table.now minifat_sectors.old.items (Some stream.old.items)) }
     ensures grown { OnOk result (GrowsFor count (mini_of directory.old table.now minifat_sectors.old.items (Some stream.old.items)) (mini_of directory.new table.now minifat_sectors.new.items (Some stream.new.items))) }
+    ensures above { IsLeastAbove (minifat_sectors.old.items ++ stream.old.items) above.old → IsLeastAbove (minifat_sectors.new.items ++ stream.new.items) above.new }
     ensures rest { directory.new ≡ record directory.old { table = directory.new.table } }
     ensures placed { OnOk result (ArePlaced directory.new) }
     ensures words { OnOk result (length table.now.minifat + (count - free_count table.now.minifat) ≤ length minifat_sectors.new.items * words_per_sector directory.new.table.tables.version) }
@@ -321,7 +338,10 @@ fn grow_sectors<F: Medium, A: Heap>(
         minifat_sectors.len(),
         stream.len(),
     );
-    grow_both(directory.allocator_mut(), minifat_sectors, stream, lacks)
+    let (words, minis) = (minifat_sectors.len(), stream.len());
+    let grown = grow_both(directory.allocator_mut(), minifat_sectors, stream, lacks);
+    *above = above_both(*above, minifat_sectors, words, stream, minis);
+    grown
 }
 
 /// Adds so many mini sectors, which read as zeros, behind the mini chain that the listed ones end: all of
@@ -331,10 +351,13 @@ pub(crate) fn extend_listed<F: Medium, A: Heap>(
     table: &mut MiniTable<A>,
     minifat_sectors: &mut Vec<u32, A>,
     stream: &mut Vec<u32, A>,
+    above: &mut usize,
     ids: &mut Vec<u32, A>,
     count: usize,
 ) -> Result<(), Error>
     requires some { 0 < count }
+    requires above { IsLeastAbove (minifat_sectors.old.items ++ stream.old.items) above.old }
+    ensures above { IsLeastAbove (minifat_sectors.new.items ++ stream.new.items) above.new }
     ensures listed { ids.new.items ≡ ids.old.items ++ gained ids.old.items ids.new.items }
     ensures count { OnOk result (length (gained ids.old.items ids.new.items) ≡ count) }
     ensures taken { OnOk result (TakesMini table.old.limit table.old.minifat table.new.minifat (ends_of ids.old.items) (gained ids.old.items ids.new.items)) }
@@ -361,8 +384,16 @@ pub(crate) fn extend_listed<F: Medium, A: Heap>(
     ensures err { IfErr result (ChangeRefused (IsNotHeld (mini_of directory.old table.old minifat_sectors.old.items (Some stream.old.items)) ⊎ EndsNoChain table.old.minifat ids.old.items) Unit (IsTooFewFor (mini_of directory.old table.old minifat_sectors.old.items (Some stream.old.items)) count) Unit) }
     ensures counts { IsTrue F.tells → CountsFailure F.write_faults result directory.old.table.file.failures directory.new.table.file.failures }
 {
-    prepare_extension(directory, table, minifat_sectors, stream, ids, count)?;
-    grow_sectors(directory, table, minifat_sectors, stream, count)?;
+    prepare_extension(
+        directory,
+        table,
+        minifat_sectors,
+        stream,
+        *above,
+        ids,
+        count,
+    )?;
+    grow_sectors(directory, table, minifat_sectors, stream, above, count)?;
     take_prepared(directory, table, minifat_sectors, stream, ids, count)
 }
 

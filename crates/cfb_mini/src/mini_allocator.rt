@@ -1,6 +1,6 @@
 //! The allocator of mini sectors (MS-CFB 2.4): mini chains are begun, extended, cut and freed, in the MiniFAT, in the mini stream and in
 //! the root's entry.
-ghost use Rattle.std.specs.Prelude.{◌≡◌, ◌≢◌, ◌↔◌, ◌⊎◌, ℕ, ◌+◌, ◌-◌, ◌/◌, ◌%◌, ◌^◌, ◌<◌, ◌≤◌, ◌∷◌, ◌++◌, List, [], Option, length, map, max, min, chars, take, drop, true, false, Contains, IsTrue, MatchOption, vec_len, option_map, IfOk, IfErr, IfSome, IsErrAnd, OnOk, OnErr, slice_index};
+ghost use Rattle.std.specs.Prelude.{◌≡◌, ◌≢◌, ◌↔◌, ◌⊎◌, ℕ, ◌+◌, ◌-◌, ◌/◌, ◌%◌, ◌^◌, ◌<◌, ◌≤◌, ◌∷◌, ◌++◌, List, [], Option, length, map, max, min, chars, take, drop, true, false, Contains, IsTrue, MatchOption, vec_len, option_map, unwrap_or, IfOk, IfErr, IfSome, IsErrAnd, OnOk, OnErr, slice_index};
 ghost use Rattle.cfb_format.specs.declared.objtype.ObjType.TheVariants.{Root, Storage, Stream};
 ghost use Rattle.cfb_format.specs.declared.version.Version.TheVariants.{V4};
 ghost use Rattle.cfb_format.specs.declared.validate.Validation.{Validation};
@@ -34,6 +34,7 @@ ghost use Rattle.cfb_entries.specs.declared.fields.Fields.{Fields};
 ghost use Rattle.cfb_entries.specs.EntryList.{AreInOrder, InsertsEntry, RemovesEntry, has_free};
 ghost use Rattle.cfb_entries.specs.Fields.{fields_in, entry_with_fields, entries_with_fields};
 ghost use Rattle.cfb_directory.specs.Growing.{ArePlaced, IsListedChain};
+ghost use Rattle.cfb_directory.specs.Slots.{IsLeastAbove};
 ghost use Rattle.cfb_directory.specs.State.{HoldsDirectory, IsFullForEntry, with_room};
 ghost use Rattle.cfb_directory.specs.State.{KeepsHeader as KeepsDirectoryHeader};
 ghost use Rattle.cfb_directory.specs.Steps.{KeepsOtherSlots, KeepsSlotsBut, KeepsWholeHeader, StaysRedApart};
@@ -46,7 +47,7 @@ ghost use Rattle.cfb_mini.specs.Changing.{AreMinifatSectors, root_len_in};
 ghost use Rattle.cfb_mini.specs.MiniSectors.{ChangesFileOnly, HasMiniByte, HasMiniSector, IsStill, KeepsMiniBytesBut};
 
 use crate::changing::{cut_listed, extend_listed};
-use crate::opening::{mini_stream_sectors, minifat_sectors_from};
+use crate::opening::{above_all, mini_stream_sectors, minifat_sectors_from};
 use cfb_alloc::alloc::Allocator;
 use cfb_codecs::direntry::DirEntry;
 use cfb_codecs::path::CaseMapper;
@@ -73,6 +74,8 @@ pub struct MiniAllocator<F: ReadMedium, A: Heap = Global> {
     table: MiniTable<A>,
     minifat_sectors: Vec<u32, A>,
     mini_stream: Option<Vec<u32, A>>,
+    // The least number above all sectors of both.
+    above: usize,
     heap: A,
 }
 
@@ -86,6 +89,8 @@ impl<F: ReadMedium, A: Heap> Model for MiniAllocator<F, A> {
       minifat_sectors = m.minifat_sectors.items;
       mini_stream = option_map (λ v. v.items) m.mini_stream;
     } };
+
+    ghost invariant = { λ m. IsLeastAbove (m.minifat_sectors.items ++ unwrap_or (option_map (λ v. v.items) m.mini_stream) []) m.above };
 }
 
 impl<F: ReadMedium, A: Heap + Clone> MiniAllocator<F, A> {
@@ -126,11 +131,13 @@ impl<F: ReadMedium, A: Heap + Clone> MiniAllocator<F, A> {
         let mini_stream = mini_stream_sectors(&heap, &directory)?;
         let most = (directory.root_dir_entry().stream_len / MINI_SECTOR_LEN as u64) as usize;
         let table = MiniTable::new(heap.clone()?, directory.version(), words, most, validation)?;
+        let above = above_all(&minifat_sectors, &mini_stream);
         Ok(MiniAllocator {
             directory,
             table,
             minifat_sectors,
             mini_stream,
+            above,
             heap,
         })
     }
@@ -190,6 +197,7 @@ impl<F: ReadMedium, A: Heap> MiniAllocator<F, A> {
             table: _,
             minifat_sectors: _,
             mini_stream: _,
+            above: _,
             heap: _,
         } = self;
         directory.into_inner()
@@ -515,6 +523,7 @@ impl<F: Medium, A: Heap> MiniAllocator<F, A> {
             &mut self.table,
             &mut self.minifat_sectors,
             stream,
+            &mut self.above,
             ids,
             count,
         )

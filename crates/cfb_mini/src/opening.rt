@@ -1,11 +1,13 @@
 //! The pieces of opening the mini sectors of a file (MS-CFB 2.4): the MiniFAT's sectors and the mini stream's.
-ghost use Rattle.std.specs.Prelude.{◌≡◌, ℕ, List, length, option_map, IfOk, IfErr};
+ghost use Rattle.std.specs.Prelude.{◌≡◌, ◌++◌, ℕ, List, [], length, option_map, unwrap_or, IfOk, IfErr};
 ghost use Rattle.cfb_format.specs.declared.validate.Validation.{Validation};
 ghost use Rattle.cfb_format.specs.Header.{IfStrict};
 ghost use Rattle.cfb_format.specs.Refused.{IsInvalidOrMemory};
 ghost use Rattle.cfb_tables.specs.Refused.{TableRefused};
+ghost use Rattle.cfb_directory.specs.Slots.{IsLeastAbove};
 ghost use Rattle.cfb_mini.specs.Changing.{AreMinifatSectors, mini_stream_in};
 
+use cfb_directory::bounds::least_above;
 use cfb_directory::directory::Directory;
 use cfb_format::consts::MAX_REGULAR_SECTOR;
 use cfb_format::error::{Detail, Error};
@@ -71,5 +73,19 @@ pub(crate) fn mini_stream_sectors<F: ReadMedium, A: Heap + Clone>(
         Ok(sectors) => Ok(Some(sectors)),
         Err(Error::InvalidData(_)) => Ok(None),
         Err(error) => Err(error),
+    }
+}
+
+/// The least number above the sectors of the MiniFAT and above those of the mini stream, if its chain is one.
+pub(crate) fn above_all<A: Heap>(
+    minifat_sectors: &[u32],
+    mini_stream: &Option<Vec<u32, A>>,
+) -> usize
+    ensures { IsLeastAbove (minifat_sectors.now ++ unwrap_or (option_map (λ v. v.items) mini_stream.now) []) result }
+{
+    let above = least_above(0, minifat_sectors);
+    match mini_stream {
+        Some(sectors) => least_above(above, sectors),
+        None => above,
     }
 }

@@ -20,6 +20,7 @@ use Rattle.cfb_directory.specs.Growing.{AreSectorsOf, IsListedChain}
 use Rattle.cfb_directory.specs.State.{directory_of}
 use Rattle.cfb_directory.specs.Steps.{IsNotHeld}
 use Rattle.cfb_directory.proofs.InsertGrow.{ends-among, few-sectors, grown-entries, grown-header, grown-holds, grown-many, grown-placed, grown-spares, lengthens-held, medium-broke, slots-kept}
+use Rattle.cfb_directory.proofs.LeastAbove.{least-kept}
 use Rattle.cfb_directory.proofs.inserting.grow.Goals as goal
 
 pub returns-in_err-fresh-clause-spares : goal.returns-in_err-fresh-clause-spares
@@ -174,3 +175,15 @@ returns-clause-holds g c told validation held =
 
 pub returns-clause-long : goal.returns-clause-long
 returns-clause-long g c told version = c.in_ok-count_sectors.ensures.long told (c.lengthen.ensures.bounds.version ∙ version)
+
+pub returns-in_err-reserve-2-clause-above : goal.returns-in_err-reserve-2-clause-above
+returns-in_err-reserve-2-clause-above g c least = least-kept c.args.sectors.now.items c.reserve-2.new.self.items c.args.above.now c.reserve-2.ensures.items least
+
+pub returns-in_err-lengthen-clause-above : goal.returns-in_err-lengthen-clause-above
+returns-in_err-lengthen-clause-above g c least = c.lengthen.ensures.above (least-kept c.args.sectors.now.items c.reserve-2.new.self.items c.args.above.now c.reserve-2.ensures.items least)
+
+pub returns-in_err-count_sectors-clause-above : goal.returns-in_err-count_sectors-clause-above
+returns-in_err-count_sectors-clause-above g c least = c.lengthen.ensures.above (least-kept c.args.sectors.now.items c.reserve-2.new.self.items c.args.above.now c.reserve-2.ensures.items least)
+
+pub returns-clause-above : goal.returns-clause-above
+returns-clause-above g c least = c.lengthen.ensures.above (least-kept c.args.sectors.now.items c.reserve-2.new.self.items c.args.above.now c.reserve-2.ensures.items least)

@@ -17,6 +17,7 @@ use Rattle.cfb_directory.specs.Slots.{slot_of}
 use Rattle.cfb_directory.specs.State.{HoldsDirectory, IsFullForEntry, directory_of}
 use Rattle.cfb_directory.specs.Steps.{IsNotHeld}
 use Rattle.cfb_directory.proofs.InsertWhole.{checked-refused, header-word-kept, put-spares, roomy-balance, roomy-children, roomy-insertion, roomy-longer, roomy-reached, roomy-red-apart, roomy-same, same-slot, unplaced-not-held, which-way}
+use Rattle.cfb_directory.proofs.LeastAbove.{least-kept}
 use Rattle.cfb_directory.proofs.inserting.insert_entry.Goals as goal
 
 pub returns-in_err-check_room-clause-spares : goal.returns-in_err-check_room-clause-spares
@@ -119,3 +120,12 @@ returns-clause-slots g c told validation held list children k lt used no_parent 
 pub returns-clause-enough : goal.returns-clause-enough
 returns-clause-enough g c = all_ok c.put.result
     (subst (λ (l : List ℕ). IsFullForEntry (directory_of c.args.allocator.now l c.args.entries.now) → ⊥) c.deref.ensures.value c.in_ok-check_room.ensures.enough)
+
+pub check_room-requires : goal.check_room-requires
+check_room-requires g c = record { above = least-kept c.args.sectors.now.items c.deref.result.now c.args.above.now c.deref.ensures.value c.requires.above }
+
+pub returns-in_err-make_room-clause-above : goal.returns-in_err-make_room-clause-above
+returns-in_err-make_room-clause-above g c = c.make_room.ensures.above c.requires.above
+
+pub returns-clause-above : goal.returns-clause-above
+returns-clause-above g c = c.make_room.ensures.above c.requires.above

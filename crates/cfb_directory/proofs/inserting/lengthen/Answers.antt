@@ -6,6 +6,7 @@ use Rattle.cfb_tables.specs.Listed.{last_or_end}
 use Rattle.cfb_tables.specs.Tables.{HasTaken, ending, first_or_end}
 use Rattle.cfb_tables.proofs.ChainLemmas.{members-busy}
 use Rattle.cfb_tables.proofs.ListedLemmas.{gained_is, grown_chain}
+use Rattle.cfb_directory.proofs.LeastAbove.{least-kept}
 use Rattle.cfb_directory.proofs.inserting.lengthen.Goals as goal
 
 pub returns-clause-chain : goal.returns-clause-chain
@@ -37,3 +38,9 @@ returns-clause-filled g c told validation held i m =
     let more = c.in-Ok.more.items in
     let listed : c.append_reserved.new.list.items ≡ ids ++ more = cc in
     c.in-Ok.ensures.filled told validation held i (subst (λ (l : List ℕ). Contains l i) (gained_is ids c.append_reserved.new.list.items more listed) m)
+
+pub returns-clause-above : goal.returns-clause-above
+returns-clause-above g c least =
+    let ids = c.args.sectors.now.items in
+    let listed : c.append_reserved.new.list.items ≡ ids ++ c.deref-3.result.now = cc in
+    least-kept (ids ++ c.deref-3.result.now) c.append_reserved.new.list.items c.least_above.result listed (c.least_above.ensures ids least)

@@ -32,6 +32,7 @@ use Rattle.cfb_mini_sectors.proofs.MiniFrames.{nothing-touched, spares-less}
 use Rattle.cfb_mini.specs.Changing.{mini_of}
 use Rattle.cfb_mini.specs.MiniSectors.{HasMiniSector}
 use Rattle.cfb_mini.proofs.MiniExtended.{after-both, at-parts, grown-then, grows-still, header-then, header-whole, limits-then, medium-stops, mini-there, moves-from, moves-none, refused-among, refused-counts, taken-bytes, taken-spares, unchanged-stops}
+use Rattle.cfb_directory.proofs.LeastAbove.{least-kept}
 use Rattle.cfb_mini.proofs.changing.extend_listed.Goals as goal
 
 pub returns-in_err-prepare_extension-clause-listed : goal.returns-in_err-prepare_extension-clause-listed
@@ -663,3 +664,15 @@ take_prepared-requires-clause-mini_stream g c =
 
 pub returns-clause-begun : goal.returns-clause-begun
 returns-clause-begun g c = all_ok c.take_prepared.result (λ was. c.take_prepared.ensures.begun, λ some. c.take_prepared.ensures.begun)
+
+pub prepare_extension-requires : goal.prepare_extension-requires
+prepare_extension-requires g c = record {
+  above = least-kept (c.args.minifat_sectors.now.items ++ c.args.stream.now.items) (c.deref.result.now ++ c.deref-2.result.now) c.args.above.now
+      (λ j. c.deref.ensures.value j ++ c.deref-2.ensures.value j) c.requires.above;
+}
+
+pub returns-in_err-grow_sectors-clause-above : goal.returns-in_err-grow_sectors-clause-above
+returns-in_err-grow_sectors-clause-above g c = c.grow_sectors.ensures.above c.requires.above
+
+pub returns-clause-above : goal.returns-clause-above
+returns-clause-above g c = c.grow_sectors.ensures.above c.requires.above

@@ -1,4 +1,4 @@
-use Rattle.std.proofs.Common.{◌≡◌, ℕ, ◌*◌, List, length, sym, ◌∙◌, ap, arith}
+use Rattle.std.proofs.Common.{◌≡◌, ℕ, ◌*◌, List, [], length, sym, ◌∙◌, ap, arith}
 use Rattle.std.proofs.lemmas.Bool.{eqb-true}
 use Rattle.std.proofs.lemmas.List.{nil_from_length}
 use Rattle.std.proofs.lemmas.Result.{err_from_is_err_and}
@@ -6,6 +6,7 @@ use Rattle.cfb_format.specs.Bytes.{entries_per_sector}
 use Rattle.cfb_format.proofs.Unique.{IsChain-unique}
 use Rattle.cfb_codecs.proofs.Refusals.{refusal_follows}
 use Rattle.cfb_directory.proofs.DirectoryRefusals.{walk_invalid}
+use Rattle.cfb_directory.proofs.LeastAbove.{least-kept, least-of-none}
 use Rattle.cfb_directory.proofs.directory.Directory.new.Goals as goal
 
 pub returns-in_err-sectors-clause-refused : goal.returns-in_err-sectors-clause-refused
@@ -32,3 +33,6 @@ pub returns-in_err-entries-clause-refused : goal.returns-in_err-entries-clause-r
 returns-in_err-entries-clause-refused g c =
     let p = err_from_is_err_and c.from_residual-in_err-entries.result c.from_residual-in_err-entries.ensures.1 in
     rw (p.1, p.2) (refusal_follows c.in_err-entries.field-0.0 _ _ (λ none list o chain some count accepts names few. none o accepts names few) c.in_err-entries.ensures.refused)
+
+pub invariant_of-result : goal.invariant_of-result
+invariant_of-result g c = least-kept c.deref.result.now c.in_ok-sectors.sectors.items c.least_above-above.result (sym c.deref.ensures.value) (c.least_above-above.ensures [] least-of-none)

@@ -6,6 +6,7 @@ use Rattle.cfb_siblings.specs.Children.{HasChildren, IsChildNamed, KeepsColors}
 use Rattle.cfb_entries.specs.EntryList.{RemovesEntry}
 use Rattle.cfb_directory.specs.State.{DirectoryState, HoldsDirectory, directory_of}
 use Rattle.cfb_directory.specs.Steps.{KeepsOtherSlots}
+use Rattle.cfb_directory.proofs.LeastAbove.{least-kept}
 use Rattle.cfb_directory.proofs.directory.Directory.remove_dir_entry.Goals as goal
 
 pub remove_entry-requires-clause-there : goal.remove_entry-requires-clause-there
@@ -32,3 +33,6 @@ returns-clause-slots g c told validation h =
 pub returns-clause-removed : goal.returns-clause-removed
 returns-clause-removed g c = subst (λ (d : DirectoryState). OnOk c.remove_entry.result ((r : RemovesEntry d.cases d.entries c.remove_entry.new.entries.entries c.args.parent (chars c.args.name.now))
     × KeepsColors d.entries c.remove_entry.new.entries.entries r.freed)) c.self.view_is c.remove_entry.ensures.removed
+
+pub remove_entry-requires-clause-above : goal.remove_entry-requires-clause-above
+remove_entry-requires-clause-above g c = least-kept c.self.inside.sectors.items c.deref.result.now c.self.inside.above c.deref.ensures.value c.self.invariant

@@ -6,6 +6,7 @@ use Rattle.cfb_entries.specs.declared.fields.Fields.{Fields}
 use Rattle.cfb_entries.specs.Fields.{fields_in, entry_with_fields}
 use Rattle.cfb_directory.specs.State.{DirectoryState, HoldsDirectory, directory_of, version_of}
 use Rattle.cfb_directory.specs.Steps.{KeepsSlotsBut}
+use Rattle.cfb_directory.proofs.LeastAbove.{least-kept}
 use Rattle.cfb_directory.proofs.directory.Directory.with_dir_entry_mut.Goals as goal
 
 pub returns-clause-holds : goal.returns-clause-holds
@@ -28,3 +29,6 @@ returns-clause-slots g c told validation h =
     subst (λ (d : DirectoryState). KeepsSlotsBut c.args.number d (directory_of c.change_fields.new.allocator c.self.inside.sectors.items c.change_fields.new.entries)) c.self.view_is
     (subst (λ (s : List ℕ). KeepsSlotsBut c.args.number (directory_of table s list) (directory_of c.change_fields.new.allocator s c.change_fields.new.entries)) c.deref.ensures.value
     (c.change_fields.ensures.slots told validation h'))
+
+pub change_fields-requires-clause-above : goal.change_fields-requires-clause-above
+change_fields-requires-clause-above g c = least-kept c.self.inside.sectors.items c.deref.result.now c.self.inside.above c.deref.ensures.value c.self.invariant

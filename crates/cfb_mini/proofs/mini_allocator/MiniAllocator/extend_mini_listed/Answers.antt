@@ -10,6 +10,7 @@ use Rattle.cfb_mini_sectors.proofs.MiniFrames.{nothing-touched}
 use Rattle.cfb_mini.specs.Changing.{mini_of}
 use Rattle.cfb_mini.specs.MiniSectors.{KeepsMiniBytesBut}
 use Rattle.cfb_mini.proofs.MiniExtended.{some-items}
+use Rattle.cfb_mini.proofs.LeastAbove.{of-some}
 use Rattle.cfb_mini.proofs.mini_allocator.MiniAllocator.extend_mini_listed.Goals as goal
 
 pub returns-then-count-eq0-clause-spares : goal.returns-then-count-eq0-clause-spares
@@ -58,3 +59,7 @@ returns-clause-bytes g c told validation h =
     let kept = sym (some-items inside.mini_stream c.in-Some.stream c.in-Some.is (λ v. v.items)) in
     let old : s ≡ c.args.self.now = (λ j. mini_of inside.directory inside.table inside.minifat_sectors.items (kept j)) ∙ c.self.view_is in
     subst (λ (x : MiniState). HoldsMini validation x → KeepsMiniBytesBut [] x d) old (c.extend_listed.ensures.bytes told validation) h
+
+pub extend_listed-requires-clause-above : goal.extend_listed-requires-clause-above
+extend_listed-requires-clause-above g c =
+    of-some (λ v. v.items) c.self.inside.mini_stream c.in-Some.stream c.self.inside.minifat_sectors.items c.self.inside.above c.in-Some.is c.self.invariant

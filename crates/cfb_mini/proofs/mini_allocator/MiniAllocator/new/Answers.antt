@@ -1,4 +1,5 @@
-use Rattle.std.proofs.Common.{◌≡◌, ◌/◌, length, sym, ap, subst, arith}
+use Rattle.std.proofs.Common.{◌≡◌, ◌++◌, ◌/◌, ℕ, List, [], length, sym, ap, subst, arith}
+use Rattle.std.specs.Prelude.{option_map, unwrap_or}
 use Rattle.std.proofs.lemmas.Result.{err_from_is_err_and}
 use Rattle.cfb_format.specs.Content.{mini_sector_len}
 use Rattle.cfb_format.specs.DirectoryEntry.{Entry}
@@ -7,6 +8,7 @@ use Rattle.cfb_codecs.proofs.Refusals.{refusal_follows}
 use Rattle.cfb_directory.proofs.DirectoryRefusals.{walk_invalid}
 use Rattle.cfb_mini_table.specs.MiniTable.{AcceptsMini}
 use Rattle.cfb_mini.specs.Changing.{root_len_in}
+use Rattle.cfb_directory.proofs.LeastAbove.{least-kept}
 use Rattle.cfb_mini.proofs.mini_allocator.MiniAllocator.new.Goals as goal
 
 pub returns-in_err-minifat_sectors-clause-refused : goal.returns-in_err-minifat_sectors-clause-refused
@@ -35,3 +37,9 @@ returns-in_err-table-clause-refused g c =
     none (subst (λ v. AcceptsMini c.args.validation (max_mini_sectors v) (c.root_dir_entry.result.now.stream_len / mini_sector_len) c.args.words.items) (sym c.version.ensures)
     (subst (λ n. AcceptsMini c.args.validation (max_mini_sectors d.table.tables.version) (n / mini_sector_len) c.args.words.items) (sym len) accepts)))
     c.in_err-table.field-0.0 c.in_err-table.ensures.err)
+
+pub invariant_of-result : goal.invariant_of-result
+invariant_of-result g c =
+    let stream : List ℕ = unwrap_or (option_map (λ v. v.items) c.in_ok-mini_stream.mini_stream) [] in
+    least-kept (c.deref.result.now ++ stream) (c.in_ok-minifat_sectors.minifat_sectors.items ++ stream) c.above_all-above.result (λ j. sym c.deref.ensures.value j ++ stream)
+    c.above_all-above.ensures

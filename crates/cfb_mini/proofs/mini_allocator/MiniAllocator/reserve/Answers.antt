@@ -1,4 +1,4 @@
-use Rattle.std.proofs.Common.{◌≡◌, ◌+◌, ◌-◌, inr, sym, ◌∙◌, ap, subst}
+use Rattle.std.proofs.Common.{◌≡◌, ◌++◌, ◌+◌, ◌-◌, inr, sym, ◌∙◌, ap, subst}
 use Rattle.std.proofs.lemmas.Result.{err_from_is_err_and}
 use Rattle.cfb_tables.specs.Tables.{IsTooFew, TableState}
 use Rattle.cfb_alloc.specs.Alloc.{AllocatorState, IsUsable}
@@ -6,6 +6,8 @@ use Rattle.cfb_alloc.proofs.HeldOrder.{held-usable}
 use Rattle.cfb_mini_sectors.specs.State.{MiniState, table_of, tables_in}
 use Rattle.cfb_mini_sectors.specs.Steps.{IsNotHeld, IsTooFewAfterFor, mini_stream_lacks, minifat_lacks}
 use Rattle.cfb_mini.proofs.MiniRoom.{given-back-first, refused-as}
+use Rattle.cfb_directory.proofs.LeastAbove.{least-kept}
+use Rattle.cfb_mini.proofs.LeastAbove.{of-some}
 use Rattle.cfb_mini.proofs.mini_allocator.MiniAllocator.reserve.Goals as goal
 
 pub returns-in_err-reserve-clause-err : goal.returns-in_err-reserve-clause-err
@@ -26,3 +28,28 @@ returns-in_err-reserve-clause-err g c =
     (λ _. enough)
     (λ few. inr (given-back-first (tables_in s) back lacks (subst (λ (w : TableState). IsTooFew w (lacks - back)) same (subst (λ n. IsTooFew t n) taken few))))
     c.in_err-reserve.field-0.0 c.in_err-reserve.ensures.err)
+
+pub invariant_of-self-in_err-reserve : goal.invariant_of-self-in_err-reserve
+invariant_of-self-in_err-reserve g c =
+    of-some (λ v. v.items) c.self.inside.mini_stream c.in-Some.stream c.self.inside.minifat_sectors.items c.self.inside.above c.in-Some.is c.self.invariant
+
+pub invariant_of-self-in_err-reserve-2 : goal.invariant_of-self-in_err-reserve-2
+invariant_of-self-in_err-reserve-2 g c =
+    let words = c.self.inside.minifat_sectors.items in
+    let stream = c.in-Some.stream.items in
+    least-kept (words ++ stream) (c.reserve-2.new.self.items ++ stream) c.self.inside.above (λ j. c.reserve-2.ensures.items j ++ stream)
+    (of-some (λ v. v.items) c.self.inside.mini_stream c.in-Some.stream words c.self.inside.above c.in-Some.is c.self.invariant)
+
+pub invariant_of-self-in_err-reserve-3 : goal.invariant_of-self-in_err-reserve-3
+invariant_of-self-in_err-reserve-3 g c =
+    let words = c.self.inside.minifat_sectors.items in
+    least-kept (words ++ c.in-Some.stream.items) (c.reserve-2.new.self.items ++ c.reserve-3.new.self.items) c.self.inside.above
+    (λ j. c.reserve-2.ensures.items j ++ c.reserve-3.ensures.items j)
+    (of-some (λ v. v.items) c.self.inside.mini_stream c.in-Some.stream words c.self.inside.above c.in-Some.is c.self.invariant)
+
+pub invariant_of-self-2 : goal.invariant_of-self-2
+invariant_of-self-2 g c =
+    let words = c.self.inside.minifat_sectors.items in
+    least-kept (words ++ c.in-Some.stream.items) (c.reserve-2.new.self.items ++ c.reserve-3.new.self.items) c.self.inside.above
+    (λ j. c.reserve-2.ensures.items j ++ c.reserve-3.ensures.items j)
+    (of-some (λ v. v.items) c.self.inside.mini_stream c.in-Some.stream words c.self.inside.above c.in-Some.is c.self.invariant)

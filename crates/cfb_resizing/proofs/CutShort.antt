@@ -1,0 +1,45 @@
+-- A stream that was cut has no more sectors, or mini sectors, than its length takes.
+use Rattle.std.proofs.Common.{◌≡◌, ◌≤◌, ◌<◌, ◌/◌, ◌%◌, ◌+◌, min, ℕ, List, sym, ◌∙◌, ap, subst, length, take, arith, length-take}
+use Rattle.cfb_format.specs.declared.version.Version.{Version}
+use Rattle.cfb_format.specs.declared.version.Version.TheVariants.{V3, V4}
+use Rattle.cfb_format.specs.Bytes.{sector_len}
+use Rattle.cfb_format.specs.Chain.{IsChain}
+use Rattle.cfb_format.specs.Full.{rounded_up}
+use Rattle.cfb_format.proofs.Unique.{IsChain-unique}
+use Rattle.cfb_tables.specs.Tables.{first_or_end}
+use Rattle.cfb_chains.proofs.LentContent.{wanted_is}
+use Rattle.cfb_mini_sectors.specs.State.{MiniState}
+use Rattle.cfb_mini_sectors.proofs.MiniStreams.{begins}
+use Rattle.cfb_content.specs.Parts.{IsWholeChain, IsWholeMiniChain}
+use Rattle.cfb_resizing.proofs.TurnedInSectors.{rounded-up-some, taken-first}
+
+has-room : (v : Version) (size n : ℕ) → size / sector_len v < n → rounded_up size (sector_len v) ≤ n
+has-room V3 size n lt = omega (arith, lt)
+has-room V4 size n lt = omega (arith, lt)
+
+left-is : (list list' : List ℕ) (wanted : ℕ) → list' ≡ take wanted list → wanted ≤ length list → length list' ≡ wanted
+left-is list list' wanted listed enough =
+    let count = ap (λ (l : List ℕ). length l) listed in
+    let taken = length-take wanted list in
+    omega (arith, count, taken, enough)
+
+pub cut-takes-few : (version : Version) (fat fat' : List ℕ) (file_len start len size wanted l : ℕ) (list list' other : List ℕ) → 0 < size → size < len
+    → IsWholeChain version fat file_len start len list → l ≡ sector_len version → wanted ≡ size / l + min 1 (size % l) → list' ≡ take wanted list
+    → IsChain fat' (first_or_end list') list' → IsChain fat' start other → length other ≡ rounded_up size (sector_len version)
+cut-takes-few version fat fat' file_len start len size wanted l list list' other some shorter whole l-is wanted-by listed chain' chain =
+    let is : wanted ≡ rounded_up size (sector_len version) = wanted_is version size wanted l l-is wanted-by in
+    let more = rounded-up-some version size some in
+    let first : first_or_end list' ≡ start = ap first_or_end listed ∙ taken-first list wanted (omega (arith, more, is)) ∙ sym (begins fat start list whole.chain.follows) in
+    let same = ap (λ (m : List ℕ). length m) (IsChain-unique fat' start other list' chain (subst (λ n. IsChain fat' n list') first chain')) in
+    let room = has-room version size (length list) (whole.there size shorter).listed in
+    let left = left-is list list' wanted listed (omega (arith, room, is)) in
+    omega (arith, same, left, is)
+
+pub mini-cut-takes-few : (s : MiniState) (table : List ℕ) (start len size wanted : ℕ) (list list' other : List ℕ) → size < len → IsWholeMiniChain s start len list
+    → wanted ≡ rounded_up size 64 → list' ≡ take wanted list → IsChain table (first_or_end list') list' → IsChain table (first_or_end list') other
+    → length other ≡ rounded_up size 64
+mini-cut-takes-few s table start len size wanted list list' other shorter whole is listed chain' chain =
+    let same = ap (λ (m : List ℕ). length m) (IsChain-unique table (first_or_end list') other list' chain chain') in
+    let room = (whole.there size shorter).listed in
+    let left = left-is list list' wanted listed (omega (arith, room, is)) in
+    omega (arith, same, left, is)

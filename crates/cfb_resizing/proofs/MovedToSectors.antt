@@ -1,0 +1,207 @@
+-- The content of a stream after it left its mini sectors for sectors.
+use Rattle.std.proofs.Common.{◌≡◌, ◌≤◌, ◌<◌, ◌*◌, ◌/◌, ◌%◌, ◌+◌, ◌-◌, ◌⊎◌, min, inl, inr, ℕ, List, [], ◌++◌, true, refl, sym, ◌∙◌, ap, subst, length, arith}
+use Rattle.std.specs.Prelude.{Contains, slice_index, unwrap_or}
+use Rattle.cfb_format.specs.declared.error.Error.{Error}
+use Rattle.cfb_format.specs.declared.error.Error.TheVariants.{AlreadyExists, Failed, Full, InvalidData, InvalidInput, Medium, Memory, NotFound, Unsound, Unsupported}
+use Rattle.cfb_format.specs.declared.validate.Validation.{Validation}
+use Rattle.cfb_format.specs.Bytes.{sector_len}
+use Rattle.cfb_format.specs.Chain.{IsChain}
+use Rattle.cfb_format.specs.Full.{rounded_up}
+use Rattle.cfb_format.specs.Siblings.{entry_at}
+use Rattle.cfb_tables.specs.Clean.{IsUnnamed}
+use Rattle.cfb_tables.specs.Tables.{IsTooFew, first_or_end}
+use Rattle.cfb_tables.proofs.Members.{Contains-nil, first_of_three}
+use Rattle.cfb_alloc.specs.Alloc.{AllocatorState}
+use Rattle.cfb_alloc.specs.Frame.{Spares, table_sectors}
+use Rattle.cfb_alloc.specs.ListedChain.{Lengthens}
+use Rattle.cfb_alloc.proofs.Frames.{nothing-touched}
+use Rattle.cfb_chains.specs.ChainPlaces.{place_along}
+use Rattle.cfb_chains.proofs.LentContent.{wanted_is}
+use Rattle.cfb_chains.proofs.OwnWrites.{enough_by}
+use Rattle.cfb_mini_table.specs.MiniTable.{MiniGivesBack}
+use Rattle.cfb_mini_sectors.specs.State.{HoldsMini, IsChangeable, MiniState, bytes_of, content_of, entries_of, table_of, tables_in, version_of}
+use Rattle.cfb_mini_sectors.specs.Steps.{SparesMini, system_sectors}
+use Rattle.cfb_mini_sectors.specs.Held.{with_minifat}
+use Rattle.cfb_mini_sectors.proofs.HeldMini.{no-tables}
+use Rattle.cfb_mini_sectors.proofs.MiniFrames.{nothing-touched as no-mini-touched}
+use Rattle.cfb_mini.specs.MiniSectors.{IsStill}
+use Rattle.cfb_content.specs.Contents.{IsStreamOf, KeepsOthers, len_of, mini_place_along, mini_sectors_owned}
+use Rattle.cfb_content.specs.Laws.{LacksNumbersFor}
+use Rattle.cfb_content.specs.Parts.{IsWholeMiniChain}
+use Rattle.cfb_content.proofs.Apart.{system-busy}
+use Rattle.cfb_content.proofs.Kept.{spared-is-kept}
+use Rattle.cfb_content.proofs.Readable.{small-is-there}
+use Rattle.cfb_content.proofs.WholeStreams.{no-sectors, owned-minis, small-entry, whole-minis-as}
+use Rattle.cfb_resizing.specs.Turning.{IsPaddedAlong, KeepsAround, KeepsTablesTight, LiesTurnedInSectors, StandsTurned, StopsOrBegun, Turns}
+use Rattle.cfb_resizing.proofs.TurnedInMinis.{first-mini, first-unnamed, own-minis-kept}
+use Rattle.cfb_resizing.proofs.TurnedInSectors.{large-lacks, rounded-up-holds}
+
+-- ---- a read
+
+-- what a read leaves is kept
+pub still-around : (s mid new : MiniState) → IsStill s mid → KeepsAround mid new → KeepsAround s new
+still-around s mid new still k =
+    let k' = subst (λ (m : MiniState). KeepsAround m new) still k in record {
+      directory = k'.directory;
+      entries = record { same_length = k'.entries.same_length; root = k'.entries.root; root_len = k'.entries.root_len; others = k'.entries.others };
+      limits = record { version = k'.limits.version; cases = k'.limits.cases; max_sectors = k'.limits.max_sectors; max_mini_sectors = k'.limits.max_mini_sectors };
+    }
+
+pub still-tight : (s mid new : MiniState) → IsStill s mid → KeepsTablesTight mid new → KeepsTablesTight s new
+still-tight s mid new still k =
+    let k' = subst (λ (m : MiniState). KeepsTablesTight m new) still k in record { exact = k'.exact; no_shorter = k'.no_shorter; none_free = k'.none_free }
+
+pub still-then : (s mid new : MiniState) → IsStill s mid → IsStill mid new → IsStill s new
+still-then s mid new first second =
+    second ∙ ap (λ (m : MiniState). record m {
+      directory = record m.directory { table = record (table_of m) { file = record (table_of m).file { bytes = bytes_of new; failures = (table_of new).file.failures } } };
+    }) first
+
+-- after a read, what stops changes nothing but what the medium has, or was begun
+pub still-stops : (s mid new : MiniState) → IsStill s mid → (e : Error) → StopsOrBegun mid new e → IsStill s new ⊎ ((table_of new).file.begun ≡ true)
+still-stops s mid new still e h = go e h
+  where
+    is : new ≡ mid → IsStill s new
+    is same = subst (λ (m : MiniState). IsStill s m) (sym same) still
+
+    go : (e : Error) → StopsOrBegun mid new e → IsStill s new ⊎ ((table_of new).file.begun ≡ true)
+    go (NotFound d) h = inl (is h)
+    go (AlreadyExists d) h = inl (is h)
+    go (InvalidInput d) h = inl (is h)
+    go (InvalidData d) h = elim h [ inl same ↦ inl (is same) | inr begun ↦ inr begun ]
+    go (Medium m) h = elim h [ inl more ↦ inl (still-then s mid new still more) | inr begun ↦ inr begun ]
+    go Memory h = elim h [ inl same ↦ inl (is same) | inr begun ↦ inr begun ]
+    go Full h = inl (is h)
+    go Unsound h = inl (is h)
+    go Failed h = inl (is h)
+    go Unsupported h = inl (is h)
+
+-- and where the medium tells its bytes, so are the other streams
+pub still-kept : (v : Validation) (s new : MiniState) (i : ℕ) → IsChangeable v s → IsStreamOf s i → IsStill s new → bytes_of new ≡ bytes_of s → KeepsOthers i s new
+still-kept v s new i change at still bytes =
+    spared-is-kept v [] [] s new i change at
+    (nothing-touched [] (table_of s) (table_of new) (ap version_of still) (ap (λ (m : MiniState). (tables_in m).fat) still)
+    (ap (λ (m : MiniState). table_sectors (tables_in m)) still) bytes)
+    (λ n c. absurd (Contains-nil n c))
+    (no-mini-touched [] s new (ap (λ (m : MiniState). m.minifat) still) (ap (λ (m : MiniState). m.mini_stream) still) bytes) (λ m c. absurd (Contains-nil m c))
+
+-- ---- the content in its new sectors
+
+module _ (v : Validation) (s new : MiniState) (i size count : ℕ) (list ids bytes : List ℕ) (change : IsChangeable v s) (at : IsStreamOf s i) (short : len_of s i < 4096)
+    (large : 4096 ≤ size) (whole : IsWholeMiniChain s (entry_at (entries_of s) i).start_sector (len_of s i) list) (count-is : count ≡ rounded_up size (sector_len (version_of s)))
+    (freed : MiniGivesBack [] list s.minifat new.minifat) (made : Lengthens count [] ids (tables_in s) (tables_in new)) (minifat : new.minifat_sectors ≡ s.minifat_sectors)
+    (stream : new.mini_stream ≡ s.mini_stream) (around : KeepsAround s new) (held : HoldsMini v new) (chain : IsChain (tables_in new).fat (first_or_end ids) ids)
+    (len : length bytes ≡ len_of s i) (got : (k : ℕ) → k < len_of s i → slice_index bytes k ≡ slice_index (bytes_of s) (mini_place_along s list k))
+    (padded : IsPaddedAlong (length bytes) (count * sector_len (version_of s)) (λ k. k) (place_along (version_of s) ids) bytes (bytes_of new)) where
+  owned : mini_sectors_owned s i ≡ list
+  owned = owned-minis s i short list whole
+
+  version : version_of new ≡ version_of s
+  version = made.taken.same_version
+
+  room : (k : ℕ) → k < size → k < count * sector_len (version_of s)
+  room k lt =
+      let round = enough_by (version_of s) size in
+      subst (λ n. k < n * sector_len (version_of s)) (sym count-is) (omega (arith, lt, round))
+
+  enough : (k : ℕ) → k < size → k / sector_len (version_of s) < length ids
+  enough k lt =
+      let below = rounded-up-holds (version_of s) k size lt in
+      let sum = made.count in
+      omega (arith, below, sum, count-is)
+
+  apart : (n : ℕ) → Contains ids n → Contains (system_sectors new) n → ⊥
+  apart n m c =
+      system-busy v s change.held n (subst (λ (l : List ℕ). Contains l n) (λ j. around.directory j ++ minifat j ++ unwrap_or (stream j) []) c)
+      (made.taken.fresh n (first_of_three ids made.taken.fats made.taken.difats n m))
+
+  stands : StandsTurned s i size (bytes_of new) (place_along (version_of s) ids)
+  stands = record {
+    there = λ k lt. padded.there k (room k lt);
+    kept = λ k lt early.
+        padded.kept k (room k lt) (omega (arith, early, len)) ∙ got k early
+        ∙ subst (λ (l : List ℕ). slice_index (bytes_of s) (mini_place_along s l k) ≡ slice_index (content_of s (entry_at (entries_of s) i)) k) owned
+        ((small-is-there v s i change at (small-entry s i short)).bytes k early);
+    zeros = λ k from lt. padded.zeros k (omega (arith, from, len)) (room k lt);
+  }
+
+  lies : LiesTurnedInSectors s new i size (first_or_end ids) ids
+  lies = record {
+    large = large;
+    chain = chain;
+    enough = λ k lt. subst (λ w. k / sector_len w < length ids) (sym version) (enough k lt);
+    apart = apart;
+    tables_apart = no-tables v (table_of new) (first_or_end ids) ids held.directory.tables chain;
+    stands = subst (λ w. StandsTurned s i size (bytes_of new) (place_along w ids)) (sym version) stands;
+  }
+
+  pub moved-turns : Turns s new i size (first_or_end ids)
+  moved-turns = inr (inr (inr (inr (inr (record {
+    was = small-entry s i short;
+    mid = with_minifat s new.minifat;
+    ys = ids;
+    count = count;
+    system = record { directory = refl; minifat = refl; mini_stream = refl; tables = refl };
+    freed = subst (λ (l : List ℕ). MiniGivesBack [] l s.minifat new.minifat) (sym owned) freed;
+    mini = record { minifat = refl; minifat_sectors = minifat; mini_stream = stream };
+    longer = made;
+    lies = lies;
+  })))))
+
+-- ---- what the calls say of it
+
+module _ (s mid new : MiniState) (i size count start len l : ℕ) (list : List ℕ) (at : IsStreamOf s i) (short : len_of s i < 4096) (large : 4096 ≤ size)
+    (start-is : start ≡ (entry_at (entries_of s) i).start_sector) (len-is : len ≡ len_of s i) (found : IsWholeMiniChain s start len list)
+    (l-is : l ≡ sector_len (version_of s)) (count-by : count ≡ size / l + min 1 (size % l)) where
+  there : IsWholeMiniChain s (entry_at (entries_of s) i).start_sector (len_of s i) list
+  there = whole-minis-as s i start len list start-is len-is found
+
+  wanted : count ≡ rounded_up size (sector_len (version_of s))
+  wanted = wanted_is (version_of s) size count l l-is count-by
+
+  pub move-lacks : (lent : AllocatorState) → lent ≡ table_of s → (LacksNumbersFor s i size → IsTooFew lent.tables count) × (IsTooFew lent.tables count → LacksNumbersFor s i size)
+  move-lacks lent is-lent =
+      let both = large-lacks s i size [] large (no-sectors s i short) in
+      let all : rounded_up size (sector_len (version_of s)) - length {A = ℕ} [] ≡ count = omega (arith, wanted) in
+      subst (λ (b : AllocatorState). (LacksNumbersFor s i size → IsTooFew b.tables count) × (IsTooFew b.tables count → LacksNumbersFor s i size)) (sym is-lent)
+      (subst (λ n. (LacksNumbersFor s i size → IsTooFew (tables_in s) n) × (IsTooFew (tables_in s) n → LacksNumbersFor s i size)) all both)
+
+  pub move-starts : IsStill s mid → IsChain mid.minifat (first_or_end list) list
+  move-starts still = subst (λ (t : List ℕ). IsChain t (first_or_end list) list) (sym (ap (λ (m : MiniState). m.minifat) still)) (first-mini s i short list there)
+
+  unnamed : (v : Validation) → IsChangeable v s → 0 < length list → IsUnnamed s.minifat (first_or_end list)
+  unnamed v change some = first-unnamed s i short v change at list there some
+
+  pub move-others : mid ≡ s → Spares (system_sectors mid) (table_of mid) (table_of new)
+      → ((v : Validation) → HoldsMini v mid → (0 < length list → IsUnnamed mid.minifat (first_or_end list)) → SparesMini list mid new)
+      → (v : Validation) → IsChangeable v s → KeepsOthers i s new
+  move-others same spares mini_spares v change =
+      own-minis-kept v s new i list change at (owned-minis s i short list there)
+      (subst (λ (m : MiniState). Spares (system_sectors m) (table_of m) (table_of new)) same spares)
+      ((subst (λ (m : MiniState). HoldsMini v m → (0 < length list → IsUnnamed m.minifat (first_or_end list)) → SparesMini list m new) same (mini_spares v))
+      change.held (unnamed v change))
+
+  pub move-held : mid ≡ s → (v : Validation) → (HoldsMini v mid → (0 < length list → IsUnnamed mid.minifat (first_or_end list)) → HoldsMini v new)
+      → IsChangeable v s → HoldsMini v new
+  move-held same v holds change =
+      (subst (λ (m : MiniState). HoldsMini v m → (0 < length list → IsUnnamed m.minifat (first_or_end list)) → HoldsMini v new) same holds) change.held (unnamed v change)
+
+  pub move-turned : (ids bytes content listed : List ℕ) (first : MiniState) → mid ≡ s → first ≡ s → listed ≡ list → bytes ≡ content → (v : Validation) → IsChangeable v s
+      → MiniGivesBack [] list mid.minifat new.minifat → Lengthens count [] ids (tables_in mid) (tables_in new) → new.minifat_sectors ≡ mid.minifat_sectors
+      → new.mini_stream ≡ mid.mini_stream → KeepsAround mid new → IsChain (tables_in new).fat (first_or_end ids) ids
+      → (HoldsMini v mid → (0 < length list → IsUnnamed mid.minifat (first_or_end list)) → HoldsMini v new) → length content ≡ len
+      → ((k : ℕ) → k < len → slice_index content k ≡ slice_index (bytes_of first) (mini_place_along first listed k))
+      → (HoldsMini v mid → (0 < length list → IsUnnamed mid.minifat (first_or_end list))
+      → IsPaddedAlong (length bytes) (count * sector_len (version_of mid)) (λ k. k) (place_along (version_of mid) ids) bytes (bytes_of new))
+      → Turns s new i size (first_or_end ids)
+  move-turned ids bytes content listed first same same-first listed-is bytes-is v change freed made minifat stream around chain holds long got padded =
+      moved-turns v s new i size count list ids bytes change at short large there wanted
+      (subst (λ (m : MiniState). MiniGivesBack [] list m.minifat new.minifat) same freed)
+      (subst (λ (m : MiniState). Lengthens count [] ids (tables_in m) (tables_in new)) same made)
+      (minifat ∙ ap (λ (m : MiniState). m.minifat_sectors) same) (stream ∙ ap (λ (m : MiniState). m.mini_stream) same)
+      (subst (λ (m : MiniState). KeepsAround m new) same around) (move-held same v holds change) chain
+      (ap (λ (z : List ℕ). length z) bytes-is ∙ long ∙ len-is)
+      (λ k lt. ap (λ (z : List ℕ). slice_index z k) bytes-is ∙ got k (omega (arith, lt, len-is))
+      ∙ (λ j. slice_index (bytes_of (same-first j)) (mini_place_along (same-first j) (listed-is j) k)))
+      ((subst (λ (m : MiniState). HoldsMini v m → (0 < length list → IsUnnamed m.minifat (first_or_end list))
+      → IsPaddedAlong (length bytes) (count * sector_len (version_of m)) (λ k. k) (place_along (version_of m) ids) bytes (bytes_of new)) same padded) change.held (unnamed v change))

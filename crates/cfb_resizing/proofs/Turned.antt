@@ -1,0 +1,234 @@
+-- A stream whose content was given another length, and whose entry says so: what it has, that it is used in order, and how it reads.
+use Rattle.std.proofs.Common.{◌≡◌, ◌<◌, ◌≤◌, ◌+◌, ◌/◌, ◌%◌, inl, inr, ℕ, List, [], ◌++◌, Bool, true, false, refl, sym, ◌∙◌, ap, subst, length, arith}
+use Rattle.std.specs.Prelude.{Contains, Err, IsSome, Ok, OnOk, Result, nat_le, slice_index, take, drop, unwrap_or}
+use Rattle.std.proofs.lemmas.Bool.{cases_eq, le-leb, leb-true}
+use Rattle.std.proofs.lemmas.List.Elements.{Contains-append_left, Contains-get_or}
+use Rattle.cfb_format.specs.declared.validate.Validation.{Validation}
+use Rattle.cfb_format.specs.declared.version.Version.{Version}
+use Rattle.cfb_format.specs.declared.version.Version.TheVariants.{V3, V4}
+use Rattle.cfb_format.specs.Bytes.{sector_len, sector_start}
+use Rattle.cfb_format.specs.Chain.{IsChain}
+use Rattle.cfb_format.specs.Content.{content_chain, is_large, mini_sector_len}
+use Rattle.cfb_format.specs.DirectoryEntry.{Entry}
+use Rattle.cfb_format.specs.Siblings.{entry_at}
+use Rattle.cfb_rules.specs.StreamCalls.{resized}
+use Rattle.cfb_sectors.specs.Sectors.{SectorStays}
+use Rattle.cfb_sectors.specs.Words.{Stays}
+use Rattle.cfb_soundness.specs.Places.{mini_start}
+use Rattle.cfb_tables.specs.Listed.{ends_of, gained}
+use Rattle.cfb_tables.specs.Tables.{TableState}
+use Rattle.cfb_tables.proofs.ChainLemmas.{members-busy}
+use Rattle.cfb_alloc.specs.ListedChain.{Lengthens, Shortens}
+use Rattle.cfb_chains.specs.ChainPlaces.{place_along}
+use Rattle.cfb_mini_table.specs.MiniTable.{MiniGivesBack, TakesMini}
+use Rattle.cfb_mini_sectors.specs.State.{HoldsMini, MiniState, bytes_of, content_of, entries_of, mini_stream_of, parts_of, tables_in, version_of}
+use Rattle.cfb_content.specs.Contents.{len_of, mini_place_along, mini_sectors_owned, sectors_owned}
+use Rattle.cfb_content.specs.Laws.{StandsResized}
+use Rattle.cfb_content.specs.Uses.{ChangesContent, ChangesUse, Owns}
+use Rattle.cfb_content.proofs.Changing.{growth-stays, large-becomes-small, large-goes-on, large-is-cut, same-is-used, small-becomes-large, small-goes-on, small-is-cut}
+use Rattle.cfb_content.proofs.Kept.{next-start}
+use Rattle.cfb_content.proofs.Owned.{empty-owns-nothing, large-no-mini, large-owns-its-chain, small-no-sector, small-owns-its-chain}
+use Rattle.cfb_content.proofs.Readable.{stream-owns-its-own}
+use Rattle.cfb_content.proofs.Rewritten.{large-is-resized, resized-len, small-is-resized}
+use Rattle.cfb_resizing.specs.Turning.{LiesTurnedInMinis, LiesTurnedInSectors, Turns, TurnsByCut, TurnsByGrowth, TurnsByMiniCut, TurnsByMiniGrowth, TurnsLarge, TurnsSmall}
+use Rattle.cfb_resizing.proofs.Named.{WasNamed, chain-foreign, mini-stays, mini-then, named-changes, system-then}
+
+large-by-len : (e : Entry) (size : ℕ) → e.stream_len ≡ size → 4096 ≤ size → is_large e ≡ true
+large-by-len e size len le = ap (λ (n : ℕ). nat_le 4096 n) len ∙ le-leb 4096 size le
+
+small-by-len : (e : Entry) (size : ℕ) → e.stream_len ≡ size → size < 4096 → is_large e ≡ false
+small-by-len e size len lt = ap (λ (n : ℕ). nat_le 4096 n) len ∙ go (nat_le 4096 size) refl
+  where
+    go : (b : Bool) → nat_le 4096 size ≡ b → nat_le 4096 size ≡ false
+    go true w = absurd (let le = leb-true 4096 size w in omega (arith, le, lt))
+    go false w = w
+
+rest-inside : (v : Version) (k : ℕ) → k % sector_len v < sector_len v
+rest-inside V3 k = omega arith
+rest-inside V4 k = omega arith
+
+-- the stream is used in order, has its chain, and reads as it did, cut or padded
+pub record WasTurned (old new : MiniState) (i size : ℕ) : Type 0 where
+  pub used : ChangesUse old new
+  pub chain : IsSome (content_chain (parts_of new) (entry_at (entries_of new) i))
+  pub content : content_of new (entry_at (entries_of new) i) ≡ resized (content_of old (entry_at (entries_of old) i)) size
+
+-- then all is as it was promised
+pub turned-whole : (old new : MiniState) (i size : ℕ) → WasTurned old new i size → len_of new i ≡ size → length (content_of new (entry_at (entries_of new) i)) ≡ len_of new i
+turned-whole old new i size t len = ap (λ (l : List ℕ). length l) t.content ∙ resized-len (content_of old (entry_at (entries_of old) i)) size ∙ sym len
+
+pub always-on-ok : {T E P : Type 0} (r : Result T E) → P → OnOk r P
+always-on-ok (Ok x) p = p
+always-on-ok (Err e) p = tt
+
+module _ (v : Validation) (old mid new : MiniState) (i size start : ℕ) (was : WasNamed v old mid new i) (held : HoldsMini v new)
+    (named : entry_at (entries_of new) i ≡ record (entry_at (entries_of mid) i) { start_sector = start; stream_len = size }) where
+  abbrev now : Entry
+  now = entry_at (entries_of new) i
+
+  len-is : len_of new i ≡ size
+  len-is = ap (λ (e : Entry). e.stream_len) named
+
+  start-is : now.start_sector ≡ start
+  start-is = ap (λ (e : Entry). e.start_sector) named
+
+  change : ChangesContent v i old new
+  change = named-changes v old mid new i was held
+
+  version-is : version_of new ≡ version_of mid
+  version-is = ap (λ (t : TableState). t.version) was.system.tables
+
+  -- ---- what the stream had
+
+  had : Owns old i (sectors_owned old i) (mini_sectors_owned old i)
+  had = stream-owns-its-own v old i was.changeable was.stream
+
+  had-large : is_large (entry_at (entries_of old) i) ≡ true → Owns old i (sectors_owned old i) []
+  had-large b = subst (λ (l : List ℕ). Owns old i (sectors_owned old i) l) (large-no-mini old (entry_at (entries_of old) i) b) had
+
+  had-small : is_large (entry_at (entries_of old) i) ≡ false → Owns old i [] (mini_sectors_owned old i)
+  had-small b = subst (λ (l : List ℕ). Owns old i l (mini_sectors_owned old i)) (small-no-sector old (entry_at (entries_of old) i) b) had
+
+  -- ---- in sectors
+
+  module _ (ys : List ℕ) (lies : LiesTurnedInSectors old mid i size start ys) where
+    large : is_large now ≡ true
+    large = large-by-len now size len-is lies.large
+
+    owns-large : Owns new i ys []
+    owns-large = large-owns-its-chain new i ys large
+        (subst (λ (s : ℕ). IsChain (tables_in new).fat s ys) (sym start-is)
+        (subst (λ (t : TableState). IsChain t.fat start ys) (sym was.system.tables) lies.chain))
+
+    sector-byte : (k : ℕ) → k < size
+        → slice_index (bytes_of new) (place_along (version_of mid) ys k) ≡ slice_index (bytes_of mid) (place_along (version_of mid) ys k)
+    unfolding SectorStays
+    sector-byte k lt =
+        let n = slice_index ys (k / sector_len (version_of mid)) in
+        let m : Contains ys n = Contains-get_or ys (k / sector_len (version_of mid)) 0 (lies.enough k lt) in
+        let out : Contains mid.directory.sectors n → ⊥ = λ d. lies.apart n m
+        (Contains-append_left (mid.directory.sectors ++ mid.minifat_sectors) (mini_stream_of mid) n (Contains-append_left mid.directory.sectors mid.minifat_sectors n d)) in
+        let stays : Stays (sector_start (version_of mid) n) (sector_start (version_of mid) (n + 1)) (bytes_of mid) (bytes_of new) =
+        was.spares.sectors n (chain-foreign v old mid new i was start ys lies.chain n m out) in
+        stays.each (place_along (version_of mid) ys k) (lies.stands.there k lt) (omega arith)
+        (omega (arith, next-start (version_of mid) n, rest-inside (version_of mid) k))
+
+    large-stands : StandsResized old new i (place_along (version_of new) ys)
+    large-stands = subst (λ (w : Version). StandsResized old new i (place_along w ys)) (sym version-is) (record {
+      there = λ k lt. let below = lies.stands.there k (omega (arith, lt, len-is)) in omega (arith, below, was.spares.no_shorter);
+      kept = λ k lt less. sector-byte k (omega (arith, lt, len-is)) ∙ lies.stands.kept k (omega (arith, lt, len-is)) less;
+      zeros = λ k le lt. sector-byte k (omega (arith, lt, len-is)) ∙ lies.stands.zeros k le (omega (arith, lt, len-is));
+    })
+
+    large-turned : ChangesUse old new → WasTurned old new i size
+    large-turned used = record {
+      used = used;
+      chain = owns-large.chain;
+      content = large-is-resized v old new i ys was.changeable was.stream large owns-large
+          (λ k lt. subst (λ (w : Version). k / sector_len w < length ys) (sym version-is) (lies.enough k (omega (arith, lt, len-is)))) large-stands
+          ∙ ap (λ (n : ℕ). resized (content_of old (entry_at (entries_of old) i)) n) len-is;
+    }
+
+  -- ---- in mini sectors
+
+  module _ (ns : List ℕ) (lies : LiesTurnedInMinis old mid i size start ns) where
+    small : is_large now ≡ false
+    small = small-by-len now size len-is lies.small
+
+    mini-chain-is : 0 < size → IsChain mid.minifat start ns
+    mini-chain-is some = lies.chain some
+
+    owns-small : Owns new i [] ns
+    owns-small = elim (cases_eq size 0) [
+      | inl z ↦ subst (λ (l : List ℕ). Owns new i [] l) (sym (lies.none z).0) (empty-owns-nothing new i (len-is ∙ z))
+      | inr ne ↦ small-owns-its-chain new i ns small (omega (arith, len-is, ne))
+          (subst (λ (s : ℕ). IsChain new.minifat s ns) (sym start-is)
+          (subst (λ (t : List ℕ). IsChain t start ns) (sym was.mini.minifat) (lies.chain (omega (arith, ne)))))
+    ]
+
+    same-places : mini_place_along mid ns ≡ mini_place_along new ns
+    same-places = sym (λ j. λ (k : ℕ).
+        mini_start (was.system.tables j).version (unwrap_or (was.mini.mini_stream j) []) (slice_index ns (k / mini_sector_len)) + k % mini_sector_len)
+
+    mini-byte : (k : ℕ) → k < size → slice_index (bytes_of new) (mini_place_along mid ns k) ≡ slice_index (bytes_of mid) (mini_place_along mid ns k)
+    mini-byte k lt =
+        let m = slice_index ns (k / mini_sector_len) in
+        let inside : Contains ns m = Contains-get_or ns (k / mini_sector_len) 0 (lies.enough k lt) in
+        let stays = mini-stays v old mid new i was m (members-busy mid.minifat start ns (lies.chain (omega (arith, lt))) m inside).1 in
+        stays.each (mini_place_along mid ns k) (lies.stands.there k lt) (omega arith) (omega arith)
+
+    small-stands : StandsResized old new i (mini_place_along new ns)
+    small-stands = subst (λ (place : ℕ → ℕ). StandsResized old new i place) same-places (record {
+      there = λ k lt. let below = lies.stands.there k (omega (arith, lt, len-is)) in omega (arith, below, was.spares.no_shorter);
+      kept = λ k lt less. mini-byte k (omega (arith, lt, len-is)) ∙ lies.stands.kept k (omega (arith, lt, len-is)) less;
+      zeros = λ k le lt. mini-byte k (omega (arith, lt, len-is)) ∙ lies.stands.zeros k le (omega (arith, lt, len-is));
+    })
+
+    small-turned : ChangesUse old new → WasTurned old new i size
+    small-turned used = record {
+      used = used;
+      chain = owns-small.chain;
+      content = small-is-resized v old new i ns was.changeable was.stream held.mini_stream small owns-small (λ k lt. lies.enough k (omega (arith, lt, len-is))) small-stands
+          ∙ ap (λ (n : ℕ). resized (content_of old (entry_at (entries_of old) i)) n) len-is;
+    }
+
+  -- ---- one after the other
+
+  tables-then : (P : TableState → Type 0) → P (tables_in mid) → P (tables_in new)
+  tables-then P p = subst P (sym was.system.tables) p
+
+  minifat-then : (P : List ℕ → Type 0) → P mid.minifat → P new.minifat
+  minifat-then P p = subst P (sym was.mini.minifat) p
+
+  by-growth : TurnsByGrowth old mid i size start → WasTurned old new i size
+  by-growth t = large-turned t.ys t.lies
+      (large-goes-on v i old new (sectors_owned old i) t.ys [] t.count change (mini-then old mid new t.mini was.mini)
+      (tables-then (λ (w : TableState). Lengthens t.count (sectors_owned old i) t.ys (tables_in old) w) t.longer) (had-large t.was) (owns-large t.ys t.lies))
+
+  by-cut : TurnsByCut old mid i size start → WasTurned old new i size
+  by-cut t = large-turned t.ys t.lies
+      (large-is-cut v i old new (sectors_owned old i) t.ys [] t.left change (mini-then old mid new t.mini was.mini)
+      (tables-then (λ (w : TableState). Shortens t.left (sectors_owned old i) t.ys (tables_in old) w) t.shorter) (had-large t.was) (owns-large t.ys t.lies))
+
+  by-mini-growth : TurnsByMiniGrowth old mid i size start → WasTurned old new i size
+  by-mini-growth t = small-turned t.ns t.lies (elim t.grown [
+    | inl (grows, takes) ↦
+        small-goes-on v i old new [] (mini_sectors_owned old i) t.ns old.max_mini_sectors t.count change (growth-stays t.count old mid new grows was.system) t.listed
+        (minifat-then (λ (w : List ℕ). TakesMini old.max_mini_sectors old.minifat w (ends_of (mini_sectors_owned old i)) (gained (mini_sectors_owned old i) t.ns)) takes)
+        (had-small t.was) (owns-small t.ns t.lies)
+    | inr (same, system, mini) ↦
+        same-is-used v i old new [] (mini_sectors_owned old i) change (system-then old mid new system was.system) (mini-then old mid new mini was.mini) (had-small t.was)
+        (subst (λ (l : List ℕ). Owns new i [] l) same (owns-small t.ns t.lies))
+  ])
+
+  by-mini-cut : TurnsByMiniCut old mid i size start → WasTurned old new i size
+  by-mini-cut t = small-turned t.ns t.lies
+      (small-is-cut v i old new [] (mini_sectors_owned old i) t.ns t.left change (system-then old mid new t.system was.system) t.listed
+      (minifat-then (λ (w : List ℕ). MiniGivesBack (ends_of (take t.left (mini_sectors_owned old i))) (drop t.left (mini_sectors_owned old i)) old.minifat w) t.given_back)
+      (had-small t.was) (owns-small t.ns t.lies))
+
+  made-small : TurnsSmall old mid i size start → WasTurned old new i size
+  made-small t = small-turned t.ns t.lies (elim t.grown [
+    | inl (grows, takes) ↦
+        large-becomes-small v i old t.mid new (sectors_owned old i) t.ns old.max_mini_sectors t.count change t.mini t.freed
+        (growth-stays t.count t.mid mid new grows was.system)
+        (minifat-then (λ (w : List ℕ). TakesMini old.max_mini_sectors t.mid.minifat w [] t.ns) takes)
+        (had-large t.was) (owns-small t.ns t.lies)
+    | inr (none, system, mini) ↦
+        large-is-cut v i old new (sectors_owned old i) [] [] 0 change (mini-then old t.mid new t.mini (mini-then t.mid mid new mini was.mini))
+        (subst (λ (w : TableState). Shortens 0 (sectors_owned old i) [] (tables_in old) w) (sym (was.system.tables ∙ system.tables)) t.freed)
+        (had-large t.was) (subst (λ (l : List ℕ). Owns new i [] l) none (owns-small t.ns t.lies))
+  ])
+
+  made-large : TurnsLarge old mid i size start → WasTurned old new i size
+  made-large t = large-turned t.ys t.lies
+      (small-becomes-large v i old t.mid new (mini_sectors_owned old i) t.ys t.count change t.system t.freed (mini-then t.mid mid new t.mini was.mini)
+      (tables-then (λ (w : TableState). Lengthens t.count [] t.ys (tables_in t.mid) w) t.longer) (had-small t.was) (owns-large t.ys t.lies))
+
+  pub turned : Turns old mid i size start → WasTurned old new i size
+  turned (inl t) = by-growth t
+  turned (inr (inl t)) = by-cut t
+  turned (inr (inr (inl t))) = by-mini-growth t
+  turned (inr (inr (inr (inl t)))) = by-mini-cut t
+  turned (inr (inr (inr (inr (inl t))))) = made-small t
+  turned (inr (inr (inr (inr (inr t))))) = made-large t

@@ -1,0 +1,93 @@
+use Rattle.std.proofs.Common.{◌≡◌, ◌∙◌, ap, sym, subst, arith}
+use Rattle.std.proofs.lemmas.Result.{err_from_is_err_and}
+use Rattle.cfb_format.specs.Chain.{IsChain}
+use Rattle.cfb_format.specs.Full.{rounded_up}
+use Rattle.cfb_tables.specs.Tables.{first_or_end}
+use Rattle.cfb_content.proofs.Kept.{nothing-is-moved}
+use Rattle.cfb_content.proofs.Refusals.{refused-as}
+use Rattle.cfb_content.proofs.WholeStreams.{not-whole-minis, owned-minis, whole-minis-as}
+use Rattle.cfb_resizing.specs.Turning.{Turns}
+use Rattle.cfb_resizing.proofs.CutShort.{mini-cut-takes-few}
+use Rattle.cfb_resizing.proofs.Tightness.{same-tight}
+use Rattle.cfb_resizing.proofs.TurnedInMinis.{cut-lacks-none, first-mini, first-unnamed, mini-cut-turns, own-minis-kept}
+use Rattle.cfb_resizing.proofs.in_place.cut_in_minis.Goals as goal
+
+pub returns-in_err-ids-clause-others : goal.returns-in_err-ids-clause-others
+returns-in_err-ids-clause-others g c told v change = nothing-is-moved c.args.entry c.args.mini.now
+
+pub returns-in_err-ids-clause-err : goal.returns-in_err-ids-clause-err
+returns-in_err-ids-clause-err g c =
+    let p = err_from_is_err_and c.from_residual.result c.from_residual.ensures.1 in
+    rw (p.1, p.2) (refused-as _ _ _ _ _ _ _ _
+    (not-whole-minis c.args.mini.now c.args.entry c.content_in-start.result.0 c.content_in-start.result.1 c.content_in-start.ensures.start c.content_in-start.ensures.len c.requires.stream c.requires.small)
+    (λ u. u) (λ no. absurd no) (λ no. absurd no) c.in_err-ids.field-0.0 c.in_err-ids.ensures.err)
+
+pub cut_mini_listed-requires : goal.cut_mini_listed-requires
+cut_mini_listed-requires g c =
+    let s = c.args.mini.now in
+    let i = c.args.entry in
+    record {
+      chain = first-mini s i c.requires.small c.in_ok-ids.ids.items
+          (whole-minis-as s i c.content_in-start.result.0 c.content_in-start.result.1 c.in_ok-ids.ids.items c.content_in-start.ensures.start c.content_in-start.ensures.len c.in_ok-ids.ensures.whole);
+    }
+
+pub returns-in_err-cut_mini_listed-clause-others : goal.returns-in_err-cut_mini_listed-clause-others
+returns-in_err-cut_mini_listed-clause-others g c told v change =
+    let s = c.args.mini.now in
+    let i = c.args.entry in
+    let list = c.in_ok-ids.ids.items in
+    let whole = whole-minis-as s i c.content_in-start.result.0 c.content_in-start.result.1 list c.content_in-start.ensures.start c.content_in-start.ensures.len c.in_ok-ids.ensures.whole in
+    own-minis-kept v s c.cut_mini_listed.new.self i list change c.requires.stream (owned-minis s i c.requires.small list whole) (c.cut_mini_listed.ensures.spares told)
+    (c.cut_mini_listed.ensures.mini_spares told v change.held)
+
+pub returns-clause-turned : goal.returns-clause-turned
+returns-clause-turned g c told v change =
+    let s = c.args.mini.now in
+    let i = c.args.entry in
+    let new = c.cut_mini_listed.new.self in
+    let list = c.in_ok-ids.ids.items in
+    let list' = c.cut_mini_listed.new.ids.items in
+    let whole = whole-minis-as s i c.content_in-start.result.0 c.content_in-start.result.1 list c.content_in-start.ensures.start c.content_in-start.ensures.len c.in_ok-ids.ensures.whole in
+    subst (λ n. Turns s new i c.args.size n) (sym (c.first_number.ensures ∙ ap first_or_end c.deref.ensures.value))
+    (mini-cut-turns v s new i c.args.size c.div_ceil-wanted.result list list' change c.requires.stream c.requires.small c.requires.shorter whole
+    (omega (arith, c.div_ceil-wanted.ensures)) c.in_ok-cut_mini_listed.ensures.listed c.in_ok-cut_mini_listed.ensures.given_back c.cut_mini_listed.ensures.system
+    c.cut_mini_listed.ensures.chain (c.cut_mini_listed.ensures.bytes told v change.held))
+
+pub returns-clause-holds : goal.returns-clause-holds
+returns-clause-holds g c told v change =
+    let s = c.args.mini.now in
+    let i = c.args.entry in
+    let list = c.in_ok-ids.ids.items in
+    let shorter = c.requires.shorter in
+    let whole = whole-minis-as s i c.content_in-start.result.0 c.content_in-start.result.1 list c.content_in-start.ensures.start c.content_in-start.ensures.len c.in_ok-ids.ensures.whole in
+    let first = (whole.there 0 (omega (arith, shorter))).listed in
+    c.in_ok-cut_mini_listed.ensures.holds told v change.held (λ zero. first-unnamed s i c.requires.small v change c.requires.stream list whole (omega (arith, first)))
+
+pub returns-clause-others : goal.returns-clause-others
+returns-clause-others g c told v change =
+    let s = c.args.mini.now in
+    let i = c.args.entry in
+    let list = c.in_ok-ids.ids.items in
+    let whole = whole-minis-as s i c.content_in-start.result.0 c.content_in-start.result.1 list c.content_in-start.ensures.start c.content_in-start.ensures.len c.in_ok-ids.ensures.whole in
+    own-minis-kept v s c.cut_mini_listed.new.self i list change c.requires.stream (owned-minis s i c.requires.small list whole) (c.cut_mini_listed.ensures.spares told)
+    (c.cut_mini_listed.ensures.mini_spares told v change.held)
+
+pub returns-clause-tight : goal.returns-clause-tight
+returns-clause-tight g c = same-tight c.args.mini.now c.cut_mini_listed.new.self c.cut_mini_listed.ensures.system.tables
+
+pub returns-clause-enough : goal.returns-clause-enough
+returns-clause-enough g c v held =
+    let s = c.args.mini.now in
+    let i = c.args.entry in
+    let list = c.in_ok-ids.ids.items in
+    cut-lacks-none v s i c.args.size list held c.minifat_len-len.ensures.short c.requires.small c.requires.shorter
+    (whole-minis-as s i c.content_in-start.result.0 c.content_in-start.result.1 list c.content_in-start.ensures.start c.content_in-start.ensures.len c.in_ok-ids.ensures.whole)
+
+pub returns-clause-few : goal.returns-clause-few
+returns-clause-few g c list chain =
+    let wanted : c.div_ceil-wanted.result ≡ rounded_up c.args.size 64 = omega (arith, c.div_ceil-wanted.ensures) in
+    let left = c.cut_mini_listed.new.ids.items in
+    mini-cut-takes-few c.args.mini.now c.cut_mini_listed.new.self.minifat c.content_in-start.result.0 c.content_in-start.result.1 c.args.size c.div_ceil-wanted.result
+    c.in_ok-ids.ids.items left list (omega (arith, c.requires.shorter, c.content_in-start.ensures.len)) c.in_ok-ids.ensures.whole wanted c.in_ok-cut_mini_listed.ensures.listed
+    c.cut_mini_listed.ensures.chain
+    (subst (λ n. IsChain c.cut_mini_listed.new.self.minifat n list) (c.first_number.ensures ∙ ap first_or_end c.deref.ensures.value) chain)

@@ -1,0 +1,90 @@
+use Rattle.std.proofs.Common.{arith, ap, sym, subst, ◌∙◌}
+use Rattle.std.proofs.lemmas.Result.{err_from_is_err_and}
+use Rattle.cfb_format.specs.Bytes.{sector_len}
+use Rattle.cfb_format.specs.Full.{rounded_up}
+use Rattle.cfb_alloc.specs.Alloc.{AllocatorState}
+use Rattle.cfb_alloc.specs.ListedChain.{Shortens}
+use Rattle.cfb_content.proofs.Kept.{nothing-is-moved}
+use Rattle.cfb_content.proofs.Refusals.{refused-as}
+use Rattle.cfb_content.proofs.WholeStreams.{not-whole, whole-as}
+use Rattle.cfb_resizing.proofs.CutShort.{cut-takes-few}
+use Rattle.cfb_resizing.proofs.Tightness.{shortened-tight}
+use Rattle.cfb_resizing.proofs.TurnedInSectors.{cut-has-all, cut-held, cut-keeps-tables, cut-spares-others, cut-turned, not-usable}
+use Rattle.cfb_resizing.proofs.in_place.cut_in_sectors.Goals as goal
+
+pub returns-in_err-ids-clause-others : goal.returns-in_err-ids-clause-others
+returns-in_err-ids-clause-others g c told v change = nothing-is-moved c.args.entry c.args.mini.now
+
+pub returns-in_err-ids-clause-err : goal.returns-in_err-ids-clause-err
+returns-in_err-ids-clause-err g c =
+    let p = err_from_is_err_and c.from_residual.result c.from_residual.ensures.1 in
+    let large = c.requires.large in
+    let shorter = c.requires.shorter in
+    rw (p.1, p.2) (refused-as _ _ _ _ _ _ _ _
+    (not-whole c.args.mini.now c.args.entry c.allocator.result.now c.content_in-start.result.0 c.content_in-start.result.1 c.allocator.ensures c.content_in-start.ensures.start
+    c.content_in-start.ensures.len c.requires.stream (omega (arith, large, shorter)))
+    (λ u. u) (λ no. absurd no) (λ no. absurd no) c.in_err-ids.field-0.0 c.in_err-ids.ensures.err)
+
+pub returns-in_err-cut_listed-clause-others : goal.returns-in_err-cut_listed-clause-others
+returns-in_err-cut_listed-clause-others g c told v change =
+    cut-spares-others c.args.mini.now c.args.entry c.args.size c.div_ceil-wanted.result c.content_in-start.result.0 c.content_in-start.result.1 c.sector_len.result
+    c.allocator.result.now c.allocator_mut.result.now c.cut_listed.new.self c.in_ok-ids.ids.items c.cut_listed.new.ids.items c.requires.stream c.requires.large c.requires.shorter
+    c.allocator.ensures c.allocator_mut.ensures.value c.content_in-start.ensures.start c.content_in-start.ensures.len c.in_ok-ids.ensures.whole c.sector_len.ensures c.div_ceil-wanted.ensures
+    (c.cut_listed.ensures.spares told) v change
+
+pub returns-in_err-cut_listed-clause-err : goal.returns-in_err-cut_listed-clause-err
+returns-in_err-cut_listed-clause-err g c =
+    let p = err_from_is_err_and c.from_residual-in_err-cut_listed.result c.from_residual-in_err-cut_listed.ensures.1 in
+    rw (p.1, p.2) (refused-as _ _ _ _ _ _ _ _ (not-usable c.args.mini.now c.allocator_mut.result.now c.allocator_mut.ensures.value) (λ no. absurd no) (λ no. absurd no) (λ u. u)
+    c.in_err-cut_listed.field-0.0 c.in_err-cut_listed.ensures.err)
+
+pub returns-clause-turned : goal.returns-clause-turned
+returns-clause-turned g c told v change =
+    let held = cut-keeps-tables c.args.mini.now c.args.entry c.args.size c.div_ceil-wanted.result c.content_in-start.result.0 c.content_in-start.result.1 c.sector_len.result
+    c.allocator.result.now c.allocator_mut.result.now c.cut_listed.new.self c.in_ok-ids.ids.items c.cut_listed.new.ids.items c.requires.stream c.requires.large c.requires.shorter
+    c.allocator.ensures c.allocator_mut.ensures.value c.content_in-start.ensures.start c.content_in-start.ensures.len c.in_ok-ids.ensures.whole c.sector_len.ensures c.div_ceil-wanted.ensures
+    (λ w. c.in_ok-cut_listed.ensures.holds told w) v change in
+    cut-turned c.args.mini.now c.args.entry c.args.size c.div_ceil-wanted.result c.content_in-start.result.0 c.content_in-start.result.1 c.sector_len.result
+    c.allocator.result.now c.allocator_mut.result.now c.cut_listed.new.self c.in_ok-ids.ids.items c.cut_listed.new.ids.items c.requires.stream c.requires.large c.requires.shorter
+    c.allocator.ensures c.allocator_mut.ensures.value c.content_in-start.ensures.start c.content_in-start.ensures.len c.in_ok-ids.ensures.whole c.sector_len.ensures c.div_ceil-wanted.ensures
+    c.in_ok-cut_listed.ensures.shortened (c.cut_listed.ensures.changes told) v change held c.cut_listed.ensures.chain
+
+pub returns-clause-holds : goal.returns-clause-holds
+returns-clause-holds g c told v change =
+    let held = cut-keeps-tables c.args.mini.now c.args.entry c.args.size c.div_ceil-wanted.result c.content_in-start.result.0 c.content_in-start.result.1 c.sector_len.result
+    c.allocator.result.now c.allocator_mut.result.now c.cut_listed.new.self c.in_ok-ids.ids.items c.cut_listed.new.ids.items c.requires.stream c.requires.large c.requires.shorter
+    c.allocator.ensures c.allocator_mut.ensures.value c.content_in-start.ensures.start c.content_in-start.ensures.len c.in_ok-ids.ensures.whole c.sector_len.ensures c.div_ceil-wanted.ensures
+    (λ w. c.in_ok-cut_listed.ensures.holds told w) v change in
+    cut-held c.args.mini.now c.args.entry c.args.size c.div_ceil-wanted.result c.content_in-start.result.0 c.content_in-start.result.1 c.sector_len.result
+    c.allocator.result.now c.allocator_mut.result.now c.cut_listed.new.self c.in_ok-ids.ids.items c.cut_listed.new.ids.items c.requires.stream c.requires.large c.requires.shorter
+    c.allocator.ensures c.allocator_mut.ensures.value c.content_in-start.ensures.start c.content_in-start.ensures.len c.in_ok-ids.ensures.whole c.sector_len.ensures c.div_ceil-wanted.ensures
+    c.in_ok-cut_listed.ensures.shortened (c.cut_listed.ensures.changes told) v change held (c.cut_listed.ensures.spares told)
+
+pub returns-clause-others : goal.returns-clause-others
+returns-clause-others g c told v change =
+    cut-spares-others c.args.mini.now c.args.entry c.args.size c.div_ceil-wanted.result c.content_in-start.result.0 c.content_in-start.result.1 c.sector_len.result
+    c.allocator.result.now c.allocator_mut.result.now c.cut_listed.new.self c.in_ok-ids.ids.items c.cut_listed.new.ids.items c.requires.stream c.requires.large c.requires.shorter
+    c.allocator.ensures c.allocator_mut.ensures.value c.content_in-start.ensures.start c.content_in-start.ensures.len c.in_ok-ids.ensures.whole c.sector_len.ensures c.div_ceil-wanted.ensures
+    (c.cut_listed.ensures.spares told) v change
+
+pub returns-clause-tight : goal.returns-clause-tight
+returns-clause-tight g c =
+    shortened-tight c.args.mini.now c.cut_listed.new.self c.div_ceil-wanted.result c.in_ok-ids.ids.items c.cut_listed.new.ids.items
+    (subst (λ (a : AllocatorState). Shortens c.div_ceil-wanted.result c.in_ok-ids.ids.items c.cut_listed.new.ids.items a.tables c.cut_listed.new.self.tables) c.allocator_mut.ensures.value
+    c.in_ok-cut_listed.ensures.shortened)
+
+pub returns-clause-enough : goal.returns-clause-enough
+returns-clause-enough g c =
+    cut-has-all c.args.mini.now c.args.entry c.args.size c.in_ok-ids.ids.items c.requires.large c.requires.shorter
+    (whole-as c.args.mini.now c.args.entry c.allocator.result.now c.content_in-start.result.0 c.content_in-start.result.1 c.in_ok-ids.ids.items c.allocator.ensures
+    c.content_in-start.ensures.start c.content_in-start.ensures.len c.in_ok-ids.ensures.whole)
+
+pub returns-clause-few : goal.returns-clause-few
+returns-clause-few g c list chain =
+    let large = c.requires.large in
+    let same = ap (λ (a : AllocatorState). sector_len a.tables.version) c.allocator.ensures in
+    let few = cut-takes-few c.allocator.result.now.tables.version c.allocator.result.now.tables.fat c.cut_listed.new.self.tables.fat c.allocator.result.now.file.len
+    c.content_in-start.result.0 c.content_in-start.result.1 c.args.size c.div_ceil-wanted.result c.sector_len.result c.in_ok-ids.ids.items c.cut_listed.new.ids.items list
+    (omega (arith, large)) (omega (arith, c.requires.shorter, c.content_in-start.ensures.len)) c.in_ok-ids.ensures.whole (c.sector_len.ensures ∙ sym same) c.div_ceil-wanted.ensures
+    c.in_ok-cut_listed.ensures.shortened.listed c.cut_listed.ensures.chain chain in
+    few ∙ ap (rounded_up c.args.size) same

@@ -1,0 +1,176 @@
+use Rattle.std.proofs.Common.{◌<◌, ◌++◌, ℕ, List, [], ap, inl, inr, refl, sym, subst, arith, length}
+use Rattle.std.specs.Prelude.{nat_eq}
+use Rattle.std.specs.List.{IsDistinct}
+use Rattle.std.proofs.lemmas.Result.{err_from_is_err_and}
+use Rattle.cfb_format.specs.Chain.{IsChain}
+use Rattle.cfb_tables.specs.Clean.{IsUnnamed}
+use Rattle.cfb_tables.specs.Listed.{ends_of, gained}
+use Rattle.cfb_tables.specs.Tables.{first_or_end}
+use Rattle.std.proofs.lemmas.List.Elements.{Contains-append_right}
+use Rattle.cfb_alloc.specs.Alloc.{AllocatorState, IsUsable}
+use Rattle.cfb_alloc.proofs.Frames.{spares-less}
+use Rattle.cfb_alloc.proofs.HeldOrder.{held-usable}
+use Rattle.cfb_alloc.specs.Frame.{Spares}
+use Rattle.cfb_alloc.proofs.Answering.{all_ok, on_ok}
+use Rattle.cfb_mini_table.specs.MiniTable.{TakesMini}
+use Rattle.cfb_mini_sectors.specs.State.{table_of}
+use Rattle.cfb_mini_sectors.specs.Steps.{SparesMini, system_sectors}
+use Rattle.cfb_mini_sectors.specs.Held.{with_table}
+use Rattle.cfb_content.proofs.Refusals.{refused-as}
+use Rattle.cfb_resizing.proofs.BegunInSectors.{no-chain}
+use Rattle.cfb_resizing.proofs.CarriedToMinis.{begun-all, carried-around-all, carried-minis, carried-minis-all, carried-minis-both, carried-spares-all, carried-spares-both, carried-stops, carried-tight-all, came-free, given-held, given-lent, given-room, medium-stops, minis-placed, minis-stand}
+use Rattle.cfb_resizing.proofs.CarriedToSectors.{apart-spares-mini}
+use Rattle.cfb_resizing.proofs.LengthenedMinis.{not-both}
+use Rattle.cfb_resizing.proofs.Tightness.{file-mini}
+use Rattle.cfb_resizing.proofs.moving.carry_to_minis.Goals as goal
+
+pub put_in_minis-requires : goal.put_in_minis-requires
+put_in_minis-requires g c =
+    let chain = c.extend_mini_listed.ensures.chain (no-chain c.args.mini.now.minifat c.args.ids.now.items c.requires.fresh) in
+    record { placed = minis-placed c.extend_mini_listed.new.self c.args.count c.args.ids.now.items c.extend_mini_listed.new.ids.items c.deref.result.now c.requires.fresh c.deref.ensures.value c.in_ok-extend_mini_listed.ensures.count c.args.bytes.now chain c.in_ok-extend_mini_listed.ensures.room c.requires.room }
+
+pub returns-clause-chain : goal.returns-clause-chain
+returns-clause-chain g c =
+    let mid = c.extend_mini_listed.new.self in
+    let ids = c.extend_mini_listed.new.ids.items in
+    all_ok c.put_in_minis.result (subst (λ (t : List ℕ). IsChain t (first_or_end ids) ids) (sym (file-mini mid mid c.put_in_minis.new.mini c.put_in_minis.ensures.kept).minifat)
+    (c.extend_mini_listed.ensures.chain (no-chain c.args.mini.now.minifat c.args.ids.now.items c.requires.fresh)))
+
+pub returns-clause-carried : goal.returns-clause-carried
+returns-clause-carried g c =
+    let taken : 0 < c.args.count → TakesMini c.args.mini.now.max_mini_sectors c.args.mini.now.minifat c.extend_mini_listed.new.self.minifat [] c.extend_mini_listed.new.ids.items =
+    λ some. subst (λ (l : List ℕ). TakesMini c.args.mini.now.max_mini_sectors c.args.mini.now.minifat c.extend_mini_listed.new.self.minifat (ends_of l)
+    (gained l c.extend_mini_listed.new.ids.items)) c.requires.fresh (c.in_ok-extend_mini_listed.ensures.taken some) in
+    all_ok c.put_in_minis.result (carried-minis c.args.mini.now c.allocator_mut.result.now c.free_listed.new.self c.args.list.now c.allocator_mut.ensures.value c.in_ok-free_listed.ensures.freed
+    c.extend_mini_listed.new.self c.put_in_minis.new.mini c.args.count c.extend_mini_listed.new.ids.items c.args.ids.now.items c.requires.fresh c.put_in_minis.ensures.kept (λ z. ((c.extend_mini_listed.ensures.none z).1, (c.extend_mini_listed.ensures.none z).2))
+    c.in_ok-extend_mini_listed.ensures.grown taken)
+
+pub returns-clause-stands : goal.returns-clause-stands
+returns-clause-stands g c told v held apart unnamed =
+    let chain = c.extend_mini_listed.ensures.chain (no-chain c.args.mini.now.minifat c.args.ids.now.items c.requires.fresh) in
+    let lent-held = given-lent c.args.mini.now c.allocator_mut.result.now c.free_listed.new.self c.args.list.now c.allocator_mut.ensures.value c.in_ok-free_listed.ensures.freed v held in
+    let freed-held = given-held c.args.mini.now c.allocator_mut.result.now c.free_listed.new.self c.args.list.now c.allocator_mut.ensures.value c.in_ok-free_listed.ensures.freed v held apart
+    (c.in_ok-free_listed.ensures.holds told v lent-held (subst (λ (b : AllocatorState). IsUnnamed b.tables.fat (first_or_end c.args.list.now)) (sym c.allocator_mut.ensures.value) unnamed))
+    (c.free_listed.ensures.spares told) (c.free_listed.ensures.changes told) in
+    let now = c.in_ok-extend_mini_listed.ensures.holds told v freed-held in
+    on_ok _ _ c.put_in_minis.result (minis-stand c.extend_mini_listed.new.self c.args.count c.args.ids.now.items c.extend_mini_listed.new.ids.items c.deref.result.now c.requires.fresh c.deref.ensures.value c.in_ok-extend_mini_listed.ensures.count c.put_in_minis.new.mini c.args.bytes.now c.put_in_minis.ensures.kept)
+    (c.put_in_minis.ensures.put told v now (subst (λ (l : List ℕ). IsDistinct nat_eq l) (sym c.deref.ensures.value) chain.distinct))
+
+pub returns-clause-holds : goal.returns-clause-holds
+returns-clause-holds g c told v held apart unnamed =
+    let lent-held = given-lent c.args.mini.now c.allocator_mut.result.now c.free_listed.new.self c.args.list.now c.allocator_mut.ensures.value c.in_ok-free_listed.ensures.freed v held in
+    let freed-held = given-held c.args.mini.now c.allocator_mut.result.now c.free_listed.new.self c.args.list.now c.allocator_mut.ensures.value c.in_ok-free_listed.ensures.freed v held apart
+    (c.in_ok-free_listed.ensures.holds told v lent-held (subst (λ (b : AllocatorState). IsUnnamed b.tables.fat (first_or_end c.args.list.now)) (sym c.allocator_mut.ensures.value) unnamed))
+    (c.free_listed.ensures.spares told) (c.free_listed.ensures.changes told) in
+    let now = c.in_ok-extend_mini_listed.ensures.holds told v freed-held in
+    c.put_in_minis.ensures.holds told v now
+
+pub returns-in_err-extend_mini_listed-clause-spares : goal.returns-in_err-extend_mini_listed-clause-spares
+returns-in_err-extend_mini_listed-clause-spares g c told =
+    carried-spares-both c.args.mini.now c.allocator_mut.result.now c.free_listed.new.self c.args.list.now c.allocator_mut.ensures.value c.in_ok-free_listed.ensures.freed
+    c.extend_mini_listed.new.self c.extend_mini_listed.new.self c.args.count c.extend_mini_listed.new.ids.items c.args.ids.now.items c.requires.fresh refl (c.free_listed.ensures.spares told) (c.extend_mini_listed.ensures.spares told)
+
+pub returns-clause-spares : goal.returns-clause-spares
+returns-clause-spares g c told =
+    carried-spares-all c.args.mini.now c.allocator_mut.result.now c.free_listed.new.self c.args.list.now c.allocator_mut.ensures.value c.in_ok-free_listed.ensures.freed
+    c.extend_mini_listed.new.self c.put_in_minis.new.mini c.args.count c.extend_mini_listed.new.ids.items c.args.ids.now.items c.requires.fresh c.put_in_minis.ensures.kept (λ z. (c.extend_mini_listed.ensures.none z).1) c.in_ok-extend_mini_listed.ensures.grown (c.free_listed.ensures.spares told)
+    (c.extend_mini_listed.ensures.spares told) (c.put_in_minis.ensures.spares told)
+
+pub returns-in_err-extend_mini_listed-clause-mini_spares : goal.returns-in_err-extend_mini_listed-clause-mini_spares
+returns-in_err-extend_mini_listed-clause-mini_spares g c told v held apart unnamed =
+    let lent-held = given-lent c.args.mini.now c.allocator_mut.result.now c.free_listed.new.self c.args.list.now c.allocator_mut.ensures.value c.in_ok-free_listed.ensures.freed v held in
+    let freed-held = given-held c.args.mini.now c.allocator_mut.result.now c.free_listed.new.self c.args.list.now c.allocator_mut.ensures.value c.in_ok-free_listed.ensures.freed v held apart
+    (c.in_ok-free_listed.ensures.holds told v lent-held (subst (λ (b : AllocatorState). IsUnnamed b.tables.fat (first_or_end c.args.list.now)) (sym c.allocator_mut.ensures.value) unnamed))
+    (c.free_listed.ensures.spares told) (c.free_listed.ensures.changes told) in
+    let second = subst (λ (l : List ℕ). SparesMini (ends_of l) (with_table c.args.mini.now c.free_listed.new.self) c.extend_mini_listed.new.self) c.requires.fresh
+    (c.extend_mini_listed.ensures.mini_spares told v freed-held) in
+    carried-minis-both c.args.mini.now c.allocator_mut.result.now c.free_listed.new.self c.args.list.now c.allocator_mut.ensures.value c.in_ok-free_listed.ensures.freed
+    c.extend_mini_listed.new.self c.extend_mini_listed.new.self c.args.count c.extend_mini_listed.new.ids.items c.args.ids.now.items c.requires.fresh refl v held apart (c.free_listed.ensures.spares told)
+    c.extend_mini_listed.ensures.limits.version second
+
+pub returns-clause-mini_spares : goal.returns-clause-mini_spares
+returns-clause-mini_spares g c told v held apart unnamed =
+    let lent-held = given-lent c.args.mini.now c.allocator_mut.result.now c.free_listed.new.self c.args.list.now c.allocator_mut.ensures.value c.in_ok-free_listed.ensures.freed v held in
+    let freed-held = given-held c.args.mini.now c.allocator_mut.result.now c.free_listed.new.self c.args.list.now c.allocator_mut.ensures.value c.in_ok-free_listed.ensures.freed v held apart
+    (c.in_ok-free_listed.ensures.holds told v lent-held (subst (λ (b : AllocatorState). IsUnnamed b.tables.fat (first_or_end c.args.list.now)) (sym c.allocator_mut.ensures.value) unnamed))
+    (c.free_listed.ensures.spares told) (c.free_listed.ensures.changes told) in
+    let now = c.in_ok-extend_mini_listed.ensures.holds told v freed-held in
+    let second = subst (λ (l : List ℕ). SparesMini (ends_of l) (with_table c.args.mini.now c.free_listed.new.self) c.extend_mini_listed.new.self) c.requires.fresh
+    (c.extend_mini_listed.ensures.mini_spares told v freed-held) in
+    let taken : 0 < c.args.count → TakesMini c.args.mini.now.max_mini_sectors c.args.mini.now.minifat c.extend_mini_listed.new.self.minifat [] c.extend_mini_listed.new.ids.items =
+    λ some. subst (λ (l : List ℕ). TakesMini c.args.mini.now.max_mini_sectors c.args.mini.now.minifat c.extend_mini_listed.new.self.minifat (ends_of l)
+    (gained l c.extend_mini_listed.new.ids.items)) c.requires.fresh (c.in_ok-extend_mini_listed.ensures.taken some) in
+    carried-minis-all c.args.mini.now c.allocator_mut.result.now c.free_listed.new.self c.args.list.now c.allocator_mut.ensures.value c.in_ok-free_listed.ensures.freed
+    c.extend_mini_listed.new.self c.put_in_minis.new.mini c.args.count c.extend_mini_listed.new.ids.items c.args.ids.now.items c.requires.fresh c.put_in_minis.ensures.kept v held apart (c.free_listed.ensures.spares told)
+    c.extend_mini_listed.ensures.limits.version second
+    (came-free c.args.mini.now.max_mini_sectors c.args.count c.args.mini.now.minifat c.extend_mini_listed.new.self.minifat c.args.ids.now.items c.extend_mini_listed.new.ids.items
+    c.requires.fresh (λ none. (c.extend_mini_listed.ensures.none none).2) taken)
+    (subst (λ (l : List ℕ). SparesMini l c.extend_mini_listed.new.self c.put_in_minis.new.mini) c.deref.ensures.value (c.put_in_minis.ensures.mini_spares told v now))
+
+pub returns-clause-around : goal.returns-clause-around
+returns-clause-around g c =
+    carried-around-all c.args.mini.now c.allocator_mut.result.now c.free_listed.new.self c.args.list.now c.allocator_mut.ensures.value c.in_ok-free_listed.ensures.freed
+    c.extend_mini_listed.new.self c.put_in_minis.new.mini c.args.count c.extend_mini_listed.new.ids.items c.args.ids.now.items c.requires.fresh c.put_in_minis.ensures.kept c.extend_mini_listed.ensures.limits c.extend_mini_listed.ensures.entries c.extend_mini_listed.ensures.directory
+
+pub returns-clause-tight : goal.returns-clause-tight
+returns-clause-tight g c =
+    all_ok c.put_in_minis.result (carried-tight-all c.args.mini.now c.allocator_mut.result.now c.free_listed.new.self c.args.list.now c.allocator_mut.ensures.value c.in_ok-free_listed.ensures.freed
+    c.extend_mini_listed.new.self c.put_in_minis.new.mini c.args.count c.extend_mini_listed.new.ids.items c.args.ids.now.items c.requires.fresh c.put_in_minis.ensures.kept (λ z. (c.extend_mini_listed.ensures.none z).1) c.in_ok-extend_mini_listed.ensures.grown)
+
+pub returns-in_err-free_listed-clause-spares : goal.returns-in_err-free_listed-clause-spares
+returns-in_err-free_listed-clause-spares g c told =
+    spares-less c.args.list.now (system_sectors c.args.mini.now ++ c.args.list.now) (table_of c.args.mini.now) c.free_listed.new.self
+    (λ n m. Contains-append_right (system_sectors c.args.mini.now) c.args.list.now n m)
+    (subst (λ (b : AllocatorState). Spares c.args.list.now b c.free_listed.new.self) c.allocator_mut.ensures.value (c.free_listed.ensures.spares told))
+
+pub returns-in_err-free_listed-clause-mini_spares : goal.returns-in_err-free_listed-clause-mini_spares
+returns-in_err-free_listed-clause-mini_spares g c told v held apart unnamed =
+    apart-spares-mini v c.args.mini.now c.free_listed.new.self c.args.list.now held apart
+    (subst (λ (b : AllocatorState). Spares c.args.list.now b c.free_listed.new.self) c.allocator_mut.ensures.value (c.free_listed.ensures.spares told))
+
+pub returns-in_err-free_listed-clause-err : goal.returns-in_err-free_listed-clause-err
+returns-in_err-free_listed-clause-err g c =
+    let p = err_from_is_err_and c.from_residual.result c.from_residual.ensures.1 in
+    rw (p.1, p.2) (refused-as _ _ _ _ _ _ _ _
+    (λ bad told v held apart unnamed. bad (subst (λ (b : AllocatorState). IsUsable b.tables) (sym c.allocator_mut.ensures.value)
+    (held-usable v (table_of c.args.mini.now) held.directory.tables)))
+    (λ no. absurd no) (λ no. absurd no) (λ u. u) c.in_err-free_listed.field-0.0 c.in_err-free_listed.ensures.err)
+
+pub returns-in_err-extend_mini_listed-clause-refused : goal.returns-in_err-extend_mini_listed-clause-refused
+returns-in_err-extend_mini_listed-clause-refused g c =
+    let p = err_from_is_err_and c.from_residual-in_err-extend_mini_listed.result c.from_residual-in_err-extend_mini_listed.ensures.1 in
+    rw (p.1, p.2) (carried-stops c.args.mini.now (with_table c.args.mini.now c.free_listed.new.self) c.extend_mini_listed.new.self c.args.count _ _
+    (c.in_ok-free_listed.ensures.begun.1 c.requires.some) (given-room c.args.mini.now c.allocator_mut.result.now c.free_listed.new.self c.args.list.now c.allocator_mut.ensures.value c.in_ok-free_listed.ensures.freed c.requires.chain c.args.count c.requires.enough)
+    c.in_err-extend_mini_listed.field-0.0 c.in_err-extend_mini_listed.ensures.refused c.in_err-extend_mini_listed.ensures.err)
+
+pub returns-in_err-extend_mini_listed-clause-err : goal.returns-in_err-extend_mini_listed-clause-err
+returns-in_err-extend_mini_listed-clause-err g c =
+    let p = err_from_is_err_and c.from_residual-in_err-extend_mini_listed.result c.from_residual-in_err-extend_mini_listed.ensures.1 in
+    rw (p.1, p.2) (refused-as _ _ _ _ _ _ _ _
+    (λ w. elim w [
+      | inl none ↦ (λ told v held apart unnamed.
+          let lent-held = given-lent c.args.mini.now c.allocator_mut.result.now c.free_listed.new.self c.args.list.now c.allocator_mut.ensures.value c.in_ok-free_listed.ensures.freed v held in
+          let freed-held = given-held c.args.mini.now c.allocator_mut.result.now c.free_listed.new.self c.args.list.now c.allocator_mut.ensures.value c.in_ok-free_listed.ensures.freed v held apart
+          (c.in_ok-free_listed.ensures.holds told v lent-held (subst (λ (b : AllocatorState). IsUnnamed b.tables.fat (first_or_end c.args.list.now)) (sym c.allocator_mut.ensures.value) unnamed))
+          (c.free_listed.ensures.spares told) (c.free_listed.ensures.changes told) in
+          none v freed-held)
+      | inr ends ↦ absurd (let some = ends.0 in let empty = ap (λ (l : List ℕ). length l) c.requires.fresh in omega (arith, some, empty))
+    ])
+    (λ u. u) (given-room c.args.mini.now c.allocator_mut.result.now c.free_listed.new.self c.args.list.now c.allocator_mut.ensures.value c.in_ok-free_listed.ensures.freed c.requires.chain c.args.count c.requires.enough) (λ u. u)
+    c.in_err-extend_mini_listed.field-0.0 c.in_err-extend_mini_listed.ensures.err)
+
+pub returns-clause-begun : goal.returns-clause-begun
+returns-clause-begun g c =
+    all_ok c.put_in_minis.result (begun-all c.extend_mini_listed.new.self c.put_in_minis.new.mini (length c.args.bytes.now) (c.in_ok-extend_mini_listed.ensures.begun.0 (c.in_ok-free_listed.ensures.begun.1 c.requires.some))
+    (λ none. (c.put_in_minis.ensures.none none).1) c.put_in_minis.ensures.begun)
+
+pub returns-clause-refused : goal.returns-clause-refused
+returns-clause-refused g c =
+    medium-stops c.put_in_minis.result c.args.mini.now c.put_in_minis.new.mini c.put_in_minis.ensures.err
+    (begun-all c.extend_mini_listed.new.self c.put_in_minis.new.mini (length c.args.bytes.now) (c.in_ok-extend_mini_listed.ensures.begun.0 (c.in_ok-free_listed.ensures.begun.1 c.requires.some))
+    (λ none. (c.put_in_minis.ensures.none none).1) c.put_in_minis.ensures.begun)
+
+pub returns-clause-unwritten : goal.returns-clause-unwritten
+returns-clause-unwritten g c not =
+    absurd (not-both (table_of c.put_in_minis.new.mini).file.begun (begun-all c.extend_mini_listed.new.self c.put_in_minis.new.mini (length c.args.bytes.now) (c.in_ok-extend_mini_listed.ensures.begun.0 (c.in_ok-free_listed.ensures.begun.1 c.requires.some))
+    (λ none. (c.put_in_minis.ensures.none none).1) c.put_in_minis.ensures.begun) not)

@@ -1,0 +1,173 @@
+-- What becomes of a stream's content that gets another length, before its entry says so, and what every such change leaves alone (MS-CFB 2.3,
+-- 2.4 and 2.6.3).
+use Rattle.std.specs.Prelude.{ℕ, ◌≡◌, ◌+◌, ◌/◌, ◌<◌, ◌≤◌, ◌⊎◌, List, [], ◌++◌, true, false, length, take, drop, slice_index}
+use Rattle.cfb_format.specs.declared.error.Error.{Error}
+use Rattle.cfb_format.specs.Bytes.{end_of_chain, sector_len}
+use Rattle.cfb_format.specs.Chain.{IsChain}
+use Rattle.cfb_format.specs.Content.{is_large, mini_sector_len, mini_stream_cutoff}
+use Rattle.cfb_format.specs.Full.{rounded_up}
+use Rattle.cfb_format.specs.Refused.{HasReason, at_every_error}
+use Rattle.cfb_format.specs.Siblings.{entry_at}
+use Rattle.cfb_tables.specs.Changes.{AreDisjoint, NoneFree}
+use Rattle.cfb_tables.specs.Listed.{ends_of, gained}
+use Rattle.cfb_tables.specs.Tables.{AreExactTables, AreFullTables, IsTooFew}
+use Rattle.cfb_alloc.specs.Frame.{table_sectors}
+use Rattle.cfb_alloc.specs.ListedChain.{Lengthens, Shortens}
+use Rattle.cfb_chains.specs.ChainPlaces.{place_along}
+use Rattle.cfb_mini_table.specs.MiniTable.{IsTooFewMini, MiniGivesBack, TakesMini}
+use Rattle.cfb_mini_sectors.specs.State.{MiniState, bytes_of, content_of, entries_of, table_of, tables_in, version_of}
+use Rattle.cfb_mini_sectors.specs.Steps.{GrowsFor, IsTooFewFor, KeepsLimits, KeepsMini, KeepsSystem, MovesRoot, system_sectors}
+use Rattle.cfb_mini.specs.MiniSectors.{IsStill}
+use Rattle.cfb_content.specs.Contents.{len_of, mini_place_along, mini_sectors_owned, sectors_owned}
+
+-- ---- bytes and zeros
+
+-- of the bytes at places the first so many went to others, as far as `size` goes, and zeros stand behind them
+pub record IsPaddedAlong (len size : ℕ) (from to : ℕ → ℕ) (old new : List ℕ) : Type 0 where
+  pub there : (k : ℕ) → k < size → to k < length new
+  pub kept : (k : ℕ) → k < size → k < len → slice_index new (to k) ≡ slice_index old (from k)
+  pub zeros : (k : ℕ) → len ≤ k → k < size → slice_index new (to k) ≡ 0
+
+-- ---- a stream's content, before its entry says what became of it
+
+-- at these places stand the bytes of the stream as it was, cut or padded with zeros to `size`
+pub record StandsTurned (old : MiniState) (i size : ℕ) (bytes : List ℕ) (place : ℕ → ℕ) : Type 0 where
+  pub there : (k : ℕ) → k < size → place k < length bytes
+  pub kept : (k : ℕ) → k < size → k < len_of old i → slice_index bytes (place k) ≡ slice_index (content_of old (entry_at (entries_of old) i)) k
+  pub zeros : (k : ℕ) → len_of old i ≤ k → k < size → slice_index bytes (place k) ≡ 0
+
+-- the content lies in these sectors now, a chain from there, which are none of another's
+pub record LiesTurnedInSectors (old new : MiniState) (i size start : ℕ) (ys : List ℕ) : Type 0 where
+  pub large : mini_stream_cutoff ≤ size
+  pub chain : IsChain (tables_in new).fat start ys
+  pub enough : (k : ℕ) → k < size → k / sector_len (version_of new) < length ys
+  pub apart : AreDisjoint ys (system_sectors new)
+  pub tables_apart : AreDisjoint ys (table_sectors (tables_in new))
+  pub stands : StandsTurned old i size (bytes_of new) (place_along (version_of new) ys)
+
+-- or in these mini sectors, a mini chain from there; an empty content in none
+pub record LiesTurnedInMinis (old new : MiniState) (i size start : ℕ) (ns : List ℕ) : Type 0 where
+  pub small : size < mini_stream_cutoff
+  pub chain : 0 < size → IsChain new.minifat start ns
+  pub none : size ≡ 0 → (ns ≡ []) × (start ≡ end_of_chain)
+  pub enough : (k : ℕ) → k < size → k / mini_sector_len < length ns
+  pub stands : StandsTurned old i size (bytes_of new) (mini_place_along new ns)
+
+-- a large stream's chain went on
+pub record TurnsByGrowth (old new : MiniState) (i size start : ℕ) : Type 0 where
+  pub was : is_large (entry_at (entries_of old) i) ≡ true
+  pub ys : List ℕ
+  pub count : ℕ
+  pub mini : KeepsMini old new
+  pub longer : Lengthens count (sectors_owned old i) ys (tables_in old) (tables_in new)
+  pub lies : LiesTurnedInSectors old new i size start ys
+
+-- or was cut
+pub record TurnsByCut (old new : MiniState) (i size start : ℕ) : Type 0 where
+  pub was : is_large (entry_at (entries_of old) i) ≡ true
+  pub ys : List ℕ
+  pub left : ℕ
+  pub mini : KeepsMini old new
+  pub shorter : Shortens left (sectors_owned old i) ys (tables_in old) (tables_in new)
+  pub lies : LiesTurnedInSectors old new i size start ys
+
+-- a small stream's mini chain went on, or began
+pub record TurnsByMiniGrowth (old new : MiniState) (i size start : ℕ) : Type 0 where
+  pub was : is_large (entry_at (entries_of old) i) ≡ false
+  pub ns : List ℕ
+  pub count : ℕ
+  -- where no mini sector was lacking both tables and their sectors stayed
+  pub grown : (GrowsFor count old new × TakesMini old.max_mini_sectors old.minifat new.minifat (ends_of (mini_sectors_owned old i)) (gained (mini_sectors_owned old i) ns))
+      ⊎ ((ns ≡ mini_sectors_owned old i) × KeepsSystem old new × KeepsMini old new)
+  pub listed : ns ≡ mini_sectors_owned old i ++ gained (mini_sectors_owned old i) ns
+  pub lies : LiesTurnedInMinis old new i size start ns
+
+-- or was cut, or freed
+pub record TurnsByMiniCut (old new : MiniState) (i size start : ℕ) : Type 0 where
+  pub was : is_large (entry_at (entries_of old) i) ≡ false
+  pub ns : List ℕ
+  pub left : ℕ
+  pub system : KeepsSystem old new
+  pub listed : ns ≡ take left (mini_sectors_owned old i)
+  pub given_back : MiniGivesBack (ends_of (take left (mini_sectors_owned old i))) (drop left (mini_sectors_owned old i)) old.minifat new.minifat
+  pub lies : LiesTurnedInMinis old new i size start ns
+
+-- a large stream's chain was freed, and then a mini chain began, or none where nothing is left
+pub record TurnsSmall (old new : MiniState) (i size start : ℕ) : Type 0 where
+  pub was : is_large (entry_at (entries_of old) i) ≡ true
+  pub mid : MiniState
+  pub ns : List ℕ
+  pub count : ℕ
+  pub mini : KeepsMini old mid
+  pub freed : Shortens 0 (sectors_owned old i) [] (tables_in old) (tables_in mid)
+  pub grown : (GrowsFor count mid new × TakesMini old.max_mini_sectors mid.minifat new.minifat [] ns)
+      ⊎ ((ns ≡ []) × KeepsSystem mid new × KeepsMini mid new)
+  pub lies : LiesTurnedInMinis old new i size start ns
+
+-- a small stream's mini chain was freed, and then a chain began
+pub record TurnsLarge (old new : MiniState) (i size start : ℕ) : Type 0 where
+  pub was : is_large (entry_at (entries_of old) i) ≡ false
+  pub mid : MiniState
+  pub ys : List ℕ
+  pub count : ℕ
+  pub system : KeepsSystem old mid
+  pub freed : MiniGivesBack [] (mini_sectors_owned old i) old.minifat mid.minifat
+  pub mini : KeepsMini mid new
+  pub longer : Lengthens count [] ys (tables_in mid) (tables_in new)
+  pub lies : LiesTurnedInSectors old new i size start ys
+
+-- a chain of these sectors was freed, and then a mini chain of so many mini sectors began, or none
+pub record CarriesToMinis (count : ℕ) (list ns : List ℕ) (old new : MiniState) : Type 0 where
+  pub mid : MiniState
+  pub mini : KeepsMini old mid
+  pub freed : Shortens 0 list [] (tables_in old) (tables_in mid)
+  pub grown : (GrowsFor count mid new × TakesMini old.max_mini_sectors mid.minifat new.minifat [] ns)
+      ⊎ ((ns ≡ []) × KeepsSystem mid new × KeepsMini mid new)
+
+-- the content of that stream was given this length in one of these six ways, and starts there now
+abbrev pub Turns : MiniState → MiniState → ℕ → ℕ → ℕ → Type 0
+Turns old new i size start = TurnsByGrowth old new i size start ⊎ TurnsByCut old new i size start ⊎ TurnsByMiniGrowth old new i size start
+    ⊎ TurnsByMiniCut old new i size start ⊎ TurnsSmall old new i size start ⊎ TurnsLarge old new i size start
+
+-- ---- what every change of a content leaves alone, and what it makes of the tables
+
+-- the directory's sectors, the limits, and of the entries all but the root's start and length
+pub record KeepsAround (old new : MiniState) : Type 0 where
+  pub directory : new.directory.sectors ≡ old.directory.sectors
+  pub entries : MovesRoot old new
+  pub limits : KeepsLimits old new
+
+-- exact tables stay exact, no sector is lost, and where some were appended none is free
+pub record KeepsTablesTight (old new : MiniState) : Type 0 where
+  pub exact : AreExactTables (tables_in old) → AreExactTables (tables_in new)
+  pub no_shorter : length (tables_in old).fat ≤ length (tables_in new).fat
+  pub none_free : length (tables_in old).fat < length (tables_in new).fat → NoneFree (tables_in new).fat
+
+-- ---- refusals
+
+-- after the medium's error the change was begun, or all is as before but what the medium has; after a refusal of memory or of the bytes the
+-- same, as how much memory is held is in no state, and an unsound file may have one sector in two chains; after any other error nothing
+-- has changed
+abbrev pub StopsOrBegun : MiniState → MiniState → Error → Type 0
+StopsOrBegun old new = HasReason (record (at_every_error (new ≡ old)) {
+  medium = λ f. IsStill old new ⊎ ((table_of new).file.begun ≡ true);
+  memory = (new ≡ old) ⊎ ((table_of new).file.begun ≡ true);
+  invalid_data = (new ≡ old) ⊎ ((table_of new).file.begun ≡ true);
+})
+
+-- not one byte more can be had for the stream: a large one has no sector to go on with, one that is to move has too few, and a small one
+-- has no mini sector, or none of the sectors for it
+abbrev pub CannotGrow : MiniState → ℕ → Type 0
+CannotGrow s i = ((mini_stream_cutoff ≤ len_of s i) × AreFullTables (tables_in s))
+    ⊎ ((len_of s i + 1 ≡ mini_stream_cutoff) × IsTooFew (tables_in s) (rounded_up mini_stream_cutoff (sector_len (version_of s))))
+    ⊎ ((len_of s i + 1 < mini_stream_cutoff) × IsTooFewFor s 1)
+
+-- the same where `Full` comes with full tables, or where all mini sectors are in use that there may be: the sectors that there were, too
+-- few, may have been taken then
+abbrev pub StopsOrIsFull : MiniState → MiniState → Error → Type 0
+StopsOrIsFull old new = HasReason (record (at_every_error (new ≡ old)) {
+  medium = λ f. IsStill old new ⊎ ((table_of new).file.begun ≡ true);
+  memory = (new ≡ old) ⊎ ((table_of new).file.begun ≡ true);
+  invalid_data = (new ≡ old) ⊎ ((table_of new).file.begun ≡ true);
+  full = ((new ≡ old) ⊎ ((table_of new).file.begun ≡ true)) × (IsTooFewMini old.max_mini_sectors old.minifat 1 ⊎ AreFullTables (tables_in new));
+})

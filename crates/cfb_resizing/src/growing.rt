@@ -1,0 +1,196 @@
+//! How far a stream can grow with the numbers that are left, and its growth as far as that.
+ghost use Rattle.std.specs.Prelude.{◌≡◌, ◌+◌, ◌<◌, ◌≤◌, ◌⊎◌, ◌||◌, false, true, IsTrue, IfOk, IfErr, OnOk, OnErr};
+ghost use Rattle.cfb_format.specs.declared.validate.Validation.{Validation};
+ghost use Rattle.cfb_format.specs.Bytes.{max_stream_len, sector_len};
+ghost use Rattle.cfb_format.specs.Content.{mini_stream_cutoff};
+ghost use Rattle.cfb_format.specs.Full.{rounded_up};
+ghost use Rattle.cfb_format.specs.Refused.{CountsFailure};
+ghost use Rattle.cfb_format.specs.Siblings.{entry_at};
+ghost use Rattle.cfb_rules.specs.StreamCalls.{resized};
+ghost use Rattle.cfb_tables.specs.Refused.{ChangeRefused};
+ghost use Rattle.cfb_tables.specs.Tables.{AreFullTables, IsTooFew};
+ghost use Rattle.cfb_mini_sectors.specs.State.{HoldsMini, IsChangeable, bytes_of, content_of, entries_of, table_of, tables_in, version_of};
+ghost use Rattle.cfb_mini_sectors.specs.Steps.{IsTooFewFor, KeepsLimits};
+ghost use Rattle.cfb_mini.specs.MiniSectors.{IsStill};
+ghost use Rattle.cfb_content.specs.Contents.{AreAllUsed, IsNotChangeable, IsStreamOf, KeepsOthers, MovesContent, len_of};
+ghost use Rattle.cfb_content.specs.Laws.{LacksNumbersFor};
+ghost use Rattle.cfb_resizing.specs.Turning.{CannotGrow, KeepsAround, KeepsTablesTight, StopsOrIsFull};
+
+use crate::resizing::{resize_content, unplaced};
+use cfb_content::in_minis::whole_mini_chain;
+use cfb_content::in_sectors::whole_chain;
+use cfb_content::reading::content_in;
+use cfb_format::consts::{END_OF_CHAIN, MINI_SECTOR_LEN, MINI_STREAM_CUTOFF};
+use cfb_format::error::Error;
+use cfb_format::medium::{Medium, ReadMedium};
+use cfb_mini::mini_allocator::MiniAllocator;
+use cfb_sectors::sector::SectorInit;
+use std::alloc::Allocator as Heap;
+
+/// How long a stream in sectors can become, at most `wanted`: as long as it is where not one byte more can be had.
+fn len_in_sectors<F: ReadMedium, A: Heap + Clone>(
+    mini: &MiniAllocator<F, A>,
+    entry: u32,
+    wanted: u64,
+) -> Result<u64, Error>
+    requires stream { IsStreamOf mini.now entry }
+    requires large { mini_stream_cutoff ≤ len_of mini.now entry }
+    requires longer { len_of mini.now entry < wanted }
+    ensures within { IfOk result (λ len. (len_of mini.now entry ≤ len) × (len ≤ wanted)) }
+    ensures enough { IfOk result (λ len. LacksNumbersFor mini.now entry len → ⊥) }
+    ensures none { IfOk result (λ len. len ≡ len_of mini.now entry → AreFullTables (tables_in mini.now)) }
+    ensures err { IfErr result (ChangeRefused (IsNotChangeable mini.now) Unit ⊥ ⊥) }
+{
+    let (start, len) = content_in(mini, entry);
+    let allocator = mini.allocator();
+    let sector_len = allocator.sector_len() as u64;
+    let have = whole_chain(allocator, start, len)?.len();
+    let needed = wanted.div_ceil(sector_len) as usize;
+    let more = allocator.takable(needed.saturating_sub(have));
+    let most = (have.saturating_add(more) as u64).saturating_mul(sector_len);
+    Ok(wanted.min(most))
+}
+
+/// How long a stream can become that moves into sectors, at most `wanted`: 0 where there are too few numbers for that.
+fn len_once_moved<F: ReadMedium, A: Heap>(mini: &MiniAllocator<F, A>, wanted: u64) -> u64
+    ensures within { 0 < result → (mini_stream_cutoff ≤ result) × (result ≤ wanted) }
+    ensures enough { IsTooFew (tables_in mini.now) (rounded_up result (sector_len (version_of mini.now))) → ⊥ }
+    ensures none { result ≡ 0 → mini_stream_cutoff ≤ wanted
+        → IsTooFew (tables_in mini.now) (rounded_up mini_stream_cutoff (sector_len (version_of mini.now))) }
+{
+    let sector_len = mini.sector_len() as u64;
+    let needed = wanted.div_ceil(sector_len) as usize;
+    let most = (mini.allocator().takable(needed) as u64).saturating_mul(sector_len);
+    let len = wanted.min(most);
+    if len < MINI_STREAM_CUTOFF as u64 {
+        return 0;
+    }
+    len
+}
+
+/// How long a stream in mini sectors can become and stay there, at most `wanted`: as long as it is where not one byte more can be had.
+fn len_in_minis<F: ReadMedium, A: Heap + Clone>(
+    mini: &MiniAllocator<F, A>,
+    entry: u32,
+    wanted: u64,
+) -> Result<u64, Error>
+    requires stream { IsStreamOf mini.now entry }
+    requires small { len_of mini.now entry < mini_stream_cutoff }
+    requires longer { len_of mini.now entry < wanted }
+    ensures within { IfOk result (λ len. (len_of mini.now entry ≤ len) × (len ≤ wanted)) }
+    ensures enough { IfOk result (λ len. (validation : Validation) → HoldsMini validation mini.now → LacksNumbersFor mini.now entry len → ⊥) }
+    ensures none { IfOk result (λ len. len ≡ len_of mini.now entry → len + 1 < mini_stream_cutoff → IsTooFewFor mini.now 1) }
+    ensures err { IfErr result (ChangeRefused (IsNotChangeable mini.now) Unit ⊥ ⊥) }
+{
+    let (start, len) = content_in(mini, entry);
+    let have = whole_mini_chain(mini, start, len)?.len();
+    // The MiniFAT is no longer than it may be, so there is room for what it has.
+    let _len = mini.minifat_len();
+    let target = wanted.min(MINI_STREAM_CUTOFF as u64 - 1);
+    let needed = target.div_ceil(MINI_SECTOR_LEN as u64) as usize;
+    let more = mini.takable(needed.saturating_sub(have));
+    let most = (have.saturating_add(more) as u64).saturating_mul(MINI_SECTOR_LEN as u64);
+    Ok(target.min(most))
+}
+
+/// How long a stream can become, at most `wanted`: as long as it is where not one byte more can be had.
+fn grown_len<F: ReadMedium, A: Heap + Clone>(
+    mini: &MiniAllocator<F, A>,
+    entry: u32,
+    wanted: u64,
+) -> Result<u64, Error>
+    requires stream { IsStreamOf mini.now entry }
+    requires longer { len_of mini.now entry < wanted }
+    ensures within { IfOk result (λ len. (len_of mini.now entry ≤ len) × (len ≤ wanted)) }
+    ensures enough { IfOk result (λ len. (validation : Validation) → HoldsMini validation mini.now → LacksNumbersFor mini.now entry len → ⊥) }
+    ensures none { IfOk result (λ len. len ≡ len_of mini.now entry → CannotGrow mini.now entry) }
+    ensures err { IfErr result (ChangeRefused (IsNotChangeable mini.now) Unit ⊥ ⊥) }
+{
+    let (_, len) = content_in(mini, entry);
+    if len >= MINI_STREAM_CUTOFF as u64 {
+        return len_in_sectors(mini, entry, wanted);
+    }
+    let moved = len_once_moved(mini, wanted);
+    if moved > 0 {
+        return Ok(moved);
+    }
+    len_in_minis(mini, entry, wanted)
+}
+
+/// Takes what is left of the numbers that a stream lacks which cannot grow, so that `Full` comes with full tables.
+fn take_the_rest<F: Medium, A: Heap + Clone>(
+    mini: &mut MiniAllocator<F, A>,
+    entry: u32,
+) -> Result<(), Error>
+    requires stream { IsStreamOf mini.old entry }
+    requires stuck { CannotGrow mini.old entry }
+    ensures others { IsTrue F.tells → (validation : Validation) → IsChangeable validation mini.old → KeepsOthers entry mini.old mini.new }
+    ensures around { KeepsAround mini.old mini.new }
+    ensures full { OnOk result (AreFullTables (tables_in mini.new)) }
+    ensures begun { OnOk result ((mini.new ≡ mini.old) ⊎ ((table_of mini.new).file.begun ≡ true)) }
+    ensures refused { IfErr result (StopsOrIsFull mini.old mini.new) }
+    ensures unwritten { IsTrue F.tells → (table_of mini.new).file.begun ≡ false → bytes_of mini.new ≡ bytes_of mini.old }
+    ensures err { IfErr result (ChangeRefused (IsNotChangeable mini.old) Unit Unit Unit) }
+    ensures counts { IsTrue F.tells → CountsFailure F.write_faults result (table_of mini.old).file.failures (table_of mini.new).file.failures }
+{
+    let (_, len) = content_in(mini, entry);
+    let cutoff = MINI_STREAM_CUTOFF as u64;
+    if len >= cutoff {
+        return Ok(());
+    }
+    if len + 1 < cutoff {
+        let mut ids = Vec::new(mini.heap().clone()?);
+        return mini.extend_mini_listed(&mut ids, 1);
+    }
+    let needed = (cutoff as usize).div_ceil(mini.sector_len());
+    let allocator = mini.allocator_mut();
+    let rest = allocator.takable(needed);
+    allocator.extend_chain_by(END_OF_CHAIN, rest, SectorInit::Zero)?;
+    Ok(())
+}
+
+/// Makes the stream of that entry longer, padded with zeros, to at most this length, as far as there are numbers for it, and answers
+/// its length then, which is more than it was.
+///
+/// `Full` only where not one byte more can be had, and then with full tables, or with all mini sectors that there may be in use: the
+/// sectors that there were for it may have been taken. `InvalidData`, `Memory` and `Medium` as in `resize_content`.
+pub fn grow_content<F: Medium, A: Heap + Clone>(
+    mini: &mut MiniAllocator<F, A>,
+    entry: u32,
+    wanted: u64,
+) -> Result<u64, Error>
+    requires stream { IsStreamOf mini.old entry }
+    requires longer { len_of mini.old entry < wanted }
+    requires limit { wanted ≤ max_stream_len (version_of mini.old) }
+    ensures len { IfOk result (λ len. (len_of mini.new entry ≡ len) × (len_of mini.old entry < len) × (len ≤ wanted)) }
+    ensures entries { MovesContent mini.old mini.new entry }
+    ensures content { IsTrue F.tells → (validation : Validation) → IsChangeable validation mini.old
+        → OnOk result (content_of mini.new (entry_at (entries_of mini.new) entry) ≡ resized (content_of mini.old (entry_at (entries_of mini.old) entry)) (len_of mini.new entry)) }
+    ensures others { IsTrue F.tells → (validation : Validation) → IsChangeable validation mini.old → KeepsOthers entry mini.old mini.new }
+    ensures holds { IsTrue F.tells → (validation : Validation) → IsChangeable validation mini.old → OnOk result (IsChangeable validation mini.new) }
+    ensures owned { IsTrue F.tells → (validation : Validation) → IsChangeable validation mini.old → AreAllUsed mini.old → OnOk result (AreAllUsed mini.new) }
+    ensures tight { OnOk result (KeepsTablesTight mini.old mini.new) }
+    ensures directory { mini.new.directory.sectors ≡ mini.old.directory.sectors }
+    ensures limits { KeepsLimits mini.old mini.new }
+    ensures begun { OnOk result ((table_of mini.new).file.begun ≡ true) }
+    ensures refused { IsTrue F.tells → (validation : Validation) → HoldsMini validation mini.old → IfErr result (StopsOrIsFull mini.old mini.new) }
+    ensures still { OnErr result (IsStill mini.old mini.new ⊎ ((table_of mini.new).file.begun ≡ true)) }
+    ensures unwritten { IsTrue F.tells → (table_of mini.new).file.begun ≡ false → bytes_of mini.new ≡ bytes_of mini.old }
+    ensures err { IfErr result (ChangeRefused (IsTrue F.tells → IsNotChangeable mini.old) Unit Unit Unit) }
+    ensures counts { IsTrue F.tells
+        → CountsFailure (λ f. F.read_faults f || F.write_faults f) result (table_of mini.old).file.failures (table_of mini.new).file.failures }
+{
+    let (_, len) = content_in(mini, entry);
+    if !mini.directory().is_placed() {
+        return Err(unplaced(entry));
+    }
+    let size = grown_len(mini, entry, wanted)?;
+    // Neither table is longer than it may be: else `Full` would come for a length that is not too long.
+    let _ = (mini.allocator().max_sectors(), mini.minifat_len());
+    if size > len {
+        resize_content(mini, entry, size)?;
+        return Ok(size);
+    }
+    take_the_rest(mini, entry)?;
+    Err(Error::Full)
+}

@@ -1,0 +1,173 @@
+//! How the content of a stream gets another length: cut, padded, and moved between sectors and mini sectors at 4096 bytes.
+ghost use Rattle.std.specs.Prelude.{◌≡◌, ◌≢◌, ◌<◌, ◌≤◌, ◌+◌, ◌||◌, ◌⊎◌, ℕ, List, length, false, true, IsTrue, IfOk, IfErr, OnOk, OnErr};
+ghost use Rattle.cfb_format.specs.declared.validate.Validation.{Validation};
+ghost use Rattle.cfb_format.specs.Bytes.{end_of_chain, max_stream_len, sector_len};
+ghost use Rattle.cfb_format.specs.Chain.{IsChain};
+ghost use Rattle.cfb_format.specs.Content.{mini_sector_len, mini_stream_cutoff};
+ghost use Rattle.cfb_format.specs.Full.{rounded_up};
+ghost use Rattle.cfb_format.specs.Refused.{CountsFailure, IsInvalidData};
+ghost use Rattle.cfb_format.specs.Siblings.{entry_at};
+ghost use Rattle.cfb_rules.specs.StreamCalls.{resized};
+ghost use Rattle.cfb_sectors.specs.Sectors.{IsMediumError, IsRaised};
+ghost use Rattle.cfb_tables.specs.Changes.{NoneFree};
+ghost use Rattle.cfb_tables.specs.Refused.{ChangeRefused};
+ghost use Rattle.cfb_tables.specs.Tables.{AreExactTables};
+ghost use Rattle.cfb_alloc.specs.Frame.{Spares};
+ghost use Rattle.cfb_directory.specs.Growing.{ArePlaced};
+ghost use Rattle.cfb_mini_sectors.specs.State.{HoldsMini, IsChangeable, bytes_of, content_of, entries_of, table_of, tables_in, version_of};
+ghost use Rattle.cfb_mini_sectors.specs.Steps.{KeepsLimits, KeepsMini, KeepsSystem};
+ghost use Rattle.cfb_mini.specs.MiniSectors.{IsStill};
+ghost use Rattle.cfb_content.specs.Contents.{AreAllUsed, IsNotChangeable, IsStreamOf, IsTooLongFor, KeepsOthers, MovesContent, len_of};
+ghost use Rattle.cfb_content.specs.Laws.{LacksNumbersFor};
+ghost use Rattle.cfb_resizing.specs.Turning.{KeepsAround, KeepsTablesTight, StopsOrBegun, Turns};
+
+use crate::in_place::{cut_in_minis, cut_in_sectors, grow_in_minis, grow_in_sectors};
+use crate::moving::{move_to_minis, move_to_sectors};
+use cfb_content::reading::content_in;
+use cfb_entries::fields::Fields;
+use cfb_format::consts::MINI_STREAM_CUTOFF;
+use cfb_format::error::{Detail, Error};
+use cfb_format::medium::Medium;
+use cfb_mini::mini_allocator::MiniAllocator;
+use std::alloc::Allocator as Heap;
+
+/// A refusal of an entry that has no slot in the file.
+pub(crate) fn unplaced(entry: u32) -> Error
+    ensures { IsInvalidData result }
+{
+    Error::InvalidData(Detail::number("directory entry with no slot", entry as u64))
+}
+
+/// Gives the stream of that entry this length: it is cut, or padded with zeros. From 4096 bytes on it lies in sectors, below in mini
+/// sectors; what it leaves is free before anything is taken, and a chain that is cut keeps no more than it needs. An empty stream has no
+/// chain, and starts at END. The length that it has changes nothing. All memory is asked for before anything changes, and the entry's slot
+/// is written last.
+///
+/// `Full` exactly where the sectors of the stream, of the MiniFAT and of the mini stream that it needs are more than are free or left once
+/// the chain that it moves away from is free, or the mini sectors more than there may be; `InvalidData` where the stream's chain is none
+/// or the file ends before it; `Memory`: nothing has changed then. After `Medium`, where the medium fails, no byte of another stream has
+/// changed.
+pub fn resize_content<F: Medium, A: Heap + Clone>(
+    mini: &mut MiniAllocator<F, A>,
+    entry: u32,
+    size: u64,
+) -> Result<(), Error>
+    requires stream { IsStreamOf mini.old entry }
+    requires limit { size ≤ max_stream_len (version_of mini.old) }
+    ensures len { OnOk result (len_of mini.new entry ≡ size) }
+    ensures none { size ≡ len_of mini.old entry → OnErr result ⊥ × (mini.new ≡ mini.old) }
+    ensures entries { MovesContent mini.old mini.new entry }
+    ensures empty { size ≡ 0 → 0 < len_of mini.old entry → OnOk result ((entry_at (entries_of mini.new) entry).start_sector ≡ end_of_chain) }
+    ensures few { size < len_of mini.old entry → mini_stream_cutoff ≤ size
+        → OnOk result ((list : List ℕ) → IsChain (tables_in mini.new).fat (entry_at (entries_of mini.new) entry).start_sector list
+        → length list ≡ rounded_up size (sector_len (version_of mini.old))) }
+    ensures few_minis { size < len_of mini.old entry → len_of mini.old entry < mini_stream_cutoff
+        → OnOk result ((list : List ℕ) → IsChain mini.new.minifat (entry_at (entries_of mini.new) entry).start_sector list
+        → length list ≡ rounded_up size mini_sector_len) }
+    ensures content { IsTrue F.tells → (validation : Validation) → IsChangeable validation mini.old
+        → OnOk result (content_of mini.new (entry_at (entries_of mini.new) entry) ≡ resized (content_of mini.old (entry_at (entries_of mini.old) entry)) size) }
+    ensures others { IsTrue F.tells → (validation : Validation) → IsChangeable validation mini.old → KeepsOthers entry mini.old mini.new }
+    ensures holds { IsTrue F.tells → (validation : Validation) → IsChangeable validation mini.old → OnOk result (IsChangeable validation mini.new) }
+    ensures owned { IsTrue F.tells → (validation : Validation) → IsChangeable validation mini.old → AreAllUsed mini.old → OnOk result (AreAllUsed mini.new) }
+    ensures exact { AreExactTables (tables_in mini.old) → OnOk result (AreExactTables (tables_in mini.new)) }
+    ensures no_shorter { OnOk result (length (tables_in mini.old).fat ≤ length (tables_in mini.new).fat) }
+    ensures none_free { length (tables_in mini.old).fat < length (tables_in mini.new).fat → OnOk result (NoneFree (tables_in mini.new).fat) }
+    ensures directory { mini.new.directory.sectors ≡ mini.old.directory.sectors }
+    ensures limits { KeepsLimits mini.old mini.new }
+    ensures enough { size ≢ len_of mini.old entry → (validation : Validation) → HoldsMini validation mini.old → OnOk result (IsTooLongFor mini.old entry size → ⊥) }
+    ensures begun { OnOk result (IsRaised (size ≢ len_of mini.old entry) (table_of mini.old).file (table_of mini.new).file) }
+    ensures refused { IsTrue F.tells → IfErr result (StopsOrBegun mini.old mini.new) }
+    ensures still { OnErr result (IsStill mini.old mini.new ⊎ ((table_of mini.new).file.begun ≡ true)) }
+    ensures unwritten { IsTrue F.tells → (table_of mini.new).file.begun ≡ false → bytes_of mini.new ≡ bytes_of mini.old }
+    ensures err { IfErr result (ChangeRefused (IsTrue F.tells → IsNotChangeable mini.old) Unit ((validation : Validation) → HoldsMini validation mini.old → IsTooLongFor mini.old entry size) Unit) }
+    ensures counts { IsTrue F.tells → CountsFailure (λ f. F.read_faults f || F.write_faults f) result (table_of mini.old).file.failures (table_of mini.new).file.failures }
+{
+    let (_, len) = content_in(mini, entry);
+    if size == len {
+        return Ok(());
+    }
+    if !mini.directory().is_placed() {
+        return Err(unplaced(entry));
+    }
+    // Neither table is longer than it may be: else `Full` would come for a length that is not too long.
+    let _ = (mini.allocator().max_sectors(), mini.minifat_len());
+    let start = turn(mini, entry, size)?;
+    name_content(mini, entry, start, size)
+}
+
+/// Gives a stream another length than it has where its content lies, and answers where that starts then; the entry does not say so yet.
+fn turn<F: Medium, A: Heap + Clone>(
+    mini: &mut MiniAllocator<F, A>,
+    entry: u32,
+    size: u64,
+) -> Result<u32, Error>
+    requires stream { IsStreamOf mini.old entry }
+    requires limit { size ≤ max_stream_len (version_of mini.old) }
+    requires differs { size ≢ len_of mini.old entry }
+    ensures turned { IsTrue F.tells → (validation : Validation) → IsChangeable validation mini.old → IfOk result (λ start. Turns mini.old mini.new entry size start) }
+    ensures holds { IsTrue F.tells → (validation : Validation) → IsChangeable validation mini.old → OnOk result (HoldsMini validation mini.new) }
+    ensures others { IsTrue F.tells → (validation : Validation) → IsChangeable validation mini.old → KeepsOthers entry mini.old mini.new }
+    ensures around { KeepsAround mini.old mini.new }
+    ensures empty { size ≡ 0 → IfOk result (λ start. start ≡ end_of_chain) }
+    ensures few { size < len_of mini.old entry → mini_stream_cutoff ≤ size
+        → IfOk result (λ start. (list : List ℕ) → IsChain (tables_in mini.new).fat start list → length list ≡ rounded_up size (sector_len (version_of mini.old))) }
+    ensures few_minis { size < len_of mini.old entry → len_of mini.old entry < mini_stream_cutoff
+        → IfOk result (λ start. (list : List ℕ) → IsChain mini.new.minifat start list → length list ≡ rounded_up size mini_sector_len) }
+    ensures tight { OnOk result (KeepsTablesTight mini.old mini.new) }
+    ensures enough { (validation : Validation) → HoldsMini validation mini.old → OnOk result (LacksNumbersFor mini.old entry size → ⊥) }
+    ensures refused { IsTrue F.tells → IfErr result (StopsOrBegun mini.old mini.new) }
+    ensures still { OnErr result (IsStill mini.old mini.new ⊎ ((table_of mini.new).file.begun ≡ true)) }
+    ensures unwritten { IsTrue F.tells → (table_of mini.new).file.begun ≡ false → bytes_of mini.new ≡ bytes_of mini.old }
+    ensures err { IfErr result (ChangeRefused (IsTrue F.tells → IsNotChangeable mini.old) Unit (LacksNumbersFor mini.old entry size) Unit) }
+    ensures counts { IsTrue F.tells
+        → CountsFailure (λ f. F.read_faults f || F.write_faults f) result (table_of mini.old).file.failures (table_of mini.new).file.failures }
+{
+    let (_, len) = content_in(mini, entry);
+    let cutoff = MINI_STREAM_CUTOFF as u64;
+    if len >= cutoff {
+        if size < cutoff {
+            return move_to_minis(mini, entry, size);
+        }
+        if size < len {
+            return cut_in_sectors(mini, entry, size);
+        }
+        return grow_in_sectors(mini, entry, size);
+    }
+    if size >= cutoff {
+        return move_to_sectors(mini, entry, size);
+    }
+    if size < len {
+        return cut_in_minis(mini, entry, size);
+    }
+    grow_in_minis(mini, entry, size)
+}
+
+/// Gives the entry of a stream this start and this length, and writes its slot. `Medium` where the medium fails.
+fn name_content<F: Medium, A: Heap>(
+    mini: &mut MiniAllocator<F, A>,
+    entry: u32,
+    start: u32,
+    size: u64,
+) -> Result<(), Error>
+    requires stream { IsStreamOf mini.old entry }
+    requires placed { ArePlaced mini.old.directory }
+    ensures named { OnOk result (entry_at (entries_of mini.new) entry ≡ record (entry_at (entries_of mini.old) entry) { start_sector = start; stream_len = size }) }
+    ensures entries { MovesContent mini.old mini.new entry }
+    ensures system { KeepsSystem mini.old mini.new }
+    ensures mini { KeepsMini mini.old mini.new }
+    ensures limits { KeepsLimits mini.old mini.new }
+    ensures holds { IsTrue F.tells → (validation : Validation) → HoldsMini validation mini.old → size ≤ max_stream_len (version_of mini.old) → OnOk result (HoldsMini validation mini.new) }
+    ensures spares { IsTrue F.tells → Spares mini.old.directory.sectors (table_of mini.old) (table_of mini.new) }
+    ensures begun { (table_of mini.new).file.begun ≡ true }
+    ensures err { IfErr result IsMediumError }
+    ensures counts { IsTrue F.tells → CountsFailure F.write_faults result (table_of mini.old).file.failures (table_of mini.new).file.failures }
+{
+    mini.with_dir_entry_mut(
+        entry,
+        move |fields: Fields| Fields {
+            start_sector: start,
+            stream_len: size,
+            ..fields
+        },
+    )
+}
