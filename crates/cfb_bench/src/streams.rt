@@ -63,7 +63,7 @@ fn calls_by_path(rt: HostRuntime) -> Result<(), Fail> {
             Ok(count) => Ok(count),
             Err(e) => Err(e.number()),
         };
-        assert_eq!(rt; found, *want, "{call} {path}, {len}");
+        assert!(rt; found == *want, "{call} {path}, {len}");
     }
     let mut piece = [0xaa; 600];
     let mut stream = file.open_stream("/a")?;
@@ -75,7 +75,7 @@ fn calls_by_path(rt: HostRuntime) -> Result<(), Fail> {
     let bytes = file.into_inner().into_bytes();
     assert_eq!(rt; bytes.len(), 6656);
     for (at, word) in &WORDS {
-        assert_eq!(rt; bytes.get(*at..*at + 4), Some(&word[..]), "at {at}");
+        assert!(rt; bytes.get(*at..*at + 4) == Some(&word[..]), "at {at}");
     }
     Ok(())
 }
@@ -151,7 +151,7 @@ fn writes_fail_in_turn(rt: HostRuntime) -> Result<(), Fail> {
                 is_right(sticking, stuck.failures()),
                 "at {nth}: {sticking:?}"
             );
-            assert_eq!(rt; answers, sticking, "at {nth}");
+            assert!(rt; answers == sticking, "at {nth}");
             created = created.saturating_add((answers == NOT_CREATED) as u64);
             written = written.saturating_add((answers == NOT_WRITTEN) as u64);
         }
@@ -164,7 +164,7 @@ fn writes_fail_in_turn(rt: HostRuntime) -> Result<(), Fail> {
         let medium = MemoryMedium::from_bytes(file_bytes(rt.alloc(), V3, None)?);
         let failing = Failing::once(medium, Kind::Write, nth);
         let (answers, sip) = made_on(rt.alloc(), Sip::new(failing))?;
-        assert_eq!(rt; sip.into_inner().failures(), 1, "at {nth}");
+        assert!(rt; sip.into_inner().failures() == 1, "at {nth}");
         assert!(rt; is_right(answers, 1), "at {nth}: {answers:?}");
     }
     Ok(())
@@ -246,7 +246,7 @@ fn reads_fail_in_turn(rt: HostRuntime) -> Result<(), Fail> {
             let stuck = Stuck::once(MemoryMedium::new(rt.alloc()), Kind::Read, nth);
             let (pieces, rests, stuck) = read_on(rt.alloc(), version, stuck)?;
             let refused = pieces.saturating_add(rests);
-            assert_eq!(rt; refused, stuck.failures(), "at {nth}");
+            assert!(rt; refused == stuck.failures(), "at {nth}");
             in_stuck = in_stuck.saturating_add(refused);
         }
         assert!(rt; 0 < in_pieces && 0 < in_rests && in_pieces.saturating_add(in_rests) < 299);
@@ -328,7 +328,7 @@ fn memory_is_refused_in_turn(rt: HostRuntime) -> Result<(), Fail> {
         if sum == 0 {
             break;
         }
-        assert_eq!(rt; sum, 1, "at {before}: {pairs:?}");
+        assert!(rt; sum == 1, "at {before}: {pairs:?}");
     }
     assert_eq!(rt; pairs(rt.alloc(), &heap, 1000)?, DONE);
     assert!(rt;

@@ -124,10 +124,13 @@ fn media_answer_as_planned(rt: HostRuntime) -> Result<(), Fail> {
         };
         if *sips {
             let mut sip = Sip::new(medium);
-            assert_eq!(rt; right_calls(&mut sip, calls), calls.len(), "of row {i}");
+            assert!(rt; right_calls(&mut sip, calls) == calls.len(), "of row {i}");
             medium = sip.into_inner();
         } else {
-            assert_eq!(rt; right_calls(&mut medium, calls), calls.len(), "of row {i}");
+            assert!(rt;
+                right_calls(&mut medium, calls) == calls.len(),
+                "of row {i}"
+            );
         }
         let failures = medium.failures();
         let stuck = medium.into_inner();
@@ -140,8 +143,8 @@ fn media_answer_as_planned(rt: HostRuntime) -> Result<(), Fail> {
             counting.writes(),
             counting.flushes(),
         ];
-        assert_eq!(rt; found, *counts, "of row {i}");
-        assert_eq!(rt; counting.into_inner().bytes(), *bytes, "of row {i}");
+        assert!(rt; found == *counts, "of row {i}");
+        assert!(rt; counting.into_inner().bytes() == *bytes, "of row {i}");
     }
     Ok(())
 }
@@ -160,15 +163,13 @@ fn reads_go_wrong_once(rt: HostRuntime) -> Result<(), Fail> {
         let stuck = Stuck::once(dots(rt.alloc())?, Kind::Read, *sticks);
         let mut medium = Sip::new(Failing::once(stuck, Kind::Read, *fails));
         let mut back = [0u8; 4];
-        assert_eq!(rt;
-            read_exact_at(&mut medium, 2, &mut back),
-            *read,
+        assert!(rt;
+            read_exact_at(&mut medium, 2, &mut back) == *read,
             "{fails}, {sticks}"
         );
-        assert_eq!(rt; medium.length(), *len, "{fails}, {sticks}");
-        assert_eq!(rt;
-            read_exact_at(&mut medium, 2, &mut back),
-            Ok(()),
+        assert!(rt; medium.length() == *len, "{fails}, {sticks}");
+        assert!(rt;
+            read_exact_at(&mut medium, 2, &mut back) == Ok(()),
             "{fails}, {sticks}"
         );
         assert_eq!(rt; (back, medium.length()), (*b"....", Ok(8)));

@@ -24,11 +24,11 @@ fn moments_and_unix_times(rt: HostRuntime) -> Result<(), Fail> {
     for (seconds, nanoseconds, want) in &FROM_UNIX {
         assert!(rt; *nanoseconds < 1_000_000_000);
         let moment = Timestamp::from_unix(*seconds, *nanoseconds);
-        assert_eq!(rt; moment.value(), *want, "{seconds} and {nanoseconds}");
+        assert!(rt; moment.value() == *want, "{seconds} and {nanoseconds}");
     }
     for (units, want) in &TO_UNIX {
         let moment = Timestamp::read_from(&units.to_le_bytes());
-        assert_eq!(rt; moment.to_unix(), *want, "{units}");
+        assert!(rt; moment.to_unix() == *want, "{units}");
     }
     assert_eq!(rt; Timestamp::zero().to_unix(), (-11644473600, 0));
     let moment = Timestamp::from_unix(-1, 999999950);
