@@ -1,0 +1,2 @@
+pub mod PartRefusals
+pub mod DifatLemmas
