@@ -1,2 +1,3 @@
 pub mod PartRefusals
 pub mod DifatLemmas
+pub mod TableSectorLemmas

@@ -62,6 +62,7 @@ pub fn read_difat<F: ReadMedium, A: Heap + Clone>(
     ensures bytes { IsTrue F.tells → sectors.new.bytes ≡ sectors.old.bytes }
     ensures counts { IsTrue F.tells → CountsFailure F.read_faults result sectors.old.failures sectors.new.failures }
 {
+    let _count = sectors.num_sectors();
     let trail = follow_difat(heap, sectors, header, validation)?;
     list_sectors(trail, sectors, header, validation)
 }
