@@ -1,3 +1,4 @@
 pub mod PartRefusals
 pub mod DifatLemmas
 pub mod TableSectorLemmas
+pub mod FatWordLemmas
