@@ -2,3 +2,4 @@ pub mod PartRefusals
 pub mod DifatLemmas
 pub mod TableSectorLemmas
 pub mod FatWordLemmas
+pub mod KeptWordLaws

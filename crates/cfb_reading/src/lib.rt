@@ -3,4 +3,5 @@
 
 pub mod difat;
 pub mod fat_words;
+pub mod laws;
 mod marks;
