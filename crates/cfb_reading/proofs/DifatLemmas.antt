@@ -171,10 +171,6 @@ module _ (validation : Validation) (v : Version) (bytes : List ℕ) (first : ℕ
         },
       )
 
--- all there, where the length is that of the bytes
-pub whole-there : (file : SectorFile) (i : ℕ) → IsMeasured file → has_sector file i ≡ is_whole_sector file.version file.bytes i
-whole-there file i measured = ap (λ n. nat_le (sector_start file.version i + sector_len file.version) n) measured
-
 pub length-more : (new own : List ℕ) (x : ℕ) → new ≡ own ++ x ∷ [] → length new ≡ length own + 1
 length-more new own x is = ap length is ∙ length-append own (x ∷ [])
 

@@ -94,22 +94,3 @@ module _ (validation : Validation) (n : ℕ) (v : Version) (bytes list : List �
       ap (λ m. list_all (is_padding_in validation) (drop m own)) is_room
       ∙ padding-next validation n (fat_words v bytes (take i list)) kept own k (fat_words v bytes (drop (i + 1) list))
       (ap (λ (ws : List ℕ). list_all (is_padding_in validation) (drop n ws)) (sym (words-split v bytes list i lt)) ∙ all)
-
--- ---- marks
-
-alike : (n i : ℕ) → slice_index_or (replicate n false) i false ≡ false
-alike n i = elim (cases_lt i n) [
-  | inl lt ↦ get_or-replicate n i false false lt
-  | inr ge ↦ get_or_past (replicate n false) i false (let len = length-replicate n false in omega (arith, ge, len))
-]
-
--- what holds of each number with a mark holds of none where there is no mark, and of one more with its mark
-pub none-marked : (P : ℕ → Type 0) (n : ℕ) (marks : List Bool) → marks ≡ replicate n false → (i : ℕ) → slice_index_or marks i false ≡ true → P i
-none-marked P n marks is i e = absurd (both_ways _ (ap (λ (ms : List Bool). slice_index_or ms i false) is ∙ alike n i) e)
-
-pub one-marked : (P : ℕ → Type 0) (marks : List Bool) (x : ℕ) → ((i : ℕ) → slice_index_or marks i false ≡ true → P i) → P x
-    → (i : ℕ) → slice_index_or (set marks x true) i false ≡ true → P i
-one-marked P marks x each here i e = elim (cases_eq i x) [
-  | inl at ↦ subst P (sym at) here
-  | inr ne ↦ each i (sym (get_or-set_other marks x i true false ne) ∙ e)
-]

@@ -1,4 +1,5 @@
 pub mod PartRefusals
+pub mod SectorFileLemmas
 pub mod DifatLemmas
 pub mod TableSectorLemmas
 pub mod FatWordLemmas

@@ -23,7 +23,9 @@ use std::alloc::{Allocator as Heap, Global};
 /// The sectors of both tables, in order (MS-CFB 2.3 and 2.5).
 #[derive(Drop)]
 pub struct TableSectors<A: Heap = Global> {
+    /// The sectors with the words of the FAT.
     pub fat_sectors: Vec<u32, A>,
+    /// The sectors that list them, but for those in the header.
     pub difat_sectors: Vec<u32, A>,
 }
 

@@ -1,5 +1,5 @@
 //! The words of the FAT sectors (MS-CFB 2.3).
-ghost use Rattle.std.specs.Prelude.{◌≡◌, ◌↔◌, ◌+◌, ◌-◌, ◌<◌, ◌≤◌, ◌++◌, ℕ, [], true, false, length, replicate, slice_index, slice_index_or, take, drop, vec_len, IsTrue, IfOk, IfErr, OnOk};
+ghost use Rattle.std.specs.Prelude.{◌≡◌, ◌↔◌, ◌+◌, ◌-◌, ◌<◌, ◌≤◌, ◌++◌, ℕ, [], true, false, length, replicate, slice_index, slice_index_or, take, drop, vec_len, IsTrue, IfOk, IfErr, IsOk, OnOk};
 ghost use Rattle.std.specs.List.{list_all};
 ghost use Rattle.cfb_format.specs.Bytes.{is_regular, sector_words, words_per_sector};
 ghost use Rattle.cfb_format.specs.Fat.{fat_words};
@@ -21,6 +21,7 @@ use std::alloc::{Allocator as Heap, Global};
 /// The words of the FAT sectors, as far as they are those of the file's sectors (MS-CFB 2.3).
 #[derive(Drop)]
 pub struct FatWords<A: Heap = Global> {
+    /// As they stand in the file, one for each of its first sectors.
     pub words: Vec<u32, A>,
     /// No word points past the file, those of listed FAT and DIFAT sectors aside.
     pub points_into_file: bool,
@@ -94,8 +95,7 @@ fn are_padding(words: &[u32], validation: Validation) -> bool
     words.iter().all(|word| is_padding(*word, validation))
 }
 
-/// Takes the words of one more FAT sector. A sector that was met as padding is not read again.
-/// `InvalidData` where it is not all there, and where a word past the last sector is no padding; `Medium` and `Memory`.
+/// Takes the words of one more FAT sector. One that was met as padding is not read again. `InvalidData` where it is not all there, and where a word past the last sector is no padding; `Medium` and `Memory`.
 fn take_sector<F: ReadMedium, A: Heap>(
     taking: &mut Taking<A>,
     sectors: &mut Sectors<F>,
@@ -104,10 +104,14 @@ fn take_sector<F: ReadMedium, A: Heap>(
     validation: Validation,
 ) -> Result<(), Error>
     requires buffer { length buffer.old ≡ words_per_sector sectors.old.version }
+    requires count { vec_len taking.old.checked ≡ sectors.old.num_sectors }
     requires few { vec_len taking.old.words ≤ vec_len taking.old.checked }
     ensures kept { sectors.new ≡ record sectors.old { bytes = sectors.new.bytes; failures = sectors.new.failures } }
     ensures few { OnOk result (vec_len taking.new.words ≤ vec_len taking.new.checked) }
     ensures len { OnOk result (vec_len taking.new.checked ≡ vec_len taking.old.checked) }
+    ensures met { vec_len taking.old.words ≡ vec_len taking.old.checked → OnOk result (slice_index_or taking.new.checked.items sector false ≡ true) }
+    ensures once { vec_len taking.old.words ≡ vec_len taking.old.checked → slice_index_or taking.old.checked.items sector false ≡ true
+        → IsOk result × (taking.new ≡ taking.old) × (sectors.new ≡ sectors.old) }
     ensures there { AreThere sectors.old taking.old.checked.items
         → OnOk result ((has_sector sectors.old sector ≡ true) × AreThere sectors.old taking.new.checked.items) }
     ensures words { IsTrue F.tells → OnOk result (taking.new.words.items ≡ taking.old.words.items
@@ -122,6 +126,7 @@ fn take_sector<F: ReadMedium, A: Heap>(
     ensures bytes { IsTrue F.tells → sectors.new.bytes ≡ sectors.old.bytes }
     ensures counts { IsTrue F.tells → CountsFailure F.read_faults result sectors.old.failures sectors.new.failures }
 {
+    let _count = sectors.num_sectors();
     let room = taking.checked.len() - taking.words.len();
     if room > 0 {
         return keep_words(&mut taking.words, sectors, sector, buffer, room, validation);

@@ -7,7 +7,8 @@ use Rattle.cfb_format.specs.Fat.{difat_entries, next_difat}
 use Rattle.cfb_format.specs.Header.{header_difat_len}
 use Rattle.cfb_sectors.specs.Sectors.{SectorFile}
 use Rattle.cfb_reading.specs.Difat.{has_sector, AreDifatWords}
-use Rattle.cfb_reading.proofs.DifatLemmas.{HasMet, met-none, met-more, met-few, followed-none, followed-more, followed-all, followed-through, whole-there, entries-more, length-more, count-none, count-more}
+use Rattle.cfb_reading.proofs.DifatLemmas.{HasMet, met-none, met-more, met-few, followed-none, followed-more, followed-all, followed-through, entries-more, length-more, count-none, count-more}
+use Rattle.cfb_reading.proofs.SectorFileLemmas.{read-then, same-sector, whole-there}
 use Rattle.cfb_reading.proofs.PartRefusals.{refused-weaker}
 use Rattle.cfb_reading.proofs.difat.follow_difat.Given as given
 use Rattle.cfb_reading.proofs.difat.follow_difat.Goals as goal
@@ -31,7 +32,7 @@ loop-buffer-init g c =
 
 -- the sectors are as they were but for the medium's bytes and failures
 there-still : (g : given.Over) (c : goal.In_ok-advance g) → has_sector c.args.sectors.now c.loop-buffer.trail.next ≡ true
-there-still g c = ap (λ f. has_sector f c.loop-buffer.trail.next) (sym c.loop-buffer.invariant.kept) ∙ c.in_ok-advance.ensures.there
+there-still g c = sym (same-sector c.args.sectors.now c.loop-buffer.sectors c.loop-buffer.invariant.kept c.loop-buffer.trail.next) ∙ c.in_ok-advance.ensures.there
 
 met-then : (g : given.Over) (c : goal.In_ok-advance g) → HasMet c.args.sectors.now c.advance.new.trail.difat_sectors.items c.advance.new.trail.met.items
 met-then g c =
@@ -66,7 +67,7 @@ loop-buffer-preserved g c =
     let more : length new.difat_sectors.items ≡ length old.difat_sectors.items + 1 = length-more new.difat_sectors.items old.difat_sectors.items old.next c.in_ok-advance.ensures.own in
     let same_version : c.loop-buffer.sectors.version ≡ file.version = ap (λ (f : SectorFile). f.version) c.loop-buffer.invariant.kept in
     record {
-      kept = c.in_ok-advance.ensures.kept ∙ ap (λ (f : SectorFile). record f { bytes = c.advance.new.sectors.bytes; failures = c.advance.new.sectors.failures }) c.loop-buffer.invariant.kept;
+      kept = read-then file c.loop-buffer.sectors c.advance.new.sectors c.loop-buffer.invariant.kept c.in_ok-advance.ensures.kept;
       same = λ told. c.in_ok-advance.ensures.same told ∙ c.loop-buffer.invariant.same told;
       met = met-then g c;
       count = count-more header_difat_len (words_per_sector file.version - 1) old.difat_sectors.len new.difat_sectors.len old.entries.len new.entries.len

@@ -5,6 +5,7 @@ use Rattle.cfb_format.specs.Bytes.{words_per_sector}
 use Rattle.cfb_format.specs.Header.{header_difat_len}
 use Rattle.cfb_reading.specs.Difat.{has_sector, listed_by}
 use Rattle.cfb_sectors.specs.Sectors.{SectorFile}
+use Rattle.cfb_reading.proofs.SectorFileLemmas.{same-sectors}
 use Rattle.cfb_reading.proofs.PartRefusals.{refused-weaker, refused-bytes, from_four}
 use Rattle.cfb_reading.proofs.TableSectorLemmas.{are-listed, file-accepted, no-sectors, no-list}
 use Rattle.cfb_reading.proofs.difat.read_difat.Given as given
@@ -18,7 +19,7 @@ returns-in_err-trail-clause-err g c =
 
 -- the sectors are as they were but for the medium's bytes and failures
 still : (g : given.Over) (c : goal.After-list_sectors g) (list : List ℕ) → list_all (has_sector c.follow_difat.new.sectors) list ≡ list_all (has_sector c.args.sectors.now) list
-still g c list = ap (λ (f : SectorFile). list_all (has_sector f) list) c.in_ok-trail.ensures.kept
+still g c list = same-sectors c.args.sectors.now c.follow_difat.new.sectors c.in_ok-trail.ensures.kept list
 
 pub returns-clause-listed : goal.returns-clause-listed
 returns-clause-listed g c =

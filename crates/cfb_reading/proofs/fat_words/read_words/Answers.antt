@@ -11,7 +11,7 @@ use Rattle.cfb_tables.specs.ReadFat.{is_padding_in}
 use Rattle.cfb_reading.specs.Difat.{has_sector}
 use Rattle.cfb_reading.specs.FatWords.{AreThere, ArePadding}
 use Rattle.cfb_reading.proofs.PartRefusals.{refused-weaker}
-use Rattle.cfb_reading.proofs.DifatLemmas.{whole-there}
+use Rattle.cfb_reading.proofs.SectorFileLemmas.{read-then, same-sector, whole-there}
 use Rattle.cfb_reading.proofs.FatWordLemmas.{sector-kept, sector-padded}
 use Rattle.cfb_reading.proofs.fat_words.read_words.Goals as goal
 
@@ -24,9 +24,9 @@ loop-sector-preserved g c =
     let e = c.in_ok-take_sector.ensures in
     let lt : l.sector-index < length list = c.loop-sector-test.true in
     let there = e.there (subst (λ (f : SectorFile). AreThere f l.taking.checked.items) (sym l.invariant.kept) l.invariant.checked) in
-    let whole : has_sector file x ≡ true = ap (λ (f : SectorFile). has_sector f x) (sym l.invariant.kept) ∙ there.0 in
+    let whole : has_sector file x ≡ true = sym (same-sector file l.sectors l.invariant.kept x) ∙ there.0 in
     record {
-      kept = e.kept ∙ ap (λ (f : SectorFile). record f { bytes = c.take_sector.new.sectors.bytes; failures = c.take_sector.new.sectors.failures }) l.invariant.kept;
+      kept = read-then file l.sectors c.take_sector.new.sectors l.invariant.kept e.kept;
       same = λ told. e.same told ∙ l.invariant.same told;
       len = e.len ∙ l.invariant.len;
       few = e.few;
