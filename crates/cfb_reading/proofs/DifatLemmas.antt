@@ -1,11 +1,10 @@
 -- The DIFAT sectors as they are followed, one more at a time.
-use Rattle.std.proofs.Common.{◌≡◌, ◌≢◌, ℕ, ◌+◌, ◌-◌, ◌*◌, ◌<◌, ◌≤◌, inl, inr, List, [], ◌∷◌, ◌++◌, Bool, true, false, length, set, refl, sym, ◌∙◌, ap, subst, arith, append_assoc, append-nil, length-append}
-use Rattle.std.specs.Prelude.{slice_index_or, nat_eq, flat_map, replicate, nat_le, Contains, ◌&&◌}
+use Rattle.std.proofs.Common.{◌≡◌, ℕ, ◌+◌, ◌*◌, ◌<◌, ◌≤◌, inl, inr, List, [], ◌∷◌, ◌++◌, Bool, true, false, length, set, refl, sym, ◌∙◌, ap, subst, arith, append_assoc, append-nil, length-append}
+use Rattle.std.specs.Prelude.{slice_index_or, nat_eq, flat_map, replicate, Contains, ◌&&◌}
 use Rattle.std.specs.List.{IsDistinct, list_all}
-use Rattle.std.proofs.lemmas.Bool.{cases_eq, cases_lt, leb-true, both_ways, and_from, and_parts}
+use Rattle.std.proofs.lemmas.Bool.{cases_eq, cases_lt, leb-true, both_ways, and_parts}
 use Rattle.std.proofs.lemmas.List.{get_or_past, get_or-set_same, get_or-set_other, get_or-replicate, length-replicate, length-set, flat_map_more}
-use Rattle.std.proofs.lemmas.List.Concat.{flat_map-append}
-use Rattle.std.proofs.lemmas.List.Elements.{Contains-append_left, Contains-append_right, Contains-append_cases, Contains-push}
+use Rattle.std.proofs.lemmas.List.Elements.{Contains-append_left, Contains-append_cases, Contains-push}
 use Rattle.std.proofs.lemmas.List.Folds.{list_all-append}
 use Rattle.std.proofs.lemmas.List.Sums.{AllPass-from_list_all}
 use Rattle.std.proofs.lemmas.Map.Steps.{length-le_from_distinct_below}
@@ -13,14 +12,13 @@ use Rattle.cfb_format.specs.declared.validate.Validation.{Validation}
 use Rattle.cfb_format.specs.declared.validate.Validation.TheVariants.{Permissive, Strict}
 use Rattle.cfb_format.specs.declared.version.Version.{Version}
 use Rattle.cfb_format.specs.declared.version.Version.TheVariants.{V3, V4}
-use Rattle.cfb_format.specs.Bytes.{sector_len, sector_start, words_per_sector, is_whole_sector, is_regular_or_free}
+use Rattle.cfb_format.specs.Bytes.{sector_len, sector_start, is_whole_sector, is_regular_or_free}
 use Rattle.cfb_format.specs.Fat.{FollowsDifat, difat_entries, next_difat, ends_difat}
-use Rattle.cfb_format.specs.Header.{IfStrict, header_difat_len}
+use Rattle.cfb_format.specs.Header.{IfStrict}
 use Rattle.cfb_sectors.specs.Sectors.{SectorFile, sectors_end}
-use Rattle.cfb_alloc.specs.Alloc.{IsMeasured}
 use Rattle.cfb_tables.proofs.Members.{Contains-nil, Contains-here, Contains-one, none_distinct, distinct-push, distinct-apart}
 use Rattle.cfb_tables.proofs.WordLemmas.{found_below}
-use Rattle.cfb_reading.specs.Difat.{AcceptsDifatSectors, AcceptsNoDifatSectors, AreDifatWords, has_sector, is_strict_next}
+use Rattle.cfb_reading.specs.Difat.{AcceptsDifatSectors, AreDifatWords, has_sector, is_strict_next}
 
 -- ---- which of them came before
 
@@ -159,8 +157,7 @@ module _ (validation : Validation) (v : Version) (bytes : List ℕ) (first : ℕ
   followed-through on zs a =
       let (ys, fy, ey) = w.back zs a.sectors in
       let (us, eu, wu, ru, fu) = opened v bytes next ys on fy in
-      let whole : zs ≡ own ++ next ∷ us = ey ∙ ap (λ (x : List ℕ). own ++ x) eu in
-      (
+      let whole : zs ≡ own ++ next ∷ us = ey ∙ ap (λ (x : List ℕ). own ++ x) eu in (
         (λ m. distinct-apart own (next ∷ us) (subst (IsDistinct nat_eq) whole a.distinct) next m (Contains-here next us)),
         wu,
         record {

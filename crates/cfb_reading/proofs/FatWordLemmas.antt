@@ -1,19 +1,16 @@
 -- The words of the FAT as they are kept, one sector more at a time.
-use Rattle.std.proofs.Common.{◌≡◌, ℕ, zero, suc, ◌-◌, ◌+◌, ◌<◌, ◌≤◌, min, List, [], ◌∷◌, ◌++◌, Bool, true, false, length, take, drop, set, refl, sym, ◌∙◌, ap, subst, arith, inl, inr, get_or, length-take}
-use Rattle.std.specs.Prelude.{slice_index_or, replicate, ◌&&◌, ◌||◌}
-use Rattle.std.specs.List.{list_all, list_any}
-use Rattle.std.proofs.lemmas.Bool.{cases_eq, cases_lt, and_from, and_parts, both_ways, or_parts, or_from}
-use Rattle.std.proofs.lemmas.List.{append_assoc, append-nil, get_or_past, get_or-replicate, get_or-set_same, get_or-set_other, length-replicate, take_more, drop_more, take-append-drop, set_past}
+use Rattle.std.proofs.Common.{◌≡◌, ℕ, zero, suc, ◌-◌, ◌+◌, ◌<◌, min, List, [], ◌∷◌, ◌++◌, true, length, take, drop, refl, sym, ◌∙◌, ap, subst, arith, get_or, length-take}
+use Rattle.std.specs.Prelude.{◌&&◌}
+use Rattle.std.specs.List.{list_all}
+use Rattle.std.proofs.lemmas.Bool.{and_parts}
+use Rattle.std.proofs.lemmas.List.{append-nil, take_more, take-append-drop}
 use Rattle.std.proofs.lemmas.List.Concat.{flat_map-append}
-use Rattle.std.proofs.lemmas.List.Folds.{list_all-append, list_any-append, list_all_more}
+use Rattle.std.proofs.lemmas.List.Folds.{list_all-append}
 use Rattle.cfb_format.specs.declared.validate.Validation.{Validation}
 use Rattle.cfb_format.specs.declared.version.Version.{Version}
 use Rattle.cfb_format.specs.Bytes.{sector_words}
 use Rattle.cfb_format.specs.Fat.{fat_words}
-use Rattle.cfb_sectors.specs.Sectors.{SectorFile}
 use Rattle.cfb_tables.specs.ReadFat.{is_padding_in}
-use Rattle.cfb_reading.specs.Difat.{has_sector}
-use Rattle.cfb_reading.specs.FatWords.{AreThere, ArePadding}
 
 -- ---- two lists one behind the other
 

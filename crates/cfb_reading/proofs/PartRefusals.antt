@@ -1,5 +1,5 @@
 -- Why a part was not read.
-use Rattle.std.proofs.Common.{◌≡◌, ℕ, arith}
+use Rattle.std.proofs.Common.{◌≡◌, arith}
 use Rattle.std.specs.Prelude.{Bool, IsTrue, Result, Ok, Err, IfOk}
 use Rattle.cfb_format.specs.Refused.{number_of}
 use Rattle.cfb_format.specs.declared.error.Error.{Error}

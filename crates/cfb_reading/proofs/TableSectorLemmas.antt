@@ -1,5 +1,5 @@
 -- The sectors of both tables, out of the DIFAT sectors and what they list.
-use Rattle.std.proofs.Common.{◌≡◌, ℕ, ◌+◌, ◌-◌, ◌*◌, ◌≤◌, min, max, List, ◌++◌, true, length, take, sym, ◌∙◌, ap, subst, arith, length-take}
+use Rattle.std.proofs.Common.{◌≡◌, ℕ, ◌+◌, ◌-◌, ◌*◌, ◌≤◌, min, max, List, ◌++◌, true, length, sym, ◌∙◌, ap, subst, arith, length-take}
 use Rattle.std.specs.Prelude.{flat_map, nat_le, ◌==◌}
 use Rattle.std.specs.List.{list_all, suffix_len}
 use Rattle.cfb_format.specs.declared.validate.Validation.{Validation}

@@ -5,7 +5,7 @@ use Rattle.cfb_format.specs.declared.validate.Validation.{Validation}
 use Rattle.cfb_format.specs.declared.version.Version.{Version}
 use Rattle.cfb_format.specs.declared.header.Header.{Header}
 use Rattle.cfb_format.specs.Bytes.{sector_len, sector_start, is_regular_or_free, free_sector}
-use Rattle.cfb_format.specs.Fat.{FollowsDifat, IsDifat, IsStrictDifat, difat_entries, next_difat, without_end, without_padding}
+use Rattle.cfb_format.specs.Fat.{FollowsDifat, IsDifat, IsStrictDifat, next_difat, without_end, without_padding}
 use Rattle.cfb_format.specs.Header.{IfStrict}
 use Rattle.cfb_sectors.specs.Sectors.{SectorFile}
 

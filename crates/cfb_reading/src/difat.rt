@@ -1,7 +1,7 @@
 //! The sectors of both tables (MS-CFB 2.5).
-ghost use Rattle.std.specs.Prelude.{◌≡◌, ◌+◌, ◌-◌, ◌*◌, ◌<◌, ◌≤◌, ◌++◌, ◌∷◌, [], true, false, length, max, slice_index_or, slice_set, take, flat_map, replicate, vec_len, All, IsTrue, IfOk, IfErr, OnOk, ◌==◌};
+ghost use Rattle.std.specs.Prelude.{◌≡◌, ◌+◌, ◌-◌, ◌*◌, ◌<◌, ◌≤◌, ◌++◌, ◌∷◌, [], true, false, length, max, slice_index_or, slice_set, flat_map, replicate, vec_len, IsTrue, IfOk, IfErr, OnOk, ◌==◌};
 ghost use Rattle.std.specs.List.{list_all, suffix_len};
-ghost use Rattle.cfb_format.specs.Bytes.{words_per_sector, is_regular_or_free, free_sector, is_whole_sector};
+ghost use Rattle.cfb_format.specs.Bytes.{words_per_sector, is_regular_or_free, free_sector};
 ghost use Rattle.cfb_format.specs.Fat.{difat_entries, next_difat, ends_difat as is_end, without_end, without_padding};
 ghost use Rattle.cfb_format.specs.Header.{IfStrict, header_difat_len};
 ghost use Rattle.cfb_format.specs.Refused.{CountsFailure, IsInvalidData, IsMemory};
@@ -86,7 +86,9 @@ fn ends_difat(word: u32) -> bool
 fn are_entries(words: &[u32]) -> bool
     ensures { result ≡ list_all is_regular_or_free words.now }
 {
-    words.iter().all(|word| *word <= MAX_REGULAR_SECTOR || *word == FREE_SECTOR)
+    words
+        .iter()
+        .all(|word| *word <= MAX_REGULAR_SECTOR || *word == FREE_SECTOR)
 }
 
 /// Whether a DIFAT sector may list these entries and name this one next. `InvalidData`.
@@ -229,9 +231,7 @@ fn are_there<F: ReadMedium>(sectors: &Sectors<F>, listed: &[u32]) -> bool
 {
     let sector_len = sectors.sector_len() as u64;
     let len = sectors.len();
-    listed
-        .iter()
-        .all(|sector| (*sector as u64 + 1) * sector_len + sector_len <= len)
+    listed.iter().all(|sector| (*sector as u64 + 1) * sector_len + sector_len <= len)
 }
 
 /// Strict opening wants no padding by zeros, and the header to count the sectors of both tables. `InvalidData`.

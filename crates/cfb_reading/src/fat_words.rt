@@ -2,7 +2,6 @@
 ghost use Rattle.std.specs.Prelude.{◌≡◌, ◌↔◌, ◌+◌, ◌-◌, ◌<◌, ◌≤◌, ◌++◌, ℕ, [], true, false, length, replicate, slice_index, slice_index_or, take, drop, vec_len, IsTrue, IfOk, IfErr, IsOk, OnOk};
 ghost use Rattle.std.specs.List.{list_all};
 ghost use Rattle.cfb_format.specs.Bytes.{is_regular, sector_words, words_per_sector};
-ghost use Rattle.cfb_format.specs.Fat.{fat_words};
 ghost use Rattle.cfb_format.specs.Refused.{CountsFailure, IsInvalidData, IsMemory};
 ghost use Rattle.cfb_alloc.specs.Alloc.{IsMeasured};
 ghost use Rattle.cfb_tables.specs.ReadFat.{is_padding_in};

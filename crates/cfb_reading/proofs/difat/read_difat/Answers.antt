@@ -4,7 +4,6 @@ use Rattle.std.proofs.lemmas.Result.{err_from_is_err_and, IfErr-weaker}
 use Rattle.cfb_format.specs.Bytes.{words_per_sector}
 use Rattle.cfb_format.specs.Header.{header_difat_len}
 use Rattle.cfb_reading.specs.Difat.{has_sector, listed_by}
-use Rattle.cfb_sectors.specs.Sectors.{SectorFile}
 use Rattle.cfb_reading.proofs.SectorFileLemmas.{same-sectors}
 use Rattle.cfb_reading.proofs.PartRefusals.{refused-weaker, refused-bytes, from_four}
 use Rattle.cfb_reading.proofs.TableSectorLemmas.{are-listed, file-accepted, no-sectors, no-list}
