@@ -33,10 +33,6 @@ pub record KeepsWords (validation : Validation) (n : ℕ) (words kept : List ℕ
   pub first : kept ≡ take n words
   pub padding : list_all (is_padding_in validation) (drop n words) ≡ true
 
-pub keeps-none : (validation : Validation) (n : ℕ) (kept : List ℕ) → kept ≡ [] → KeepsWords validation n [] kept
-keeps-none validation zero kept none = record { first = none; padding = refl }
-keeps-none validation (suc n) kept none = record { first = none; padding = refl }
-
 module _ (validation : Validation) (n : ℕ) (words kept more : List ℕ) (k : KeepsWords validation n words kept) where
   -- there is room for as many as there were words to come
   room : n - length words ≡ n - length kept
