@@ -1,0 +1,3 @@
+pub mod PartRefused
+pub mod Difat
+pub mod FatWords
