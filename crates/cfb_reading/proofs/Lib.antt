@@ -1,0 +1,5 @@
+pub mod Zips
+pub mod SlotChunks
+pub mod SlotReading
+pub mod WordReading
+pub mod Refusals

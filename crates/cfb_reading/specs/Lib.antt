@@ -1,0 +1,2 @@
+pub mod ReadDirectory
+pub mod ReadMinifat
