@@ -57,6 +57,15 @@ length-slots v bytes (i ∷ list) =
     let more = length-slots v bytes list in
     omega (arith, one, both, more)
 
+-- where the pieces hold no entries, the sector's slots do not
+pub no-entries : (validation : Validation) (v w : Version) (file : List ℕ) (i : ℕ) (bytes : List ℕ) (chunks : List (List ℕ)) → w ≡ v → length bytes ≡ sector_len v
+    → bytes ≡ sector_bytes v file i → chunks ≡ first_chunks 128 (length bytes / 128) bytes
+    → ((more : List Entry) → AllZip (AcceptsEntry validation w) chunks more → ⊥) → (more : List Entry) → AllZip (AcceptsEntry validation v) (slots_of_sector v file i) more → ⊥
+no-entries validation v w file i bytes chunks version whole is cut none more z =
+    none more
+    (subst (λ u. AllZip (AcceptsEntry validation u) chunks more) (sym version)
+    (subst (λ (xs : List (List ℕ)). AllZip (AcceptsEntry validation v) xs more) (sym (cut ∙ chunks-slots v file i bytes (length bytes) whole is)) z))
+
 -- ---- entries that are appended
 
 module _ (validation : Validation) (version : Version) where

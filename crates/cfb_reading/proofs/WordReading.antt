@@ -2,7 +2,10 @@
 use Rattle.std.proofs.Common.{◌≡◌, ◌≤◌, ◌<◌, ◌+◌, ◌*◌, ◌/◌, ℕ, zero, suc, List, [], ◌∷◌, ◌++◌, refl, sym, ◌∙◌, ap, subst, length, take, drop, arith, append-nil, append_assoc}
 use Rattle.std.specs.Int.{from_le_bytes, w32}
 use Rattle.std.proofs.lemmas.List.{drop-drop}
-use Rattle.cfb_format.specs.Bytes.{word_at, words}
+use Rattle.cfb_format.specs.declared.version.Version.{Version}
+use Rattle.cfb_format.specs.declared.version.Version.TheVariants.{V3, V4}
+use Rattle.cfb_format.specs.Bytes.{sector_bytes, sector_len, sector_start, sector_words, word_at, words, words_per_sector}
+use Rattle.cfb_sectors.proofs.ReadWords.{words-length, words_fit, words_of_part}
 
 words-one-more : (k : ℕ) (bytes : List ℕ) → words (k + 1) bytes ≡ words k bytes ++ from_le_bytes w32 (drop (4 * k) bytes) ∷ []
 unfolding words
@@ -27,3 +30,18 @@ no-word bytes front = sym (append-nil front)
 
 -- the steps of a loop over words
 pub ruleset appended_words = (no-word, appended-word)
+
+-- ---- the words of a sector's bytes
+
+words-in-sector : (v : Version) → sector_len v / 4 ≡ words_per_sector v
+words-in-sector V3 = refl
+words-in-sector V4 = refl
+
+pub sector-words-read : (v : Version) (file : List ℕ) (i : ℕ) (bytes : List ℕ) → length bytes ≡ sector_len v → bytes ≡ sector_bytes v file i
+    → words (length bytes / 4) bytes ≡ sector_words v file i
+sector-words-read v file i bytes whole is =
+    ap (λ n. words (n / 4) bytes) whole ∙ ap (λ n. words n bytes) (words-in-sector v) ∙ ap (words (words_per_sector v)) is
+    ∙ words_of_part (words_per_sector v) file (sector_start v i) (sector_len v) (words_fit v)
+
+pub sector-words-count : (v : Version) (bytes : List ℕ) → length bytes ≡ sector_len v → length (words (length bytes / 4) bytes) ≡ words_per_sector v
+sector-words-count v bytes whole = words-length (length bytes / 4) bytes ∙ ap (λ n. n / 4) whole ∙ words-in-sector v

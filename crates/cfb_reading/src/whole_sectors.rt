@@ -23,7 +23,7 @@ pub(crate) fn read_whole<F: ReadMedium, A: Heap>(
     ensures kept { allocator.new.file ≡ record allocator.old.file { bytes = allocator.new.file.bytes; failures = allocator.new.file.failures } }
     ensures there { OnOk result (sector_start allocator.old.tables.version sector + sector_len allocator.old.tables.version ≤ allocator.old.file.len) }
     ensures ok { IsTrue F.tells → OnOk result (into.new ≡ sector_bytes allocator.old.tables.version allocator.old.file.bytes sector) }
-    ensures len { length into.new ≡ length into.old }
+    ensures len { length into.new ≡ sector_len allocator.old.tables.version }
     ensures err { IfErr result (ChangeRefused
         (allocator.old.file.len < sector_start allocator.old.tables.version sector + sector_len allocator.old.tables.version) ⊥ ⊥ Unit) }
     ensures same { IsTrue F.tells → OnOk result (allocator.new ≡ allocator.old) }
