@@ -1,4 +1,5 @@
 pub mod Zips
+pub mod AllWhole
 pub mod SlotChunks
 pub mod SlotReading
 pub mod WordReading
