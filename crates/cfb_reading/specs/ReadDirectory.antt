@@ -6,6 +6,7 @@ use Rattle.cfb_format.specs.declared.validate.Validation.{Validation}
 use Rattle.cfb_format.specs.Bytes.{entries_per_sector, max_stream_len}
 use Rattle.cfb_format.specs.Chain.{IsChain}
 use Rattle.cfb_format.specs.DirectoryEntry.{Entry, AcceptsEntry, IsStrictEntry, slots}
+use Rattle.cfb_format.specs.Full.{max_entries}
 use Rattle.cfb_format.specs.Header.{IfStrict}
 use Rattle.cfb_format.specs.Names.{max_name_len, utf16_units}
 use Rattle.cfb_format.specs.Reading.{IsDirectory}
@@ -19,6 +20,12 @@ pub record AcceptsDirectory (validation : Validation) (version : Version) (bytes
 -- opening in this mode takes no sectors for it
 abbrev pub NoDirectory : Validation → Version → List ℕ → List ℕ → ℕ → Type 0
 NoDirectory validation version bytes fat first = (sectors : List ℕ) (entries : List Entry) → AcceptsDirectory validation version bytes fat first sectors entries → ⊥
+
+-- these are the sectors of a directory that begins there, as far as their bytes say nothing
+pub record IsDirectoryChain (version : Version) (fat : List ℕ) (first : ℕ) (sectors : List ℕ) : Type 0 where
+  pub chain : IsChain fat first sectors
+  pub some : sectors ≢ []
+  pub most : length sectors * entries_per_sector version ≤ max_entries
 
 -- the chain from there has a sector, and as many slots as there are entries
 pub record FillsSlots (version : Version) (fat : List ℕ) (first : ℕ) (sectors : List ℕ) (entries : ℕ) : Type 0 where

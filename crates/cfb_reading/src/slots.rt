@@ -10,7 +10,7 @@ ghost use Rattle.cfb_codecs.specs.EntryModel.{entries_of};
 ghost use Rattle.cfb_entries.specs.EntryList.{HaveShortNames};
 ghost use Rattle.cfb_tables.specs.Refused.{ChangeRefused};
 ghost use Rattle.cfb_alloc.specs.Alloc.{IsMeasured};
-ghost use Rattle.cfb_reading.specs.ReadDirectory.{AcceptsDirectory, AppendsSlots, AreFromSlots, FillsSlots, NoDirectory};
+ghost use Rattle.cfb_reading.specs.ReadDirectory.{AcceptsDirectory, AppendsSlots, AreFromSlots, FillsSlots, IsDirectoryChain, NoDirectory};
 
 use crate::whole_sectors::{MAX_SECTOR_LEN, read_whole};
 use cfb_alloc::alloc::Allocator;
@@ -49,16 +49,33 @@ pub fn read_entries<F: ReadMedium, A: Heap + Clone>(
     ensures bytes { IsTrue F.tells → allocator.new.file.bytes ≡ allocator.old.file.bytes }
     ensures counts { IsTrue F.tells → CountsFailure F.read_faults result allocator.old.file.failures allocator.new.file.failures }
 {
-    let sectors = allocator.chain(start)?;
-    let most = MAX_ENTRIES / allocator.version().dir_entries_per_sector();
-    if sectors.is_empty() || sectors.len() > most {
-        return Err(miscounted(sectors.len()));
-    }
+    let sectors = directory_sectors(allocator, start)?;
     let mut entries = Vec::new(heap.clone()?);
     for sector in &sectors {
         read_slots(heap, allocator, *sector, validation, &mut entries)?;
     }
     Ok(entries)
+}
+
+/// The sectors of the directory that begins at `start`. `InvalidData` exactly where there is no such chain, where it is empty, and where
+/// it has more than 0xFFFFFFFB slots; else `Memory`.
+fn directory_sectors<F: ReadMedium, A: Heap + Clone>(
+    allocator: &Allocator<F, A>,
+    start: u32,
+) -> Result<Vec<u32, A>, Error>
+    ensures ok { IfOk result (λ sectors. IsDirectoryChain allocator.now.tables.version allocator.now.tables.fat start sectors.items) }
+    ensures err { IfErr result (ChangeRefused ((sectors : List ℕ)
+        → IsDirectoryChain allocator.now.tables.version allocator.now.tables.fat start sectors → ⊥) Unit ⊥ ⊥) }
+{
+    let sectors = allocator.chain(start)?;
+    if sectors.is_empty() {
+        return Err(miscounted(0));
+    }
+    let most = MAX_ENTRIES / allocator.version().dir_entries_per_sector();
+    if sectors.len() > most {
+        return Err(miscounted(sectors.len()));
+    }
+    Ok(sectors)
 }
 
 /// A refusal of a directory that has no sector, or too many.
