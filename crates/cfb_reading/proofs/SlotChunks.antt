@@ -1,5 +1,5 @@
 -- The slots of a sector, and the entries in them (MS-CFB 2.6).
-use Rattle.std.proofs.Common.{◌≡◌, ◌≤◌, ◌<◌, ◌+◌, ◌-◌, ◌*◌, ◌/◌, ◌%◌, ◌^◌, ℕ, zero, suc, List, [], ◌∷◌, ◌++◌, refl, sym, ◌∙◌, ap, subst, length, take, drop, arith, append_assoc, append-nil, length-append, mod-lt}
+use Rattle.std.proofs.Common.{◌≡◌, ◌≤◌, ◌<◌, ◌+◌, ◌*◌, ◌/◌, ◌%◌, ℕ, zero, suc, List, [], ◌∷◌, ◌++◌, refl, sym, ◌∙◌, ap, subst, length, take, drop, arith, append_assoc, append-nil, length-append, mod-lt}
 use Rattle.std.specs.Prelude.{map, flat_map, slice_index_or}
 use Rattle.std.specs.List.{AllZip, range_with_len}
 use Rattle.std.specs.Simd.{first_chunks}
@@ -26,7 +26,7 @@ chunks_from bytes zero o = refl
 chunks_from bytes (suc k) o =
     let on : 128 * o + 128 ≡ 128 * (o + 1) = omega arith in
     let rest : first_chunks 128 k (drop 128 (drop (128 * o) bytes)) ≡ map (slot_at bytes) (range_with_len (o + 1) k) =
-        ap (first_chunks 128 k) (drop-drop 128 (128 * o) bytes ∙ ap (λ n. drop n bytes) on) ∙ chunks_from bytes k (o + 1) in
+    ap (first_chunks 128 k) (drop-drop 128 (128 * o) bytes ∙ ap (λ n. drop n bytes) on) ∙ chunks_from bytes k (o + 1) in
     ap (λ r. slot_at bytes o ∷ r) rest
 
 per-sector : (v : Version) → sector_len v / 128 ≡ entries_per_sector v

@@ -1,5 +1,5 @@
 -- The directory, sector by sector (MS-CFB 2.6).
-use Rattle.std.proofs.Common.{◌≡◌, ◌≢◌, ◌≤◌, ◌<◌, ◌+◌, ◌*◌, ◌/◌, ℕ, List, [], ◌∷◌, ◌++◌, Bool, true, refl, sym, ◌∙◌, ap, subst, length, take, arith, append-nil, length-append}
+use Rattle.std.proofs.Common.{◌≡◌, ◌≤◌, ◌<◌, ◌+◌, ◌*◌, ◌/◌, ℕ, List, [], ◌∷◌, ◌++◌, Bool, true, refl, sym, ◌∙◌, ap, subst, length, take, arith, append-nil, length-append}
 use Rattle.std.specs.Prelude.{IsTrue, flat_map, slice_index, ◌&&◌}
 use Rattle.std.specs.List.{AllZip, list_all}
 use Rattle.std.proofs.lemmas.Grind.{flat_map-append}
@@ -49,8 +49,8 @@ module _ (tells : Bool) (measured : Type 0) (validation : Validation) (version :
         length-append h.read more.0 ∙ (λ j. h.count j + more.1 j) ∙ sym (mul-add (length sectors) (entries_per_sector version))
         ∙ ap (λ n. n * entries_per_sector version) (sym (length-append sectors (i ∷ [])));
     there = λ t.
-    ap (λ xs. xs ++ more.0) (h.there t) ∙ ap (λ xs. flat_map (slots_of_sector version bytes) sectors ++ xs) (more.2 t ∙ sym (append-nil (slots_of_sector version bytes i)))
-    ∙ sym (flat_map-append (slots_of_sector version bytes) sectors (i ∷ []));
+        ap (λ xs. xs ++ more.0) (h.there t) ∙ ap (λ xs. flat_map (slots_of_sector version bytes) sectors ++ xs) (more.2 t ∙ sym (append-nil (slots_of_sector version bytes i)))
+        ∙ sym (flat_map-append (slots_of_sector version bytes) sectors (i ∷ []));
     each = subst (λ (es : List Entry). AllZip (ReadsSlot validation version) (h.read ++ more.0) es) (sym more.3.appended)
         (zip-append (ReadsSlot validation version) h.read more.0 old more.3.more h.each more.3.each);
     whole = λ t m. list_all-append (is_whole_sector version bytes) sectors (i ∷ []) ∙ both (h.whole t m) (whole t m);
@@ -110,7 +110,7 @@ module _ (tells : Bool) (measured : Type 0) (validation : Validation) (version :
     read-from_slots = record {
       slot = λ k lt. (_, zip-at (ReadsSlot validation version) whole_list.read entries k [] unallocated_entry whole_list.each lt);
       stream_len = λ k lt.
-      entry-len_fits version _ (entry_at entries k) (zip-at (ReadsSlot validation version) whole_list.read entries k [] unallocated_entry whole_list.each lt).accepted.entry;
+          entry-len_fits version _ (entry_at entries k) (zip-at (ReadsSlot validation version) whole_list.read entries k [] unallocated_entry whole_list.each lt).accepted.entry;
     }
 
 -- ---- refusals

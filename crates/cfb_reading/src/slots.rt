@@ -82,10 +82,7 @@ fn directory_sectors<F: ReadMedium, A: Heap + Clone>(
 fn miscounted(sectors: usize) -> Error
     ensures { ChangeRefused Unit ⊥ ⊥ ⊥ result }
 {
-    Error::InvalidData(Detail::number(
-        "directory with no sector or too many",
-        sectors as u64,
-    ))
+    Error::InvalidData(Detail::number("directory with no sector or too many", sectors as u64))
 }
 
 /// Reads a sector, and appends the entries in its slots. `InvalidData` exactly where the file has not all of it or a slot holds no entry,
@@ -107,7 +104,7 @@ fn read_slots<F: ReadMedium, A: Heap + Clone>(
     ensures err { IfErr result (ChangeRefused (IsTrue F.tells → IsMeasured allocator.old.file
         → is_whole_sector allocator.old.tables.version allocator.old.file.bytes sector ≡ true
         → (more : List Entry) → AllZip (AcceptsEntry validation allocator.old.tables.version)
-            (slots_of_sector allocator.old.tables.version allocator.old.file.bytes sector) more → ⊥) Unit ⊥ Unit) }
+        (slots_of_sector allocator.old.tables.version allocator.old.file.bytes sector) more → ⊥) Unit ⊥ Unit) }
     ensures same { IsTrue F.tells → OnOk result (allocator.new ≡ allocator.old) }
     ensures bytes { IsTrue F.tells → allocator.new.file.bytes ≡ allocator.old.file.bytes }
     ensures counts { IsTrue F.tells → CountsFailure F.read_faults result allocator.old.file.failures allocator.new.file.failures }

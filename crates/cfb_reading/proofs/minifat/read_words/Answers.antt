@@ -1,4 +1,4 @@
-use Rattle.std.proofs.Common.{◌≡◌, ◌+◌, ◌++◌, ◌/◌, ℕ, List, length, arith, sym, ◌∙◌, ap, length-append}
+use Rattle.std.proofs.Common.{◌+◌, ◌++◌, ◌/◌, length, sym, ◌∙◌, ap, length-append}
 use Rattle.std.proofs.lemmas.Result.{on_ok_weaker}
 use Rattle.cfb_format.specs.Bytes.{words, words_per_sector}
 use Rattle.cfb_reading.proofs.WordReading.{sector-words-count, sector-words-read}

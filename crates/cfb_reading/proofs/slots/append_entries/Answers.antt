@@ -1,7 +1,7 @@
-use Rattle.std.proofs.Common.{[], ◌≡◌, ◌<◌, ◌≤◌, ℕ, List, length, arith, sym, subst, ap, ◌∙◌}
+use Rattle.std.proofs.Common.{[], ◌<◌, ◌≤◌, ℕ, List, length, arith, subst}
 use Rattle.std.proofs.lemmas.List.{take_all}
 use Rattle.cfb_format.specs.DirectoryEntry.{AcceptsEntry, Entry}
-use Rattle.cfb_codecs.specs.EntryModel.{entries_of, entry_of}
+use Rattle.cfb_codecs.specs.EntryModel.{entries_of}
 use Rattle.cfb_reading.specs.ReadDirectory.{AppendsSlots}
 use Rattle.cfb_reading.proofs.SlotChunks.{appends-none, appends-pushed}
 use Rattle.cfb_reading.proofs.Zips.{zip-beside}

@@ -1,9 +1,9 @@
-use Rattle.std.proofs.Common.{[], ◌≡◌, ◌<◌, ◌≤◌, ◌+◌, ◌*◌, ℕ, List, length, take, true, arith, sym, subst, ap, ◌∙◌}
-use Rattle.std.specs.Prelude.{IsTrue, slice_index, vec_len}
+use Rattle.std.proofs.Common.{[], ◌≡◌, ◌≤◌, ℕ, List, true, arith, sym, subst, ap, ◌∙◌}
+use Rattle.std.specs.Prelude.{IsTrue, slice_index}
 use Rattle.std.specs.List.{AllZip}
 use Rattle.std.proofs.lemmas.Result.{err_from_is_err_and}
 use Rattle.std.proofs.lemmas.List.{length-map}
-use Rattle.cfb_format.specs.Bytes.{entries_per_sector, is_whole_sector}
+use Rattle.cfb_format.specs.Bytes.{is_whole_sector}
 use Rattle.cfb_format.specs.DirectoryEntry.{AcceptsEntry, Entry, slots_of_sector}
 use Rattle.cfb_format.specs.Full.{max_entries}
 use Rattle.cfb_format.specs.Refused.{CountsError}
@@ -19,8 +19,8 @@ pub returns-in_err-sectors-clause-err : goal.returns-in_err-sectors-clause-err
 returns-in_err-sectors-clause-err g c =
     let a = c.args.allocator.now in
     let none : ((sectors : List ℕ) → IsDirectoryChain a.tables.version a.tables.fat c.args.start sectors → ⊥)
-        → IsTrue g.F.ReadMedium.tells → IsMeasured a.file → NoDirectory c.args.validation a.tables.version a.file.bytes a.tables.fat c.args.start =
-        λ no_chain tells measured. miscounted-directory c.args.validation a.tables.version a.file.bytes a.tables.fat c.args.start no_chain in
+    → IsTrue g.F.ReadMedium.tells → IsMeasured a.file → NoDirectory c.args.validation a.tables.version a.file.bytes a.tables.fat c.args.start =
+    λ no_chain tells measured. miscounted-directory c.args.validation a.tables.version a.file.bytes a.tables.fat c.args.start no_chain in
     let p = err_from_is_err_and c.from_residual.result c.from_residual.ensures.1 in
     rw (p.1, p.2) (refused-as _ _ _ _ _ _ _ _ none (λ u. u) (λ never. never) (λ never. absurd never) c.in_err-sectors.field-0.0 c.in_err-sectors.ensures.err)
 
@@ -44,14 +44,14 @@ returns-in_err-read_slots-clause-err g c =
     let v = c.args.validation in
     let inv = c.loop-sector.invariant in
     let is : IsDirectoryChain a.tables.version a.tables.fat c.args.start all =
-        subst (λ (list : List ℕ). IsDirectoryChain a.tables.version a.tables.fat c.args.start list) (sym c.deref-sector-items.ensures.value) c.in_ok-sectors.ensures.ok in
+    subst (λ (list : List ℕ). IsDirectoryChain a.tables.version a.tables.fat c.args.start list) (sym c.deref-sector-items.ensures.value) c.in_ok-sectors.ensures.ok in
     let none : (IsTrue g.F.ReadMedium.tells → IsMeasured b.file → is_whole_sector b.tables.version b.file.bytes (slice_index all i) ≡ true → (more : List Entry)
-            → AllZip (AcceptsEntry v b.tables.version) (slots_of_sector b.tables.version b.file.bytes (slice_index all i)) more → ⊥)
-        → IsTrue g.F.ReadMedium.tells → IsMeasured a.file → NoDirectory v a.tables.version a.file.bytes a.tables.fat c.args.start =
-        λ refused tells measured.
-        no-directory v a.tables.version b.tables.version a.file.bytes b.file.bytes a.tables.fat c.args.start all i is.chain (omega arith)
-        (ap (λ t. t.version) inv.tables) (ap (λ (s : AllocatorState). s.file.bytes) (inv.same tells))
-        (refused tells (subst (λ (s : AllocatorState). IsMeasured s.file) (sym (inv.same tells)) measured)) in
+    → AllZip (AcceptsEntry v b.tables.version) (slots_of_sector b.tables.version b.file.bytes (slice_index all i)) more → ⊥)
+    → IsTrue g.F.ReadMedium.tells → IsMeasured a.file → NoDirectory v a.tables.version a.file.bytes a.tables.fat c.args.start =
+    λ refused tells measured.
+    no-directory v a.tables.version b.tables.version a.file.bytes b.file.bytes a.tables.fat c.args.start all i is.chain (omega arith)
+    (ap (λ t. t.version) inv.tables) (ap (λ (s : AllocatorState). s.file.bytes) (inv.same tells))
+    (refused tells (subst (λ (s : AllocatorState). IsMeasured s.file) (sym (inv.same tells)) measured)) in
     let p = err_from_is_err_and c.from_residual-in_err-read_slots.result c.from_residual-in_err-read_slots.ensures.1 in
     rw (p.1, p.2) (refused-as _ _ _ _ _ _ _ _ none (λ u. u) (λ never. never) (λ u. u) c.in_err-read_slots.field-0.0 c.in_err-read_slots.ensures.err)
 
@@ -95,7 +95,7 @@ returns-clause-filled g c =
     let items = c.loop-sector.entries.items in
     let is = subst (λ (list : List ℕ). IsDirectoryChain a.tables.version a.tables.fat c.args.start list) (sym c.deref-sector-items.ensures.value) c.in_ok-sectors.ensures.ok in
     let count = read-count g.F.ReadMedium.tells (IsMeasured a.file) c.args.validation a.tables.version a.file.bytes a.tables.fat c.args.start all c.loop-sector.sector-index
-        (entries_of items) (omega arith) c.loop-sector.invariant.read in
+    (entries_of items) (omega arith) c.loop-sector.invariant.read in
     (all, record { chain = is.chain; some = is.some; count = c.loop-sector.entries.ok.0 ∙ sym (length-map items entry_of) ∙ count })
 
 pub returns-clause-fit : goal.returns-clause-fit
@@ -105,7 +105,7 @@ returns-clause-fit g c =
     let items = c.loop-sector.entries.items in
     let is = subst (λ (list : List ℕ). IsDirectoryChain a.tables.version a.tables.fat c.args.start list) (sym c.deref-sector-items.ensures.value) c.in_ok-sectors.ensures.ok in
     let count = read-count g.F.ReadMedium.tells (IsMeasured a.file) c.args.validation a.tables.version a.file.bytes a.tables.fat c.args.start all c.loop-sector.sector-index
-        (entries_of items) (omega arith) c.loop-sector.invariant.read in (
+    (entries_of items) (omega arith) c.loop-sector.invariant.read in (
       read-short g.F.ReadMedium.tells (IsMeasured a.file) c.args.validation a.tables.version a.file.bytes a.tables.fat c.args.start all c.loop-sector.sector-index
           (entries_of items) (omega arith) c.loop-sector.invariant.read,
       subst (λ n. n ≤ max_entries) (sym (c.loop-sector.entries.ok.0 ∙ sym (length-map items entry_of) ∙ count)) is.most,

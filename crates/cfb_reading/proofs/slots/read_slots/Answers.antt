@@ -1,4 +1,4 @@
-use Rattle.std.proofs.Common.{◌≡◌, ◌/◌, ◌%◌, ℕ, List, length, arith, sym, ◌∙◌, ap, subst}
+use Rattle.std.proofs.Common.{◌≡◌, List, length, ◌∙◌, ap, subst}
 use Rattle.std.specs.List.{AllZip}
 use Rattle.std.proofs.lemmas.Result.{on_ok_weaker, IfErr-weaker}
 use Rattle.cfb_format.specs.Bytes.{is_whole_sector}
@@ -36,7 +36,7 @@ returns-clause-err g c =
     let w = c.version-version.result in
     let chunks = c.as_chunks.result.0.now in
     let none : ((more : List Entry) → AllZip (AcceptsEntry c.args.validation w) chunks more → ⊥) → IsTrue g.F.ReadMedium.tells → IsMeasured a.file
-        → is_whole_sector v a.file.bytes c.args.sector ≡ true → (more : List Entry)
-        → AllZip (AcceptsEntry c.args.validation v) (slots_of_sector v a.file.bytes c.args.sector) more → ⊥ =
-        λ refuses tells measured whole. no-entries c.args.validation v w a.file.bytes c.args.sector bytes chunks c.version-version.ensures e.len (e.ok tells) c.as_chunks.ensures.front refuses in
+    → is_whole_sector v a.file.bytes c.args.sector ≡ true → (more : List Entry)
+    → AllZip (AcceptsEntry c.args.validation v) (slots_of_sector v a.file.bytes c.args.sector) more → ⊥ =
+    λ refuses tells measured whole. no-entries c.args.validation v w a.file.bytes c.args.sector bytes chunks c.version-version.ensures e.len (e.ok tells) c.as_chunks.ensures.front refuses in
     IfErr-weaker c.append_entries.result _ _ (λ error refused. memory-refused _ _ _ _ none error refused) c.append_entries.ensures.err

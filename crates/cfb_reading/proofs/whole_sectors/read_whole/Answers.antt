@@ -1,5 +1,4 @@
-use Rattle.std.proofs.Common.{◌≡◌, ◌+◌, ◌≤◌, ℕ, length, take, arith, sym, ◌∙◌, ap}
-use Rattle.std.specs.Prelude.{min}
+use Rattle.std.proofs.Common.{◌≡◌, ◌+◌, ◌≤◌, length, arith, sym, ◌∙◌, ap}
 use Rattle.std.proofs.lemmas.List.{take_all}
 use Rattle.cfb_format.specs.Bytes.{sector_len, sector_start}
 use Rattle.cfb_format.specs.Medium.{part}
@@ -16,7 +15,7 @@ returns-clause-ok g c tells =
     let asked = c.requires in
     let whole : n ≡ sector_len v = omega (arith, all, few, asked) in
     let at : sector_start a.file.version c.args.sector + 0 ≡ sector_start v c.args.sector =
-        (let zero : sector_start a.file.version c.args.sector + 0 ≡ sector_start a.file.version c.args.sector = omega arith in zero)
-        ∙ ap (λ w. sector_start w c.args.sector) c.file_len-file_len.ensures.placed.same_version in
+    (let zero : sector_start a.file.version c.args.sector + 0 ≡ sector_start a.file.version c.args.sector = omega arith in zero)
+    ∙ ap (λ w. sector_start w c.args.sector) c.file_len-file_len.ensures.placed.same_version in
     sym (take_all n into all) ∙ c.in_ok-count.ensures.ok tells
     ∙ ap (λ p. part a.file.bytes p n) at ∙ ap (part a.file.bytes (sector_start v c.args.sector)) whole
