@@ -4,3 +4,9 @@ pub mod DifatLemmas
 pub mod TableSectorLemmas
 pub mod FatWordLemmas
 pub mod KeptWordLaws
+pub mod Zips
+pub mod AllWhole
+pub mod SlotChunks
+pub mod SlotReading
+pub mod WordReading
+pub mod Refusals

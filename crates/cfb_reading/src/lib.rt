@@ -5,3 +5,6 @@ pub mod difat;
 pub mod fat_words;
 pub mod laws;
 mod marks;
+pub mod minifat;
+pub mod slots;
+mod whole_sectors;

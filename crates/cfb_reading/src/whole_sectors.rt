@@ -1,0 +1,50 @@
+//! Sectors that are read whole, by one call of the medium each (MS-CFB 2.1).
+ghost use Rattle.std.specs.Prelude.{◌≡◌, ◌+◌, ◌<◌, ◌≤◌, length, IsTrue, IfErr, OnOk};
+ghost use Rattle.cfb_format.specs.Bytes.{sector_bytes, sector_len, sector_start};
+ghost use Rattle.cfb_format.specs.Refused.{CountsFailure, IsInvalidData};
+ghost use Rattle.cfb_tables.specs.Refused.{ChangeRefused};
+
+use cfb_alloc::alloc::Allocator;
+use cfb_format::error::{Detail, Error};
+use cfb_format::medium::ReadMedium;
+use std::alloc::Allocator as Heap;
+
+/// The greatest length of a sector, in bytes.
+pub(crate) const MAX_SECTOR_LEN: usize = 4096;
+
+/// Reads all of a sector. `InvalidData` exactly where the file has not all of it, and `Medium` where the medium fails.
+pub(crate) fn read_whole<F: ReadMedium, A: Heap>(
+    allocator: &mut Allocator<F, A>,
+    sector: u32,
+    into: &mut [u8],
+) -> Result<(), Error>
+    requires { length into.old ≡ sector_len allocator.old.tables.version }
+    ensures tables { allocator.new.tables ≡ allocator.old.tables }
+    ensures kept { allocator.new.file ≡ record allocator.old.file { bytes = allocator.new.file.bytes; failures = allocator.new.file.failures } }
+    ensures there { OnOk result (sector_start allocator.old.tables.version sector + sector_len allocator.old.tables.version ≤ allocator.old.file.len) }
+    ensures ok { IsTrue F.tells → OnOk result (into.new ≡ sector_bytes allocator.old.tables.version allocator.old.file.bytes sector) }
+    ensures len { length into.new ≡ sector_len allocator.old.tables.version }
+    ensures err { IfErr result (ChangeRefused
+        (allocator.old.file.len < sector_start allocator.old.tables.version sector + sector_len allocator.old.tables.version) ⊥ ⊥ Unit) }
+    ensures same { IsTrue F.tells → OnOk result (allocator.new ≡ allocator.old) }
+    ensures bytes { IsTrue F.tells → allocator.new.file.bytes ≡ allocator.old.file.bytes }
+    ensures counts { IsTrue F.tells → CountsFailure F.read_faults result allocator.old.file.failures allocator.new.file.failures }
+{
+    let file_len = allocator.file_len();
+    let count = allocator.read_contiguous(sector, 0, into)?;
+    if count < into.len() {
+        return Err(cut_short(sector, file_len));
+    }
+    Ok(())
+}
+
+/// A refusal of a sector that the file has not all of.
+fn cut_short(sector: u32, file_len: u64) -> Error
+    ensures { IsInvalidData result }
+{
+    Error::InvalidData(Detail::numbers(
+        "sector that the file has not all of",
+        sector as u64,
+        file_len,
+    ))
+}
