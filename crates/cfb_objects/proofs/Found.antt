@@ -26,7 +26,7 @@ use Rattle.cfb_rules.specs.Finding.{child_named, found_from, found_at, object_at
 use Rattle.cfb_rules.specs.CallRefusals.{is_empty_storage}
 use Rattle.cfb_objects.specs.Objects.{found_inside, inside_of, object_of, found_of, tree_from}
 use Rattle.cfb_objects.specs.Laws.{ObjectIsAtItsEntry, FoundIsAtItsEntry, StreamIsByKind, StorageIsByKind, InsideIsBelow, EmptyIsByChild}
-use Rattle.cfb_objects.proofs.Places.{place_from, no-place, same-place, number-is, leads-at}
+use Rattle.cfb_objects.proofs.Places.{place_from, Fits, named-fits, number-is, leads-at}
 
 -- ---- by kind
 
@@ -101,10 +101,6 @@ module _ (cases : Cases) (es : List Entry) (c : Entry → List ℕ) where
   abbrev pub found_with : ℕ × Outline → Found
   found_with p = record { name = (entry_at es p.0).name; object = object_with p }
 
-  -- nothing is in a stream
-  abbrev Fits : ℕ × Outline → Type 0
-  Fits p = HasContents cases es p.1 × ((entry_at es p.0).obj_type ≡ Stream → p.1 ≡ no_more)
-
   named-found : (name : List ℕ) (o : Outline) → HasContents cases es o → object_named cases name (objects_from es c o) ≡ option_map found_with (number_named cases es name o)
   unfolding objects_from
   named-found name no_more h = refl
@@ -123,20 +119,7 @@ module _ (cases : Cases) (es : List Entry) (c : Entry → List ℕ) where
       go true next = λ d. Some (record { name = (entry_at es i).name; object = sym (stream-kind (entry_at es i).obj_type (a_stream (stream_info c (entry_at es i))) (a_storage (storage_info (entry_at es i)) (objects_from es c no_more)) h.0) d })
       go false next = next
 
-  named-fits : (name : List ℕ) (o : Outline) (p : ℕ × Outline) → HasContents cases es o → number_named cases es name o ≡ Some p → Fits p
-  named-fits name no_more p h e = no-place p e
-  named-fits name (storage_at i inside rest) p h e = go (is_same_name cases name (entry_at es i).name) e (λ f. named-fits name rest p h.3 f)
-    where
-      go : (b : Bool) → (if b then Some (i, inside) else number_named cases es name rest) ≡ Some p → (number_named cases es name rest ≡ Some p → Fits p) → Fits p
-      go true f later = subst Fits (same-place (i, inside) p f) (h.2, λ s. absurd (storage-is-no-stream (entry_at es i).obj_type h.0 s))
-      go false f later = later f
-  named-fits name (stream_at i rest) p h e = go (is_same_name cases name (entry_at es i).name) e (λ f. named-fits name rest p h.1 f)
-    where
-      go : (b : Bool) → (if b then Some (i, no_more) else number_named cases es name rest) ≡ Some p → (number_named cases es name rest ≡ Some p → Fits p) → Fits p
-      go true f later = subst Fits (same-place (i, no_more) p f) (tt, λ s. refl)
-      go false f later = later f
-
-  child-found : (name : List ℕ) (p : ℕ × Outline) → Fits p → child_named cases name (object_with p) ≡ option_map found_with (number_named cases es name p.1)
+  child-found : (name : List ℕ) (p : ℕ × Outline) → Fits cases es p → child_named cases name (object_with p) ≡ option_map found_with (number_named cases es name p.1)
   child-found name p fits = elim (is-stream (entry_at es p.0).obj_type) [
     | inl s ↦
         ap (child_named cases name) (stream-kind (entry_at es p.0).obj_type (a_stream (stream_info c (entry_at es p.0))) (a_storage (storage_info (entry_at es p.0)) (objects_from es c p.1)) s)
@@ -146,14 +129,14 @@ module _ (cases : Cases) (es : List Entry) (c : Entry → List ℕ) where
         ∙ named-found name p.1 fits.0
   ]
 
-  from-found : (names : List (List ℕ)) (p : ℕ × Outline) → Fits p → found_from cases (found_with p) names ≡ option_map found_with (place_from cases es p names)
+  from-found : (names : List (List ℕ)) (p : ℕ × Outline) → Fits cases es p → found_from cases (found_with p) names ≡ option_map found_with (place_from cases es p names)
   from-found [] p fits = refl
   from-found (name ∷ names) p fits =
       ap (λ (f : Option Found). option_and_then (λ (found : Found). found_from cases found names) f) (child-found name p fits)
-      ∙ go (number_named cases es name p.1) (λ q e. named-fits name p.1 q fits.0 e) (λ q f. from-found names q f)
+      ∙ go (number_named cases es name p.1) (λ q e. named-fits cases es name p.1 q fits.0 e) (λ q f. from-found names q f)
     where
-      go : (f : Option (ℕ × Outline)) → ((q : ℕ × Outline) → f ≡ Some q → Fits q)
-          → ((q : ℕ × Outline) → Fits q → found_from cases (found_with q) names ≡ option_map found_with (place_from cases es q names))
+      go : (f : Option (ℕ × Outline)) → ((q : ℕ × Outline) → f ≡ Some q → Fits cases es q)
+          → ((q : ℕ × Outline) → Fits cases es q → found_from cases (found_with q) names ≡ option_map found_with (place_from cases es q names))
           → option_and_then (λ (found : Found). found_from cases found names) (option_map found_with f) ≡ option_map found_with (option_and_then (λ (q : ℕ × Outline). place_from cases es q names) f)
       go None fit next = refl
       go (Some q) fit next = next q (fit q refl)
@@ -165,7 +148,7 @@ module _ (cases : Cases) (es : List Entry) (c : Entry → List ℕ) where
   from-named (name ∷ names) n p fits = refl
 
   module _ (o : Outline) (is : IsOutline cases es o) where
-    root-fits : Fits (0, o)
+    root-fits : Fits cases es (0, o)
     root-fits = (is.contents, λ s. absurd (root-is-no-stream (entry_at es 0).obj_type is.root s))
 
     root-object : object_with (0, o) ≡ a_storage (storage_info (entry_at es 0)) (objects_from es c o)

@@ -1,2 +1,6 @@
 pub mod Places
 pub mod Found
+pub mod Facts
+pub mod Same
+pub mod Level
+pub mod Fields

@@ -11,6 +11,7 @@ use Rattle.cfb_format.specs.Tree.{is_same_name}
 use Rattle.cfb_siblings.specs.Painted.{hit, tally}
 use Rattle.cfb_siblings.specs.Paths.{number_named, number_from}
 use Rattle.cfb_siblings.proofs.Tallies.{hit-same}
+use Rattle.cfb_trees.proofs.Members.{storage-is-no-stream}
 use Rattle.cfb_trees.proofs.Standing.{Stands, StandsAt}
 use Rattle.cfb_rules.specs.Finding.{last_name, parent_names}
 
@@ -121,3 +122,34 @@ module _ (cases : Cases) (es : List Entry) where
           let n : i ≡ p.0 = ap (λ (r : ℕ × Outline). r.0) (same-place (i, no_more) p f) in
           (omega (arith, hit-same i, ap (λ j. hit j i) n), subst (λ j. is_same_name cases name (entry_at es j).name ≡ true) n t)
       go false t f more = let (m, s) = more f in (omega (arith, m), s)
+
+  -- ---- nothing is in a stream
+
+  abbrev pub Fits : ℕ × Outline → Type 0
+  Fits p = HasContents cases es p.1 × ((entry_at es p.0).obj_type ≡ Stream → p.1 ≡ no_more)
+
+  pub named-fits : (name : List ℕ) (o : Outline) (p : ℕ × Outline) → HasContents cases es o → number_named cases es name o ≡ Some p → Fits p
+  named-fits name no_more p h e = no-place p e
+  named-fits name (storage_at i inside rest) p h e = go (is_same_name cases name (entry_at es i).name) e (λ f. named-fits name rest p h.3 f)
+    where
+      go : (b : Bool) → (if b then Some (i, inside) else number_named cases es name rest) ≡ Some p → (number_named cases es name rest ≡ Some p → Fits p) → Fits p
+      go true f later = subst Fits (same-place (i, inside) p f) (h.2, λ s. absurd (storage-is-no-stream (entry_at es i).obj_type h.0 s))
+      go false f later = later f
+  named-fits name (stream_at i rest) p h e = go (is_same_name cases name (entry_at es i).name) e (λ f. named-fits name rest p h.1 f)
+    where
+      go : (b : Bool) → (if b then Some (i, no_more) else number_named cases es name rest) ≡ Some p → (number_named cases es name rest ≡ Some p → Fits p) → Fits p
+      go true f later = subst Fits (same-place (i, no_more) p f) (tt, λ s. refl)
+      go false f later = later f
+
+  pub place-fits : (names : List (List ℕ)) (p q : ℕ × Outline) → Fits p → place_from cases es p names ≡ Some q → Fits q
+  place-fits [] p q fits e = subst Fits (same-place p q e) fits
+  place-fits (name ∷ names) p q fits e = go (number_named cases es name p.1) e (λ r f. named-fits name p.1 r fits.0 f) (λ r f g. place-fits names r q f g)
+    where
+      go : (f : Option (ℕ × Outline)) → option_and_then (λ (r : ℕ × Outline). place_from cases es r names) f ≡ Some q → ((r : ℕ × Outline) → f ≡ Some r → Fits r)
+          → ((r : ℕ × Outline) → Fits r → place_from cases es r names ≡ Some q → Fits q) → Fits q
+      go None g fit next = no-place q g
+      go (Some r) g fit next = next r (fit r refl) g
+
+  -- where a name leads on, no stream stands
+  pub leads-on : (q p : ℕ × Outline) (name : List ℕ) → Fits q → number_named cases es name q.1 ≡ Some p → (entry_at es q.0).obj_type ≢ Stream
+  leads-on q p name fits e s = no-place p (ap (number_named cases es name) (sym (fits.1 s)) ∙ e)

@@ -1,6 +1,6 @@
 //! What names find in the tree is told by the entries, and changes of the entries are changes of the
 //! tree. None of these functions does anything: each has a law as its contract.
-ghost use Rattle.cfb_objects.specs.Laws.{ObjectIsAtItsEntry, FoundIsAtItsEntry, StreamIsByKind, StorageIsByKind, InsideIsBelow, EmptyIsByChild, RootHasItsName, StreamsAreChildless};
+ghost use Rattle.cfb_objects.specs.Laws.{ObjectIsAtItsEntry, FoundIsAtItsEntry, StreamIsByKind, StorageIsByKind, InsideIsBelow, EmptyIsByChild, FieldsChangeInPlace, ContentChangesInPlace, RootHasItsName, StreamsAreChildless};
 
 /// Names find in the tree the object of the entry that they lead to. Its kind, its fields and
 /// whether it is empty stand in the entry.
@@ -17,4 +17,10 @@ pub fn names_find_objects()
 pub fn read_entries_are_in_form()
     ensures root { RootHasItsName }
     ensures childless { StreamsAreChildless }
+{}
+
+/// Another content of a stream, or other fields of an entry, are those of the object at its names.
+pub fn entries_change_in_place()
+    ensures content { ContentChangesInPlace }
+    ensures fields { FieldsChangeInPlace }
 {}
