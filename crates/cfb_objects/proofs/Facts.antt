@@ -1,16 +1,12 @@
 -- What opening read of entries, and smaller facts.
 use Rattle.std.proofs.Common.{◌≡◌, ◌⊎◌, inl, inr, ℕ, zero, suc, List, [], ◌∷◌, refl, ap, sym, ◌∙◌}
-use Rattle.std.specs.List.{AllByRecursion, AllZip}
-use Rattle.std.specs.declared.cmp.Ordering.TheVariants.{Less}
+use Rattle.std.specs.List.{AllZip}
 use Rattle.cfb_format.specs.declared.version.Version.{Version}
 use Rattle.cfb_format.specs.declared.objtype.ObjType.{ObjType}
 use Rattle.cfb_format.specs.declared.objtype.ObjType.TheVariants.{Unallocated, Storage, Stream, Root}
 use Rattle.cfb_format.specs.Bytes.{no_stream, word_at}
-use Rattle.cfb_format.specs.Content.{readable}
-use Rattle.cfb_format.specs.Names.{Cases, name_cmp}
 use Rattle.cfb_format.specs.DirectoryEntry.{Entry, IsEntry, IsAllowedChild, name_for, root_entry_name, slots, stored_name, unallocated_entry}
 use Rattle.cfb_format.specs.Siblings.{entry_at}
-use Rattle.cfb_format.specs.Reading.{Reading, Reads}
 use Rattle.cfb_objects.specs.Laws.{RootHasItsName, StreamsAreChildless}
 
 entry-read : (v : Version) (ss : List (List ℕ)) (es : List Entry) → AllZip (IsEntry v) ss es → (k : ℕ)

@@ -1,15 +1,14 @@
 -- The fields of one entry change: those of the object at its names.
-use Rattle.std.proofs.Common.{◌≡◌, ◌≢◌, ◌⊎◌, inl, inr, ℕ, ◌+◌, ◌*◌, ◌≤◌, List, [], ◌∷◌, ◌++◌, length, Bool, true, false, refl, ap, sym, ◌∙◌, subst, arith}
-use Rattle.std.specs.Prelude.{Option, Some, None, option_and_then, if◌then◌else◌, Contains, ◌%◌}
+use Rattle.std.proofs.Common.{◌≡◌, ◌≢◌, inl, inr, ℕ, ◌+◌, ◌≤◌, List, [], ◌∷◌, ◌++◌, length, Bool, true, false, refl, ap, sym, ◌∙◌, subst, arith}
+use Rattle.std.specs.Prelude.{Some, if◌then◌else◌, Contains, ◌%◌}
 use Rattle.std.proofs.lemmas.Bool.{cases_eq}
-use Rattle.std.proofs.lemmas.Option.{same_Some}
-use Rattle.cfb_format.specs.declared.objtype.ObjType.TheVariants.{Storage, Stream, Root}
+use Rattle.cfb_format.specs.declared.objtype.ObjType.TheVariants.{Stream}
 use Rattle.cfb_format.specs.Names.{Cases}
 use Rattle.cfb_format.specs.DirectoryEntry.{Entry}
-use Rattle.cfb_format.specs.Siblings.{entry_at, Below}
+use Rattle.cfb_format.specs.Siblings.{entry_at}
 use Rattle.cfb_format.specs.Reading.{Outline, no_more, storage_at, stream_at, siblings, numbers, stream_numbers, HasContents, IsOutline}
 use Rattle.cfb_format.specs.Meaning.{objects_from, storage_info, stream_info}
-use Rattle.cfb_format.specs.Tree.{StorageInfo, StreamInfo, Objects, storage, stream, is_same_name}
+use Rattle.cfb_format.specs.Tree.{StorageInfo, StreamInfo, storage, stream, is_same_name}
 use Rattle.cfb_rules.specs.CallChanges.{with_fields, fields_changed_at, with_content, same_storage}
 use Rattle.cfb_rules.specs.Finding.{last_name, parent_names}
 use Rattle.cfb_siblings.specs.Painted.{hit, tally}
@@ -19,9 +18,8 @@ use Rattle.cfb_siblings.proofs.Tallies.{hit-same, hit-cases, tally-append, count
 use Rattle.cfb_siblings.proofs.Outlines.{siblings-numbers, if-true, if-false}
 use Rattle.cfb_siblings.proofs.Kept.{objects-kept}
 use Rattle.cfb_trees.specs.Changes.{ButFields}
-use Rattle.cfb_trees.proofs.Members.{below-once, no-root, of-stream-kind, reached-once, root-is-no-stream, storage-is-no-stream}
-use Rattle.cfb_trees.proofs.PathDown.{is-stream}
-use Rattle.cfb_trees.proofs.Same.{outline-kept, same-fields}
+use Rattle.cfb_trees.proofs.Members.{of-stream-kind, reached-once, root-is-no-stream, storage-is-no-stream}
+use Rattle.cfb_trees.proofs.Same.{outline-kept}
 use Rattle.cfb_trees.proofs.Standing.{StandsAt, at-inner, at-within, at-held}
 use Rattle.cfb_objects.specs.Objects.{tree_from}
 use Rattle.cfb_objects.specs.Changes.{ButContent, ChangesFields, MovesContentOf, OtherContentsStay}
@@ -124,7 +122,7 @@ module _ (cases : Cases) (old new : List Entry) (before after : Entry → List �
       }
   fields-changed (name ∷ names) x e =
       let (q, at, named) = place-split cases old (0, o) name names (i, x) e in
-      let ne : (entry_at old q.0).obj_type ≢ Stream = 
+      let ne : (entry_at old q.0).obj_type ≢ Stream =
       leads-on cases old q (i, x) (last_name (name ∷ names))
       (place-fits cases old (parent_names (name ∷ names)) (0, o) q (is.contents, λ s. absurd (root-is-no-stream (entry_at old 0).obj_type is.root s)) at) named in
       let stands : StandsAt q.0 q.1 o = leads-at cases old q.0 q.1 ne o (parent_names (name ∷ names)) is.contents at in

@@ -1,8 +1,8 @@
 -- What stands at names, by numbers and by objects.
-use Rattle.std.proofs.Common.{◌≡◌, ◌≢◌, ◌⊎◌, inl, inr, ℕ, ◌+◌, ◌≤◌, List, [], ◌∷◌, ◌++◌, Bool, true, false, refl, ap, sym, ◌∙◌, subst, arith}
-use Rattle.std.specs.Prelude.{Option, Some, None, option_and_then, option_map, unwrap_or, if◌then◌else◌, ◌==◌, ◌↔◌, MatchOption}
+use Rattle.std.proofs.Common.{◌≡◌, ◌≢◌, inl, inr, ℕ, ◌+◌, ◌≤◌, List, [], ◌∷◌, ◌++◌, Bool, true, false, refl, ap, sym, ◌∙◌, subst, arith}
+use Rattle.std.specs.Prelude.{Option, Some, None, option_and_then, option_map, unwrap_or, if◌then◌else◌, ◌==◌, ◌↔◌}
 use Rattle.std.specs.Option.{option_or}
-use Rattle.std.proofs.lemmas.Bool.{cases_eq, ne_eqb}
+use Rattle.std.proofs.lemmas.Bool.{ne_eqb}
 use Rattle.std.proofs.Common.{eq-eqb}
 use Rattle.cfb_format.specs.declared.objtype.ObjType.{ObjType}
 use Rattle.cfb_format.specs.declared.objtype.ObjType.TheVariants.{Unallocated, Storage, Stream, Root}
@@ -14,14 +14,14 @@ use Rattle.cfb_format.specs.Reading.{Outline, no_more, storage_at, stream_at, si
 use Rattle.cfb_format.specs.Meaning.{objects_from, storage_info, stream_info}
 use Rattle.cfb_format.specs.Tree.{Object, a_storage, a_stream, Found, is_same_name, object_named}
 use Rattle.cfb_outline.specs.Outlines.{HasInside}
-use Rattle.cfb_siblings.specs.Painted.{hit, tally}
+use Rattle.cfb_siblings.specs.Painted.{tally}
 use Rattle.cfb_siblings.specs.Paths.{number_named, number_from}
 use Rattle.cfb_siblings.proofs.Outlines.{if-true, if-false}
 use Rattle.cfb_siblings.proofs.Put.{nothing-below}
-use Rattle.cfb_siblings.proofs.Tallies.{hit-same, hit-cases, hit-none, tally-append, counted}
-use Rattle.cfb_trees.proofs.Members.{storage-is-no-stream, root-is-no-stream, below-once, no-root, reached-once}
+use Rattle.cfb_siblings.proofs.Tallies.{hit-same, hit-none, tally-append, counted}
+use Rattle.cfb_trees.proofs.Members.{storage-is-no-stream, root-is-no-stream, below-once, no-root}
 use Rattle.cfb_trees.proofs.PathDown.{is-stream}
-use Rattle.cfb_trees.proofs.Standing.{Stands, StandsAt, stands-inner, at-inner, at-held, stands-at}
+use Rattle.cfb_trees.proofs.Standing.{Stands, StandsAt, stands-inner, at-held, stands-at}
 use Rattle.cfb_rules.specs.Finding.{child_named, found_from, found_at, object_at}
 use Rattle.cfb_rules.specs.CallRefusals.{is_empty_storage}
 use Rattle.cfb_objects.specs.Objects.{found_inside, inside_of, object_of, found_of, tree_from}
@@ -142,7 +142,7 @@ module _ (cases : Cases) (es : List Entry) (c : Entry → List ℕ) where
       go (Some q) fit next = next q (fit q refl)
 
   -- the start may have any name
-  from-named : (names : List (List ℕ)) (n : List ℕ) (p : ℕ × Outline) → Fits p
+  from-named : (names : List (List ℕ)) (n : List ℕ) (p : ℕ × Outline) → Fits cases es p
       → option_map (λ (f : Found). f.object) (found_from cases (record { name = n; object = object_with p }) names) ≡ option_map (λ (f : Found). f.object) (found_from cases (found_with p) names)
   from-named [] n p fits = refl
   from-named (name ∷ names) n p fits = refl

@@ -1,12 +1,12 @@
 -- What is in one storage is replaced, and all else is as before: at the storage's names the objects are changed so.
 use Rattle.std.proofs.Common.{◌≡◌, ◌≢◌, inl, inr, ℕ, ◌+◌, ◌≤◌, List, [], ◌∷◌, ◌++◌, length, Bool, true, false, refl, ap, sym, ◌∙◌, subst, arith}
-use Rattle.std.specs.Prelude.{Option, Some, None, option_and_then, if◌then◌else◌}
+use Rattle.std.specs.Prelude.{Some, option_and_then, if◌then◌else◌}
 use Rattle.cfb_format.specs.declared.objtype.ObjType.TheVariants.{Stream}
 use Rattle.cfb_format.specs.Names.{Cases}
 use Rattle.cfb_format.specs.DirectoryEntry.{Entry}
 use Rattle.cfb_format.specs.Siblings.{entry_at, Below}
 use Rattle.cfb_format.specs.Reading.{Outline, no_more, storage_at, stream_at, siblings, numbers, HasContents, IsOutline}
-use Rattle.cfb_format.specs.Meaning.{objects_from, storage_info, stream_info}
+use Rattle.cfb_format.specs.Meaning.{objects_from, storage_info}
 use Rattle.cfb_format.specs.Tree.{Objects, storage, stream, is_same_name}
 use Rattle.cfb_format.proofs.Unique.{Below-unique}
 use Rattle.cfb_rules.specs.CallChanges.{inside_changed, changed_at, tree_changed_at}
@@ -182,6 +182,7 @@ module _ (cases : Cases) (old new : List Entry) (longer : length old ≤ length 
       stuck : (ns : List (List ℕ)) → place_from cases old (i, no_more) ns ≡ Some (q, x) → ⊥
       stuck [] f = ne (ap (λ (j : ℕ). (entry_at old j).obj_type) (sym (ap (λ (r : ℕ × Outline). r.0) (same-place (i, no_more) (q, x) f))) ∙ h.0)
       stuck (n ∷ ns) f = no-place (q, x) f
+
       go : (b : Bool) → is_same_name cases name (entry_at old i).name ≡ b
           → option_and_then (λ (p : ℕ × Outline). place_from cases old p names) (if b then Some (i, no_more) else number_named cases old name rest) ≡ Some (q, x)
           → (Lead rest name names → Stands q x rest × Result rest name names) → Result (stream_at i rest) name names

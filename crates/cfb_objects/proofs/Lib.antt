@@ -4,3 +4,5 @@ pub mod Facts
 pub mod Same
 pub mod Level
 pub mod Fields
+pub mod Added
+pub mod Becoming

@@ -6,7 +6,7 @@ use Rattle.cfb_format.specs.declared.objtype.ObjType.TheVariants.{Stream}
 use Rattle.cfb_format.specs.Names.{Cases}
 use Rattle.cfb_format.specs.DirectoryEntry.{Entry}
 use Rattle.cfb_format.specs.Siblings.{entry_at}
-use Rattle.cfb_format.specs.Reading.{Outline, no_more, storage_at, stream_at, siblings, HasContents, IsOutline}
+use Rattle.cfb_format.specs.Reading.{Outline, no_more, storage_at, stream_at, siblings, HasContents}
 use Rattle.cfb_format.specs.Tree.{is_same_name}
 use Rattle.cfb_siblings.specs.Painted.{hit, tally}
 use Rattle.cfb_siblings.specs.Paths.{number_named, number_from}
@@ -58,6 +58,7 @@ module _ (cases : Cases) (es : List Entry) where
             → Stands q x (storage_at i inside rest)
         here [] f deeper = let p = same-place (i, inside) (q, x) f in inl (ap (λ (r : ℕ × Outline). r.0) p, ap (λ (r : ℕ × Outline). r.1) p)
         here (n ∷ ns) f deeper = inr (inl (deeper n ns f))
+
         go : (b : Bool)
             → option_and_then (λ (p : ℕ × Outline). place_from cases es p names) (if b then Some (i, inside) else number_named cases es name rest) ≡ Some (q, x)
             → ((n : List ℕ) (ns : List (List ℕ)) → option_and_then (λ (p : ℕ × Outline). place_from cases es p ns) (number_named cases es n inside) ≡ Some (q, x) → Stands q x inside)
@@ -70,6 +71,7 @@ module _ (cases : Cases) (es : List Entry) where
         here : (ns : List (List ℕ)) → place_from cases es (i, no_more) ns ≡ Some (q, x) → ⊥
         here [] f = ne (ap (λ (j : ℕ). (entry_at es j).obj_type) (sym (ap (λ (r : ℕ × Outline). r.0) (same-place (i, no_more) (q, x) f))) ∙ h.0)
         here (n ∷ ns) f = no-place (q, x) f
+
         go : (b : Bool)
             → option_and_then (λ (p : ℕ × Outline). place_from cases es p names) (if b then Some (i, no_more) else number_named cases es name rest) ≡ Some (q, x)
             → (option_and_then (λ (p : ℕ × Outline). place_from cases es p names) (number_named cases es name rest) ≡ Some (q, x) → Stands q x rest)

@@ -1,12 +1,11 @@
 -- Where entries, contents and outlines are the same.
-use Rattle.std.proofs.Common.{◌≡◌, ◌≢◌, ℕ, ◌≤◌, List, [], ◌∷◌, ◌++◌, refl, ap, sym, ◌∙◌, subst, arith}
-use Rattle.std.specs.Prelude.{Contains}
+use Rattle.std.proofs.Common.{◌≡◌, ℕ, ◌≤◌, List, refl, ap, subst, arith}
 use Rattle.cfb_format.specs.declared.objtype.ObjType.TheVariants.{Storage, Stream}
 use Rattle.cfb_format.specs.Content.{readable}
 use Rattle.cfb_format.specs.Names.{Cases}
 use Rattle.cfb_format.specs.DirectoryEntry.{Entry}
 use Rattle.cfb_format.specs.Siblings.{entry_at, Below}
-use Rattle.cfb_format.specs.Reading.{Outline, no_more, storage_at, stream_at, siblings, stream_numbers, HasContents, IsOutline, Reading}
+use Rattle.cfb_format.specs.Reading.{Outline, no_more, storage_at, stream_at, siblings, stream_numbers, HasContents}
 use Rattle.cfb_format.specs.Meaning.{objects_from, storage_info, stream_info}
 use Rattle.cfb_format.specs.Tree.{storage, stream}
 use Rattle.cfb_format.proofs.Unique.{Below-unique}

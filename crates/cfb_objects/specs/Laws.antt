@@ -8,7 +8,7 @@ use Rattle.cfb_format.specs.DirectoryEntry.{Entry, root_entry_name}
 use Rattle.cfb_format.specs.Siblings.{entry_at}
 use Rattle.cfb_format.specs.Reading.{Outline, IsOutline, Reading, Reads}
 use Rattle.cfb_format.specs.Meaning.{Means, objects_from, storage_info, stream_info, tree_of}
-use Rattle.cfb_format.specs.Tree.{Tree, StorageInfo, StreamInfo, IsOrdered, a_storage, a_stream}
+use Rattle.cfb_format.specs.Tree.{Tree, StorageInfo, StreamInfo, a_storage, a_stream}
 use Rattle.cfb_outline.specs.Outlines.{HasInside}
 use Rattle.cfb_siblings.specs.Children.{HasInserted}
 use Rattle.cfb_siblings.specs.Laws.{IgnoresLinks, grown_by}
@@ -52,10 +52,6 @@ abbrev pub EmptyIsByChild : Type 0
 EmptyIsByChild = (cases : Cases) (entries : List Entry) (content : Entry → List ℕ) (o : Outline) (k : ℕ) → IsOutline cases entries o → IsReached o k
     → (entry_at entries k).obj_type ≢ Stream
     → ((entry_at entries k).child ≡ no_stream) ↔ (is_empty_storage (object_of entries content o k) ≡ true)
-
--- the names of each storage rise
-abbrev pub ObjectsAreOrdered : Type 0
-ObjectsAreOrdered = (cases : Cases) (entries : List Entry) (content : Entry → List ℕ) (o : Outline) → IsOutline cases entries o → IsOrdered cases (objects_from entries content o)
 
 -- ---- what opening read
 
