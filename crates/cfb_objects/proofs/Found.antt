@@ -8,6 +8,7 @@ use Rattle.cfb_format.specs.declared.objtype.ObjType.{ObjType}
 use Rattle.cfb_format.specs.declared.objtype.ObjType.TheVariants.{Unallocated, Storage, Stream, Root}
 use Rattle.cfb_format.specs.Bytes.{no_stream}
 use Rattle.cfb_format.specs.Names.{Cases}
+use Rattle.cfb_format.specs.Path.{names_of_path}
 use Rattle.cfb_format.specs.DirectoryEntry.{Entry, root_entry_name, unless_stream}
 use Rattle.cfb_format.specs.Siblings.{entry_at, Below, SiblingTree, leaf, node, HangsAt, in_order}
 use Rattle.cfb_format.specs.Reading.{Outline, no_more, storage_at, stream_at, siblings, numbers, HasContents, IsOutline}
@@ -25,7 +26,7 @@ use Rattle.cfb_trees.proofs.Standing.{Stands, StandsAt, stands-inner, at-held, s
 use Rattle.cfb_rules.specs.Finding.{child_named, found_from, found_at, object_at}
 use Rattle.cfb_rules.specs.CallRefusals.{is_empty_storage}
 use Rattle.cfb_objects.specs.Objects.{found_inside, inside_of, object_of, found_of, tree_from}
-use Rattle.cfb_objects.specs.Laws.{ObjectIsAtItsEntry, FoundIsAtItsEntry, StreamIsByKind, StorageIsByKind, InsideIsBelow, EmptyIsByChild}
+use Rattle.cfb_objects.specs.Laws.{ObjectIsAtItsEntry, ObjectIsAtItsPath, FoundIsAtItsEntry, StreamIsByKind, StorageIsByKind, InsideIsBelow, EmptyIsByChild}
 use Rattle.cfb_objects.proofs.Places.{place_from, Fits, named-fits, number-is, leads-at}
 
 -- ---- by kind
@@ -192,6 +193,13 @@ found-is-at-its-entry cases es c o names is root = at-found cases es c o is name
 
 pub object-is-at-its-entry : ObjectIsAtItsEntry
 object-is-at-its-entry cases es c o names is = at-object cases es c o is names
+
+pub object-is-at-its-path : ObjectIsAtItsPath
+object-is-at-its-path cases es c o path is = go (names_of_path path)
+  where
+    go : (names : Option (List (List ℕ))) → option_and_then (object_at cases (tree_from es c o)) names ≡ option_map (object_of es c o) (option_and_then (number_from cases es 0 o) names)
+    go None = refl
+    go (Some names) = at-object cases es c o is names
 
 -- ---- empty storages
 

@@ -6,3 +6,4 @@ pub mod Level
 pub mod Fields
 pub mod Added
 pub mod Becoming
+pub mod Leading

@@ -1,9 +1,10 @@
 -- What names find in the tree by the entries' numbers, and what changes of the entries make of the tree.
-use Rattle.std.specs.Prelude.{ℕ, ◌≡◌, ◌≢◌, ◌↔◌, List, true, Some, option_map, length}
+use Rattle.std.specs.Prelude.{ℕ, ◌≡◌, ◌≢◌, ◌↔◌, List, ◌∷◌, true, Some, option_and_then, option_map, length}
 use Rattle.cfb_format.specs.declared.objtype.ObjType.TheVariants.{Unallocated, Storage, Stream}
 use Rattle.cfb_format.specs.Bytes.{no_stream}
 use Rattle.cfb_format.specs.Content.{readable}
 use Rattle.cfb_format.specs.Names.{Cases}
+use Rattle.cfb_format.specs.Path.{names_of_path}
 use Rattle.cfb_format.specs.DirectoryEntry.{Entry, root_entry_name}
 use Rattle.cfb_format.specs.Siblings.{entry_at}
 use Rattle.cfb_format.specs.Reading.{Outline, IsOutline, Reading, Reads}
@@ -12,7 +13,7 @@ use Rattle.cfb_format.specs.Tree.{Tree, StorageInfo, StreamInfo, a_storage, a_st
 use Rattle.cfb_outline.specs.Outlines.{HasInside}
 use Rattle.cfb_siblings.specs.Children.{HasInserted}
 use Rattle.cfb_siblings.specs.Laws.{IgnoresLinks, grown_by}
-use Rattle.cfb_siblings.specs.Paths.{number_from}
+use Rattle.cfb_siblings.specs.Paths.{LeadsOn, number_at_path, number_from}
 use Rattle.cfb_trees.specs.Reached.{IsReached}
 use Rattle.cfb_rules.specs.CallChanges.{content_changed_at, fields_changed_at, new_storage, new_stream, storage_added_at, stream_added_at}
 use Rattle.cfb_rules.specs.CallRefusals.{is_empty_storage}
@@ -33,6 +34,11 @@ FoundIsAtItsEntry = (cases : Cases) (entries : List Entry) (content : Entry → 
     → (entry_at entries 0).name ≡ root_entry_name
     → found_at cases (tree_from entries content o) names ≡ option_map (found_of entries content o) (number_from cases entries 0 o names)
 
+-- so does a path
+abbrev pub ObjectIsAtItsPath : Type 0
+ObjectIsAtItsPath = (cases : Cases) (entries : List Entry) (content : Entry → List ℕ) (o : Outline) (path : List ℕ) → IsOutline cases entries o
+    → option_and_then (object_at cases (tree_from entries content o)) (names_of_path path) ≡ option_map (object_of entries content o) (number_at_path cases entries o path)
+
 -- it is a stream exactly if the entry's kind says so
 abbrev pub StreamIsByKind : Type 0
 StreamIsByKind = (entries : List Entry) (content : Entry → List ℕ) (o : Outline) (k : ℕ) → (entry_at entries k).obj_type ≡ Stream
@@ -52,6 +58,19 @@ abbrev pub EmptyIsByChild : Type 0
 EmptyIsByChild = (cases : Cases) (entries : List Entry) (content : Entry → List ℕ) (o : Outline) (k : ℕ) → IsOutline cases entries o → IsReached o k
     → (entry_at entries k).obj_type ≢ Stream
     → ((entry_at entries k).child ≡ no_stream) ↔ (is_empty_storage (object_of entries content o k) ≡ true)
+
+-- ---- going down by names
+
+-- a missing object is no child of what stands at the names but the last, and one that is there is the child of its name
+abbrev pub LastNameLeadsOn : Type 0
+LastNameLeadsOn = (cases : Cases) (entries : List Entry) (o : Outline) (name : List ℕ) (names : List (List ℕ)) (parent : ℕ) → IsOutline cases entries o
+    → number_from cases entries 0 o (parent_names (name ∷ names)) ≡ Some parent
+    → LeadsOn cases entries parent (last_name (name ∷ names)) (number_from cases entries 0 o (name ∷ names))
+
+-- what stands at names stands in something
+abbrev pub FoundHasParent : Type 0
+FoundHasParent = (cases : Cases) (entries : List Entry) (o : Outline) (name : List ℕ) (names : List (List ℕ)) (k : ℕ) → IsOutline cases entries o
+    → number_from cases entries 0 o (name ∷ names) ≡ Some k → (parent : ℕ) × (number_from cases entries 0 o (parent_names (name ∷ names)) ≡ Some parent)
 
 -- ---- what opening read
 

@@ -1,16 +1,23 @@
 //! What names find in the tree is told by the entries, and changes of the entries are changes of the
 //! tree. None of these functions does anything: each has a law as its contract.
-ghost use Rattle.cfb_objects.specs.Laws.{ObjectIsAtItsEntry, FoundIsAtItsEntry, StreamIsByKind, StorageIsByKind, InsideIsBelow, EmptyIsByChild, FieldsChangeInPlace, ContentChangesInPlace, RootHasItsName, StreamsAreChildless, ReadableIgnoresLinks, GrowthKeepsTree, StorageIsAdded, StreamIsAdded, TreeBecomes};
+ghost use Rattle.cfb_objects.specs.Laws.{ObjectIsAtItsEntry, FoundIsAtItsEntry, ObjectIsAtItsPath, LastNameLeadsOn, FoundHasParent, StreamIsByKind, StorageIsByKind, InsideIsBelow, EmptyIsByChild, FieldsChangeInPlace, ContentChangesInPlace, RootHasItsName, StreamsAreChildless, ReadableIgnoresLinks, GrowthKeepsTree, StorageIsAdded, StreamIsAdded, TreeBecomes};
 
 /// Names find in the tree the object of the entry that they lead to. Its kind, its fields and
 /// whether it is empty stand in the entry.
 pub fn names_find_objects()
     ensures object { ObjectIsAtItsEntry }
     ensures found { FoundIsAtItsEntry }
+    ensures path { ObjectIsAtItsPath }
     ensures stream { StreamIsByKind }
     ensures storage { StorageIsByKind }
     ensures inside { InsideIsBelow }
     ensures empty { EmptyIsByChild }
+{}
+
+/// What names find is the child of the last name of what the names before it find.
+pub fn names_lead_to_children()
+    ensures leads { LastNameLeadsOn }
+    ensures parent { FoundHasParent }
 {}
 
 /// In a file that opens the root has its name, and a stream has no child (MS-CFB 2.6.2 and 2.6.3).

@@ -1,4 +1,4 @@
-use Rattle.cfb_objects.proofs.Found.{object-is-at-its-entry, found-is-at-its-entry, stream-by-kind, storage-by-kind, inside-is-below, empty-is-by-child}
+use Rattle.cfb_objects.proofs.Found.{object-is-at-its-entry, object-is-at-its-path, found-is-at-its-entry, stream-by-kind, storage-by-kind, inside-is-below, empty-is-by-child}
 use Rattle.cfb_objects.proofs.laws.names_find_objects.Goals as goal
 
 pub returns-clause-object : goal.returns-clause-object
@@ -18,3 +18,6 @@ returns-clause-inside c = inside-is-below
 
 pub returns-clause-empty : goal.returns-clause-empty
 returns-clause-empty c = empty-is-by-child
+
+pub returns-clause-path : goal.returns-clause-path
+returns-clause-path c = object-is-at-its-path
