@@ -209,7 +209,10 @@ fn reads_of_an_opening(rt: HostRuntime) -> Result<(), Fail> {
                 rt.alloc(),
                 Failing::once(medium, Kind::Read, nth),
             ).err();
-            assert!(rt; found == (nth <= *readings).then_some(Error::Medium(fault)), "at {nth}");
+            assert!(rt;
+                found == (nth <= *readings).then_some(Error::Medium(fault)),
+                "at {nth}"
+            );
         }
     }
     for (version, stream, at, reads) in &READ {
@@ -251,7 +254,10 @@ fn memory_is_refused_in_turn(rt: HostRuntime) -> Result<(), Fail> {
                 of_medium || found == Err(Error::Memory),
                 "at {before}: {found:?}"
             );
-            assert!(rt; made_or_opened(&heap, version, bytes) == Ok(()), "again at {before}");
+            assert!(rt;
+                made_or_opened(&heap, version, bytes) == Ok(()),
+                "again at {before}"
+            );
         }
         heap.refuse_all();
         assert_eq!(rt; made_or_opened(&heap, version, bytes), Err(Error::Memory));

@@ -118,14 +118,35 @@ fn free_slots_are_taken_in_order(rt: HostRuntime) -> Result<(), Fail> {
     let mut entries = opened(rt.alloc(), directory(rt.alloc(), GIVEN)?)?;
     assert!(rt; put(rt.alloc(), &mut entries, &[], "z")? == 1, "the lowest");
     take(rt.alloc(), &mut entries, &[], "m")?;
-    assert!(rt; put(rt.alloc(), &mut entries, &[], "n")? == 2, "the freed one");
-    assert!(rt; put(rt.alloc(), &mut entries, &[], "a")? == 3, "the last one");
-    assert!(rt; put(rt.alloc(), &mut entries, &[], "b")? == 4, "the lowest new one");
-    assert!(rt; put(rt.alloc(), &mut entries, &[], "c")? == 5, "the next new one");
+    assert!(rt;
+        put(rt.alloc(), &mut entries, &[], "n")? == 2,
+        "the freed one"
+    );
+    assert!(rt;
+        put(rt.alloc(), &mut entries, &[], "a")? == 3,
+        "the last one"
+    );
+    assert!(rt;
+        put(rt.alloc(), &mut entries, &[], "b")? == 4,
+        "the lowest new one"
+    );
+    assert!(rt;
+        put(rt.alloc(), &mut entries, &[], "c")? == 5,
+        "the next new one"
+    );
     take(rt.alloc(), &mut entries, &[], "a")?;
     take(rt.alloc(), &mut entries, &[], "b")?;
-    assert!(rt; put(rt.alloc(), &mut entries, &[], "d")? == 4, "what was freed last");
-    assert!(rt; put(rt.alloc(), &mut entries, &[], "e")? == 3, "what was freed before that");
-    assert!(rt; put(rt.alloc(), &mut entries, &[], "f")? == 6, "a new one again");
+    assert!(rt;
+        put(rt.alloc(), &mut entries, &[], "d")? == 4,
+        "what was freed last"
+    );
+    assert!(rt;
+        put(rt.alloc(), &mut entries, &[], "e")? == 3,
+        "what was freed before that"
+    );
+    assert!(rt;
+        put(rt.alloc(), &mut entries, &[], "f")? == 6,
+        "a new one again"
+    );
     Ok(())
 }

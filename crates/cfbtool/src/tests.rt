@@ -129,7 +129,10 @@ fn runs(rt: HostRuntime) -> Result<(), Fail> {
         } else {
             (&b""[..], *line)
         };
-        assert!(rt; out.strip_prefix(all.get(..*out_len).unwrap_or(&[])) == Some(out_line), "of run {i}");
+        assert!(rt;
+            out.strip_prefix(all.get(..*out_len).unwrap_or(&[])) == Some(out_line),
+            "of run {i}"
+        );
         assert!(rt; faults.as_slice() == fault, "of run {i}");
         let after = fs::read(&rt, "tool.cfb").unwrap_or(Vec::new(rt.alloc()));
         if *file_len == 0 {
