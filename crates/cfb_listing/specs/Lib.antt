@@ -1,0 +1,4 @@
+pub mod Told
+pub mod Left
+pub mod Listings
+pub mod Waiting
