@@ -1,1 +1,4 @@
 pub mod Slashes
+pub mod Telling
+pub mod Levels
+pub mod Leaving

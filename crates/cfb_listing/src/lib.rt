@@ -3,6 +3,6 @@
 
 pub mod entries;
 pub mod entry;
-// pub mod laws;
+pub mod laws;
 mod links;
 pub mod listing;
