@@ -1,7 +1,7 @@
 -- What was listed of a storage, and what is still to come.
-use Rattle.std.proofs.Common.{◌≡◌, ℕ, ◌+◌, ◌<◌, ◌≤◌, Bool, true, false, List, [], ◌∷◌, ◌++◌, length, refl, sym, ◌∙◌, ap, subst, arith, append_assoc, append-nil}
+use Rattle.std.proofs.Common.{◌≡◌, ℕ, ◌+◌, ◌<◌, ◌≤◌, Bool, true, false, List, [], ◌∷◌, ◌++◌, length, refl, sym, ◌∙◌, ap, subst, arith, append_assoc, append-nil, reverse}
 use Rattle.std.specs.Prelude.{Option, Some, None, map}
-use Rattle.std.proofs.lemmas.List.{length-append}
+use Rattle.std.proofs.lemmas.List.{length-append, map-append, reverse-append, reverse-reverse}
 use Rattle.std.proofs.Math.Seq.{get_or-append_seam}
 use Rattle.cfb_format.specs.Names.{Cases}
 use Rattle.cfb_format.specs.Path.{child_path}
@@ -147,3 +147,62 @@ module _ (order : EntriesOrder) (es : List Entry) (asked : List ℕ) (k : ℕ) (
       let count = ap (length {A = EntryInfo}) left.all_is in
       omega (arith, next.some, most, count, by-count es empty order i.outline asked, length-append begun (listed_by order asked (objects_from es empty i.outline)),
       length-append list (to_come order es empty left.levels))
+
+-- ---- the stack of what waits, the next one last
+
+map-reverse : {X Y : Type 0} (f : X → Y) (xs : List X) → reverse (map f xs) ≡ map f (reverse xs)
+map-reverse f [] = refl
+map-reverse f (x ∷ xs) =
+    reverse-append (f x ∷ []) (map f xs) ∙ ap (λ ys. ys ++ f x ∷ []) (map-reverse f xs) ∙ sym (map-append f (reverse xs) (x ∷ [])) ∙ ap (map f) (sym (reverse-append (x ∷ []) xs))
+
+-- siblings that were pushed, the greatest name first
+pub pushed : (parent : Option ℕ) (old : List Waiting) (xs : List ℕ) → reverse (old ++ map (waits_in parent) (reverse xs)) ≡ map (waits_in parent) xs ++ reverse old
+pushed parent old xs =
+    reverse-append old (map (waits_in parent) (reverse xs))
+    ∙ ap (λ ws. ws ++ reverse old) (map-reverse (waits_in parent) (reverse xs) ∙ ap (map (waits_in parent)) (reverse-reverse xs))
+
+pub popped : (old : List Waiting) (w : Waiting) → reverse (old ++ w ∷ []) ≡ w ∷ reverse old
+popped old w = reverse-append old (w ∷ [])
+
+-- ---- the steps of a listing
+
+module _ (order : EntriesOrder) (es : List Entry) (asked : List ℕ) (k : ℕ) (begun : List EntryInfo) where
+
+  pub listing-start : (waits : List Waiting) → ((cases : Cases) (inside : Outline) → HasInside cases es k inside → waits ≡ map (waits_in None) (siblings inside))
+      → Listing order es asked k begun waits begun
+  listing-start waits first = record {
+    left = λ cases inside content has.
+        subst (λ ws. Left order cases es content asked (begun ++ listed_by order asked (objects_from es content inside)) ws begun) (sym (first cases inside has))
+        (left-start order cases es content asked inside begun has.contents);
+  }
+
+  pub listing-pass : (w : Waiting) (later : List Waiting) (list : List EntryInfo) (x : EntryInfo) → Listing order es asked k begun (w ∷ later) list
+      → is_entered order (entry_at es w.number).obj_type ≡ false
+      → x ≡ entry_info (child_path (path_at asked list w.parent) (entry_at es w.number).name) (entry_at es w.number)
+      → Listing order es asked k begun later (list ++ x ∷ [])
+  listing-pass w later list x l flat is = record {
+    left = λ cases inside content has. left-pass order cases es content asked _ w later list x (l.left cases inside content has) flat is;
+  }
+
+  pub listing-below : (cases : Cases) → IsReachedStorage cases es k → (w : Waiting) (later : List Waiting) (list : List EntryInfo) → Listing order es asked k begun (w ∷ later) list
+      → is_entered order (entry_at es w.number).obj_type ≡ true
+      → (siblings_there : List ℕ) × Below cases es (entry_at es w.number).child siblings_there
+  listing-below cases r w later list l deep =
+      let opened = left-enter order cases es empty asked _ w later list _ (known order es asked k begun cases r (w ∷ later) list l) deep refl in
+      (siblings opened.inside, opened.below)
+
+  pub listing-enter : (w : Waiting) (later : List Waiting) (list : List EntryInfo) (x : EntryInfo) (waits : List Waiting) → Listing order es asked k begun (w ∷ later) list
+      → is_entered order (entry_at es w.number).obj_type ≡ true
+      → x ≡ entry_info (child_path (path_at asked list w.parent) (entry_at es w.number).name) (entry_at es w.number)
+      → ((cases : Cases) (there : List ℕ) → Below cases es (entry_at es w.number).child there → waits ≡ map (waits_in (Some (length list))) there ++ later)
+      → Listing order es asked k begun waits (list ++ x ∷ [])
+  listing-enter w later list x waits l deep is next = record {
+    left = λ cases inside content has.
+        let opened = left-enter order cases es content asked _ w later list x (l.left cases inside content has) deep is in
+        subst (λ ws. Left order cases es content asked (begun ++ listed_by order asked (objects_from es content inside)) ws (list ++ x ∷ []))
+        (sym (next cases (siblings opened.inside) opened.below)) opened.left;
+  }
+
+  pub listing-end : (list : List EntryInfo) → Listing order es asked k begun [] list → (cases : Cases) (inside : Outline) (content : Entry → List ℕ) → HasInside cases es k inside
+      → list ≡ begun ++ listed_by order asked (objects_from es content inside)
+  listing-end list l cases inside content has = left-end order cases es content asked _ list (l.left cases inside content has)

@@ -22,6 +22,10 @@ listed_by Preorder path objects = walked path objects
 abbrev pub OfInside : List Entry → ℕ → (Objects → Type 0) → Type 0
 OfInside entries k holds_of = (cases : Cases) (inside : Outline) (content : Entry → List ℕ) → HasInside cases entries k inside → holds_of (objects_from entries content inside)
 
+-- the list has what is in the storage k, in this order
+abbrev pub ListsInside : EntriesOrder → List Entry → List ℕ → ℕ → List EntryInfo → Type 0
+ListsInside order entries path k list = OfInside entries k (λ objects. list ≡ listed_by order path objects)
+
 -- the list has the objects of the storage k on the first level
 abbrev pub ListsChildren : List Entry → List ℕ → ℕ → List EntryInfo → Type 0
 ListsChildren entries path k list = OfInside entries k (λ objects. list ≡ listed path objects)
@@ -35,8 +39,3 @@ pub record Walks (entries : List Entry) (path : List ℕ) (k : ℕ) (list : List
   -- with the path `/` this is `all_walked`
   pub root : (entry_at entries k).obj_type ≡ Root
       → OfInside entries k (λ objects. list ≡ storage_entry Root (entry_at entries k).stream_len path root_entry_name (storage_info (entry_at entries k)) ∷ walked path objects)
-
--- the list is one of these, by the order that was asked
-abbrev pub Lists : EntriesOrder → List Entry → List ℕ → ℕ → List EntryInfo → Type 0
-Lists Nonrecursive entries path k list = ListsChildren entries path k list
-Lists Preorder entries path k list = Walks entries path k list

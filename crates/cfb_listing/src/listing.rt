@@ -10,7 +10,7 @@ ghost use Rattle.cfb_outline.specs.Families.{IsInside};
 ghost use Rattle.cfb_outline.specs.Outlines.{IsReachedStorage};
 ghost use Rattle.cfb_trees.specs.Reached.{IsReached};
 ghost use Rattle.cfb_listing.specs.Told.{entry_info};
-ghost use Rattle.cfb_listing.specs.Listings.{listed_by, OfInside, ListsChildren, Walks, Lists};
+ghost use Rattle.cfb_listing.specs.Listings.{listed_by, OfInside, ListsInside, ListsChildren, Walks};
 ghost use Rattle.cfb_listing.specs.Waiting.{waits_in, path_at, is_entered};
 
 use crate::entry::{Entry, entry_of};
@@ -21,12 +21,12 @@ use cfb_format::error::Error;
 use cfb_trees::laws::reached_entries_are_in_use;
 use std::alloc::Allocator;
 
-/// What is listed of an object, and in which order. Siblings always stand in name order.
+/// What is listed of a storage, and in which order. Siblings always stand in name order.
 #[derive(Clone, Copy, Debug, PartialEq, Eq)]
 pub enum EntriesOrder {
-    /// The objects of a storage, without what is in them.
+    /// The objects on its first level.
     Nonrecursive,
-    /// The object itself and all that is in it, each storage before what is in it.
+    /// All that is in it, each storage before what is in that.
     Preorder,
 }
 
@@ -126,8 +126,8 @@ fn goes_inside<A: Allocator>(order: EntriesOrder, entries: &[DirEntry<A>], numbe
     }
 }
 
-/// Appends what is in the storage of this number, which has this path.
-fn list_inside<A: Allocator + Clone>(
+/// Appends what is in the storage of this number, which has this path, in this order.
+fn push_inside<A: Allocator + Clone>(
     alloc: A,
     entries: &[DirEntry<A>],
     order: EntriesOrder,
@@ -157,7 +157,26 @@ fn list_inside<A: Allocator + Clone>(
     Ok(())
 }
 
-/// The objects of the storage of this number, which has this path, in name order.
+/// What is in the storage of this number, which has this path: on its first level, or all.
+///
+/// `Memory` where the list or what is told of an object gets none, and no other error.
+pub fn list_inside<A: Allocator + Clone>(
+    alloc: A,
+    entries: &[DirEntry<A>],
+    order: EntriesOrder,
+    path: &str,
+    number: u32,
+) -> Result<Vec<Entry<A>, A>, Error>
+    requires { (cases : Cases) × IsReachedStorage cases (entries_of entries.now) number }
+    ensures ok { IfOk result (λ list. ListsInside order (entries_of entries.now) (chars path.now) number list.items) }
+    ensures refused { IfErr result IsMemory }
+{
+    let mut list = Vec::new(alloc.clone()?);
+    push_inside(alloc, entries, order, path, number, &mut list)?;
+    Ok(list)
+}
+
+/// The objects of the storage of this number, which has this path, on its first level.
 ///
 /// `Memory` where the list or what is told of an object gets none, and no other error.
 pub fn list_children<A: Allocator + Clone>(
@@ -170,9 +189,7 @@ pub fn list_children<A: Allocator + Clone>(
     ensures ok { IfOk result (λ list. ListsChildren (entries_of entries.now) (chars path.now) number list.items) }
     ensures refused { IfErr result IsMemory }
 {
-    let mut list = Vec::new(alloc.clone()?);
-    list_inside(alloc, entries, EntriesOrder::Nonrecursive, path, number, &mut list)?;
-    Ok(list)
+    list_inside(alloc, entries, EntriesOrder::Nonrecursive, path, number)
 }
 
 /// The object of this number, which has this path, and all that is in it: each storage before what
@@ -194,8 +211,9 @@ pub fn walk_from<A: Allocator + Clone>(
     let first = entry_of(alloc.clone()?, entries, number, own_path)?;
     let mut list = Vec::new(alloc.clone()?);
     list.push(first)?;
-    if !is_stream(entries, number) {
-        list_inside(alloc, entries, EntriesOrder::Preorder, path, number, &mut list)?;
+    if is_stream(entries, number) {
+        return Ok(list);
     }
+    push_inside(alloc, entries, EntriesOrder::Preorder, path, number, &mut list)?;
     Ok(list)
 }
