@@ -1,5 +1,5 @@
 -- What was listed of a storage, and what is still to come.
-use Rattle.std.proofs.Common.{◌≡◌, ℕ, ◌+◌, ◌<◌, ◌≤◌, Bool, true, false, List, [], ◌∷◌, ◌++◌, length, refl, sym, ◌∙◌, ap, subst, arith, append_assoc, append-nil, reverse}
+use Rattle.std.proofs.Common.{◌≡◌, ℕ, ◌+◌, ◌<◌, ◌≤◌, true, false, List, [], ◌∷◌, ◌++◌, length, refl, sym, ◌∙◌, ap, subst, arith, append_assoc, append-nil, reverse}
 use Rattle.std.specs.Prelude.{Option, Some, None, map}
 use Rattle.std.proofs.lemmas.List.{length-append, map-append, reverse-append, reverse-reverse}
 use Rattle.std.proofs.Math.Seq.{get_or-append_seam}
@@ -8,12 +8,11 @@ use Rattle.cfb_format.specs.Path.{child_path}
 use Rattle.cfb_format.specs.DirectoryEntry.{Entry, unallocated_entry}
 use Rattle.cfb_format.specs.Siblings.{entry_at, Below}
 use Rattle.cfb_format.specs.Reading.{Outline, no_more, storage_at, stream_at, siblings, numbers, HasContents}
-use Rattle.cfb_format.specs.Tree.{Objects}
 use Rattle.cfb_format.specs.Meaning.{objects_from}
 use Rattle.cfb_outline.specs.Families.{IsInside}
 use Rattle.cfb_outline.specs.Outlines.{HasInside, IsReachedStorage}
 use Rattle.cfb_outline.proofs.Counts.{tally-length}
-use Rattle.cfb_outline.proofs.Insides.{Inside, storage-is-inside, contents-past}
+use Rattle.cfb_outline.proofs.Insides.{storage-is-inside, contents-past}
 use Rattle.cfb_rules.specs.Calls.{EntryInfo}
 use Rattle.cfb_rules.specs.CallReplies.{listed, walked}
 use Rattle.cfb_listing.specs.declared.listing.EntriesOrder.{EntriesOrder}
@@ -22,7 +21,7 @@ use Rattle.cfb_listing.specs.declared.listing.Waiting.{Waiting}
 use Rattle.cfb_listing.specs.Told.{entry_info}
 use Rattle.cfb_listing.specs.Listings.{listed_by}
 use Rattle.cfb_listing.specs.Waiting.{waits_in, path_at, is_entered}
-use Rattle.cfb_listing.proofs.Levels.{Levels, no_level, level, waiting, to_come, Stand, Next, Passed, Entered, grown, next-in, pass, enter, none-come}
+use Rattle.cfb_listing.proofs.Levels.{Levels, no_level, level, waiting, to_come, Stand, Next, grown, next-in, pass, enter, none-come}
 
 -- of all that is to be listed so much is in the list, and the rest comes when these were reached
 pub record Left (order : EntriesOrder) (cases : Cases) (es : List Entry) (content : Entry → List ℕ) (asked : List ℕ) (all : List EntryInfo) (waits : List Waiting) (list : List EntryInfo) : Type 0 where
@@ -36,7 +35,6 @@ one-more : (list : List EntryInfo) (x : EntryInfo) (come : List EntryInfo) → l
 one-more list x come = sym (append_assoc list (x ∷ []) come)
 
 module _ (order : EntriesOrder) (cases : Cases) (es : List Entry) (content : Entry → List ℕ) (asked : List ℕ) where
-
   pub left-start : (inside : Outline) (list : List EntryInfo) → HasContents cases es inside
       → Left order cases es content asked (list ++ listed_by order asked (objects_from es content inside)) (map (waits_in None) (siblings inside)) list
   left-start inside list contents = record {
@@ -105,9 +103,13 @@ walked-count : (es : List Entry) (content : Entry → List ℕ) (o : Outline) (p
 unfolding objects_from
 walked-count es content no_more path = omega arith
 walked-count es content (storage_at i inside rest) path =
-    omega (arith, walked-count es content inside (child_path path (entry_at es i).name), walked-count es content rest path,
-    length-append (walked (child_path path (entry_at es i).name) (objects_from es content inside)) (walked path (objects_from es content rest)),
-    length-append (numbers inside) (numbers rest))
+    omega (
+      arith,
+      walked-count es content inside (child_path path (entry_at es i).name),
+      walked-count es content rest path,
+      length-append (walked (child_path path (entry_at es i).name) (objects_from es content inside)) (walked path (objects_from es content rest)),
+      length-append (numbers inside) (numbers rest),
+    )
 walked-count es content (stream_at i rest) path = omega (arith, walked-count es content rest path)
 
 by-count : (es : List Entry) (content : Entry → List ℕ) (order : EntriesOrder) (o : Outline) (path : List ℕ) → length (listed_by order path (objects_from es content o)) ≤ length (numbers o)
@@ -125,7 +127,6 @@ empty : Entry → List ℕ
 empty e = []
 
 module _ (order : EntriesOrder) (es : List Entry) (asked : List ℕ) (k : ℕ) (begun : List EntryInfo) where
-
   -- as it is known to be
   known : (cases : Cases) (r : IsReachedStorage cases es k) (waits : List Waiting) (list : List EntryInfo) → Listing order es asked k begun waits list
       → Left order cases es empty asked (begun ++ listed_by order asked (objects_from es empty (storage-is-inside cases es k r).outline)) waits list
@@ -145,8 +146,15 @@ module _ (order : EntriesOrder) (es : List Entry) (asked : List ℕ) (k : ℕ) (
       let next = left-next order cases es empty asked _ w later list left in
       let most = tally-length (numbers i.outline) (length es) i.once (contents-past cases es i.outline i.has.contents) in
       let count = ap (length {A = EntryInfo}) left.all_is in
-      omega (arith, next.some, most, count, by-count es empty order i.outline asked, length-append begun (listed_by order asked (objects_from es empty i.outline)),
-      length-append list (to_come order es empty left.levels))
+      omega (
+        arith,
+        next.some,
+        most,
+        count,
+        by-count es empty order i.outline asked,
+        length-append begun (listed_by order asked (objects_from es empty i.outline)),
+        length-append list (to_come order es empty left.levels),
+      )
 
 -- ---- the stack of what waits, the next one last
 
@@ -167,7 +175,6 @@ popped old w = reverse-append old (w ∷ [])
 -- ---- the steps of a listing
 
 module _ (order : EntriesOrder) (es : List Entry) (asked : List ℕ) (k : ℕ) (begun : List EntryInfo) where
-
   pub listing-start : (waits : List Waiting) → ((cases : Cases) (inside : Outline) → HasInside cases es k inside → waits ≡ map (waits_in None) (siblings inside))
       → Listing order es asked k begun waits begun
   listing-start waits first = record {

@@ -1,6 +1,6 @@
 -- What is still to be listed: of each storage the objects that come after those that were listed.
-use Rattle.std.proofs.Common.{◌≡◌, ℕ, ◌+◌, ◌<◌, ◌≤◌, Bool, true, false, List, [], ◌∷◌, ◌++◌, length, refl, sym, ◌∙◌, ap, subst, arith, append_assoc, append-nil, get_or}
-use Rattle.std.specs.Prelude.{Option, Some, None, map, ⊤, slice_index_or}
+use Rattle.std.proofs.Common.{◌≡◌, ℕ, ◌<◌, true, false, List, [], ◌∷◌, ◌++◌, length, refl, sym, ◌∙◌, ap, subst, arith, append_assoc}
+use Rattle.std.specs.Prelude.{Option, Some, None, map, ⊤}
 use Rattle.std.proofs.lemmas.List.{length-append, get_or_append_left}
 use Rattle.cfb_format.specs.declared.objtype.ObjType.{ObjType}
 use Rattle.cfb_format.specs.declared.objtype.ObjType.TheVariants.{Storage, Stream}
@@ -127,8 +127,11 @@ next-in order cases es content asked list w later (level path parent (storage_at
     record {
       within = subst (λ (n : ℕ). n < length es) (ap (λ (x : Waiting). x.number) e0) (present es i Storage no-storage s.0.0);
       parent = subst (IsInside list) (ap (λ (x : Waiting). x.parent) e0) s.1;
-      some = omega (arith, storage-counts order es content path i inside rest s.0.0,
-        length-append (listed_by order path (objects_from es content (storage_at i inside rest))) (to_come order es content levels));
+      some = omega (
+        arith,
+        storage-counts order es content path i inside rest s.0.0,
+        length-append (listed_by order path (objects_from es content (storage_at i inside rest))) (to_come order es content levels),
+      );
     }
 
 -- what is told of the next object

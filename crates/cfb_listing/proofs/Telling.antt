@@ -60,7 +60,6 @@ walked-same es a b (stream_at i rest) path =
 -- ---- the first of what is listed in a storage
 
 module _ (es : List Entry) (content : Entry → List ℕ) (path : List ℕ) (i : ℕ) where
-
   pub stream-listed : (order : EntriesOrder) (rest : Outline) → (entry_at es i).obj_type ≡ Stream
       → listed_by order path (objects_from es content (stream_at i rest))
       ≡ entry_info (child_path path (entry_at es i).name) (entry_at es i) ∷ listed_by order path (objects_from es content rest)

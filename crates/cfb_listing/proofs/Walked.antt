@@ -1,5 +1,5 @@
 -- An object and all that is in it, by its kind.
-use Rattle.std.proofs.Common.{◌≡◌, ℕ, List, [], ◌∷◌, Bool, true, false, refl, sym, ◌∙◌, ap, subst}
+use Rattle.std.proofs.Common.{◌≡◌, ℕ, List, [], ◌∷◌, Bool, true, false, sym, ◌∙◌, ap}
 use Rattle.cfb_format.specs.declared.objtype.ObjType.{ObjType}
 use Rattle.cfb_format.specs.declared.objtype.ObjType.TheVariants.{Storage, Stream, Root}
 use Rattle.cfb_format.specs.DirectoryEntry.{Entry}
@@ -10,7 +10,6 @@ use Rattle.cfb_rules.specs.CallReplies.{walked}
 use Rattle.cfb_listing.specs.Told.{entry_info, is_stream_kind}
 use Rattle.cfb_listing.specs.Listings.{OfInside, Walks}
 use Rattle.cfb_listing.proofs.Telling.{storage-told, stream-told, root-told}
-
 
 other-kind : (t s : ObjType) (b : Bool) → is_stream_kind t ≡ b → t ≡ s → is_stream_kind s ≡ b
 other-kind t s b e is = sym (ap is_stream_kind is) ∙ e

@@ -37,14 +37,14 @@ impl<A: Allocator> Model for Entry<A> {
     ghost Value = { EntryInfo };
 
     ghost view = { λ entry. record {
-        name = chars (string_bytes entry.name);
-        path = chars (string_bytes entry.path);
-        obj_type = entry.obj_type;
-        len = entry.len;
-        clsid = entry.clsid;
-        state_bits = entry.state_bits;
-        created = entry.created;
-        modified = entry.modified;
+      name = chars (string_bytes entry.name);
+      path = chars (string_bytes entry.path);
+      obj_type = entry.obj_type;
+      len = entry.len;
+      clsid = entry.clsid;
+      state_bits = entry.state_bits;
+      created = entry.created;
+      modified = entry.modified;
     } };
 }
 

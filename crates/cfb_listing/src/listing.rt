@@ -214,6 +214,13 @@ pub fn walk_from<A: Allocator + Clone>(
     if is_stream(entries, number) {
         return Ok(list);
     }
-    push_inside(alloc, entries, EntriesOrder::Preorder, path, number, &mut list)?;
+    push_inside(
+        alloc,
+        entries,
+        EntriesOrder::Preorder,
+        path,
+        number,
+        &mut list,
+    )?;
     Ok(list)
 }

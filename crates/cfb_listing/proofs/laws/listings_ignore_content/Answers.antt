@@ -1,4 +1,4 @@
-use Rattle.std.proofs.Common.{refl, ap, ◌∷◌, ◌++◌}
+use Rattle.std.proofs.Common.{refl, ap, ◌∷◌}
 use Rattle.cfb_listing.proofs.Telling.{listed-same, walked-same}
 use Rattle.cfb_rules.specs.CallReplies.{storage_entry}
 use Rattle.cfb_format.specs.declared.objtype.ObjType.TheVariants.{Storage}

@@ -1,5 +1,5 @@
-use Rattle.std.proofs.Common.{◌≡◌, ◌<◌, [], ◌∷◌, ◌++◌, ℕ, List, length, sym, ◌∙◌, ap, arith}
-use Rattle.std.specs.Prelude.{chars, string_bytes}
+use Rattle.std.proofs.Common.{◌≡◌, [], ◌∷◌, ◌++◌, ℕ, List, sym, ◌∙◌, ap, arith}
+use Rattle.std.specs.Prelude.{chars}
 use Rattle.std.proofs.lemmas.List.{length-map}
 use Rattle.cfb_codecs.specs.EntryModel.{entry_of, entries_of}
 use Rattle.cfb_format.specs.Siblings.{entry_at}
