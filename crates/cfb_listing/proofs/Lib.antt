@@ -1,0 +1,5 @@
+pub mod Slashes
+pub mod Telling
+pub mod Levels
+pub mod Leaving
+pub mod Walked

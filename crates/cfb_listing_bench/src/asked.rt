@@ -1,0 +1,59 @@
+//! What is asked of a directory in memory.
+ghost use Rattle.std.specs.Prelude.{◌≡◌, length, IfOk};
+
+use cfb_codecs::direntry::DirEntry;
+use cfb_codecs::path::CaseMapper;
+use cfb_entries_bench::directories::is_stream;
+use cfb_format::error::Error;
+use cfb_format::validate::Validation;
+use cfb_listing::entries::Entries;
+use cfb_listing::entry::Entry;
+use cfb_listing::listing::{EntriesOrder, list_children, walk_from};
+use cfb_outline::outline::reached_entries;
+use std::alloc::Allocator;
+
+/// What is told of the object at a place in the order of what is reached, or of the root: its
+/// children, or the object and all that is in it. A stream has no children.
+pub fn listed<A: Allocator + Clone>(
+    alloc: A,
+    entries: &[DirEntry<A>],
+    order: EntriesOrder,
+    path: &str,
+    place: Option<usize>,
+) -> Result<Vec<Entry<A>, A>, Error> {
+    let cases = CaseMapper::new(alloc.clone()?)?;
+    let reached = reached_entries(alloc.clone()?, &cases, entries, Validation::Permissive)?;
+    let Some(place) = place else {
+        return match order {
+            EntriesOrder::Nonrecursive => list_children(alloc, entries, path, 0),
+            EntriesOrder::Preorder => walk_from(alloc, entries, path, 0),
+        };
+    };
+    if place >= reached.len() {
+        return Ok(Vec::new(alloc));
+    }
+    let number = reached[place];
+    if order == EntriesOrder::Preorder {
+        return walk_from(alloc, entries, path, number);
+    }
+    if is_stream(entries, number) {
+        return Ok(Vec::new(alloc));
+    }
+    list_children(alloc, entries, path, number)
+}
+
+/// How many entries an iterator over a list gives: all of them.
+pub fn count_of<A: Allocator>(list: Vec<Entry<A>, A>) -> usize
+    ensures { result ≡ length list.items }
+{
+    let file = 0u8;
+    Entries::new(&file, list).count()
+}
+
+/// What an iterator over a list gives: its entries, in order.
+pub fn taken_from<A: Allocator>(alloc: A, list: Vec<Entry<A>, A>) -> Result<Vec<Entry<A>, A>, Error>
+    ensures { IfOk result (λ taken. taken.items ≡ list.items) }
+{
+    let file = 0u8;
+    Ok(Entries::new(&file, list).collect(alloc)?)
+}
