@@ -4,10 +4,10 @@ ghost use Rattle.std.specs.Prelude.{◌≡◌, length, IfOk};
 use cfb_codecs::direntry::DirEntry;
 use cfb_codecs::path::CaseMapper;
 use cfb_entries_bench::directories::is_stream;
-use cfb_format::error::Error;
+use cfb_format::error::{Detail, Error};
 use cfb_format::validate::Validation;
 use cfb_listing::entries::Entries;
-use cfb_listing::entry::Entry;
+use cfb_listing::entry::{Entry, entry_of};
 use cfb_listing::listing::{EntriesOrder, list_children, walk_from};
 use cfb_outline::outline::reached_entries;
 use std::alloc::Allocator;
@@ -40,6 +40,20 @@ pub fn listed<A: Allocator + Clone>(
         return Ok(Vec::new(alloc));
     }
     list_children(alloc, entries, path, number)
+}
+
+/// What is told of the entry of this number. `NotFound` where there is none.
+pub fn told_at<A: Allocator + Clone>(
+    alloc: A,
+    entries: &[DirEntry<A>],
+    number: u32,
+    path: &str,
+) -> Result<Entry<A>, Error> {
+    if number as usize >= entries.len() {
+        return Err(Error::NotFound(Detail::text("no entry has this number")));
+    }
+    let path = String::from_str(alloc.clone()?, path)?;
+    entry_of(alloc, entries, number, path)
 }
 
 /// How many entries an iterator over a list gives: all of them.

@@ -1,5 +1,5 @@
 //! Directories that are listed and walked.
-use crate::asked::{count_of, listed, taken_from};
+use crate::asked::{count_of, listed, taken_from, told_at};
 use cfb_codecs::direntry::DirEntry;
 use cfb_codecs::timestamp::Timestamp;
 use cfb_entries_bench::directories::{Given, directory};
@@ -8,7 +8,7 @@ use cfb_format::consts::NO_STREAM as NONE;
 use cfb_format::error::Error;
 use cfb_format::objtype::ObjType::{Root, Storage, Stream, Unallocated};
 use cfb_listing::entries::Entries;
-use cfb_listing::entry::{Entry, entry_of};
+use cfb_listing::entry::Entry;
 use cfb_listing::listing::EntriesOrder::{self, Nonrecursive, Preorder};
 use cfb_media::refusing::Refusing;
 use std::alloc::{Allocator, Global};
@@ -112,20 +112,17 @@ fn each_kind_shows_what_it_has(rt: HostRuntime) -> Result<(), Fail> {
     let entries = with_fields(rt.alloc())?;
     let id = Uuid::from_u128(7);
     let moments = [Timestamp::from_unix(1, 0), Timestamp::from_unix(2, 0)];
-    let path = String::from_str(rt.alloc(), "/")?;
-    let root = entry_of(rt.alloc(), &entries, 0, path)?;
+    let root = told_at(rt.alloc(), &entries, 0, "/")?;
     assert_eq!(rt;
         shown(&root),
         ("Root Entry", "/", 192, [false, true, true], id, moments)
     );
-    let path = String::from_str(rt.alloc(), "/d")?;
-    let storage = entry_of(rt.alloc(), &entries, 1, path)?;
+    let storage = told_at(rt.alloc(), &entries, 1, "/d")?;
     assert_eq!(rt;
         shown(&storage),
         ("d", "/d", 0, [false, true, false], id, moments)
     );
-    let path = String::from_str(rt.alloc(), "/Z")?;
-    let stream = entry_of(rt.alloc(), &entries, 3, path)?;
+    let stream = told_at(rt.alloc(), &entries, 3, "/Z")?;
     let none = [Timestamp::zero(); 2];
     assert_eq!(rt;
         shown(&stream),
