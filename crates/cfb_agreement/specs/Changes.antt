@@ -1,0 +1,43 @@
+-- One change of a file, and what it leaves alone.
+use Rattle.std.specs.Prelude.{ℕ, ◌≡◌, ◌≢◌, ◌⊎◌, List, true, false, Contains}
+use Rattle.cfb_format.specs.declared.objtype.ObjType.{ObjType}
+use Rattle.cfb_format.specs.declared.objtype.ObjType.TheVariants.{Unallocated, Storage, Stream, Root}
+use Rattle.cfb_format.specs.Names.{Cases}
+use Rattle.cfb_format.specs.Reading.{IsOutline, Outline, stream_numbers}
+use Rattle.cfb_format.specs.Siblings.{entry_at}
+use Rattle.cfb_format.specs.Tree.{Tree}
+use Rattle.cfb_rules.specs.CallChanges.{storage_added_at, stream_added_at}
+use Rattle.cfb_mini_sectors.specs.State.{MiniState, bytes_of, cases_of, entries_of, table_of}
+use Rattle.cfb_content.specs.Contents.{KeepsContent, KeepsOthers, MovesContent}
+use Rattle.cfb_agreement.specs.Files.{FileState, IsAsBefore, IsAsMade, LeavesNoneFree, SameSetting, is_failed}
+
+-- ---- the content of one stream
+
+-- of the file the content of this one stream may have changed, and nothing else; a file that was as made is so again, unless it failed; and
+-- where sectors were appended none is free then
+pub record ChangesOneContent (entry : ℕ) (old new : FileState) : Type 0 where
+  pub setting : SameSetting old new
+  pub entries : MovesContent old.base new.base entry
+  pub others : KeepsOthers entry old.base new.base
+  pub made : is_failed new ≡ false → IsAsMade old.base → IsAsMade new.base
+  pub grows : is_failed new ≡ false → LeavesNoneFree old.base new.base
+
+-- ---- a new object
+
+-- the contents of all streams of the tree stay
+abbrev pub KeepsStreams : MiniState → MiniState → Type 0
+KeepsStreams old new = (o : Outline) → IsOutline (cases_of old) (entries_of old) o → (k : ℕ) → Contains (stream_numbers o) k
+    → KeepsContent old new (entry_at (entries_of old) k)
+
+-- a new object of that kind stands at these names
+abbrev pub object_added_at : Cases → ObjType → ℕ → List (List ℕ) → Tree → Tree
+object_added_at cases Storage moment names tree = storage_added_at cases moment names tree
+object_added_at cases Stream moment names tree = stream_added_at cases names tree
+object_added_at cases Root moment names tree = tree
+object_added_at cases Unallocated moment names tree = tree
+
+-- ---- refusals
+
+-- after a refusal all is as before but the count of failures, or the file has failed
+abbrev pub StaysOrFails : FileState → FileState → Type 0
+StaysOrFails old new = IsAsBefore old new ⊎ (is_failed new ≡ true)

@@ -1,0 +1,81 @@
+-- What a file keeps in memory, and when that is what its bytes say.
+use Rattle.std.specs.Prelude.{ℕ, ◌≡◌, ◌<◌, Bool, true, false, length}
+use Rattle.cfb_format.specs.declared.header.Header.{Header}
+use Rattle.cfb_format.specs.declared.validate.Validation.TheVariants.{Permissive, Strict}
+use Rattle.cfb_format.specs.Full.{IsFull}
+use Rattle.cfb_format.specs.Reading.{IsOutline, Outline, Reads}
+use Rattle.cfb_format.specs.Soundness.{IsSound}
+use Rattle.cfb_tables.specs.Changes.{NoneFree}
+use Rattle.cfb_tables.specs.Tables.{AreExactTables}
+use Rattle.cfb_trees.specs.Colors.{AreColored}
+use Rattle.cfb_mini_sectors.specs.State.{IsChangeable, MiniState, bytes_of, cases_of, entries_of, parts_of, reading_of, table_of, tables_in, version_of}
+use Rattle.cfb_mini_sectors.specs.Steps.{KeepsLimits}
+use Rattle.cfb_mini.specs.MiniSectors.{IsStill}
+use Rattle.cfb_content.specs.Contents.{AreAllUsed, TellsPlaces}
+
+-- what the layers below keep, whether the file is sound, and for how many bytes the buffer of a stream may have room
+pub record FileState : Type 0 where
+  pub base : MiniState
+  pub is_sound : Bool
+  pub buffer_limit : ℕ
+
+-- a change was begun and did not end
+abbrev pub is_failed : FileState → Bool
+is_failed file = (table_of file.base).file.begun
+
+-- how many calls of the medium have failed
+abbrev pub failures_of : FileState → ℕ
+failures_of file = (table_of file.base).file.failures
+
+-- ---- agreement
+
+-- what memory keeps is what the bytes say: opening reads just these parts; where the bytes of streams stand is known; and the file counts as
+-- sound exactly if its bytes are
+pub record Holds (file : FileState) : Type 0 where
+  pub header : Header
+  pub outline : Outline
+  pub version : header.version ≡ version_of file.base
+  pub reads : Reads (cases_of file.base) (bytes_of file.base) (reading_of header file.base outline)
+  pub places : TellsPlaces file.base
+  pub sound : file.is_sound ≡ true → IsChangeable Permissive file.base
+  pub unsound : file.is_sound ≡ false → IsSound (bytes_of file.base) (reading_of header file.base outline) → ⊥
+
+-- a file that has not failed holds what its bytes say
+abbrev pub Agrees : FileState → Type 0
+Agrees file = is_failed file ≡ false → Holds file
+
+-- ---- files that were made here
+
+-- what creation gives and each success keeps: the bytes are sound, and such as strict opening takes; each sector and each mini sector is
+-- free or has an owner; the tables are as long as the file needs; and the siblings of each storage have a black top and no red one under a
+-- red one
+pub record IsAsMade (s : MiniState) : Type 0 where
+  pub changeable : IsChangeable Strict s
+  pub used : AreAllUsed s
+  pub exact : AreExactTables (tables_in s)
+  pub colored : (o : Outline) → IsOutline (cases_of s) (entries_of s) o → AreColored (entries_of s) o
+
+-- ---- what stays
+
+-- the version, the letters, the limits, and whether the file is sound
+pub record SameSetting (old new : FileState) : Type 0 where
+  pub limits : KeepsLimits old.base new.base
+  pub is_sound : new.is_sound ≡ old.is_sound
+  pub buffer_limit : new.buffer_limit ≡ old.buffer_limit
+
+-- all is as before but the count of failures
+pub record IsAsBefore (old new : FileState) : Type 0 where
+  pub base : IsStill old.base new.base
+  pub bytes : bytes_of new.base ≡ bytes_of old.base
+  pub is_sound : new.is_sound ≡ old.is_sound
+  pub buffer_limit : new.buffer_limit ≡ old.buffer_limit
+
+-- where a sector was appended none is free
+abbrev pub LeavesNoneFree : MiniState → MiniState → Type 0
+LeavesNoneFree old new = length (tables_in old).fat < length (tables_in new).fat → NoneFree (tables_in new).fat
+
+-- ---- fullness
+
+-- no sector can be taken, or mini sectors or entries are at their limit
+abbrev pub IsFullFile : FileState → Type 0
+IsFullFile file = IsFull (tables_in file.base).max_sectors (parts_of file.base)

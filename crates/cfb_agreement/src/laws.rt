@@ -1,0 +1,34 @@
+//! What follows from what a file keeps. None of these functions does anything: each has a law as its contract.
+ghost use Rattle.cfb_agreement.specs.Laws.{AsBeforeIsNone, AsBeforeIsSame, AsMadeIsInOrder, ChangeableIsHeld, ContentBecomesTree, ContentKeepsStream, ContentsInTurn, FlagsAreNotMade, FlagsAreNotRead, HeldMeansItsTree, SameContentIsNone, SoundIsExact};
+
+/// What holds does not hang on whether a change was begun, nor on the count of failures.
+pub fn flags_are_not_read()
+    ensures holds { FlagsAreNotRead }
+    ensures made { FlagsAreNotMade }
+    ensures same { AsBeforeIsSame }
+{}
+
+/// A sound file whose layers hold what its bytes say holds it as a whole.
+pub fn changeable_files_are_held()
+    ensures { ChangeableIsHeld }
+{}
+
+/// What is held is the tree that the bytes mean, and whether they are sound; the bytes of a file that was made here are in order.
+pub fn bytes_are_what_is_held()
+    ensures means { HeldMeansItsTree }
+    ensures sound { SoundIsExact }
+    ensures in_order { AsMadeIsInOrder }
+{}
+
+/// Where the content of one stream changed, the bytes mean the tree with that content.
+pub fn changed_content_is_meant()
+    ensures tree { ContentBecomesTree }
+    ensures stream { ContentKeepsStream }
+{}
+
+/// Changes of one stream's content, one after the other, are one.
+pub fn content_changes_compose()
+    ensures none { SameContentIsNone }
+    ensures as_before { AsBeforeIsNone }
+    ensures in_turn { ContentsInTurn }
+{}

@@ -1,0 +1,4 @@
+//! What a file keeps in memory, when that is what its bytes say, and what follows from it.
+#![tactic(auto)]
+
+pub mod laws;

@@ -1,0 +1,15 @@
+-- What calls on the contents of a file answer.
+use Rattle.std.specs.Prelude.{ℕ, List}
+use Rattle.cfb_format.specs.declared.error.Error.{Error}
+use Rattle.cfb_format.specs.Refused.{HasReason, no_error}
+use Rattle.cfb_format.specs.Siblings.{entry_at}
+use Rattle.cfb_mini_sectors.specs.State.{content_of, entries_of}
+use Rattle.cfb_agreement.specs.Files.{FileState}
+
+-- the content of the stream of that entry
+abbrev pub content_at : FileState → ℕ → List ℕ
+content_at file entry = content_of file.base (entry_at (entries_of file.base) entry)
+
+-- the medium or memory refused, or numbers lack, and then so much holds
+abbrev pub IsBreak : Type 0 → Error → Type 0
+IsBreak full = HasReason (record no_error { medium = λ f. Unit {0}; memory = Unit {0}; full = full })

@@ -1,0 +1,4 @@
+//! A file whose memory is what its bytes say, and its changes, each told by the tree.
+#![tactic(auto)]
+
+pub mod volume;

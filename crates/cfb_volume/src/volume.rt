@@ -1,0 +1,322 @@
+//! A file whose memory is what its bytes say.
+ghost use Rattle.std.specs.Prelude.{◌≡◌, ◌≢◌, ◌+◌, ◌-◌, ◌<◌, ◌≤◌, ◌⊎◌, ◌||◌, ℕ, List, max, min, length, take, drop, false, true, IsTrue, IfOk, IfErr, IfSome, IsErrAnd, OnOk, OnErr, Some, Option, chars};
+ghost use Rattle.cfb_format.specs.Bytes.{max_regular_sector, max_stream_len};
+ghost use Rattle.cfb_format.specs.Medium.{part, written};
+ghost use Rattle.cfb_format.specs.Names.{is_valid_name};
+ghost use Rattle.cfb_format.specs.Reading.{IsOutline, Outline};
+ghost use Rattle.cfb_format.specs.Refused.{CountsFailure, IsInvalidData, IsMediumAnd, IsMemory};
+ghost use Rattle.cfb_format.specs.Siblings.{entry_at};
+ghost use Rattle.cfb_format.specs.declared.objtype.ObjType.TheVariants.{Storage, Stream};
+ghost use Rattle.cfb_codecs.specs.EntryModel.{entries_of as entries_in};
+ghost use Rattle.cfb_tables.specs.Changes.{NoneFree};
+ghost use Rattle.cfb_tables.specs.Refused.{ChangeRefused};
+ghost use Rattle.cfb_rules.specs.Finding.{last_name, parent_names};
+ghost use Rattle.cfb_rules.specs.StreamCalls.{resized};
+ghost use Rattle.cfb_outline.specs.Outlines.{IsReachedStorage};
+ghost use Rattle.cfb_siblings.specs.Children.{HasChildren, IsAbsent, KeepsBalance};
+ghost use Rattle.cfb_siblings.specs.Paths.{number_at_path, number_from};
+ghost use Rattle.cfb_entries.specs.EntryList.{AreInOrder};
+ghost use Rattle.cfb_trees.specs.Reached.{IsReached};
+ghost use Rattle.cfb_objects.specs.Laws.{BecomesTree};
+ghost use Rattle.cfb_directory.specs.State.{IsFullForEntry};
+ghost use Rattle.cfb_mini_sectors.specs.Held.{with_table};
+ghost use Rattle.cfb_mini_sectors.specs.State.{bytes_of, cases_of, entries_of, table_of, tables_in, version_of};
+ghost use Rattle.cfb_content.specs.Contents.{IsStreamOf, IsTooLongFor, len_of};
+ghost use Rattle.cfb_agreement.specs.Changes.{ChangesOneContent, KeepsStreams, StaysOrFails, object_added_at};
+ghost use Rattle.cfb_agreement.specs.Files.{Agrees, Holds, IsAsBefore, IsAsMade, IsFullFile, LeavesNoneFree, SameSetting, failures_of, is_failed};
+ghost use Rattle.cfb_agreement.specs.Laws.{with_flags};
+ghost use Rattle.cfb_volume.specs.Answers.{IsBreak, content_at};
+
+use cfb_codecs::direntry::DirEntry;
+use cfb_codecs::path::CaseMapper;
+use cfb_codecs::timestamp::Timestamp;
+use cfb_content::reading::{read_content, readable_len};
+use cfb_content::writing::write_content;
+use cfb_format::error::Error;
+use cfb_format::medium::{Medium, ReadMedium};
+use cfb_format::objtype::ObjType;
+use cfb_format::version::Version;
+use cfb_mini::mini_allocator::MiniAllocator;
+use cfb_resizing::growing::grow_content;
+use cfb_resizing::resizing::resize_content;
+use std::alloc::{Allocator as Heap, Global};
+use std::marker::Model;
+
+/// A file whose memory is what its bytes say, on a medium.
+#[derive(Drop)]
+pub struct Volume<F: ReadMedium, A: Heap = Global> {
+    mini: MiniAllocator<F, A>,
+    is_sound: bool,
+    buffer_limit: usize,
+}
+
+impl<F: ReadMedium, A: Heap> Model for Volume<F, A> {
+    ghost use Rattle.cfb_agreement.specs.Files.{FileState};
+
+    ghost Value = { FileState };
+
+    ghost view = { λ v. record { base = v.mini; is_sound = v.is_sound; buffer_limit = v.buffer_limit } };
+}
+
+impl<F: ReadMedium, A: Heap> Volume<F, A> {
+    /// A file of these parts; no buffer of its streams has more room than the greater of `buffer_limit` and 1024 bytes.
+    pub fn new(mini: MiniAllocator<F, A>, is_sound: bool, buffer_limit: usize) -> Volume<F, A>
+        ensures { result ≡ record { base = mini; is_sound = is_sound; buffer_limit = buffer_limit } }
+    {
+        Volume {
+            mini,
+            is_sound,
+            buffer_limit,
+        }
+    }
+
+    /// The version of the file.
+    pub fn version(&self) -> Version
+        ensures { result ≡ version_of self.now.base }
+    {
+        self.mini.version()
+    }
+
+    /// Whether the file is sound.
+    pub fn is_sound(&self) -> bool
+        ensures { result ≡ self.now.is_sound }
+    {
+        self.is_sound
+    }
+
+    /// Whether a change broke off.
+    pub fn is_failed(&self) -> bool
+        ensures { result ≡ is_failed self.now }
+    {
+        self.mini.begun()
+    }
+
+    /// For how many bytes the buffer of a stream may have room, but for 1024 that it always has.
+    pub fn buffer_limit(&self) -> usize
+        ensures { result ≡ self.now.buffer_limit }
+    {
+        self.buffer_limit
+    }
+
+    /// The source of memory for its lists.
+    pub fn heap(&self) -> &A {
+        self.mini.heap()
+    }
+
+    /// The medium.
+    pub fn inner(&self) -> &F
+        ensures bytes { F.bytes result.now ≡ bytes_of self.now.base }
+        ensures failures { F.failures result.now ≡ failures_of self.now }
+    {
+        self.mini.inner()
+    }
+
+    /// Gives the medium back.
+    pub fn into_inner(self) -> F
+        ensures bytes { F.bytes result ≡ bytes_of self.base }
+        ensures failures { F.failures result ≡ failures_of self }
+    {
+        let Volume {
+            mini,
+            is_sound: _,
+            buffer_limit: _,
+        } = self;
+        mini.into_inner()
+    }
+
+    /// The letters by which names are compared.
+    pub fn letters(&self) -> &CaseMapper<A>
+        ensures { result.now ≡ cases_of self.now.base }
+    {
+        self.mini.letters()
+    }
+
+    /// The entries, by their numbers.
+    pub fn entries(&self) -> &[DirEntry<A>]
+        ensures entries { entries_in result.now ≡ entries_of self.now.base }
+        ensures in_order { AreInOrder (cases_of self.now.base) (entries_of self.now.base) }
+    {
+        self.mini.entries()
+    }
+}
+
+impl<F: ReadMedium, A: Heap> Volume<F, A> {
+    /// The number of the entry at this path: `None` where nothing is there, and where `..` leaves the root. The path's parts are read in
+    /// place, so that it takes no memory.
+    pub fn number_at(&self, path: &str) -> Option<u32>
+        ensures found { (o : Outline) → IsOutline (cases_of self.now.base) (entries_of self.now.base) o
+            → result ≡ number_at_path (cases_of self.now.base) (entries_of self.now.base) o (chars path.now) }
+        ensures reached { (o : Outline) → IsOutline (cases_of self.now.base) (entries_of self.now.base) o → IfSome result (IsReached o) }
+    {
+        todo(path)
+    }
+
+    /// The length of the stream of that entry.
+    pub fn len(&self, entry: u32) -> u64
+        requires inside { entry < length (entries_of self.now.base) }
+        ensures { result ≡ len_of self.now.base entry }
+    {
+        self.mini.dir_entry(entry).stream_len
+    }
+}
+
+impl<F: ReadMedium, A: Heap + Clone> Volume<F, A> {
+    /// How many bytes of the stream of that entry can be read, from its first one on: all of its length in a sound file. `Memory`.
+    pub fn readable(&self, entry: u32) -> Result<u64, Error>
+        requires inside { entry < length (entries_of self.now.base) }
+        ensures ok { IsTrue F.tells → Holds self.now → IfOk result (λ n. n ≡ length (content_at self.now entry)) }
+        ensures err { IfErr result IsMemory }
+    {
+        readable_len(&self.mini, entry)
+    }
+
+    /// Reads a beginning of what can be read of the stream of that entry from byte `at` on, as far as `into` has room, and answers how
+    /// many bytes that is: at least one where one is wanted and lies before the end. `InvalidData` exactly where the byte there can't be
+    /// read; `Memory`; and `Medium` where the medium fails. All is as before then.
+    pub fn read(&mut self, entry: u32, at: u64, into: &mut [u8]) -> Result<usize, Error>
+        requires inside { entry < length (entries_of self.old.base) }
+        ensures same { IsTrue F.tells → IsAsBefore self.old self.new }
+        ensures flag { is_failed self.new ≡ is_failed self.old }
+        ensures entries { entries_of self.new.base ≡ entries_of self.old.base }
+        ensures setting { SameSetting self.old self.new }
+        ensures count { IfOk result (λ n. n ≤ min (length into.old) (len_of self.old.base entry - at)) }
+        ensures some { IfOk result (λ n. 0 < min (length into.old) (len_of self.old.base entry - at) → 0 < n) }
+        ensures ok { IsTrue F.tells → Holds self.old → IfOk result (λ n. take n into.new ≡ part (content_at self.old entry) at n) }
+        ensures within { IsTrue F.tells → Holds self.old → IfOk result (λ n. 0 < n → at + n ≤ length (content_at self.old entry)) }
+        ensures rest { IfOk result (λ n. drop n into.new ≡ drop n into.old) }
+        ensures err { IsTrue F.tells → Holds self.old → IfErr result (ChangeRefused
+            ((length (content_at self.old entry) ≤ at) × (0 < min (length into.old) (len_of self.old.base entry - at))) Unit ⊥ Unit) }
+        ensures past { IsTrue F.tells → Holds self.old → length (content_at self.old entry) ≤ at → 0 < min (length into.old) (len_of self.old.base entry - at)
+            → IsErrAnd result (λ e. IsInvalidData e ⊎ IsMemory e) }
+        ensures counts { IsTrue F.tells → CountsFailure F.read_faults result (failures_of self.old) (failures_of self.new) }
+    {
+        read_content(&mut self.mini, entry, at, into)
+    }
+}
+
+impl<F: Medium, A: Heap> Volume<F, A> {
+    /// From now on the file has failed.
+    pub fn fail(&mut self)
+        ensures { self.new ≡ with_flags self.old (failures_of self.old) true }
+    {
+        self.mini.begin_change();
+    }
+
+    /// Hands on what was written. `Medium` where the medium fails, and the file has failed then.
+    pub fn flush(&mut self) -> Result<(), Error>
+        requires unfailed { is_failed self.old ≡ false }
+        ensures ok { IsTrue F.tells → OnOk result (self.new ≡ self.old) }
+        ensures ended { OnOk result (is_failed self.new ≡ false) }
+        ensures failed { OnErr result (is_failed self.new ≡ true) }
+        ensures rest { IsTrue F.tells → self.new ≡ with_flags self.old (failures_of self.new) (is_failed self.new) }
+        ensures entries { entries_of self.new.base ≡ entries_of self.old.base }
+        ensures setting { SameSetting self.old self.new }
+        ensures err { IfErr result (IsMediumAnd (λ f. Unit {0})) }
+        ensures counts { IsTrue F.tells → CountsFailure F.write_faults result (failures_of self.old) (failures_of self.new) }
+    {
+        self.mini.flush()?;
+        self.mini.end_change();
+        Ok(())
+    }
+}
+
+impl<F: Medium, A: Heap + Clone> Volume<F, A> {
+    /// Puts a beginning of `bytes` into the stream of that entry at byte `at`, which is inside it or its end, and answers how many bytes
+    /// that is: at least one where there is one. Behind the end the stream grows, as far as numbers go.
+    ///
+    /// `Full` only at the end, where not one byte more can be had; `Memory`; and `Medium` where the medium fails. All is as before then,
+    /// or the file has failed.
+    pub fn write(&mut self, entry: u32, at: u64, bytes: &[u8]) -> Result<usize, Error>
+        requires sound { self.old.is_sound ≡ true }
+        requires unfailed { is_failed self.old ≡ false }
+        requires stream { IsStreamOf self.old.base entry }
+        requires inside { at ≤ len_of self.old.base entry }
+        requires fits { at + length bytes.now ≤ max_stream_len (version_of self.old.base) }
+        ensures count { IfOk result (λ n. n ≤ length bytes.now) }
+        ensures some { 0 < length bytes.now → IfOk result (λ n. 0 < n) }
+        ensures len { IfOk result (λ n. len_of self.new.base entry ≡ max (len_of self.old.base entry) (at + n)) }
+        ensures stream { IsStreamOf self.new.base entry }
+        ensures setting { SameSetting self.old self.new }
+        ensures content { IsTrue F.tells → Holds self.old → IfOk result (λ n. content_at self.new entry ≡ written (content_at self.old entry) at (take n bytes.now)) }
+        ensures changes { IsTrue F.tells → Holds self.old → ChangesOneContent entry self.old self.new }
+        ensures no_shorter { OnOk result (length (tables_in self.old.base).fat ≤ length (tables_in self.new.base).fat) }
+        ensures stays_full { IsTrue F.tells → Holds self.old → NoneFree (tables_in self.old.base).fat → OnOk result (NoneFree (tables_in self.new.base).fat) }
+        ensures agrees { IsTrue F.tells → Holds self.old → Agrees self.new }
+        ensures ended { OnOk result (is_failed self.new ≡ false) }
+        ensures refused { IsTrue F.tells → Holds self.old → OnErr result (StaysOrFails self.old self.new) }
+        ensures err { IsTrue F.tells → Holds self.old → IfErr result (IsBreak ((len_of self.old.base entry ≤ at) × IsFullFile self.new)) }
+        ensures counts { IsTrue F.tells → CountsFailure (λ f. F.read_faults f || F.write_faults f) result (failures_of self.old) (failures_of self.new) }
+    {
+        Err(Error::Memory)
+    }
+
+    /// Gives the stream of that entry this length: it is cut, or padded with zeros. The length that it has changes nothing.
+    ///
+    /// `Full` exactly where the length needs more numbers than are free or left once the chain that it moves away from is free: nothing
+    /// has changed then. `Memory`, and `Medium` where the medium fails: all is as before, or the file has failed.
+    pub fn resize(&mut self, entry: u32, len: u64) -> Result<(), Error>
+        requires sound { self.old.is_sound ≡ true }
+        requires unfailed { is_failed self.old ≡ false }
+        requires stream { IsStreamOf self.old.base entry }
+        requires limit { len ≤ max_stream_len (version_of self.old.base) }
+        ensures len { OnOk result (len_of self.new.base entry ≡ len) }
+        ensures stream { IsStreamOf self.new.base entry }
+        ensures setting { SameSetting self.old self.new }
+        ensures none { len ≡ len_of self.old.base entry → OnErr result ⊥ × (self.new ≡ self.old) }
+        ensures content { IsTrue F.tells → Holds self.old → OnOk result (content_at self.new entry ≡ resized (content_at self.old entry) len) }
+        ensures changes { IsTrue F.tells → Holds self.old → ChangesOneContent entry self.old self.new }
+        ensures agrees { IsTrue F.tells → Holds self.old → Agrees self.new }
+        ensures ended { OnOk result (is_failed self.new ≡ false) }
+        ensures refused { IsTrue F.tells → Holds self.old → OnErr result (StaysOrFails self.old self.new) }
+        ensures enough { IsTrue F.tells → Holds self.old → len ≢ len_of self.old.base entry → OnOk result (IsTooLongFor self.old.base entry len → ⊥) }
+        ensures err { IsTrue F.tells → Holds self.old → IfErr result (IsBreak (IsTooLongFor self.old.base entry len × (self.new ≡ self.old))) }
+        ensures counts { IsTrue F.tells → CountsFailure (λ f. F.read_faults f || F.write_faults f) result (failures_of self.old) (failures_of self.new) }
+    {
+        Err(Error::Memory)
+    }
+
+    /// Puts a new storage or stream into the storage `parent`, where no child has that name, and answers its number. It is empty; a
+    /// storage has `moment` for both of its moments, and a stream has none.
+    ///
+    /// `Full` exactly where no entry can be had, `Memory`: nothing has changed then. After `Medium`, where the medium fails, the file has
+    /// failed.
+    pub fn insert(
+        &mut self,
+        parent: u32,
+        name: &str,
+        kind: ObjType,
+        moment: Timestamp,
+    ) -> Result<u32, Error>
+        requires sound { self.old.is_sound ≡ true }
+        requires unfailed { is_failed self.old ≡ false }
+        requires parent { IsReachedStorage (cases_of self.old.base) (entries_of self.old.base) parent }
+        requires valid { IsTrue (is_valid_name (chars name.now)) }
+        requires absent { (list : List ℕ) → HasChildren (cases_of self.old.base) (entries_of self.old.base) parent list
+            → IsAbsent (cases_of self.old.base) (entries_of self.old.base) (chars name.now) list }
+        requires kind { (kind ≡ Storage) ⊎ (kind ≡ Stream) }
+        ensures named { IfOk result (λ n. (o : Outline) → IsOutline (cases_of self.new.base) (entries_of self.new.base) o → IsReached o n) }
+        ensures is_kind { IfOk result (λ n. (entry_at (entries_of self.new.base) n).obj_type ≡ kind) }
+        ensures empty { IfOk result (λ n. len_of self.new.base n ≡ 0) }
+        ensures setting { SameSetting self.old self.new }
+        ensures tree { IsTrue F.tells → Holds self.old → OnOk result ((names : List (List ℕ)) (o : Outline) → IsOutline (cases_of self.old.base) (entries_of self.old.base) o
+            → number_from (cases_of self.old.base) (entries_of self.old.base) 0 o (parent_names names) ≡ Some parent → last_name names ≡ chars name.now
+            → BecomesTree (cases_of self.old.base) (bytes_of self.old.base) (bytes_of self.new.base) (object_added_at (cases_of self.old.base) kind moment names)) }
+        ensures found { IfOk result (λ n. (names : List (List ℕ)) (before after : Outline) → IsOutline (cases_of self.old.base) (entries_of self.old.base) before
+            → IsOutline (cases_of self.new.base) (entries_of self.new.base) after
+            → number_from (cases_of self.old.base) (entries_of self.old.base) 0 before (parent_names names) ≡ Some parent → last_name names ≡ chars name.now
+            → number_from (cases_of self.new.base) (entries_of self.new.base) 0 after names ≡ Some n) }
+        ensures others { IsTrue F.tells → Holds self.old → KeepsStreams self.old.base self.new.base }
+        ensures made { IsTrue F.tells → Holds self.old → IsAsMade self.old.base → OnOk result (IsAsMade self.new.base) }
+        ensures grows { OnOk result (LeavesNoneFree self.old.base self.new.base) }
+        ensures balanced { OnOk result (KeepsBalance (entries_of self.old.base) (entries_of self.new.base) parent) }
+        ensures root_len { OnOk result (len_of self.new.base 0 ≡ len_of self.old.base 0) }
+        ensures agrees { IsTrue F.tells → Holds self.old → Agrees self.new }
+        ensures ended { OnOk result (is_failed self.new ≡ false) }
+        ensures refused { IsTrue F.tells → Holds self.old → OnErr result (StaysOrFails self.old self.new) }
+        ensures enough { OnOk result (IsFullForEntry self.old.base.directory → ⊥) }
+        ensures err { IsTrue F.tells → Holds self.old → IfErr result (IsBreak (IsFullFile self.new × (self.new ≡ self.old))) }
+        ensures counts { IsTrue F.tells → CountsFailure F.write_faults result (failures_of self.old) (failures_of self.new) }
+    {
+        Err(Error::Memory)
+    }
+}
