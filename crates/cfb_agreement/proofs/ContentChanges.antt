@@ -12,6 +12,9 @@ use Rattle.cfb_format.specs.Tree.{Tree}
 use Rattle.cfb_format.proofs.Unique.{IsOutline-unique}
 use Rattle.cfb_rules.specs.CallChanges.{content_changed_at}
 use Rattle.cfb_siblings.specs.Paths.{number_from}
+use Rattle.cfb_trees.specs.Changes.{ButFields}
+use Rattle.cfb_trees.specs.Colors.{AreColored}
+use Rattle.cfb_trees.proofs.Colored.{colors-same}
 use Rattle.cfb_trees.proofs.Members.{streams-are-by-kind}
 use Rattle.cfb_objects.specs.Changes.{MovesContentOf}
 use Rattle.cfb_objects.specs.Laws.{BecomesTree}
@@ -19,13 +22,14 @@ use Rattle.cfb_objects.specs.Objects.{tree_from}
 use Rattle.cfb_objects.proofs.Becoming.{tree-becomes}
 use Rattle.cfb_objects.proofs.Fields.{content-changes-in-place}
 use Rattle.cfb_mini_sectors.specs.State.{IsChangeable, MiniState, bytes_of, cases_of, content_of, entries_of, reading_of}
+use Rattle.cfb_mini_sectors.specs.Steps.{ButContent}
 use Rattle.cfb_mini_sectors.proofs.HeldMini.{held-mini-is-read}
 use Rattle.cfb_content.specs.Contents.{IsStreamOf, KeepsOthers, MovesContent, len_of}
 use Rattle.cfb_content.proofs.Apart.{content-is}
-use Rattle.cfb_content.proofs.Outlines.{moved-is-outline, no-root-stream, stream-stays}
+use Rattle.cfb_content.proofs.Outlines.{moved-at, moved-is-outline, no-root-stream, stream-stays}
 use Rattle.cfb_content.proofs.Readable.{kept-is-readable}
 use Rattle.cfb_agreement.specs.Files.{FileState, Holds, SameSetting}
-use Rattle.cfb_agreement.specs.Laws.{ContentBecomesTree, ContentKeepsStream}
+use Rattle.cfb_agreement.specs.Laws.{ContentBecomesTree, ContentKeepsMade, ContentKeepsStream}
 use Rattle.cfb_agreement.proofs.HeldBytes.{tree-is}
 
 module _ (old new : FileState) (i : ℕ) (o : Outline) (held : Holds old) (held' : Holds new) (setting : SameSetting old new) (counts : old.is_sound ≡ true)
@@ -99,3 +103,27 @@ content-becomes-tree old new i o names held held' setting counts moves others st
 
 pub content-keeps-stream : ContentKeepsStream
 content-keeps-stream i k old new change at = stream-stays old.base new.base i k change.setting.limits.cases change.entries at
+
+-- ---- files that were made here
+
+but-fields : (a b : Entry) → ButContent a b → ButFields a b
+but-fields a b e = record {
+  name = ap (λ (x : Entry). x.name) e;
+  obj_type = ap (λ (x : Entry). x.obj_type) e;
+  color = ap (λ (x : Entry). x.color) e;
+  left_sibling = ap (λ (x : Entry). x.left_sibling) e;
+  right_sibling = ap (λ (x : Entry). x.right_sibling) e;
+  child = ap (λ (x : Entry). x.child) e;
+}
+
+pub content-keeps-made : ContentKeepsMade
+content-keeps-made i old new limits moves stream made change used exact = record {
+  changeable = change;
+  used = used;
+  exact = exact;
+  colored = λ o out.
+      subst (λ (p : Outline). AreColored (entries_of new) p)
+      (IsOutline-unique (cases_of new) (entries_of new) stream.outline o (moved-is-outline old new i stream.outline limits.cases moves stream.is) out)
+      (colors-same (entries_of old) (entries_of new) stream.outline
+      (λ k. but-fields (entry_at (entries_of old) k) (entry_at (entries_of new) k) (moved-at old new i k moves)) (made.colored stream.outline stream.is));
+}
