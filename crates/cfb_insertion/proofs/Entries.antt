@@ -1,9 +1,8 @@
 -- The entries around a new one, and the outline that they have.
-use Rattle.std.proofs.Common.{◌≡◌, ◌≢◌, ◌⊎◌, ◌<◌, inl, inr, ℕ, List, [], ◌∷◌, ◌++◌, Bool, true, false, refl, sym, ◌∙◌, ap, subst, length, arith}
+use Rattle.std.proofs.Common.{◌≡◌, ◌≢◌, ◌⊎◌, inl, inr, ℕ, List, [], ◌∷◌, ◌++◌, Bool, true, false, refl, sym, ◌∙◌, ap, subst, length, arith}
 use Rattle.std.specs.Prelude.{Contains, ◌↔◌, Some}
-use Rattle.std.proofs.lemmas.Bool.{cases_eq}
 use Rattle.cfb_format.specs.declared.objtype.ObjType.{ObjType}
-use Rattle.cfb_format.specs.declared.objtype.ObjType.TheVariants.{Unallocated, Storage, Stream, Root}
+use Rattle.cfb_format.specs.declared.objtype.ObjType.TheVariants.{Unallocated, Stream}
 use Rattle.cfb_format.specs.Bytes.{entries_per_sector}
 use Rattle.cfb_format.specs.DirectoryEntry.{Entry}
 use Rattle.cfb_format.specs.Reading.{IsOutline, Outline, numbers, stream_numbers}
@@ -12,7 +11,7 @@ use Rattle.cfb_format.proofs.Unique.{IsOutline-unique}
 use Rattle.cfb_codecs.specs.EntryModel.{new_entry}
 use Rattle.cfb_rules.specs.Finding.{last_name, parent_names}
 use Rattle.cfb_rules.proofs.CreatedFound.{same_itself}
-use Rattle.cfb_siblings.specs.Children.{ButLinks, HasChildren, HasRedApart, IsParent}
+use Rattle.cfb_siblings.specs.Children.{ButLinks, HasChildren}
 use Rattle.cfb_siblings.specs.Way.{unlinked}
 use Rattle.cfb_siblings.specs.Paths.{number_from}
 use Rattle.cfb_siblings.proofs.Grown.{children-back, red-apart-same}
@@ -20,7 +19,7 @@ use Rattle.cfb_tables.specs.Tables.{AreExactTables}
 use Rattle.cfb_tables.proofs.Members.{Contains-or, Contains-there}
 use Rattle.cfb_trees.specs.Changes.{HasMore}
 use Rattle.cfb_trees.specs.Colors.{AreColored, KeepsRedApart}
-use Rattle.cfb_trees.specs.Reached.{IsObject, IsReached}
+use Rattle.cfb_trees.specs.Reached.{IsReached}
 use Rattle.cfb_trees.proofs.Colored.{growth-keeps-colors}
 use Rattle.cfb_trees.proofs.Joined.{insertion-keeps-outline}
 use Rattle.cfb_trees.proofs.Members.{streams-are-by-kind}
@@ -33,9 +32,9 @@ use Rattle.cfb_directory.specs.State.{with_room}
 use Rattle.cfb_directory.proofs.InsertWhole.{has-room, roomy-longer, roomy-same}
 use Rattle.cfb_directory.proofs.NamesFound.{inserted-is-found}
 use Rattle.cfb_mini.proofs.RootStays.{inserted-root}
-use Rattle.cfb_mini_sectors.specs.State.{MiniState, cases_of, entries_of, root_len_of, tables_in, version_of}
+use Rattle.cfb_mini_sectors.specs.State.{MiniState, cases_of, entries_of, version_of}
 use Rattle.cfb_content.specs.Contents.{len_of}
-use Rattle.cfb_insertion.specs.Putting.{IsNewObject, PutsObject}
+use Rattle.cfb_insertion.specs.Putting.{PutsObject}
 use Rattle.cfb_insertion.specs.Laws.{PutHasOutline, PutIsColored, PutIsExact, PutIsFound, PutIsNew, PutKeepsRoot, PutLeavesNoneFree}
 
 -- the names before the last, and the last, are all

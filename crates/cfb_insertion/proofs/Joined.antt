@@ -1,19 +1,18 @@
 -- The tree that the bytes mean has the new object.
-use Rattle.std.proofs.Common.{◌≡◌, ℕ, List, ◌∷◌, refl, sym, ◌∙◌, ap, subst}
+use Rattle.std.proofs.Common.{◌≡◌, ℕ, List, refl, sym, ◌∙◌, ap, subst}
 use Rattle.std.specs.Prelude.{Some}
 use Rattle.cfb_format.specs.declared.header.Header.{Header}
 use Rattle.cfb_format.specs.declared.objtype.ObjType.{ObjType}
-use Rattle.cfb_format.specs.declared.objtype.ObjType.TheVariants.{Storage, Stream}
 use Rattle.cfb_format.specs.declared.validate.Validation.{Validation}
 use Rattle.cfb_format.specs.Bytes.{entries_per_sector}
 use Rattle.cfb_format.specs.Content.{readable}
-use Rattle.cfb_format.specs.Meaning.{storage_info, stream_info, tree_of}
+use Rattle.cfb_format.specs.Meaning.{storage_info, tree_of}
 use Rattle.cfb_format.specs.Reading.{IsOutline, Outline, Reads, no_more}
 use Rattle.cfb_format.specs.Siblings.{entry_at}
 use Rattle.cfb_format.specs.Tree.{Tree}
 use Rattle.cfb_codecs.specs.EntryModel.{new_entry}
-use Rattle.cfb_rules.specs.CallChanges.{new_storage, new_stream, storage_added_at, stream_added_at}
-use Rattle.cfb_rules.specs.Finding.{last_name, parent_names}
+use Rattle.cfb_rules.specs.CallChanges.{storage_added_at, stream_added_at}
+use Rattle.cfb_rules.specs.Finding.{parent_names}
 use Rattle.cfb_siblings.specs.Paths.{number_from}
 use Rattle.cfb_siblings.specs.Way.{unlinked}
 use Rattle.cfb_trees.proofs.PathNames.{growth-keeps-names}

@@ -1,14 +1,12 @@
 -- What is in use of both tables around a new object: the directory's sectors went on, or nothing changed.
 use Rattle.std.proofs.Common.{◌≡◌, ◌⊎◌, inl, inr, ℕ, List, [], ◌++◌, Bool, true, false, refl, sym, ◌∙◌, ap, subst}
-use Rattle.std.specs.Prelude.{Contains, IsSome, Option, flat_map, unwrap_or}
+use Rattle.std.specs.Prelude.{Contains, Option, flat_map, unwrap_or}
 use Rattle.std.proofs.lemmas.Bool.{cases_eq}
 use Rattle.std.proofs.lemmas.List.{append-nil}
 use Rattle.std.proofs.lemmas.List.Elements.{Contains-append_left, Contains-append_right}
 use Rattle.cfb_format.specs.declared.header.Header.{Header}
 use Rattle.cfb_format.specs.declared.objtype.ObjType.{ObjType}
 use Rattle.cfb_format.specs.declared.validate.Validation.{Validation}
-use Rattle.cfb_format.specs.Bytes.{free_sector}
-use Rattle.cfb_format.specs.Chain.{value}
 use Rattle.cfb_format.specs.Content.{is_large}
 use Rattle.cfb_format.specs.DirectoryEntry.{Entry}
 use Rattle.cfb_format.specs.Reading.{IsOutline, Outline, Reading, Reads, stream_numbers}
@@ -23,10 +21,10 @@ use Rattle.cfb_sound_changes.proofs.Kept.{sound-used}
 use Rattle.cfb_sound_changes.proofs.MiniGrown.{used-minis-grow}
 use Rattle.cfb_entries.specs.EntryList.{has_free}
 use Rattle.cfb_directory.proofs.InsertGrow.{ends-among}
-use Rattle.cfb_mini_sectors.specs.State.{MiniState, bytes_of, cases_of, entries_of, mini_stream_of, parts_of, reading_of, tables_in}
+use Rattle.cfb_mini_sectors.specs.State.{MiniState, bytes_of, cases_of, entries_of, parts_of, reading_of, tables_in}
 use Rattle.cfb_mini_sectors.proofs.HeldMini.{held-mini-is-read}
 use Rattle.cfb_content.specs.Contents.{KeepsContent, mini_sectors_owned, parts_with, sectors_owned}
-use Rattle.cfb_content.proofs.Apart.{held-header, sound-at}
+use Rattle.cfb_content.proofs.Apart.{held-header}
 use Rattle.cfb_content.proofs.Outlines.{streams-once}
 use Rattle.cfb_content.proofs.Owned.{empty-owns-nothing, large-content, large-no-mini, large-owned, same-flat, small-content, small-no-sector, small-owned}
 use Rattle.cfb_insertion.specs.Putting.{WritesObject}
