@@ -1,4 +1,4 @@
-use Rattle.std.proofs.Common.{◌≡◌, ◌<◌, ◌∷◌, ℕ, List, false, true, refl, sym, ap, subst, length, chars}
+use Rattle.std.proofs.Common.{◌≡◌, ◌∷◌, ℕ, List, refl, sym, ap, subst, chars}
 use Rattle.std.specs.Prelude.{Some}
 use Rattle.std.proofs.lemmas.Result.{err_from_is_err_and}
 use Rattle.cfb_format.specs.declared.validate.Validation.TheVariants.{Permissive, Strict}
@@ -15,12 +15,11 @@ use Rattle.cfb_objects.specs.Laws.{BecomesTree}
 use Rattle.cfb_mini_sectors.specs.State.{HoldsMini, MiniState, bytes_of, cases_of, entries_of, table_of}
 use Rattle.cfb_mini_sectors.specs.Steps.{KeepsMini, StopsShort}
 use Rattle.cfb_content.specs.Contents.{len_of}
-use Rattle.cfb_insertion.specs.Putting.{PutsObject}
 use Rattle.cfb_insertion.proofs.Entries.{put-is-found, put-is-new, put-keeps-root, put-leaves-none-free}
 use Rattle.cfb_agreement.specs.Changes.{KeepsStreams, object_added_at}
 use Rattle.cfb_agreement.specs.Files.{Agrees, FileState, Holds, IsAsMade, IsFullFile, LeavesNoneFree}
 use Rattle.cfb_volume.specs.Answers.{IsBreak}
-use Rattle.cfb_volume.proofs.InsertedObjects.{ended, file_with, insert-holds, insert-keeps-streams, insert-made, insert-tree, puts-object, refused-agrees, refused-full, refused-reason, same-file, streams-ended}
+use Rattle.cfb_volume.proofs.InsertedObjects.{ended, insert-holds, insert-keeps-streams, insert-made, insert-tree, puts-object, refused-agrees, refused-full, refused-reason, same-file, streams-ended}
 use Rattle.cfb_volume.proofs.volume.Volume.insert.Goals as goal
 
 -- ---- refused
