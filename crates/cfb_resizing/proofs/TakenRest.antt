@@ -7,7 +7,7 @@ use Rattle.cfb_format.specs.declared.error.Error.TheVariants.{AlreadyExists, Fai
 use Rattle.cfb_format.specs.declared.validate.Validation.{Validation}
 use Rattle.cfb_format.specs.Bytes.{sector_len}
 use Rattle.cfb_format.specs.DirectoryEntry.{Entry}
-use Rattle.cfb_format.specs.Full.{rounded_up}
+use Rattle.cfb_format.specs.Full.{IsFullOfMiniSectors, rounded_up}
 use Rattle.cfb_format.specs.Siblings.{entry_at}
 use Rattle.cfb_tables.specs.Refused.{ChangeRefused}
 use Rattle.cfb_tables.specs.Tables.{AreFullTables, HasTaken, IsTooFew}
@@ -16,7 +16,9 @@ use Rattle.cfb_tables.proofs.RoomLemmas.{all-taken-is-full}
 use Rattle.cfb_alloc.specs.Alloc.{AllocatorState}
 use Rattle.cfb_alloc.specs.Frame.{Spares}
 use Rattle.cfb_chains.proofs.LentContent.{wanted_is}
-use Rattle.cfb_mini_sectors.specs.State.{IsChangeable, MiniState, entries_of, table_of, tables_in, version_of}
+use Rattle.cfb_mini_table.specs.MiniTable.{IsTooFewMini}
+use Rattle.cfb_mini_table.proofs.LawLemmas.{full-of-mini}
+use Rattle.cfb_mini_sectors.specs.State.{HoldsMini, IsChangeable, MiniState, entries_of, parts_of, table_of, tables_in, version_of}
 use Rattle.cfb_mini_sectors.specs.Steps.{ButContent, IsTooFewFor, MovesRoot, SparesMini, StopsShortOrFull, system_sectors}
 use Rattle.cfb_mini_sectors.specs.Held.{with_table}
 use Rattle.cfb_content.specs.Contents.{IsStreamOf, KeepsOthers, MovesContent, len_of, sectors_owned}
@@ -45,17 +47,22 @@ rest-minis-others v s new i own change at none spares mini_spares =
     spared-is-kept v (system_sectors s) [] s new i change at spares (λ n c. Contains-append_left (system_sectors s) (sectors_owned s i) n c)
     (subst (λ (l : List ℕ). SparesMini l s new) none mini_spares) (λ m c. absurd (Contains-nil m c))
 
-pub short-or-full : (old new : MiniState) (e : Error) → StopsShortOrFull 1 old new e → StopsOrIsFull old new e
-short-or-full old new (NotFound d) h = h
-short-or-full old new (AlreadyExists d) h = h
-short-or-full old new (InvalidInput d) h = h
-short-or-full old new (InvalidData d) h = inl h
-short-or-full old new (Medium m) h = inr h
-short-or-full old new Memory h = h
-short-or-full old new Full h = h
-short-or-full old new Unsound h = h
-short-or-full old new Failed h = h
-short-or-full old new Unsupported h = h
+-- where no mini sector is left, though there may be more of them, sectors are lacking
+module _ (v : Validation) (old new : MiniState) (held : HoldsMini v old) (short : length old.minifat ≤ old.max_mini_sectors) (free : IsFullOfMiniSectors (parts_of old) → ⊥) where
+  minis-left : IsTooFewMini old.max_mini_sectors old.minifat 1 → ⊥
+  minis-left few = let full = (full-of-mini old.max_mini_sectors old.minifat short).0 few in free (full.0, subst (λ n. n ≤ length old.minifat) held.limit full.1)
+
+  pub short-or-full : (e : Error) → StopsShortOrFull 1 old new e → StopsOrIsFull old new e
+  short-or-full (NotFound d) h = h
+  short-or-full (AlreadyExists d) h = h
+  short-or-full (InvalidInput d) h = h
+  short-or-full (InvalidData d) h = inl h
+  short-or-full (Medium m) h = inr h
+  short-or-full Memory h = h
+  short-or-full Full h = (h.0, elim h.1 [ inl few ↦ absurd (minis-left few) | inr full ↦ inr full ])
+  short-or-full Unsound h = h
+  short-or-full Failed h = h
+  short-or-full Unsupported h = h
 
 -- where the length has numbers, what is refused is not so for want of them
 pub begun-or-full : (old new : MiniState) (invalid full : Type 0) (e : Error) → (full → ⊥) → StopsOrBegun old new e → ChangeRefused invalid Unit full Unit e → StopsOrIsFull old new e

@@ -1,0 +1,2 @@
+pub mod ContentSteps
+pub mod Fullness

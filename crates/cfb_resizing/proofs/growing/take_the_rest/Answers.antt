@@ -1,8 +1,11 @@
-use Rattle.std.proofs.Common.{◌≡◌, ◌+◌, ◌<◌, ◌⊎◌, inl, inr, refl, ap, length, arith}
+use Rattle.std.proofs.Common.{◌≡◌, ◌+◌, ◌<◌, ◌⊎◌, inl, inr, true, false, refl, sym, ◌∙◌, ap, length, arith}
+use Rattle.std.specs.Prelude.{IsTrue}
 use Rattle.std.proofs.lemmas.Result.{err_from_is_err_and, on_ok_weaker, IfErr-weaker}
+use Rattle.cfb_format.specs.Full.{IsFullOfMiniSectors}
 use Rattle.cfb_tables.specs.Listed.{ends_of}
 use Rattle.cfb_tables.specs.Refused.{ChangeRefused}
 use Rattle.cfb_mini_sectors.specs.Steps.{EndsNoChain, IsNotHeld, IsTooFewFor, StopsShortOrFull}
+use Rattle.cfb_mini_sectors.specs.State.{parts_of}
 use Rattle.cfb_content.specs.Contents.{IsNotChangeable, len_of}
 use Rattle.cfb_content.proofs.Kept.{nothing-is-moved}
 use Rattle.cfb_content.proofs.Refusals.{refused-as}
@@ -24,6 +27,12 @@ returns-in_err-clone-clause-others g c told v change = nothing-is-moved c.args.e
 
 -- ---- a mini sector that is lacking
 
+pub returns-then-are_minis_full-clause-others : goal.returns-then-are_minis_full-clause-others
+returns-then-are_minis_full-clause-others g c told v change = nothing-is-moved c.args.entry c.args.mini.now
+
+pub returns-then-are_minis_full-clause-full : goal.returns-then-are_minis_full-clause-full
+returns-then-are_minis_full-clause-full g c = inl (c.are_minis_full.ensures.full.0 c.if-are_minis_full.true)
+
 pub returns-then-len-cutoff-2-clause-others : goal.returns-then-len-cutoff-2-clause-others
 returns-then-len-cutoff-2-clause-others g c told v change =
     rest-minis-others v c.args.mini.now c.extend_mini_listed.new.self c.args.entry (ends_of c.new-ids.result.items) change c.requires.stream (ap ends_of c.new-ids.ensures.items)
@@ -36,9 +45,12 @@ returns-then-len-cutoff-2-clause-full g c =
     (c.extend_mini_listed.ensures.enough (omega arith))
 
 pub returns-then-len-cutoff-2-clause-refused : goal.returns-then-len-cutoff-2-clause-refused
-returns-then-len-cutoff-2-clause-refused g c =
-    IfErr-weaker c.extend_mini_listed.result (StopsShortOrFull 1 c.args.mini.now c.extend_mini_listed.new.self) (StopsOrIsFull c.args.mini.now c.extend_mini_listed.new.self)
-    (short-or-full c.args.mini.now c.extend_mini_listed.new.self) c.extend_mini_listed.ensures.refused
+returns-then-len-cutoff-2-clause-refused g c v held =
+    let s = c.args.mini.now in
+    let some : IsFullOfMiniSectors (parts_of s) → ⊥ = λ full.
+    (let yes : IsTrue c.are_minis_full.result = c.are_minis_full.ensures.full.1 full in let clash : true ≡ false = sym yes ∙ c.if-are_minis_full.false in cc) in
+    IfErr-weaker c.extend_mini_listed.result (StopsShortOrFull 1 s c.extend_mini_listed.new.self) (StopsOrIsFull s c.extend_mini_listed.new.self)
+    (short-or-full v s c.extend_mini_listed.new.self held c.are_minis_full.ensures.within some) c.extend_mini_listed.ensures.refused
 
 pub returns-then-len-cutoff-2-clause-err : goal.returns-then-len-cutoff-2-clause-err
 returns-then-len-cutoff-2-clause-err g c =
