@@ -5,7 +5,7 @@ use Rattle.cfb_format.specs.declared.version.Version.{Version}
 use Rattle.cfb_format.specs.declared.validate.Validation.{Validation}
 use Rattle.cfb_format.specs.Bytes.{entries_per_sector, max_stream_len}
 use Rattle.cfb_format.specs.Chain.{IsChain}
-use Rattle.cfb_format.specs.DirectoryEntry.{Entry, AcceptsEntry, IsStrictEntry, slots}
+use Rattle.cfb_format.specs.DirectoryEntry.{Entry, EntryFits, AcceptsEntry, IsStrictEntry, slots}
 use Rattle.cfb_format.specs.Full.{max_entries}
 use Rattle.cfb_format.specs.Header.{IfStrict}
 use Rattle.cfb_format.specs.Names.{max_name_len, utf16_units}
@@ -33,10 +33,11 @@ pub record FillsSlots (version : Version) (fat : List ℕ) (first : ℕ) (sector
   pub some : sectors ≢ []
   pub count : entries ≡ length sectors * entries_per_sector version
 
--- the entry is what this mode reads in that slot, and its name can be written again
+-- the entry is what this mode reads in that slot, and its name and the numbers in it can be written again
 pub record ReadsSlot (validation : Validation) (version : Version) (slot : List ℕ) (e : Entry) : Type 0 where
   pub accepted : AcceptsEntry validation version slot e
   pub name : length (utf16_units e.name) ≤ max_name_len
+  pub fits : EntryFits e
 
 -- whatever the medium served: each entry is what this mode reads in some slot, and its length is one that a stream may have
 pub record AreFromSlots (validation : Validation) (version : Version) (entries : List Entry) : Type 0 where

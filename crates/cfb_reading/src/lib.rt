@@ -8,3 +8,4 @@ mod marks;
 pub mod minifat;
 pub mod slots;
 mod whole_sectors;
+mod widths;

@@ -13,6 +13,7 @@ ghost use Rattle.cfb_alloc.specs.Alloc.{IsMeasured};
 ghost use Rattle.cfb_reading.specs.ReadDirectory.{AcceptsDirectory, AppendsSlots, AreFromSlots, FillsSlots, IsDirectoryChain, NoDirectory};
 
 use crate::whole_sectors::{MAX_SECTOR_LEN, read_whole};
+use crate::widths::entry_fits;
 use cfb_alloc::alloc::Allocator;
 use cfb_codecs::direntry::DirEntry;
 use cfb_format::consts::DIR_ENTRY_LEN;
@@ -130,6 +131,7 @@ fn append_entries<A: Heap + Clone>(
 {
     for slot in slots {
         let entry = DirEntry::read_from(heap.clone()?, slot, version, validation)?;
+        entry_fits(&entry);
         entries.push(entry)?;
     }
     Ok(())

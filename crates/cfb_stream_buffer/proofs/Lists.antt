@@ -1,5 +1,5 @@
 -- Lists laid over one another.
-use Rattle.std.proofs.Common.{refl, ℕ, ◌+◌, ◌-◌, ◌≡◌, ◌<◌, ◌≤◌, min, max, List, [], ◌++◌, length, take, drop, replicate, sym, ◌∙◌, ap, arith, inl, inr, add-zero, length-append, length-drop, length-take}
+use Rattle.std.proofs.Common.{refl, ℕ, ◌+◌, ◌-◌, ◌≡◌, ◌≤◌, min, max, List, [], ◌++◌, length, take, drop, replicate, sym, ◌∙◌, ap, arith, inl, inr, add-zero, length-append, length-drop, length-take}
 use Rattle.std.proofs.lemmas.List.{take-append-drop, take-take, take_all, take-append-le, drop-drop, drop-append-le, drop-take, take_min, drop_all, drop-replicate, append_assoc, append-nil, length-replicate}
 use Rattle.std.proofs.Math.Seq.{take-append-add, drop-append-add, take-add, take-nil}
 use borrow.Rule.Slice.PartMut.{put_mid}

@@ -1,7 +1,7 @@
 -- Breaking off: what the rules say of a refusal by the medium, for memory or fullness.
 use Rattle.std.proofs.Common.{refl, ℕ, ◌≡◌, ◌⊎◌, ◌==◌, Bool, true, false, IsTrue, sym, ap, subst, inl, inr}
 use Rattle.std.specs.Bool.{MatchBool}
-use Rattle.std.specs.Prelude.{⊤, ◌<◌, Some}
+use Rattle.std.specs.Prelude.{⊤, Some}
 use Rattle.cfb_format.specs.Medium.{Rises}
 use Rattle.cfb_format.specs.Refused.{CountsError, IsMemory, number_of}
 use Rattle.cfb_format.specs.declared.medium.MediumFault.{MediumFault}
@@ -10,8 +10,8 @@ use Rattle.cfb_format.specs.declared.error.Error.TheVariants.{NotFound, AlreadyE
 use Rattle.cfb_rules.specs.Refusal.{Refusal, IsRefusal, not_found, already_exists, invalid_input, invalid_data, medium_failed, out_of_memory, file_full, not_sound, failed_earlier}
 use Rattle.cfb_rules.specs.StreamCalls.{StreamCall}
 use Rattle.cfb_rules.specs.Runs.{Causes, Work, reading, moving, writing_out, taking, resizing, work_of, WorkMayBreak, BlamesOneOf, StaysUnfailed, may_leave_failed, StreamBreaksOff, Closes}
-use Rattle.cfb_stream_buffer.specs.Contents.{Stored, IsBreak, IsMediumFault, Fails, KeptOrFailed, SameLimits}
-use Rattle.cfb_stream_window.specs.Windows.{Window, Agrees, Stays, BrokeOff, CalmBrokeOff, ReadBrokeOff, WriteBrokeOff, LengthBrokeOff, IsMemoryOrFull, IsLost, Runs, IsRefused, state_of, run_of}
+use Rattle.cfb_stream_buffer.specs.Contents.{Stored, IsBreak, IsMediumFault, KeptOrFailed}
+use Rattle.cfb_stream_window.specs.Windows.{Window, Stays, BrokeOff, CalmBrokeOff, ReadBrokeOff, WriteBrokeOff, LengthBrokeOff, IsMemoryOrFull, IsLost, Runs, IsRefused, state_of, run_of}
 use Rattle.cfb_stream_window.specs.Answers.{AtRefusal}
 
 pub match_true : (b : Bool) (P Q : Type 0) → b ≡ true → P → MatchBool b P Q

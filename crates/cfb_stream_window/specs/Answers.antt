@@ -1,5 +1,5 @@
 -- What a call on a buffered stream answers, and what it leaves.
-use Rattle.std.specs.Prelude.{ℕ, ◌≡◌, ◌⊎◌, Bool, Option, Some, Result}
+use Rattle.std.specs.Prelude.{ℕ, ◌≡◌, ◌⊎◌, Option, Some, Result}
 use Rattle.cfb_format.specs.Medium.{Rises}
 use Rattle.cfb_format.specs.Refused.{CountsFailure, HasReason, at_every_error}
 use Rattle.cfb_format.specs.declared.error.Error.{Error}
@@ -39,7 +39,7 @@ module _ {C : Type 0} (r : reading.Ghosts C) where
   pub record IsRefusedFor (causes : Causes) (old : C) (id : ℕ) (w : Window) (call : StreamCall) (new : C) (w' : Window) (e : Error) : Type 0 where
     pub rules : IsRefused causes (r.stored old id) w call (r.stored new id) w' e
     pub stops : KeptOrFailed (r.stored old id) (r.stored new id)
-    pub untouched : AtRefusal (new ≡ old) (r.kept new ≡ r.kept old) e
+    pub untouched : AtRefusal ((new ≡ old) × (w' ≡ w)) (r.kept new ≡ r.kept old) e
 
   -- where nothing is pending the medium is blamed only if its count of failures rose, and the numbers never
   abbrev pub causes_of_read : C → C → Causes

@@ -1,5 +1,5 @@
 //! The buffered stream that is only read. Lengths and places are in bytes.
-ghost use Rattle.std.specs.Prelude.{◌≡◌, ◌+◌, ◌-◌, ◌<◌, ◌≤◌, ◌==◌, ◌⊎◌, ◌++◌, min, false, OnOk, OnErr, IfOk, IfErr, length, take, drop, Some, None};
+ghost use Rattle.std.specs.Prelude.{◌≡◌, ◌+◌, ◌-◌, ◌<◌, ◌≤◌, ◌==◌, ◌⊎◌, ◌++◌, min, max, false, OnOk, OnErr, IfOk, IfErr, length, take, drop, Some, None};
 ghost use Rattle.cfb_format.specs.Refused.{IsMemory};
 ghost use Rattle.cfb_rules.specs.StreamCalls.{StreamStep, read, fill_buf, consume, seek, read_to_end, ask_len, ask_position, ask_is_empty, ready, got, offset, answered, opened};
 ghost use Rattle.cfb_stream_buffer.specs.Contents.{Stored, setting_of, IsFitting};
@@ -45,10 +45,8 @@ impl<A: Allocator> ReadWindow<A> {
         ensures is_open { C.tells content.now → IsFitting (C.stored content.now id) → IfOk result (λ w. IsOpen C.ReadContents content.now id w) }
         ensures refused { IfErr result IsMemory }
     {
-        match Window::open(alloc, content, id, limit) {
-            Ok(window) => Ok(ReadWindow { window }),
-            Err(e) => Err(e),
-        }
+        let window = Window::open(alloc, content, id, limit)?;
+        Ok(ReadWindow { window })
     }
 
     /// The length of the stream.
@@ -107,14 +105,13 @@ impl<A: Allocator> ReadWindow<A> {
         ensures refused { IsReady C.ReadContents content.old id self.old
             → IfErr result (λ e. ReadBrokeOff ⊥ (C.stored content.old id) self.old (C.stored content.new id) self.new e ⊎ Unreadable (C.stored content.old id) self.old (C.stored content.new id) self.new e) }
         ensures bound { self.new.bound ≡ self.old.bound }
+        ensures lean { self.new.room ≤ max self.old.room (min (self.old.size - (self.old.base + self.old.cursor)) self.old.bound) }
     {
         if self.window.has_rest() {
             return Ok(());
         }
-        match self.window.refill(content, id) {
-            Ok(()) => Ok(()),
-            Err(e) => Err(e),
-        }
+        self.window.refill(content, id)?;
+        Ok(())
     }
 
     /// Reads bytes from the position on into a beginning of `into`, and answers how many: at least one,
@@ -133,8 +130,10 @@ impl<A: Allocator> ReadWindow<A> {
         ensures refused { IsOpen C.ReadContents content.old id self.old
             → IfErr result (IsRefusedReading C.ReadContents content.old id self.old (read (length into.old)) content.new self.new) }
         ensures goes_on { IsOpen C.ReadContents content.old id self.old → GoesOn C.ReadContents content.old content.new id self.new }
+        ensures none { length into.old ≡ 0 → content.new ≡ content.old }
         ensures held { IsInside self.old → content.new ≡ content.old }
         ensures bound { self.new.bound ≡ self.old.bound }
+        ensures lean { self.new.room ≤ max self.old.room (min (self.old.size - (self.old.base + self.old.cursor)) self.old.bound) }
         ensures around { C.tells content.old → IsRead C.ReadContents content.old content.new id result }
     {
         if content.is_failed(id) {
@@ -148,9 +147,7 @@ impl<A: Allocator> ReadWindow<A> {
             self.window.take_back();
             return Ok(0);
         }
-        if let Err(e) = self.have_rest(content, id) {
-            return Err(e);
-        }
+        self.have_rest(content, id)?;
         Ok(self.window.serve(into))
     }
 
@@ -166,6 +163,7 @@ impl<A: Allocator> ReadWindow<A> {
         ensures goes_on { IsOpen C.ReadContents content.old id self.old → GoesOn C.ReadContents content.old content.new id self.new }
         ensures held { IsInside self.old → content.new ≡ content.old }
         ensures bound { self.new.bound ≡ self.old.bound }
+        ensures lean { self.new.room ≤ max self.old.room (min (self.old.size - (self.old.base + self.old.cursor)) self.old.bound) }
         ensures around { C.tells content.old → IsRead C.ReadContents content.old content.new id result }
     {
         if content.is_failed(id) {
@@ -175,9 +173,7 @@ impl<A: Allocator> ReadWindow<A> {
             self.window.take_back();
             return Ok(());
         }
-        if let Err(e) = self.have_rest(content, id) {
-            return Err(e);
-        }
+        self.have_rest(content, id)?;
         self.window.lend();
         Ok(())
     }
@@ -197,6 +193,7 @@ impl<A: Allocator> ReadWindow<A> {
         ensures goes_on { IsOpen C.ReadContents content.now id self.old → GoesOn C.ReadContents content.now content.now id self.new }
         ensures sure { (C.stored content.now id).failed ≡ false → OnErr result (target_of self.old.size (self.old.base + self.old.cursor) to ≡ None) }
         ensures bound { self.new.bound ≡ self.old.bound }
+        ensures room { self.new.room ≡ self.old.room }
     {
         if content.is_failed(id) {
             return Err(Error::Failed);
@@ -212,6 +209,7 @@ impl<A: Allocator> ReadWindow<A> {
         requires inside { at ≤ self.old.size }
         ensures went { (s : Stored) → Agrees s self.old → WentTo at s self.old s self.new }
         ensures bound { self.new.bound ≡ self.old.bound }
+        ensures room { self.new.room ≡ self.old.room }
     {
         let _at = self.window.position();
         if self.window.holds(at) {
@@ -240,26 +238,19 @@ impl<A: Allocator> ReadWindow<A> {
         ensures goes_on { IsOpen C.ReadContents content.old id self.old → GoesOn C.ReadContents content.old content.new id self.new }
         ensures held { self.old.base + length self.old.filled ≡ self.old.size → content.new ≡ content.old }
         ensures bound { self.new.bound ≡ self.old.bound }
+        ensures room { self.new.room ≡ self.old.room }
         ensures around { C.tells content.old → IsRead C.ReadContents content.old content.new id result }
     {
         if content.is_failed(id) {
             return Err(Error::Failed);
         }
         let _at = self.window.position();
-        if let Err(e) = self.window.check_rest(content, id) {
-            return Err(e);
-        }
+        self.window.check_rest(content, id)?;
         if self.window.holds_rest() {
-            let count = match self.window.append_held(into) {
-                Ok(count) => count,
-                Err(e) => return Err(e),
-            };
+            let count = self.window.append_held(into)?;
             return Ok(count);
         }
-        let count = match self.window.append_rest(content, id, into) {
-            Ok(count) => count,
-            Err(e) => return Err(e),
-        };
+        let count = self.window.append_rest(content, id, into)?;
         Ok(count)
     }
 }

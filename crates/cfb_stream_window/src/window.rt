@@ -1,5 +1,5 @@
 //! The buffered stream: a window in memory over what is stored. Lengths and places are in bytes.
-ghost use Rattle.std.specs.Prelude.{◌≡◌, ◌+◌, ◌-◌, ◌<◌, ◌≤◌, ◌==◌, ◌⊎◌, ◌↔◌, ◌++◌, min, [], false, IsTrue, OnOk, OnErr, IfOk, IfErr, IfSome, length, take, drop, nat_lt};
+ghost use Rattle.std.specs.Prelude.{◌≡◌, ◌+◌, ◌-◌, ◌<◌, ◌≤◌, ◌==◌, ◌⊎◌, ◌↔◌, ◌++◌, min, max, [], false, IsTrue, OnOk, OnErr, IfOk, IfErr, IfSome, length, take, drop, nat_lt};
 ghost use Rattle.cfb_format.specs.Refused.{IsInvalidOrMemory, IsMemory};
 ghost use Rattle.cfb_rules.specs.StreamCalls.{StreamStep, consume, ask_len, ask_position, ask_is_empty, ready, offset, answered, opened};
 ghost use Rattle.cfb_stream_buffer.specs.Contents.{Stored, setting_of, IsRefusedRead, IsFitting};
@@ -167,6 +167,7 @@ impl<A: Allocator> Window<A> {
     /// Has as much room as there are bytes left, as far as it may.
     fn grow_for_rest(&mut self) -> Result<(), Error>
         ensures ok { OnOk result (self.new ≡ record self.old { room = self.new.room }) }
+        ensures room { OnOk result (self.new.room ≡ max self.old.room (min (self.old.size - (self.old.base + self.old.cursor)) self.old.bound)) }
         ensures enough { OnOk result (min (self.old.size - (self.old.base + self.old.cursor)) self.old.bound ≤ self.new.room) }
         ensures more { self.old.room ≤ self.new.room }
         ensures refused { OnErr result (self.new ≡ self.old) }
@@ -204,15 +205,12 @@ impl<A: Allocator> Window<A> {
             → IfErr result (λ e. CalmBrokeOff (C.stored content.old id) self.old (C.stored content.new id) self.new e ⊎ Unreadable (C.stored content.old id) self.old (C.stored content.new id) self.new e) }
         ensures room { self.old.room ≤ self.new.room }
         ensures bound { self.new.bound ≡ self.old.bound }
+        ensures lean { self.new.room ≤ max self.old.room (min (self.old.size - (self.old.base + self.old.cursor)) self.old.bound) }
     {
-        if let Err(e) = self.grow_for_rest() {
-            return Err(e);
-        }
+        self.grow_for_rest()?;
         self.let_go();
-        match self.load(content, id) {
-            Ok(()) => Ok(()),
-            Err(e) => Err(e),
-        }
+        self.load(content, id)?;
+        Ok(())
     }
 
     /// Fills the empty window at its place.
@@ -287,6 +285,7 @@ impl<A: Allocator> Window<A> {
         ensures refused { IsReady C.ReadContents content.now id self.old
             → IfErr result (λ e. (IsMemory e × (self.new ≡ record self.old { ahead = 0 })) ⊎ IsUnreadable (C.stored content.now id) self.old self.new e) }
         ensures bound { self.new.bound ≡ self.old.bound }
+        ensures room { self.new.room ≡ self.old.room }
         ensures pending { self.new.pending ≡ self.old.pending }
     {
         if self.pending {
@@ -365,12 +364,11 @@ impl<A: Allocator> Window<A> {
         ensures refused { IsReady C.ReadContents content.old id self.old → IsReadable (C.stored content.old id) self.old → self.old.base + self.old.cursor < self.old.size
             → IfErr result (CalmBrokeOff (C.stored content.old id) self.old (C.stored content.new id) self.new) }
         ensures bound { self.new.bound ≡ self.old.bound }
+        ensures room { self.new.room ≡ self.old.room }
     {
         let _at = self.position();
         self.let_go();
-        if let Err(e) = read_into(content, id, self.base, start, into) {
-            return Err(e);
-        }
+        read_into(content, id, self.base, start, into)?;
         self.end();
         Ok(())
     }
@@ -395,6 +393,7 @@ impl<A: Allocator> Window<A> {
         ensures refused { IsReady C.ReadContents content.old id self.old → IsReadable (C.stored content.old id) self.old → self.old.base + self.old.cursor < self.old.size
             → IfErr result (CalmBrokeOff (C.stored content.old id) self.old (C.stored content.new id) self.new) }
         ensures bound { self.new.bound ≡ self.old.bound }
+        ensures room { self.new.room ≡ self.old.room }
     {
         let start = into.len();
         let left = (self.size - self.position()) as usize;
@@ -402,9 +401,7 @@ impl<A: Allocator> Window<A> {
             self.ahead = 0;
             return Err(e);
         }
-        if let Err(e) = self.append_stored(content, id, start, into) {
-            return Err(e);
-        }
+        self.append_stored(content, id, start, into)?;
         Ok(left)
     }
 

@@ -62,21 +62,21 @@ pub fn are_pieces(bytes: &[u8], source: &[u8], pieces: &[(usize, usize)]) -> boo
     at == bytes.len()
 }
 
-/// Writes all of the bytes.
+/// Writes all of the bytes, or none in one call.
 fn write_all<A: Allocator>(
     window: &mut Window<A>,
     content: &mut MemoryContents,
     bytes: &[u8],
 ) -> Result<(), Error> {
     let mut left = bytes;
-    for _ in 0..bytes.len() {
+    for _ in 0..bytes.len().max(1) {
         let count = window.write(content, 0, left)?;
         left = left.get(count..).unwrap_or(&[]);
     }
     Ok(())
 }
 
-/// Reads so many bytes, or up to the end.
+/// Reads so many bytes, or up to the end; no byte in one call.
 fn read_all<A: Allocator>(
     alloc: Global,
     window: &mut Window<A>,
@@ -86,7 +86,7 @@ fn read_all<A: Allocator>(
 ) -> Result<(), Error> {
     let mut piece = vec![in alloc; 0xff; wanted]?;
     let mut left = wanted;
-    for _ in 0..wanted {
+    for _ in 0..wanted.max(1) {
         let end = left.min(piece.len());
         let count = window.read(content, 0, &mut piece[..end])?;
         into.extend_from_slice(piece.get(..count).unwrap_or(&[]))?;

@@ -3,10 +3,14 @@
 
 #[cfg(test)]
 mod calls;
+#[cfg(test)]
+mod lent;
 pub mod memory;
 #[cfg(test)]
 mod odd;
 #[cfg(test)]
 mod refusals;
+#[cfg(test)]
+mod room;
 #[cfg(test)]
 mod scripts;

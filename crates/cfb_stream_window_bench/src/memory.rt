@@ -15,8 +15,8 @@ use std::marker::Model;
 const BITE: usize = 700;
 
 /// One list of bytes, under every number. Its length may promise more bytes than there are, and then its
-/// file is not sound. So many calls that write succeed, and then each is refused as if by a medium, and
-/// changes nothing; so is one read, behind so many others.
+/// file is not sound. So many calls that write or flush succeed, and then each is refused as if by a medium,
+/// and changes nothing but that a refused flush fails the file; so is one read, behind so many others.
 #[derive(Drop)]
 pub struct MemoryContents<A: Allocator = Global> {
     bytes: Vec<u8, A>,
@@ -63,7 +63,7 @@ impl<A: Allocator> MemoryContents<A> {
         self
     }
 
-    /// Only so many more calls that write succeed.
+    /// Only so many more calls that write or flush succeed.
     pub fn with_writes(mut self, writes: u64) -> MemoryContents<A> {
         self.writes_left = writes;
         self
@@ -93,7 +93,7 @@ impl<A: Allocator> MemoryContents<A> {
         self.room.min(self.limit).saturating_sub(size)
     }
 
-    /// Counts a call that writes, and refuses it where none is left.
+    /// Counts a call that writes or flushes, and refuses it where none is left.
     fn count_write(&mut self) -> Result<(), Error>
         ensures same { self.new ≡ record self.old { failures = self.new.failures } }
         ensures counts { CountsFailure (λ _. true) result self.old.failures self.new.failures }
@@ -219,7 +219,11 @@ impl<A: Allocator> Contents for MemoryContents<A> {
     }
 
     fn flush(&mut self, _id: u32) -> Result<(), Error> {
-        Ok(())
+        let counted = self.count_write();
+        if counted.is_err() {
+            self.failed = true;
+        }
+        counted
     }
 
     ghost reads_keep = { λ _ _ _ _ _ _. tt {0} };

@@ -1,5 +1,5 @@
 //! Reading, seeking and writing out of a stream that may have bytes pending.
-ghost use Rattle.std.specs.Prelude.{◌≡◌, ◌+◌, ◌-◌, ◌<◌, ◌≤◌, ◌⊎◌, ◌++◌, min, ℕ, true, false, OnOk, OnErr, IfOk, IfErr, length, take, drop, Some, None};
+ghost use Rattle.std.specs.Prelude.{◌≡◌, ◌+◌, ◌-◌, ◌<◌, ◌≤◌, ◌⊎◌, ◌++◌, min, max, ℕ, true, false, OnOk, OnErr, IfOk, IfErr, length, take, drop, Some, None};
 ghost use Rattle.cfb_rules.specs.StreamCalls.{read, fill_buf, seek, flush, read_to_end, ready, got, offset};
 ghost use Rattle.cfb_stream_buffer.specs.Contents.{IsBreak};
 ghost use Rattle.cfb_stream_window.specs.Windows.{Carries, ReadBrokeOff, IsLost, Unreadable, IsSettled, IsInside, settled, window_settled, window_at, WentTo, target_of, whence_of, IsReadable, Appended};
@@ -55,9 +55,7 @@ impl<A: Allocator> Window<A> {
         ensures bound { self.new.bound ≡ self.old.bound }
     {
         let _at = self.position();
-        if let Err(e) = self.write_out(content, id) {
-            return Err(e);
-        }
+        self.write_out(content, id)?;
         self.let_go();
         Ok(())
     }
@@ -78,14 +76,11 @@ impl<A: Allocator> Window<A> {
             → IfErr result (λ e. ReadBrokeOff (C.is_full content.new) (C.stored content.old id) self.old (C.stored content.new id) self.new e ⊎ Unreadable (C.stored content.old id) self.old (C.stored content.new id) self.new e) }
         ensures grown { self.new.room < min (self.old.size - (self.old.base + self.old.cursor)) self.old.bound → content.new ≡ content.old }
         ensures bound { self.new.bound ≡ self.old.bound }
+        ensures lean { self.new.room ≤ max self.old.room (min (self.old.size - (self.old.base + self.old.cursor)) self.old.bound) }
     {
-        if let Err(e) = self.grow_for_rest() {
-            return Err(e);
-        }
+        self.grow_for_rest()?;
         let was_pending = self.pending;
-        if let Err(e) = self.leave(content, id) {
-            return Err(e);
-        }
+        self.leave(content, id)?;
         if let Err(e) = self.refill(content, id) {
             give_up(content, id, was_pending);
             return Err(e);
@@ -108,6 +103,7 @@ impl<A: Allocator> Window<A> {
             → IfErr result (λ e. ReadBrokeOff (C.is_full content.new) (C.stored content.old id) self.old (C.stored content.new id) self.new e ⊎ Unreadable (C.stored content.old id) self.old (C.stored content.new id) self.new e) }
         ensures grown { self.new.room < min (self.old.size - (self.old.base + self.old.cursor)) self.old.bound → content.new ≡ content.old }
         ensures bound { self.new.bound ≡ self.old.bound }
+        ensures lean { self.new.room ≤ max self.old.room (min (self.old.size - (self.old.base + self.old.cursor)) self.old.bound) }
     {
         if self.has_rest() {
             return Ok(());
@@ -138,6 +134,7 @@ impl<A: Allocator> Window<A> {
         ensures held { IsInside self.old → content.new ≡ content.old }
         ensures grown { self.new.room < min (self.old.size - (self.old.base + self.old.cursor)) self.old.bound → content.new ≡ content.old }
         ensures bound { self.new.bound ≡ self.old.bound }
+        ensures lean { self.new.room ≤ max self.old.room (min (self.old.size - (self.old.base + self.old.cursor)) self.old.bound) }
         ensures around { C.tells content.old → IsWritten C.ReadContents C.Contents.own content.old content.new id result }
     {
         if content.is_failed(id) {
@@ -151,9 +148,7 @@ impl<A: Allocator> Window<A> {
             self.take_back();
             return Ok(0);
         }
-        if let Err(e) = self.have_rest(content, id) {
-            return Err(e);
-        }
+        self.have_rest(content, id)?;
         Ok(self.serve(into))
     }
 
@@ -172,6 +167,7 @@ impl<A: Allocator> Window<A> {
         ensures held { IsInside self.old → content.new ≡ content.old }
         ensures grown { self.new.room < min (self.old.size - (self.old.base + self.old.cursor)) self.old.bound → content.new ≡ content.old }
         ensures bound { self.new.bound ≡ self.old.bound }
+        ensures lean { self.new.room ≤ max self.old.room (min (self.old.size - (self.old.base + self.old.cursor)) self.old.bound) }
         ensures around { C.tells content.old → IsWritten C.ReadContents C.Contents.own content.old content.new id result }
     {
         if content.is_failed(id) {
@@ -181,9 +177,7 @@ impl<A: Allocator> Window<A> {
             self.take_back();
             return Ok(());
         }
-        if let Err(e) = self.have_rest(content, id) {
-            return Err(e);
-        }
+        self.have_rest(content, id)?;
         self.lend();
         Ok(())
     }
@@ -210,6 +204,7 @@ impl<A: Allocator> Window<A> {
         ensures held { (at : ℕ) → target_of self.old.size (self.old.base + self.old.cursor) to ≡ Some at
             → self.old.base ≤ at → at ≤ self.old.base + length self.old.filled → content.new ≡ content.old }
         ensures bound { self.new.bound ≡ self.old.bound }
+        ensures room { self.new.room ≡ self.old.room }
         ensures around { C.tells content.old → IsWritten C.ReadContents C.Contents.own content.old content.new id result }
     {
         if content.is_failed(id) {
@@ -218,9 +213,7 @@ impl<A: Allocator> Window<A> {
         let Some(at) = self.target(to) else {
             return Err(Error::InvalidInput(Detail::text("a seek leads out of the stream")));
         };
-        if let Err(e) = self.go(content, id, at) {
-            return Err(e);
-        }
+        self.go(content, id, at)?;
         Ok(at)
     }
 
@@ -237,14 +230,13 @@ impl<A: Allocator> Window<A> {
         ensures refused { IsReady C.ReadContents content.old id self.old → IfErr result (IsLost (C.is_full content.new) (C.stored content.old id) self.old (C.stored content.new id)) }
         ensures pending { OnErr result (self.old.pending ≡ true) }
         ensures bound { self.new.bound ≡ self.old.bound }
+        ensures room { self.new.room ≡ self.old.room }
     {
         if self.holds(at) {
             self.go_inside(at);
             return Ok(());
         }
-        if let Err(e) = self.leave(content, id) {
-            return Err(e);
-        }
+        self.leave(content, id)?;
         self.go_outside(at);
         Ok(())
     }
@@ -259,18 +251,15 @@ impl<A: Allocator> Window<A> {
         ensures goes_on { IsOpen C.ReadContents content.old id self.old → GoesOn C.ReadContents content.old content.new id self.new }
         ensures stored { IsOpen C.ReadContents content.old id self.old → OnOk result ((C.stored content.new id) ≡ settled (C.stored content.old id) self.old) }
         ensures bound { self.new.bound ≡ self.old.bound }
+        ensures room { self.new.room ≡ self.old.room }
         ensures around { C.tells content.old → IsWritten C.ReadContents C.Contents.own content.old content.new id result }
     {
         if content.is_failed(id) {
             return Err(Error::Failed);
         }
-        if let Err(e) = self.settle(content, id) {
-            return Err(e);
-        }
-        match content.flush(id) {
-            Ok(()) => Ok(()),
-            Err(fault) => Err(fault),
-        }
+        self.settle(content, id)?;
+        content.flush(id)?;
+        Ok(())
     }
 
     /// Writes out what is pending, and says that it is the same stream.
@@ -286,12 +275,11 @@ impl<A: Allocator> Window<A> {
         ensures calm { self.old.pending ≡ false → content.new ≡ content.old }
         ensures pending { OnErr result (self.old.pending ≡ true) }
         ensures bound { self.new.bound ≡ self.old.bound }
+        ensures room { self.new.room ≡ self.old.room }
     {
         let _at = self.position();
-        match self.write_out(content, id) {
-            Ok(()) => Ok(()),
-            Err(e) => Err(e),
-        }
+        self.write_out(content, id)?;
+        Ok(())
     }
 
     /// Writes out what is pending and ends the stream. `Failed`; with bytes pending `Medium`, `Memory`
@@ -310,10 +298,8 @@ impl<A: Allocator> Window<A> {
         if content.is_failed(id) {
             return Err(Error::Failed);
         }
-        match window.settle(content, id) {
-            Ok(()) => Ok(()),
-            Err(e) => Err(e),
-        }
+        window.settle(content, id)?;
+        Ok(())
     }
 
     /// Appends the bytes from the position to the end, and answers how many there are; where this is
@@ -338,25 +324,20 @@ impl<A: Allocator> Window<A> {
         ensures calm { C.tells content.old → self.old.pending ≡ false → IsRead C.ReadContents content.old content.new id result }
         ensures held { self.old.base + length self.old.filled ≡ self.old.size → content.new ≡ content.old }
         ensures bound { self.new.bound ≡ self.old.bound }
+        ensures room { self.new.room ≡ self.old.room }
         ensures around { C.tells content.old → IsWritten C.ReadContents C.Contents.own content.old content.new id result }
     {
         if content.is_failed(id) {
             return Err(Error::Failed);
         }
         let _at = self.position();
-        if let Err(e) = self.check_rest(content, id) {
-            return Err(e);
-        }
+        self.check_rest(content, id)?;
         if self.holds_rest() {
-            return match self.append_held(into) {
-                Ok(count) => Ok(count),
-                Err(e) => Err(e),
-            };
+            let count = self.append_held(into)?;
+            return Ok(count);
         }
-        match self.write_out_and_append(content, id, into) {
-            Ok(count) => Ok(count),
-            Err(e) => Err(e),
-        }
+        let count = self.write_out_and_append(content, id, into)?;
+        Ok(count)
     }
 
     /// Writes out what is pending, and appends what is stored from the position on. Room for it is had
@@ -380,6 +361,7 @@ impl<A: Allocator> Window<A> {
         ensures refused { IsReady C.ReadContents content.old id self.old → IsReadable (C.stored content.old id) self.old → self.old.base + self.old.cursor < self.old.size
             → IfErr result (ReadBrokeOff (C.is_full content.new) (C.stored content.old id) self.old (C.stored content.new id) self.new) }
         ensures bound { self.new.bound ≡ self.old.bound }
+        ensures room { self.new.room ≡ self.old.room }
     {
         let start = into.len();
         let left = (self.size - self.position()) as usize;

@@ -35,7 +35,10 @@ impl<A: Allocator> Window<A> {
         ensures settles { IsOpen C.ReadContents content.old id self.old → length bytes.now < 65536 → OnOk result (IsSettled (C.stored content.old id) self.old (C.stored content.new id)) }
         ensures none { length bytes.now ≡ 0 → content.new ≡ content.old }
         ensures held { length bytes.now < 65536 → HasRoom self.old → content.new ≡ content.old }
+        ensures keeps_back { 0 < length bytes.now → length bytes.now < 65536 → OnOk result (self.new.pending ≡ true) }
+        ensures straight { 65536 ≤ length bytes.now → OnOk result (self.new.pending ≡ false) }
         ensures bound { self.new.bound ≡ self.old.bound }
+        ensures lean { self.new.room ≤ max self.old.room (min (4 * self.old.room) self.old.bound) }
         ensures around { C.tells content.old → IsWritten C.ReadContents C.Contents.own content.old content.new id result }
     {
         if content.is_failed(id) {
@@ -55,14 +58,10 @@ impl<A: Allocator> Window<A> {
         }
         let most = bytes.len().min((limit - at) as usize);
         if bytes.len() >= STRAIGHT {
-            return match self.write_straight(content, id, &bytes[..most]) {
-                Ok(count) => Ok(count),
-                Err(e) => Err(e),
-            };
+            let count = self.write_straight(content, id, &bytes[..most])?;
+            return Ok(count);
         }
-        if let Err(e) = self.have_room(content, id) {
-            return Err(e);
-        }
+        self.have_room(content, id)?;
         Ok(self.keep(&bytes[..most]))
     }
 
@@ -78,6 +77,7 @@ impl<A: Allocator> Window<A> {
         ensures settles { IsReady C.ReadContents content.old id self.old → OnOk result (IsSettled (C.stored content.old id) self.old (C.stored content.new id)) }
         ensures refused { IsReady C.ReadContents content.old id self.old → IfErr result (WriteBrokeOff (C.is_full content.new) (C.stored content.old id) self.old (C.stored content.new id) self.new) }
         ensures bound { self.new.bound ≡ self.old.bound }
+        ensures lean { self.new.room ≤ max self.old.room (min (4 * self.old.room) self.old.bound) }
     {
         if self.buffer.cursor() < self.buffer.room() {
             return Ok(());
@@ -113,6 +113,7 @@ impl<A: Allocator> Window<A> {
         ensures settles { IsReady C.ReadContents content.old id self.old → OnOk result (IsSettled (C.stored content.old id) self.old (C.stored content.new id)) }
         ensures refused { IsReady C.ReadContents content.old id self.old → IfErr result (WriteBrokeOff (C.is_full content.new) (C.stored content.old id) self.old (C.stored content.new id) self.new) }
         ensures bound { self.new.bound ≡ self.old.bound }
+        ensures same_room { self.new.room ≡ self.old.room }
     {
         let _room = self.buffer.room();
         self.leave(content, id)
@@ -152,12 +153,12 @@ impl<A: Allocator> Window<A> {
             → IfOk result (λ n. (1 ≤ n) × WroteStraight (take n bytes.now) (C.stored content.old id) self.old (C.stored content.new id) self.new) }
         ensures refused { IsReady C.ReadContents content.old id self.old → (C.stored content.old id).sound ≡ true → self.old.base + self.old.cursor + length bytes.now ≤ (C.stored content.old id).limit → 0 < length bytes.now
             → IfErr result (WriteBrokeOff (C.is_full content.new) (C.stored content.old id) self.old (C.stored content.new id) self.new) }
+        ensures calm { OnOk result (self.new.pending ≡ false) }
         ensures bound { self.new.bound ≡ self.old.bound }
+        ensures room { self.new.room ≡ self.old.room }
     {
         let was_pending = self.pending;
-        if let Err(e) = self.leave(content, id) {
-            return Err(e);
-        }
+        self.leave(content, id)?;
         match content.write_at(id, self.base, bytes) {
             Ok(count) => {
                 self.pass(count);
@@ -193,6 +194,7 @@ impl<A: Allocator> Window<A> {
         ensures goes_on { IsOpen C.ReadContents content.old id self.old → GoesOn C.ReadContents content.old content.new id self.new }
         ensures same { len ≡ self.old.size → content.new ≡ content.old }
         ensures bound { self.new.bound ≡ self.old.bound }
+        ensures room { self.new.room ≡ self.old.room }
         ensures around { C.tells content.old → IsResized C.ReadContents C.Contents.own content.old content.new id result }
     {
         if content.is_failed(id) {
@@ -208,10 +210,8 @@ impl<A: Allocator> Window<A> {
         if !content.is_sound(id) {
             return Err(Error::Unsound);
         }
-        match self.resize(content, id, len) {
-            Ok(()) => Ok(()),
-            Err(e) => Err(e),
-        }
+        self.resize(content, id, len)?;
+        Ok(())
     }
 
     /// Gives the list its length first, so that a length which cannot be had changes nothing, and then writes
@@ -225,6 +225,7 @@ impl<A: Allocator> Window<A> {
         ensures refused { IsReady C.ReadContents content.old id self.old → (C.stored content.old id).sound ≡ true → len ≤ (C.stored content.old id).limit
             → IfErr result (LengthBrokeOff (C.is_too_long content.new id len) (C.stored content.old id) self.old (C.stored content.new id) self.new) }
         ensures bound { self.new.bound ≡ self.old.bound }
+        ensures room { self.new.room ≡ self.old.room }
     {
         if let Err(e) = content.resize(id, len) {
             let is_lost = self.pending && is_fault(&e);
@@ -233,10 +234,8 @@ impl<A: Allocator> Window<A> {
             return Err(e);
         }
         self.cut(len);
-        match self.settle(content, id) {
-            Ok(()) => Ok(()),
-            Err(e) => Err(e),
-        }
+        self.settle(content, id)?;
+        Ok(())
     }
 
     /// The window in a stream of another length: bytes that are not written out stay, as far as they lie in

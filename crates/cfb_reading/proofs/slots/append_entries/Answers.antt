@@ -16,7 +16,7 @@ loop-slot-init g c = appends-none c.args.validation c.args.version (entries_of c
 pub loop-slot-preserved : goal.loop-slot-preserved
 loop-slot-preserved g c =
     appends-pushed c.args.validation c.args.version c.args.slots.now c.loop-slot.slot-index (entries_of c.args.entries.now.items) c.loop-slot.entries.items c.push.new.self.items c.in_ok-entry.entry
-    (omega arith) c.in_ok-push.ensures.items c.loop-slot.invariant (record { accepted = c.in_ok-entry.ensures.ok; name = c.in_ok-entry.ensures.short })
+    (omega arith) c.in_ok-push.ensures.items c.loop-slot.invariant (record { accepted = c.in_ok-entry.ensures.ok; name = c.in_ok-entry.ensures.short; fits = c.entry_fits.ensures })
 
 pub returns-in_err-entry-clause-err : goal.returns-in_err-entry-clause-err
 returns-in_err-entry-clause-err g c =

@@ -1,4 +1,5 @@
 use Rattle.std.proofs.Common.{◌+◌, ◌-◌, ◌∙◌, length, take, drop, arith, sym, ap, refl}
+use Rattle.std.proofs.lemmas.Result.{err_from_is_err_and}
 use Rattle.cfb_rules.specs.StreamCalls.{read}
 use Rattle.cfb_stream_window.specs.Answers.{IsOpen, IsReady}
 use Rattle.cfb_stream_window.specs.Windows.{Window}
@@ -18,21 +19,22 @@ pub returns-then-position-len-clause-runs : goal.returns-then-position-len-claus
 returns-then-position-len-clause-runs g c = λ _.
     end_read _ _ _ _ (sym c.is_failed.ensures ∙ c.if-is_failed.false) (c.take_back-then-position-len.ensures ∙ ap (λ (z : Window). record z { ahead = 0 }) c.self.view_is) c.args.into.now (sym c.position.ensures.value ∙ c.if-position-len.true ∙ c.len.ensures.value)
 
-pub returns-in-Err-clause-refused : goal.returns-in-Err-clause-refused
-returns-in-Err-clause-refused g c = λ (h : IsOpen g.C.ReadContents c.args.content.now c.args.id c.args.self.now).
+pub returns-in_err-have_rest-clause-refused : goal.returns-in_err-have_rest-clause-refused
+returns-in_err-have_rest-clause-refused g c = λ (h : IsOpen g.C.ReadContents c.args.content.now c.args.id c.args.self.now).
     let a = h.suits (sym c.is_failed.ensures ∙ c.if-is_failed.false) in
     let r : IsReady g.C.ReadContents c.args.content.now c.args.id c.args.self.now = record { told = h.told; agrees = a } in
-    let e = c.in-Err.ensures in
+    let e = c.in_err-have_rest.ensures in
     let some = not_empty _ (sym c.is_empty.ensures ∙ c.if-is_empty.false) in
-    read_for _ _ _ _ _ _ _ _ _
-    (refused_read _ _ _ _ _ _ _ _ _ a (omega (arith, c.position.ensures.value, c.position.ensures.inside, c.len.ensures.value)) (e.around h.told).counts (e.refused r) (length c.args.into.now) some) _ (λ _. (e.around h.told).kept) (e.refused r)
+    let p = err_from_is_err_and c.from_residual.result c.from_residual.ensures.1 in
+    rw (p.1, p.2) (read_for _ _ _ _ _ _ _ _ _
+    (refused_read _ _ _ _ _ _ _ _ _ a (omega (arith, c.position.ensures.value, c.position.ensures.inside, c.len.ensures.value)) (e.around h.told).counts (e.refused r) (length c.args.into.now) some) _ (λ _. (e.around h.told).kept) (e.refused r))
 
 pub returns-clause-runs : goal.returns-clause-runs
 returns-clause-runs g c = λ (h : IsOpen g.C.ReadContents c.args.content.now c.args.id c.args.self.now).
     let a = h.suits (sym c.is_failed.ensures ∙ c.if-is_failed.false) in
     let r : IsReady g.C.ReadContents c.args.content.now c.args.id c.args.self.now = record { told = h.told; agrees = a } in
     let some = not_empty _ (sym c.is_empty.ensures ∙ c.if-is_empty.false) in
-    let had = c.in_default.ensures in
+    let had = c.in_ok-have_rest.ensures in
     let v = c.self-2.view_is in
     let n = c.serve.result in
     let count = c.serve.ensures.count in

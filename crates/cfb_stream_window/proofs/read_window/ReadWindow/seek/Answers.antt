@@ -15,7 +15,7 @@ returns-in_default-clause-refused g c = λ _.
     record {
       rules = nowhere_runs _ _ _ c.args.to c.text.result (sym c.is_failed.ensures ∙ c.if-is_failed.false) (c.in_default.ensures.value ∙ ap (λ (z : Window). target_of z.size (z.base + z.cursor) c.args.to) c.self.view_is);
       stops = inl refl;
-      untouched = refl;
+      untouched = (refl, refl);
     }
 
 pub returns-clause-runs : goal.returns-clause-runs

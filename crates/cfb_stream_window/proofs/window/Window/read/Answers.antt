@@ -1,4 +1,5 @@
 use Rattle.std.proofs.Common.{◌∙◌, length, arith, sym, ap, refl}
+use Rattle.std.proofs.lemmas.Result.{err_from_is_err_and}
 use Rattle.cfb_rules.specs.StreamCalls.{read}
 use Rattle.cfb_stream_window.specs.Answers.{IsOpen, IsReady}
 use Rattle.cfb_stream_window.specs.Windows.{Window}
@@ -19,15 +20,16 @@ returns-then-position-self-clause-runs g c = λ _.
     let size = ap (λ (z : Window). z.size) c.self.view_is in
     end_read _ _ _ _ (sym c.is_failed.ensures ∙ c.if-is_failed.false) c.take_back-then-position-self.ensures c.args.into.now (sym c.position.ensures.value ∙ c.if-position-self.true ∙ size)
 
-pub returns-in-Err-clause-refused : goal.returns-in-Err-clause-refused
-returns-in-Err-clause-refused g c = λ (h : IsOpen g.C.ReadContents c.args.content.now c.args.id c.args.self.now).
+pub returns-in_err-have_rest-clause-refused : goal.returns-in_err-have_rest-clause-refused
+returns-in_err-have_rest-clause-refused g c = λ (h : IsOpen g.C.ReadContents c.args.content.now c.args.id c.args.self.now).
     let a = h.suits (sym c.is_failed.ensures ∙ c.if-is_failed.false) in
     let r : IsReady g.C.ReadContents c.args.content.now c.args.id c.args.self.now = record { told = h.told; agrees = a } in
     let size = ap (λ (z : Window). z.size) c.self.view_is in
-    let e = c.in-Err.ensures in
+    let e = c.in_err-have_rest.ensures in
     let some = not_empty _ (sym c.is_empty.ensures ∙ c.if-is_empty.false) in
-    read_for _ _ _ _ _ _ _ _ _
-    (refused_read _ _ _ _ _ _ _ _ _ a (omega (arith, size)) (e.around h.told).counts (e.refused r) (length c.args.into.now) some) _ (λ calm. (e.calm h.told calm).kept) (e.refused r)
+    let p = err_from_is_err_and c.from_residual.result c.from_residual.ensures.1 in
+    rw (p.1, p.2) (read_for _ _ _ _ _ _ _ _ _
+    (refused_read _ _ _ _ _ _ _ _ _ a (omega (arith, size)) (e.around h.told).counts (e.refused r) (length c.args.into.now) some) _ (λ calm. (e.calm h.told calm).kept) (e.refused r))
 
 pub returns-clause-runs : goal.returns-clause-runs
 returns-clause-runs g c = λ (h : IsOpen g.C.ReadContents c.args.content.now c.args.id c.args.self.now).
@@ -35,5 +37,5 @@ returns-clause-runs g c = λ (h : IsOpen g.C.ReadContents c.args.content.now c.a
     let r : IsReady g.C.ReadContents c.args.content.now c.args.id c.args.self.now = record { told = h.told; agrees = a } in
     let size = ap (λ (z : Window). z.size) c.self.view_is in
     let some = not_empty _ (sym c.is_empty.ensures ∙ c.if-is_empty.false) in
-    let had = c.in_default.ensures in
+    let had = c.in_ok-have_rest.ensures in
     read_runs _ _ _ _ _ _ a.unfailed (had.ok r) (omega (arith, size)) c.serve.new.into (length c.args.into.now) c.serve.result (omega (arith, had.some r, some)) (omega arith) (omega (arith, had.some r)) c.serve.ensures.bytes c.serve.ensures.window

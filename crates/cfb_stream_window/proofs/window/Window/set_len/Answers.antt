@@ -1,4 +1,5 @@
 use Rattle.std.proofs.Common.{◌≢◌, ◌≤◌, ◌∙◌, sym, ap, arith, refl, inl}
+use Rattle.std.proofs.lemmas.Result.{err_from_is_err_and}
 use Rattle.cfb_rules.specs.StreamCalls.{set_len}
 use Rattle.cfb_stream_window.specs.Answers.{IsOpen, IsReady}
 use Rattle.cfb_stream_window.specs.Windows.{Window, IsMemoryOrFull}
@@ -23,7 +24,7 @@ returns-then-limit-len-clause-refused g c = λ _.
     record {
       rules = too_long_refused _ _ _ c.args.len f c.text.result (omega (arith, size, c.if-len-self.false)) (omega (arith, c.limit.ensures));
       stops = inl refl;
-      untouched = refl;
+      untouched = (refl, refl);
     }
 
 pub returns-then-not-is_sound-clause-refused : goal.returns-then-not-is_sound-clause-refused
@@ -33,28 +34,29 @@ returns-then-not-is_sound-clause-refused g c = λ _.
     record {
       rules = unsound_len_refused _ _ _ c.args.len f (omega (arith, size, c.if-len-self.false)) (omega (arith, c.limit.ensures)) (sym c.is_sound.ensures ∙ c.if-not-is_sound.true);
       stops = inl refl;
-      untouched = refl;
+      untouched = (refl, refl);
     }
 
-pub returns-in-Ok-clause-runs : goal.returns-in-Ok-clause-runs
-returns-in-Ok-clause-runs g c = λ (h : IsOpen g.C.ReadContents c.args.content.now c.args.id c.args.self.now).
+pub returns-clause-runs : goal.returns-clause-runs
+returns-clause-runs g c = λ (h : IsOpen g.C.ReadContents c.args.content.now c.args.id c.args.self.now).
     let f = sym c.is_failed.ensures ∙ c.if-is_failed.false in
     let r : IsReady g.C.ReadContents c.args.content.now c.args.id c.args.self.now = record { told = h.told; agrees = h.suits f } in
     let size = ap (λ (z : Window). z.size) c.self.view_is in
     let other : c.args.len ≢ c.args.self.now.size = omega (arith, size, c.if-len-self.false) in
     let fits : c.args.len ≤ (g.C.ReadContents.stored c.args.content.now c.args.id).limit = omega (arith, c.limit.ensures) in
     let sound = sym c.is_sound.ensures ∙ c.if-not-is_sound.false in
-    resized_runs _ _ _ c.args.len f _ _ other fits sound (c.in-Ok.ensures.ok r sound fits)
+    resized_runs _ _ _ c.args.len f _ _ other fits sound (c.in_ok-resize.ensures.ok r sound fits)
 
-pub returns-in-Err-clause-refused : goal.returns-in-Err-clause-refused
-returns-in-Err-clause-refused g c = λ (h : IsOpen g.C.ReadContents c.args.content.now c.args.id c.args.self.now).
+pub returns-in_err-resize-clause-refused : goal.returns-in_err-resize-clause-refused
+returns-in_err-resize-clause-refused g c = λ (h : IsOpen g.C.ReadContents c.args.content.now c.args.id c.args.self.now).
     let f = sym c.is_failed.ensures ∙ c.if-is_failed.false in
     let r : IsReady g.C.ReadContents c.args.content.now c.args.id c.args.self.now = record { told = h.told; agrees = h.suits f } in
     let size = ap (λ (z : Window). z.size) c.self.view_is in
     let other : c.args.len ≢ c.args.self.now.size = omega (arith, size, c.if-len-self.false) in
     let fits : c.args.len ≤ (g.C.ReadContents.stored c.args.content.now c.args.id).limit = omega (arith, c.limit.ensures) in
     let sound = sym c.is_sound.ensures ∙ c.if-not-is_sound.false in
-    let e = c.in-Err.ensures in
+    let e = c.in_err-resize.ensures in
     let why = e.refused r sound fits in
-    broke_for _ _ _ _ _ _ _ _ _
-    (length_broken _ _ _ _ _ _ _ _ (set_len c.args.len) _ (len_work (g.C.ReadContents.stored c.args.content.now c.args.id) c.args.self.now c.args.len other) f (e.around h.told).counts why) _ _ IsMemoryOrFull why
+    let p = err_from_is_err_and c.from_residual.result c.from_residual.ensures.1 in
+    rw (p.1, p.2) (broke_for _ _ _ _ _ _ _ _ _
+    (length_broken _ _ _ _ _ _ _ _ (set_len c.args.len) _ (len_work (g.C.ReadContents.stored c.args.content.now c.args.id) c.args.self.now c.args.len other) f (e.around h.told).counts why) _ _ IsMemoryOrFull why)

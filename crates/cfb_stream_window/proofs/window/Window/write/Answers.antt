@@ -1,5 +1,6 @@
-use Rattle.std.proofs.Common.{◌≡◌, ◌≤◌, ◌∙◌, ℕ, length, take, arith, sym, refl, inl, length-take}
+use Rattle.std.proofs.Common.{◌≡◌, ◌<◌, ◌≤◌, ◌∙◌, ℕ, length, take, arith, sym, refl, inl, length-take}
 use Rattle.std.proofs.lemmas.List.{take-take}
+use Rattle.std.proofs.lemmas.Result.{err_from_is_err_and}
 use Rattle.cfb_format.specs.Refused.{IsMemory}
 use Rattle.cfb_rules.specs.Runs.{any_cause}
 use Rattle.cfb_rules.specs.StreamCalls.{write}
@@ -23,7 +24,7 @@ returns-then-limit-at-clause-refused g c = λ _.
     record {
       rules = no_room_refused _ _ _ c.args.bytes.now (sym c.is_failed.ensures ∙ c.if-is_failed.false) c.text.result (not_empty _ (sym c.is_empty.ensures ∙ c.if-is_empty.false)) (omega arith);
       stops = inl refl;
-      untouched = refl;
+      untouched = (refl, refl);
     }
 
 pub returns-then-not-is_sound-clause-refused : goal.returns-then-not-is_sound-clause-refused
@@ -31,51 +32,53 @@ returns-then-not-is_sound-clause-refused g c = λ _.
     record {
       rules = unsound_refused _ _ _ c.args.bytes.now (sym c.is_failed.ensures ∙ c.if-is_failed.false) (not_empty _ (sym c.is_empty.ensures ∙ c.if-is_empty.false)) (omega arith) (sym c.is_sound.ensures ∙ c.if-not-is_sound.true);
       stops = inl refl;
-      untouched = refl;
+      untouched = (refl, refl);
     }
 
-pub returns-in-Ok-clause-runs : goal.returns-in-Ok-clause-runs
-returns-in-Ok-clause-runs g c = λ (h : IsOpen g.C.ReadContents c.args.content.now c.args.id c.args.self.now).
+pub returns-then-bytes-ge-STRAIGHT-clause-runs : goal.returns-then-bytes-ge-STRAIGHT-clause-runs
+returns-then-bytes-ge-STRAIGHT-clause-runs g c = λ (h : IsOpen g.C.ReadContents c.args.content.now c.args.id c.args.self.now).
     let f = sym c.is_failed.ensures ∙ c.if-is_failed.false in
     let r : IsReady g.C.ReadContents c.args.content.now c.args.id c.args.self.now = record { told = h.told; agrees = h.suits f } in
     let sound = sym c.is_sound.ensures ∙ c.if-not-is_sound.false in
-    let some = not_empty _ (sym c.is_empty.ensures ∙ c.if-is_empty.false) in
+    let some : 0 < length c.args.bytes.now = not_empty _ (sym c.is_empty.ensures ∙ c.if-is_empty.false) in
     let most = c.min-most.result in
     let len : length (take most c.args.bytes.now) ≡ most = omega (arith, length-take most c.args.bytes.now) in
-    let e = c.in-Ok.ensures in
-    let n = c.in-Ok.count in
+    let e = c.in_ok-count.ensures in
+    let n = c.in_ok-count.count in
     let within : n ≤ most = omega (arith, e.most, len) in
     let k = e.ok r sound (omega (arith, len)) (omega (arith, some, len)) in
     straight_runs _ _ _ _ _ c.args.bytes.now (take n (take most c.args.bytes.now)) n f sound k.0 (omega (arith, within)) (omega (arith, within)) (take-take n most c.args.bytes.now within)
     (omega (arith, length-take {A = ℕ} n (take most c.args.bytes.now), len)) k.1
 
-pub returns-in-Err-clause-refused : goal.returns-in-Err-clause-refused
-returns-in-Err-clause-refused g c = λ (h : IsOpen g.C.ReadContents c.args.content.now c.args.id c.args.self.now).
+pub returns-in_err-count-clause-refused : goal.returns-in_err-count-clause-refused
+returns-in_err-count-clause-refused g c = λ (h : IsOpen g.C.ReadContents c.args.content.now c.args.id c.args.self.now).
     let f = sym c.is_failed.ensures ∙ c.if-is_failed.false in
     let r : IsReady g.C.ReadContents c.args.content.now c.args.id c.args.self.now = record { told = h.told; agrees = h.suits f } in
     let sound = sym c.is_sound.ensures ∙ c.if-not-is_sound.false in
-    let some = not_empty _ (sym c.is_empty.ensures ∙ c.if-is_empty.false) in
+    let some : 0 < length c.args.bytes.now = not_empty _ (sym c.is_empty.ensures ∙ c.if-is_empty.false) in
     let n = c.min-most.result in
     let len : length (take n c.args.bytes.now) ≡ n = omega (arith, length-take n c.args.bytes.now) in
-    let e = c.in-Err.ensures in
+    let e = c.in_err-count.ensures in
     let why = e.refused r sound (omega (arith, len)) (omega (arith, some, len)) in
-    broke_for _ _ _ _ _ _ _ _ _ (taken_broken _ _ _ _ _ _ _ _ (write c.args.bytes.now) _ (some_work (g.C.ReadContents.stored c.args.content.now c.args.id) c.args.self.now c.args.bytes.now some) f (e.around h.told).counts why) _ _ IsMemory why
+    let p = err_from_is_err_and c.from_residual.result c.from_residual.ensures.1 in
+    rw (p.1, p.2) (broke_for _ _ _ _ _ _ _ _ _ (taken_broken _ _ _ _ _ _ _ _ (write c.args.bytes.now) _ (some_work (g.C.ReadContents.stored c.args.content.now c.args.id) c.args.self.now c.args.bytes.now some) f (e.around h.told).counts why) _ _ IsMemory why)
 
-pub returns-in-Err-have_room-clause-refused : goal.returns-in-Err-have_room-clause-refused
-returns-in-Err-have_room-clause-refused g c = λ (h : IsOpen g.C.ReadContents c.args.content.now c.args.id c.args.self.now).
+pub returns-in_err-have_room-clause-refused : goal.returns-in_err-have_room-clause-refused
+returns-in_err-have_room-clause-refused g c = λ (h : IsOpen g.C.ReadContents c.args.content.now c.args.id c.args.self.now).
     let f = sym c.is_failed.ensures ∙ c.if-is_failed.false in
     let r : IsReady g.C.ReadContents c.args.content.now c.args.id c.args.self.now = record { told = h.told; agrees = h.suits f } in
-    let some = not_empty _ (sym c.is_empty.ensures ∙ c.if-is_empty.false) in
-    let e = c.in-Err-have_room.ensures in
+    let some : 0 < length c.args.bytes.now = not_empty _ (sym c.is_empty.ensures ∙ c.if-is_empty.false) in
+    let e = c.in_err-have_room.ensures in
     let why = e.refused r in
-    broke_for _ _ _ _ _ _ _ _ _ (taken_broken _ _ _ _ _ _ _ _ (write c.args.bytes.now) _ (some_work (g.C.ReadContents.stored c.args.content.now c.args.id) c.args.self.now c.args.bytes.now some) f (e.around h.told).counts why) _ _ IsMemory why
+    let p = err_from_is_err_and c.from_residual-in_err-have_room.result c.from_residual-in_err-have_room.ensures.1 in
+    rw (p.1, p.2) (broke_for _ _ _ _ _ _ _ _ _ (taken_broken _ _ _ _ _ _ _ _ (write c.args.bytes.now) _ (some_work (g.C.ReadContents.stored c.args.content.now c.args.id) c.args.self.now c.args.bytes.now some) f (e.around h.told).counts why) _ _ IsMemory why)
 
 pub returns-clause-runs : goal.returns-clause-runs
 returns-clause-runs g c = λ (h : IsOpen g.C.ReadContents c.args.content.now c.args.id c.args.self.now).
     let f = sym c.is_failed.ensures ∙ c.if-is_failed.false in
     let r : IsReady g.C.ReadContents c.args.content.now c.args.id c.args.self.now = record { told = h.told; agrees = h.suits f } in
-    let some = not_empty _ (sym c.is_empty.ensures ∙ c.if-is_empty.false) in
-    let had = c.in_default.ensures in
+    let some : 0 < length c.args.bytes.now = not_empty _ (sym c.is_empty.ensures ∙ c.if-is_empty.false) in
+    let had = c.in_ok-have_room.ensures in
     let k = had.ok r in
     let n = c.keep.result in
     let most = c.min-most.result in
@@ -89,7 +92,7 @@ pub returns-clause-goes_on : goal.returns-clause-goes_on
 returns-clause-goes_on g c = λ (h : IsOpen g.C.ReadContents c.args.content.now c.args.id c.args.self.now).
     let f = sym c.is_failed.ensures ∙ c.if-is_failed.false in
     let r : IsReady g.C.ReadContents c.args.content.now c.args.id c.args.self.now = record { told = h.told; agrees = h.suits f } in
-    let had = c.in_default.ensures in
+    let had = c.in_ok-have_room.ensures in
     let k = had.ok r in
     let n = c.keep.result in
     let most = c.min-most.result in

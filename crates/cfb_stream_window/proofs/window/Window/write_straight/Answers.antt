@@ -8,7 +8,7 @@ use Rattle.cfb_stream_window.proofs.window.Window.write_straight.Goals as goal
 pub returns-in-Ok-clause-ok : goal.returns-in-Ok-clause-ok
 returns-in-Ok-clause-ok g c = λ (h : IsReady g.C.ReadContents c.args.content.now c.args.id c.args.self.now) (sound : (g.C.ReadContents.stored c.args.content.now c.args.id).sound ≡ true)
     (fits : c.args.self.now.base + c.args.self.now.cursor + length c.args.bytes.now ≤ (g.C.ReadContents.stored c.args.content.now c.args.id).limit) (some : 0 < length c.args.bytes.now).
-    let left = c.in_default.ensures in
+    let left = c.in_ok-leave.ensures in
     let k = left.ok h in
     let n = c.in-Ok.count in
     let v = c.leave.new.self in
