@@ -23,11 +23,7 @@ fn no_end(start: u32) -> Error
 
 /// The numbers of the chain from `start` in this table, in the list that is given, whatever it held: it asks for memory only where that has
 /// too little room. `InvalidData` where the table has no such chain, and `Memory`.
-fn walk_in<A: Heap>(
-    mut list: Vec<u32, A>,
-    table: &[u32],
-    start: u32,
-) -> Result<Vec<u32, A>, Error>
+fn walk_in<A: Heap>(mut list: Vec<u32, A>, table: &[u32], start: u32) -> Result<Vec<u32, A>, Error>
     ensures ok { IfOk result (λ list. IsChain table.now start list.items) }
     ensures err { IfErr result (WalkRefused table.now start) }
 {

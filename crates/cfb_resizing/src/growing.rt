@@ -125,12 +125,13 @@ fn are_minis_full<F: ReadMedium, A: Heap>(mini: &MiniAllocator<F, A>) -> bool
     ensures within { length mini.now.minifat ≤ mini.now.max_mini_sectors }
 {
     let limit = max_len(mini.version()) as usize;
+    let len = mini.minifat_len();
     let free = mini
         .minifat()
         .iter()
         .filter(|value| **value == FREE_SECTOR)
         .count();
-    free == 0 && limit <= mini.minifat_len()
+    free == 0 && limit <= len
 }
 
 /// Takes what is left of the numbers that a stream lacks which cannot grow, so that `Full` comes with full tables.
@@ -145,6 +146,7 @@ fn take_the_rest<F: Medium, A: Heap + Clone>(
     ensures full { OnOk result (IsFullOfMiniSectors (parts_of mini.new) ⊎ AreFullTables (tables_in mini.new)) }
     ensures begun { OnOk result ((mini.new ≡ mini.old) ⊎ ((table_of mini.new).file.begun ≡ true)) }
     ensures refused { (validation : Validation) → HoldsMini validation mini.old → IfErr result (StopsOrIsFull mini.old mini.new) }
+    ensures still { OnErr result (IsStill mini.old mini.new ⊎ ((table_of mini.new).file.begun ≡ true)) }
     ensures unwritten { IsTrue F.tells → (table_of mini.new).file.begun ≡ false → bytes_of mini.new ≡ bytes_of mini.old }
     ensures err { IfErr result (ChangeRefused (IsNotChangeable mini.old) Unit Unit Unit) }
     ensures counts { IsTrue F.tells → CountsFailure F.write_faults result (table_of mini.old).file.failures (table_of mini.new).file.failures }

@@ -1,2 +1,3 @@
 pub mod ContentSteps
 pub mod Fullness
+pub mod Refusals

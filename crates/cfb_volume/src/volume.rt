@@ -27,7 +27,6 @@ ghost use Rattle.cfb_agreement.specs.Files.{Agrees, Holds, IsAsBefore, IsAsMade,
 ghost use Rattle.cfb_agreement.specs.Laws.{with_flags};
 ghost use Rattle.cfb_volume.specs.Answers.{IsBreak, content_at};
 
-use cfb_agreement::laws::{changeable_files_are_held, content_changes_compose, flags_are_not_read};
 use cfb_codecs::direntry::DirEntry;
 use cfb_codecs::path::CaseMapper;
 use cfb_codecs::timestamp::Timestamp;
@@ -257,9 +256,6 @@ impl<F: Medium, A: Heap + Clone> Volume<F, A> {
         ensures err { IsTrue F.tells → Holds self.old → IfErr result (IsBreak ((len_of self.old.base entry ≤ at) × IsFullFile self.new)) }
         ensures counts { IsTrue F.tells → CountsFailure (λ f. F.read_faults f || F.write_faults f) result (failures_of self.old) (failures_of self.new) }
     {
-        flags_are_not_read();
-        changeable_files_are_held();
-        content_changes_compose();
         let count = put_content(&mut self.mini, entry, at, bytes)?;
         self.mini.end_change();
         Ok(count)
@@ -287,9 +283,6 @@ impl<F: Medium, A: Heap + Clone> Volume<F, A> {
         ensures err { IsTrue F.tells → Holds self.old → IfErr result (IsBreak (IsTooLongFor self.old.base entry len × (self.new ≡ self.old))) }
         ensures counts { IsTrue F.tells → CountsFailure (λ f. F.read_faults f || F.write_faults f) result (failures_of self.old) (failures_of self.new) }
     {
-        flags_are_not_read();
-        changeable_files_are_held();
-        content_changes_compose();
         resize_content(&mut self.mini, entry, len)?;
         self.mini.end_change();
         Ok(())
