@@ -31,14 +31,14 @@ use cfb_codecs::direntry::DirEntry;
 use cfb_codecs::path::CaseMapper;
 use cfb_codecs::timestamp::Timestamp;
 use cfb_content::reading::{read_content, readable_len};
-use cfb_content::writing::write_content;
 use cfb_format::error::Error;
 use cfb_format::medium::{Medium, ReadMedium};
 use cfb_format::objtype::ObjType;
 use cfb_format::version::Version;
 use cfb_mini::mini_allocator::MiniAllocator;
-use cfb_resizing::growing::grow_content;
+use cfb_resizing::putting::put_content;
 use cfb_resizing::resizing::resize_content;
+use cfb_siblings::find::find_path;
 use std::alloc::{Allocator as Heap, Global};
 use std::marker::Model;
 
@@ -148,8 +148,7 @@ impl<F: ReadMedium, A: Heap> Volume<F, A> {
             → result ≡ number_at_path (cases_of self.now.base) (entries_of self.now.base) o (chars path.now) }
         ensures reached { (o : Outline) → IsOutline (cases_of self.now.base) (entries_of self.now.base) o → IfSome result (IsReached o) }
     {
-        let _ = path;
-        None
+        find_path(self.mini.letters(), self.mini.entries(), path)
     }
 
     /// The number of the entry that these names lead to from the root: `None` where nothing is there. It takes no memory.
@@ -257,7 +256,9 @@ impl<F: Medium, A: Heap + Clone> Volume<F, A> {
         ensures err { IsTrue F.tells → Holds self.old → IfErr result (IsBreak ((len_of self.old.base entry ≤ at) × IsFullFile self.new)) }
         ensures counts { IsTrue F.tells → CountsFailure (λ f. F.read_faults f || F.write_faults f) result (failures_of self.old) (failures_of self.new) }
     {
-        Err(Error::Memory)
+        let count = put_content(&mut self.mini, entry, at, bytes)?;
+        self.mini.end_change();
+        Ok(count)
     }
 
     /// Gives the stream of that entry this length: it is cut, or padded with zeros. The length that it has changes nothing.
@@ -282,6 +283,8 @@ impl<F: Medium, A: Heap + Clone> Volume<F, A> {
         ensures err { IsTrue F.tells → Holds self.old → IfErr result (IsBreak (IsTooLongFor self.old.base entry len × (self.new ≡ self.old))) }
         ensures counts { IsTrue F.tells → CountsFailure (λ f. F.read_faults f || F.write_faults f) result (failures_of self.old) (failures_of self.new) }
     {
-        Err(Error::Memory)
+        resize_content(&mut self.mini, entry, len)?;
+        self.mini.end_change();
+        Ok(())
     }
 }
