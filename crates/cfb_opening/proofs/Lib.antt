@@ -1,0 +1,5 @@
+pub mod Refusals
+pub mod StreamNumbers
+pub mod TableParts
+pub mod Writable
+pub mod ReadParts
