@@ -1,0 +1,4 @@
+pub mod Flags
+pub mod HeldBytes
+pub mod ContentChanges
+pub mod InTurn

@@ -1,6 +1,6 @@
 -- What follows from what a file keeps.
-use Rattle.std.specs.Prelude.{ℕ, ◌≡◌, ◌≤◌, ◌↔◌, List, Bool, true, length, Some}
-use Rattle.cfb_format.specs.declared.validate.Validation.TheVariants.{Permissive}
+use Rattle.std.specs.Prelude.{ℕ, ◌≡◌, ◌≤◌, ◌↔◌, List, Bool, true, false, length, Some}
+use Rattle.cfb_format.specs.declared.validate.Validation.TheVariants.{Permissive, Strict}
 use Rattle.cfb_format.specs.Full.{HasExactTablesFile}
 use Rattle.cfb_format.specs.Meaning.{Means}
 use Rattle.cfb_format.specs.Reading.{IsOutline, IsStrictFile, Outline}
@@ -9,11 +9,13 @@ use Rattle.cfb_format.specs.Soundness.{IsOwnedFile, IsSoundFile}
 use Rattle.cfb_rules.specs.CallChanges.{content_changed_at}
 use Rattle.cfb_siblings.specs.Paths.{number_from}
 use Rattle.cfb_tables.specs.Changes.{NoneFree}
+use Rattle.cfb_tables.specs.Tables.{AreExactTables}
 use Rattle.cfb_objects.specs.Laws.{BecomesTree}
 use Rattle.cfb_objects.specs.Objects.{tree_from}
 use Rattle.cfb_mini_sectors.specs.Held.{with_table}
-use Rattle.cfb_mini_sectors.specs.State.{IsChangeable, bytes_of, cases_of, content_of, entries_of, table_of, tables_in}
-use Rattle.cfb_content.specs.Contents.{IsStreamOf, KeepsOthers, MovesContent}
+use Rattle.cfb_mini_sectors.specs.State.{IsChangeable, MiniState, bytes_of, cases_of, content_of, entries_of, table_of, tables_in}
+use Rattle.cfb_mini_sectors.specs.Steps.{KeepsLimits}
+use Rattle.cfb_content.specs.Contents.{AreAllUsed, IsStreamOf, KeepsOthers, MovesContent}
 use Rattle.cfb_agreement.specs.Files.{FileState, Holds, IsAsBefore, IsAsMade, SameSetting, failures_of, is_failed}
 use Rattle.cfb_agreement.specs.Changes.{ChangesOneContent}
 
@@ -70,6 +72,11 @@ ContentBecomesTree = (old new : FileState) (i : ℕ) (o : Outline) (names : List
     → IsOutline (cases_of old.base) (entries_of old.base) o → number_from (cases_of old.base) (entries_of old.base) 0 o names ≡ Some i
     → BecomesTree (cases_of old.base) (bytes_of old.base) (bytes_of new.base)
     (content_changed_at (cases_of old.base) (content_of new.base (entry_at (entries_of new.base) i)) names)
+
+-- a file that was made here is so again, where the tables are in order: the colours are kept
+abbrev pub ContentKeepsMade : Type 0
+ContentKeepsMade = (i : ℕ) (old new : MiniState) → KeepsLimits old new → MovesContent old new i → IsStreamOf old i → IsAsMade old
+    → IsChangeable Strict new → AreAllUsed new → AreExactTables (tables_in new) → IsAsMade new
 
 -- the entry is a stream's still
 abbrev pub ContentKeepsStream : Type 0

@@ -1,5 +1,5 @@
 //! What follows from what a file keeps. None of these functions does anything: each has a law as its contract.
-ghost use Rattle.cfb_agreement.specs.Laws.{AsBeforeIsNone, AsBeforeIsSame, AsMadeIsInOrder, ChangeableIsHeld, ContentBecomesTree, ContentKeepsStream, ContentsInTurn, FlagsAreNotMade, FlagsAreNotRead, HeldMeansItsTree, SameContentIsNone, SoundIsExact};
+ghost use Rattle.cfb_agreement.specs.Laws.{AsBeforeIsNone, AsBeforeIsSame, AsMadeIsInOrder, ChangeableIsHeld, ContentBecomesTree, ContentKeepsMade, ContentKeepsStream, ContentsInTurn, FlagsAreNotMade, FlagsAreNotRead, HeldMeansItsTree, SameContentIsNone, SoundIsExact};
 
 /// What holds does not hang on whether a change was begun, nor on the count of failures.
 pub fn flags_are_not_read()
@@ -20,10 +20,11 @@ pub fn bytes_are_what_is_held()
     ensures in_order { AsMadeIsInOrder }
 {}
 
-/// Where the content of one stream changed, the bytes mean the tree with that content.
+/// Where the content of one stream changed, the bytes mean the tree with that content, and a file that was made here is in order still.
 pub fn changed_content_is_meant()
     ensures tree { ContentBecomesTree }
     ensures stream { ContentKeepsStream }
+    ensures made { ContentKeepsMade }
 {}
 
 /// Changes of one stream's content, one after the other, are one.

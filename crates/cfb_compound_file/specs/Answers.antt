@@ -1,82 +1,67 @@
--- What calls answer on a file, by the rules of calls.
-use Rattle.std.specs.Prelude.{◌≡◌, ◌⊎◌, ℕ, List, Bool, true, false, Option, Some, None, Result, Ok, Err, ⊤}
+-- What calls on a file answer, by the rules of calls.
+use Rattle.std.specs.Prelude.{ℕ, ◌≡◌, Bool, true, false, ⊤}
 use Rattle.cfb_format.specs.declared.error.Error.{Error}
 use Rattle.cfb_format.specs.declared.medium.MediumFault.{MediumFault}
 use Rattle.cfb_format.specs.Bytes.{max_stream_len}
-use Rattle.cfb_format.specs.Medium.{Rises}
 use Rattle.cfb_format.specs.Meaning.{Means}
-use Rattle.cfb_format.specs.Names.{is_valid_name}
-use Rattle.cfb_format.specs.Refused.{HasReason, no_error, CountsError}
+use Rattle.cfb_format.specs.Medium.{Rises}
+use Rattle.cfb_format.specs.Refused.{CountsError, HasReason, at_every_error}
 use Rattle.cfb_format.specs.Tree.{Tree}
-use Rattle.cfb_rules.specs.Refusal.{Refusal, IsRefusal, failed_earlier}
-use Rattle.cfb_rules.specs.Calls.{Call, Reply, refused, create_stream, create_new_stream}
-use Rattle.cfb_rules.specs.Runs.{Causes, Setting, CallRuns, StreamCallRuns}
-use Rattle.cfb_rules.specs.StreamCalls.{StreamCall, StreamReply, not_done}
-use Rattle.cfb_compound_file.specs.OneStreamStates.{stream_run, IsOpen}
-use Rattle.cfb_compound_file.specs.Files.{FileState, AgreesWithBytes, KeepsSetting}
+use Rattle.cfb_rules.specs.Calls.{Call, Reply, refused}
+use Rattle.cfb_rules.specs.Refusal.{IsRefusal, Refusal}
+use Rattle.cfb_rules.specs.Runs.{CallRuns, Causes, Setting, TreeState}
+use Rattle.cfb_mini_sectors.specs.State.{bytes_of, cases_of, root_len_of, version_of}
+use Rattle.cfb_agreement.specs.Changes.{StaysOrFails}
+use Rattle.cfb_agreement.specs.Files.{FileState, IsAsMade, IsFullFile, LeavesNoneFree, SameSetting, failures_of, is_failed}
 
--- why a name was refused
-abbrev pub IsInvalidName : List ℕ → Error → Type 0
-IsInvalidName name = HasReason (record no_error { invalid_input = is_valid_name name ≡ false; memory = ⊤ })
-
--- ---- calls by path
-
--- what stays the same of a file that is sound
+-- what stays the same of a file
 abbrev pub setting_of : FileState → Setting
-setting_of file = record { cases = file.cases; stream = record { limit = max_stream_len file.version; sound = file.is_sound } }
+setting_of file = record { cases = cases_of file.base; stream = record { limit = max_stream_len (version_of file.base); sound = file.is_sound } }
 
--- the medium is blamed only where its count of failures rose, and no file is full yet
+-- the medium is blamed only where its count of failures rose, and the numbers only where the tables are full as the call leaves them
 abbrev pub causes_of : FileState → FileState → Causes
-causes_of old new = record { medium = Rises old.failures new.failures; full = ⊥ }
+causes_of old new = record { medium = Rises (failures_of old) (failures_of new); full = IsFullFile new }
 
--- by the rules of calls, for the tree that the bytes mean. A file of this shape has no mini stream, so the length of its root's entry is 0
+-- the bytes of a file that has not failed mean this tree
+abbrev pub MeansTree : FileState → Tree → Type 0
+MeansTree file tree = is_failed file ≡ false → Means (cases_of file.base) (bytes_of file.base) tree
+
+-- the state that the rules speak of, where the bytes mean this tree
+abbrev pub state_with : FileState → Tree → TreeState
+state_with file tree = record { tree = tree; root_len = root_len_of file.base; failed = is_failed file }
+
+-- by the rules of calls: for the tree that the bytes mean there is one that they mean afterwards, and the rules hold between them
 unfoldable pub RunsOn : Causes → FileState → Call → Reply → FileState → Type 0
-RunsOn causes old call reply new = (tree : Tree) → (old.is_failed ≡ false → Means old.cases old.bytes tree)
-    → (after : Tree) × (new.is_failed ≡ false → Means new.cases new.bytes after)
-    × CallRuns causes (setting_of old) (record { tree = tree; root_len = 0; failed = old.is_failed }) call reply (record { tree = after; root_len = 0; failed = new.is_failed })
+RunsOn causes old call reply new = (tree : Tree) → MeansTree old tree
+    → (after : Tree) × MeansTree new after × CallRuns causes (setting_of old) (state_with old tree) call reply (state_with new after)
 
--- the two calls that create a stream: one empties a stream that is there
-abbrev pub creation : Bool → List ℕ → Call
-creation true path = create_stream path
-creation false path = create_new_stream path
+-- a question was answered so, and changes nothing
+abbrev pub Answers : FileState → Call → Reply → Type 0
+Answers file call reply = RunsOn (causes_of file file) file call reply file
 
--- a call was answered by the rules
-pub record IsAnsweredBy (old : FileState) (call : Call) (reply : Reply) (new : FileState) : Type 0 where
+-- it was refused so
+abbrev pub AnswersNot : FileState → Call → Error → Type 0
+AnswersNot file call e = (refusal : Refusal) × IsRefusal refusal e × Answers file call (refused refusal)
+
+-- ---- calls that may change the file
+
+-- a file that was made here is in order still, unless it failed; and where a sector was appended none is free
+pub record StaysInOrder (old new : FileState) : Type 0 where
+  pub setting : SameSetting old new
+  pub made : is_failed new ≡ false → IsAsMade old.base → IsAsMade new.base
+  pub grows : is_failed new ≡ false → LeavesNoneFree old.base new.base
+
+-- the call was done
+pub record IsDoneBy (old : FileState) (call : Call) (reply : Reply) (new : FileState) : Type 0 where
   pub runs : RunsOn (causes_of old new) old call reply new
-  pub keeps : KeepsSetting old new
+  pub order : StaysInOrder old new
 
--- A call was refused. The file is as before, or it has failed; where that is only not built yet, it is as before
-pub record IsRefusedBy (can_give : MediumFault → Bool) (old : FileState) (call : Call) (not_yet : Error → Type 0) (new : FileState) (e : Error) : Type 0 where
-  pub reply : ((refusal : Refusal) × IsRefusal refusal e × RunsOn (causes_of old new) old call (refused refusal) new) ⊎ (not_yet e × (new ≡ old))
-  pub stays : (new ≡ record old { failures = new.failures }) ⊎ (new.is_failed ≡ true)
-  pub keeps : KeepsSetting old new
-  pub counts : CountsError can_give old.failures new.failures e
-  pub agrees : AgreesWithBytes new
-
-abbrev pub never_yet : Error → Type 0
-never_yet e = ⊥
-
--- ---- calls on the stream while it is open
-
--- by the rules of calls on streams
-unfoldable pub StreamRunsOn : FileState → ℕ → StreamCall → StreamReply → FileState → ℕ → Type 0
-StreamRunsOn old position call reply new after =
-    StreamCallRuns (causes_of old new) (setting_of old).stream (stream_run old position) call reply (stream_run new after)
-
--- a call on the stream was answered by the rules
-pub record IsStreamAnsweredBy (old : FileState) (position : ℕ) (call : StreamCall) (reply : StreamReply) (new : FileState) (after : ℕ) : Type 0 where
-  pub runs : StreamRunsOn old position call reply new after
-  pub keeps : KeepsSetting old new
-
--- A call on the stream was refused. The file is as before, or it has failed; where that is only not built yet, file and position are as before
-pub record IsStreamRefusedBy (can_give : MediumFault → Bool) (old : FileState) (position : ℕ) (call : StreamCall) (not_yet : Error → Type 0) (new : FileState) (after : ℕ) (e : Error) : Type 0 where
-  pub reply : ((refusal : Refusal) × IsRefusal refusal e × StreamRunsOn old position call (not_done refusal) new after) ⊎ (not_yet e × (new ≡ old) × (after ≡ position))
-  pub stays : (new ≡ record old { failures = new.failures }) ⊎ (new.is_failed ≡ true)
-  pub keeps : KeepsSetting old new
-  pub counts : CountsError can_give old.failures new.failures e
-  pub is_open : IsOpen new after
-
--- what closing was refused for
-abbrev pub close_refusal : {T : Type 0} → Result T Error → Option Refusal
-close_refusal (Ok x) = None
-close_refusal (Err e) = Some failed_earlier
+-- it was refused: by the rules, and then nothing has changed; or by the medium, for memory or since numbers lack, and then all is as before
+-- but the count of failures, or the file has failed
+pub record IsRefusedBy (can_give : MediumFault → Bool) (old : FileState) (call : Call) (new : FileState) (e : Error) : Type 0 where
+  pub refusal : Refusal
+  pub is : IsRefusal refusal e
+  pub runs : RunsOn (causes_of old new) old call (refused refusal) new
+  pub stays : HasReason (record (at_every_error (new ≡ old)) { medium = λ f. StaysOrFails old new; memory = StaysOrFails old new; full = StaysOrFails old new }) e
+  pub order : StaysInOrder old new
+  pub counts : CountsError can_give (failures_of old) (failures_of new) e

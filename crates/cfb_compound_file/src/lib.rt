@@ -1,11 +1,4 @@
-//! Compound files (MS-CFB): a tree of storages and streams in one file.
+//! Compound files: opened, looked at, and their streams read and written.
 #![tactic(auto)]
 
-mod compound_file;
-mod created;
-pub mod laws;
-mod one_stream;
-mod stream;
-
-pub use compound_file::CompoundFile;
-pub use stream::Stream;
+pub mod compound_file;

@@ -89,8 +89,8 @@ fn separator(path: &str) -> &str
     if path.ends_with('/') { "" } else { "/" }
 }
 
-/// The path of what has this name in the storage with this path.
-fn path_below<A: Allocator>(alloc: A, parent: &str, name: &str) -> Result<String<A>, Error>
+/// The path of what has this name in the storage with this path. `Memory`, and no other error.
+pub fn path_below<A: Allocator>(alloc: A, parent: &str, name: &str) -> Result<String<A>, Error>
     ensures ok { IfOk result (λ path. chars (string_bytes path) ≡ child_path (chars parent.now) (chars name.now)) }
     ensures refused { IfErr result IsMemory }
 {

@@ -1,5 +1,5 @@
 //! A file whose memory is what its bytes say.
-ghost use Rattle.std.specs.Prelude.{◌≡◌, ◌≢◌, ◌+◌, ◌-◌, ◌<◌, ◌≤◌, ◌⊎◌, ◌||◌, ◌∷◌, ℕ, List, max, min, length, take, drop, false, true, IsTrue, IfOk, IfErr, IfSome, IsErrAnd, OnOk, OnErr, Some, Option, chars};
+ghost use Rattle.std.specs.Prelude.{◌≡◌, ◌≢◌, ◌+◌, ◌-◌, ◌<◌, ◌≤◌, ◌⊎◌, ◌||◌, ◌∷◌, ℕ, List, max, min, length, take, drop, false, true, IsTrue, IfOk, IfErr, IfSome, IsErrAnd, OnOk, OnErr, Some, Option, chars, map};
 ghost use Rattle.cfb_format.specs.Bytes.{max_regular_sector, max_stream_len};
 ghost use Rattle.cfb_format.specs.Medium.{part, written};
 ghost use Rattle.cfb_format.specs.Names.{is_valid_name};
@@ -150,6 +150,15 @@ impl<F: ReadMedium, A: Heap> Volume<F, A> {
     {
         let _ = path;
         None
+    }
+
+    /// The number of the entry that these names lead to from the root: `None` where nothing is there. It takes no memory.
+    pub fn number_of(&self, names: &[&str]) -> Option<u32>
+        ensures found { (o : Outline) → IsOutline (cases_of self.now.base) (entries_of self.now.base) o
+            → result ≡ number_from (cases_of self.now.base) (entries_of self.now.base) 0 o (map (λ name. chars name.now) names.now) }
+        ensures reached { (o : Outline) → IsOutline (cases_of self.now.base) (entries_of self.now.base) o → IfSome result (IsReached o) }
+    {
+        self.mini.stream_id_for_name_chain(names)
     }
 
     /// The length of the stream of that entry.

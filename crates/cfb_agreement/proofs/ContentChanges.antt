@@ -1,0 +1,129 @@
+-- The tree that the bytes mean once the content of one stream has changed.
+use Rattle.std.proofs.Common.{◌≡◌, ◌≢◌, ℕ, List, true, refl, sym, ◌∙◌, ap, subst, length}
+use Rattle.std.specs.Prelude.{Contains, Some}
+use Rattle.cfb_format.specs.declared.objtype.ObjType.TheVariants.{Stream}
+use Rattle.cfb_format.specs.declared.validate.Validation.TheVariants.{Permissive}
+use Rattle.cfb_format.specs.DirectoryEntry.{Entry}
+use Rattle.cfb_format.specs.Names.{Cases}
+use Rattle.cfb_format.specs.Reading.{IsOutline, Outline, Reads, stream_numbers}
+use Rattle.cfb_format.specs.Siblings.{entry_at}
+use Rattle.cfb_format.specs.Soundness.{IsSound}
+use Rattle.cfb_format.specs.Tree.{Tree}
+use Rattle.cfb_format.proofs.Unique.{IsOutline-unique}
+use Rattle.cfb_rules.specs.CallChanges.{content_changed_at}
+use Rattle.cfb_siblings.specs.Paths.{number_from}
+use Rattle.cfb_trees.specs.Changes.{ButFields}
+use Rattle.cfb_trees.specs.Colors.{AreColored}
+use Rattle.cfb_trees.proofs.Colored.{colors-same}
+use Rattle.cfb_trees.proofs.Members.{streams-are-by-kind}
+use Rattle.cfb_objects.specs.Changes.{MovesContentOf}
+use Rattle.cfb_objects.specs.Laws.{BecomesTree}
+use Rattle.cfb_objects.specs.Objects.{tree_from}
+use Rattle.cfb_objects.proofs.Becoming.{tree-becomes}
+use Rattle.cfb_objects.proofs.Fields.{content-changes-in-place}
+use Rattle.cfb_mini_sectors.specs.State.{IsChangeable, MiniState, bytes_of, cases_of, content_of, entries_of, reading_of}
+use Rattle.cfb_mini_sectors.specs.Steps.{ButContent}
+use Rattle.cfb_mini_sectors.proofs.HeldMini.{held-mini-is-read}
+use Rattle.cfb_content.specs.Contents.{IsStreamOf, KeepsOthers, MovesContent, len_of}
+use Rattle.cfb_content.proofs.Apart.{content-is}
+use Rattle.cfb_content.proofs.Outlines.{moved-at, moved-is-outline, no-root-stream, stream-stays}
+use Rattle.cfb_content.proofs.Readable.{kept-is-readable}
+use Rattle.cfb_agreement.specs.Files.{FileState, Holds, SameSetting}
+use Rattle.cfb_agreement.specs.Laws.{ContentBecomesTree, ContentKeepsMade, ContentKeepsStream}
+use Rattle.cfb_agreement.proofs.HeldBytes.{tree-is}
+
+module _ (old new : FileState) (i : ℕ) (o : Outline) (held : Holds old) (held' : Holds new) (setting : SameSetting old new) (counts : old.is_sound ≡ true)
+    (moves : MovesContent old.base new.base i) (others : KeepsOthers i old.base new.base) (stream : IsStreamOf old.base i)
+    (out : IsOutline (cases_of old.base) (entries_of old.base) o) where
+  change : IsChangeable Permissive old.base
+  change = held.sound counts
+
+  change' : IsChangeable Permissive new.base
+  change' = held'.sound (setting.is_sound ∙ counts)
+
+  -- the outline is what it was
+  out' : IsOutline (cases_of new.base) (entries_of new.base) o
+  out' = moved-is-outline old.base new.base i o setting.limits.cases moves out
+
+  sound : IsSound (bytes_of old.base) (reading_of held.header old.base o)
+  sound = change.sound held.header o held.reads.header out
+
+  sound' : IsSound (bytes_of new.base) (reading_of held'.header new.base o)
+  sound' = change'.sound held'.header o held'.reads.header out'
+
+  reads : Reads (cases_of old.base) (bytes_of old.base) (reading_of held.header old.base o)
+  reads = held-mini-is-read Permissive old.base held.header o change.held held.reads.header out
+
+  reads' : Reads (cases_of old.base) (bytes_of new.base) (reading_of held'.header new.base o)
+  reads' = subst (λ (c : Cases). Reads c (bytes_of new.base) (reading_of held'.header new.base o)) setting.limits.cases
+      (held-mini-is-read Permissive new.base held'.header o change'.held held'.reads.header out')
+
+  reached : Contains (stream_numbers o) i
+  reached = subst (λ (p : Outline). Contains (stream_numbers p) i)
+      (IsOutline-unique (cases_of old.base) (entries_of old.base) stream.outline o stream.is out) stream.reached
+
+  kind : (entry_at (entries_of old.base) i).obj_type ≡ Stream
+  kind = ((streams-are-by-kind (cases_of old.base) (entries_of old.base) o i out).0 reached).1
+
+  whole : length (content_of new.base (entry_at (entries_of new.base) i)) ≡ len_of new.base i
+  whole =
+      sym (ap (λ (l : List ℕ). length l) (content-is new.base held'.header o (entry_at (entries_of new.base) i) held'.version)) ∙ sound'.whole i reached
+
+  -- each other stream reads as before
+  same-content : (k : ℕ) → Contains (stream_numbers o) k → k ≢ i
+      → content_of new.base (entry_at (entries_of new.base) k) ≡ content_of old.base (entry_at (entries_of old.base) k)
+  same-content k m ne =
+      let e = entry_at (entries_of old.base) k in
+      let same : entry_at (entries_of new.base) k ≡ e = moves.others k ne (no-root-stream old.base o k out m) in
+      kept-is-readable old.base new.base e (entry_at (entries_of new.base) k) change.held.mini_stream change'.held.mini_stream setting.limits.version
+      (sound.chains k m)
+      (sym (ap (λ (l : List ℕ). length l) (content-is old.base held.header o e held.version)) ∙ sound.whole k m)
+      (others o out k m ne) (ap (λ (x : Entry). x.start_sector) same) (ap (λ (x : Entry). x.stream_len) same)
+
+  moves-of : MovesContentOf (entries_of old.base) (entries_of new.base) i
+  moves-of = record { same_length = moves.same_length; own = moves.own; root = moves.root; root_len = moves.root_len; others = moves.others }
+
+  module _ (names : List (List ℕ)) (named : number_from (cases_of old.base) (entries_of old.base) 0 o names ≡ Some i) where
+    abbrev becomes : Tree → Tree
+    becomes = content_changed_at (cases_of old.base) (content_of new.base (entry_at (entries_of new.base) i)) names
+
+    tree-changes : tree_from (entries_of new.base) (content_of new.base) o ≡ becomes (tree_from (entries_of old.base) (content_of old.base) o)
+    tree-changes =
+        (content-changes-in-place (cases_of old.base) (entries_of old.base) (entries_of new.base) (content_of old.base) (content_of new.base) o names i
+        (content_of new.base (entry_at (entries_of new.base) i)) out named kind moves-of refl whole same-content).1
+
+    pub becomes-tree : BecomesTree (cases_of old.base) (bytes_of old.base) (bytes_of new.base) becomes
+    becomes-tree =
+        tree-becomes (cases_of old.base) (bytes_of old.base) (bytes_of new.base) (reading_of held.header old.base o) (reading_of held'.header new.base o) becomes reads reads'
+        (tree-is new.base held'.header o held'.version ∙ tree-changes ∙ sym (ap becomes (tree-is old.base held.header o held.version)))
+
+pub content-becomes-tree : ContentBecomesTree
+content-becomes-tree old new i o names held held' setting counts moves others stream out named =
+    becomes-tree old new i o held held' setting counts moves others stream out names named
+
+pub content-keeps-stream : ContentKeepsStream
+content-keeps-stream i k old new change at = stream-stays old.base new.base i k change.setting.limits.cases change.entries at
+
+-- ---- files that were made here
+
+but-fields : (a b : Entry) → ButContent a b → ButFields a b
+but-fields a b e = record {
+  name = ap (λ (x : Entry). x.name) e;
+  obj_type = ap (λ (x : Entry). x.obj_type) e;
+  color = ap (λ (x : Entry). x.color) e;
+  left_sibling = ap (λ (x : Entry). x.left_sibling) e;
+  right_sibling = ap (λ (x : Entry). x.right_sibling) e;
+  child = ap (λ (x : Entry). x.child) e;
+}
+
+pub content-keeps-made : ContentKeepsMade
+content-keeps-made i old new limits moves stream made change used exact = record {
+  changeable = change;
+  used = used;
+  exact = exact;
+  colored = λ o out.
+      subst (λ (p : Outline). AreColored (entries_of new) p)
+      (IsOutline-unique (cases_of new) (entries_of new) stream.outline o (moved-is-outline old new i stream.outline limits.cases moves stream.is) out)
+      (colors-same (entries_of old) (entries_of new) stream.outline
+      (λ k. but-fields (entry_at (entries_of old) k) (entry_at (entries_of new) k) (moved-at old new i k moves)) (made.colored stream.outline stream.is));
+}

@@ -1,0 +1,79 @@
+-- Changes of one stream's content, one after the other, are one.
+use Rattle.std.proofs.Common.{◌≡◌, ◌≢◌, ◌<◌, ◌≤◌, inl, inr, ℕ, Bool, true, false, refl, sym, ◌∙◌, subst, length, arith}
+use Rattle.std.specs.Prelude.{Contains}
+use Rattle.std.proofs.lemmas.Bool.{cases_lt}
+use Rattle.cfb_tables.specs.Changes.{NoneFree}
+use Rattle.cfb_mini_sectors.specs.State.{MiniState, tables_in}
+use Rattle.cfb_mini_sectors.specs.Steps.{KeepsLimits}
+use Rattle.cfb_content.specs.Contents.{KeepsOthers}
+use Rattle.cfb_content.proofs.Kept.{nothing-is-moved, others-kept-then}
+use Rattle.cfb_content.proofs.Outlines.{content-moves-then, same-entries-moved}
+use Rattle.cfb_agreement.specs.Changes.{ChangesOneContent}
+use Rattle.cfb_agreement.specs.Files.{FileState, LeavesNoneFree, SameSetting, failures_of, is_failed}
+use Rattle.cfb_agreement.specs.Laws.{AsBeforeIsNone, ContentsInTurn, SameContentIsNone, with_flags}
+use Rattle.cfb_agreement.proofs.Flags.{as-before-same, flagged, made-flagged}
+
+limits-then : (a b c : MiniState) → KeepsLimits a b → KeepsLimits b c → KeepsLimits a c
+limits-then a b c p q = record {
+  version = q.version ∙ p.version;
+  cases = q.cases ∙ p.cases;
+  max_sectors = q.max_sectors ∙ p.max_sectors;
+  max_mini_sectors = q.max_mini_sectors ∙ p.max_mini_sectors;
+}
+
+setting-then : (a b c : FileState) → SameSetting a b → SameSetting b c → SameSetting a c
+setting-then a b c p q = record {
+  limits = limits-then a.base b.base c.base p.limits q.limits;
+  is_sound = q.is_sound ∙ p.is_sound;
+  buffer_limit = q.buffer_limit ∙ p.buffer_limit;
+}
+
+-- ---- nothing changes
+
+-- the flags are none of what the streams hang on
+others-flagged : (i : ℕ) (s : MiniState) (n : ℕ) (b : Bool) → KeepsOthers i s (flagged s n b)
+others-flagged i s n b o is k m ne =
+    let kept = nothing-is-moved i s o is k m ne in
+    record { chain = kept.chain; sectors = kept.sectors; places = kept.places; mini_sectors = kept.mini_sectors }
+
+flags-are-none : (i : ℕ) (file : FileState) (n : ℕ) (b : Bool) → ChangesOneContent i file (with_flags file n b)
+flags-are-none i file n b = record {
+  setting = record { limits = record { version = refl; cases = refl; max_sectors = refl; max_mini_sectors = refl }; is_sound = refl; buffer_limit = refl };
+  entries = same-entries-moved file.base (flagged file.base n b) i refl;
+  others = others-flagged i file.base n b;
+  made = λ calm made. made-flagged file.base n b made;
+  grows = λ calm longer. absurd (omega (arith, longer));
+}
+
+pub same-content-is-none : SameContentIsNone
+same-content-is-none i file = flags-are-none i file (failures_of file) (is_failed file)
+
+pub as-before-is-none : AsBeforeIsNone
+as-before-is-none i old new before =
+    subst (λ (file : FileState). ChangesOneContent i old file) (sym (as-before-same old new before)) (flags-are-none i old (failures_of new) (is_failed old))
+
+-- ---- one after the other
+
+-- where the second did not fail, the first did not either
+calm-before : (a b : Bool) → (a ≡ true → b ≡ true) → b ≡ false → a ≡ false
+calm-before false b stays calm = refl
+calm-before true b stays calm = absurd (let w : true ≡ false = sym (stays refl) ∙ calm in cc)
+
+none-free-then : (a b c : MiniState) → LeavesNoneFree a b → LeavesNoneFree b c → length (tables_in b).fat ≤ length (tables_in c).fat
+    → (NoneFree (tables_in b).fat → NoneFree (tables_in c).fat) → LeavesNoneFree a c
+none-free-then a b c first second no_shorter stays longer = elim (cases_lt (length (tables_in b).fat) (length (tables_in c).fat)) [
+  | inl more ↦ second more
+  | inr same ↦ stays (first (omega (arith, longer, same, no_shorter)))
+]
+
+pub contents-in-turn : ContentsInTurn
+contents-in-turn i old mid new p q failed no_shorter stays = record {
+  setting = setting-then old mid new p.setting q.setting;
+  entries = content-moves-then old.base mid.base new.base i p.entries q.entries;
+  others = others-kept-then i old.base mid.base new.base p.setting.limits p.entries p.others q.others;
+  made = λ calm made. q.made calm (p.made (before calm) made);
+  grows = λ calm. none-free-then old.base mid.base new.base (p.grows (before calm)) (q.grows calm) (no_shorter calm) (stays calm);
+}
+  where
+    before : is_failed new ≡ false → is_failed mid ≡ false
+    before calm = calm-before (is_failed mid) (is_failed new) failed calm

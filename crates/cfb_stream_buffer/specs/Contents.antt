@@ -1,0 +1,83 @@
+-- What a stream stands on: a list of bytes in a file.
+use Rattle.std.specs.Prelude.{ℕ, ◌+◌, ◌≡◌, ◌≤◌, ◌⊎◌, max, List, ◌++◌, Bool, true, false, length, take, drop}
+use Rattle.cfb_format.specs.Refused.{HasReason, IsInvalidData, IsMediumAnd, no_error}
+use Rattle.cfb_format.specs.declared.error.Error.{Error}
+use Rattle.cfb_rules.specs.StreamCalls.{StreamSetting, resized}
+
+-- the length, the bytes that can be read, the greatest length that the version has, whether the file is sound, and whether it has failed
+pub record Stored : Type 0 where
+  pub size : ℕ
+  pub content : List ℕ
+  pub limit : ℕ
+  pub sound : Bool
+  pub failed : Bool
+
+-- what stays the same
+abbrev pub setting_of : Stored → StreamSetting
+setting_of s = record { limit = s.limit; sound = s.sound }
+
+-- the medium, memory or fullness refused; of fullness this holds
+abbrev pub IsBreak : Type 0 → Error → Type 0
+IsBreak full = HasReason (record no_error { medium = λ f. Unit {0}; memory = Unit {0}; full = full })
+
+-- the medium refused
+abbrev pub IsMediumFault : Error → Type 0
+IsMediumFault = IsMediumAnd (λ f. Unit {0})
+
+-- bytes laid over those at a place, or past the end
+unfoldable pub laid : ℕ → List ℕ → List ℕ → List ℕ
+laid at bytes content = take at content ++ bytes ++ drop (at + length bytes) content
+
+-- a read answered n: a beginning of what lies at the place, at least one byte
+pub record ReadsPart (content : List ℕ) (at : ℕ) (into : List ℕ) (n : ℕ) : Type 0 where
+  pub some : 1 ≤ n
+  pub inside : at + n ≤ length content
+  pub gives : take n into ≡ take n (drop at content)
+
+-- a read is refused by the medium or for memory, and as unreadable only at the end of the readable part or past it
+abbrev pub IsRefusedRead : Stored → ℕ → Error → Type 0
+IsRefusedRead s at e = IsBreak ⊥ e ⊎ (IsInvalidData e × (length s.content ≤ at))
+
+-- so many bytes can be put at this place
+pub record TakesBytes (s : Stored) (at count : ℕ) : Type 0 where
+  pub unfailed : s.failed ≡ false
+  pub sound : s.sound ≡ true
+  pub inside : at ≤ s.size
+  pub fits : at + count ≤ s.limit
+
+-- the length can be set
+pub record TakesLen (s : Stored) (size : ℕ) : Type 0 where
+  pub unfailed : s.failed ≡ false
+  pub sound : s.sound ≡ true
+  pub fits : size ≤ s.limit
+
+-- what never changes
+pub record SameLimits (old new : Stored) : Type 0 where
+  pub same_limit : new.limit ≡ old.limit
+  pub same_sound : new.sound ≡ old.sound
+
+-- the file has failed, and what never changes stays
+pub record Fails (old new : Stored) : Type 0 where
+  pub is_failed : new.failed ≡ true
+  pub same_limit : new.limit ≡ old.limit
+  pub same_sound : new.sound ≡ old.sound
+
+abbrev pub KeptOrFailed : Stored → Stored → Type 0
+KeptOrFailed old new = (new ≡ old) ⊎ Fails old new
+
+abbrev pub stored_after_write : Stored → ℕ → List ℕ → Stored
+stored_after_write s at bytes = record s { size = max s.size (at + length bytes); content = laid at bytes s.content }
+
+-- a write answered n: a beginning of the bytes was put at the place, at least one
+pub record WritesPart (s : Stored) (at : ℕ) (bytes : List ℕ) (s' : Stored) (n : ℕ) : Type 0 where
+  pub some : 1 ≤ n
+  pub puts : s' ≡ stored_after_write s at (take n bytes)
+
+abbrev pub stored_after_resize : Stored → ℕ → Stored
+stored_after_resize s size = record s { size = size; content = resized s.content size }
+
+-- what can be read is no more than there is, all of it in a sound file, and the version's greatest length is kept
+pub record IsFitting (s : Stored) : Type 0 where
+  pub readable : length s.content ≤ s.size
+  pub whole : s.sound ≡ true → length s.content ≡ s.size
+  pub within : s.size ≤ s.limit

@@ -1,0 +1,26 @@
+-- What a call leaves of contents: it read from them, or wrote to them under one number.
+use Rattle.std.specs.Prelude.{ℕ, ◌≡◌, ◌||◌, Bool, Result}
+use Rattle.cfb_format.specs.Refused.{CountsFailure}
+use Rattle.cfb_format.specs.declared.error.Error.{Error}
+use Rattle.cfb_format.specs.declared.medium.MediumFault.{MediumFault}
+use Rattle.cfb_stream_buffer.specs.declared.content.ReadContents as reading
+use Rattle.cfb_stream_buffer.specs.declared.content.Contents as writing
+
+module _ {C : Type 0} (r : reading.Ghosts C) where
+  -- it was read from, and all but the count of failures is as it was
+  pub record IsRead {T : Type 0} (old new : C) (id : ℕ) (result : Result T Error) : Type 0 where
+    pub told : r.tells new
+    pub kept : r.kept new ≡ r.kept old
+    pub same : r.stored new id ≡ r.stored old id
+    pub counts : CountsFailure r.read_faults result (r.failures old) (r.failures new)
+
+module _ {C : Type 0} (r : reading.Ghosts C) (g : writing.Ghosts C) where
+  -- the faults of both
+  abbrev pub faults_of : MediumFault → Bool
+  faults_of f = r.read_faults f || g.write_faults f
+
+  -- it was read from and written to, under this number alone
+  pub record IsWritten {T : Type 0} (old new : C) (id : ℕ) (result : Result T Error) : Type 0 where
+    pub told : r.tells new
+    pub others : (first : C) → g.keeps id first old → g.keeps id first new
+    pub counts : CountsFailure faults_of result (r.failures old) (r.failures new)

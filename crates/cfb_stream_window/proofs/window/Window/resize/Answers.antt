@@ -1,0 +1,33 @@
+use Rattle.std.proofs.Common.{◌≡◌, ◌≤◌, true, ap, arith}
+use Rattle.std.proofs.lemmas.Result.{err_from_is_err_and}
+use Rattle.cfb_stream_window.specs.Answers.{IsReady}
+use Rattle.cfb_stream_buffer.specs.Contents.{Stored, TakesLen}
+use Rattle.cfb_stream_window.proofs.Writing.{cut_to, resized_to, resized_lost}
+use Rattle.cfb_stream_window.proofs.window.Window.resize.Goals as goal
+
+pub returns-clause-ok : goal.returns-clause-ok
+returns-clause-ok g c = λ (h : IsReady g.C.ReadContents c.args.content.now c.args.id c.args.self.now) (sound : (g.C.ReadContents.stored c.args.content.now c.args.id).sound ≡ true)
+    (fits : c.args.len ≤ (g.C.ReadContents.stored c.args.content.now c.args.id).limit).
+    let s = g.C.ReadContents.stored c.args.content.now c.args.id in
+    let takes : TakesLen s c.args.len = record { unfailed = h.agrees.unfailed; sound = sound; fits = fits } in
+    let e = c.in_default.ensures in
+    let same = e.ok h.told takes in
+    let cut = cut_to s c.args.self.now c.args.len h.agrees sound fits _ c.cut.new.self same c.cut.ensures.kept c.cut.ensures.past c.cut.ensures.calm in
+    let r : IsReady g.C.ReadContents c.resize.new.self c.args.id c.cut.new.self = record { told = e.told h.told; agrees = cut.agrees } in
+    let q = c.in_ok-settle.ensures in
+    resized_to c.args.len s _ _ c.args.self.now c.cut.new.self _ cut same (q.ok r) q.window
+
+pub returns-in_err-settle-clause-refused : goal.returns-in_err-settle-clause-refused
+returns-in_err-settle-clause-refused g c = λ (h : IsReady g.C.ReadContents c.args.content.now c.args.id c.args.self.now) (sound : (g.C.ReadContents.stored c.args.content.now c.args.id).sound ≡ true)
+    (fits : c.args.len ≤ (g.C.ReadContents.stored c.args.content.now c.args.id).limit).
+    let s = g.C.ReadContents.stored c.args.content.now c.args.id in
+    let takes : TakesLen s c.args.len = record { unfailed = h.agrees.unfailed; sound = sound; fits = fits } in
+    let e = c.in_default.ensures in
+    let same = e.ok h.told takes in
+    let cut = cut_to s c.args.self.now c.args.len h.agrees sound fits _ c.cut.new.self same c.cut.ensures.kept c.cut.ensures.past c.cut.ensures.calm in
+    let r : IsReady g.C.ReadContents c.resize.new.self c.args.id c.cut.new.self = record { told = e.told h.told; agrees = cut.agrees } in
+    let q = c.in_err-settle.ensures in
+    let inside = ap (λ (z : Stored). z.size) same in
+    let p = err_from_is_err_and c.from_residual.result c.from_residual.ensures.1 in
+    rw (p.1, p.2) (resized_lost (g.C.Contents.is_full c.settle.new.content) (g.C.Contents.is_too_long c.settle.new.content c.args.id c.args.len) c.args.len s _ _ c.args.self.now c.cut.new.self _ c.in_err-settle.field-0.0 same
+    (q.inside r (omega (arith, inside, cut.agrees.total, cut.new_size))) (q.refused r))

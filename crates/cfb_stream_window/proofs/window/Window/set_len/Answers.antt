@@ -1,0 +1,62 @@
+use Rattle.std.proofs.Common.{◌≢◌, ◌≤◌, ◌∙◌, sym, ap, arith, refl, inl}
+use Rattle.std.proofs.lemmas.Result.{err_from_is_err_and}
+use Rattle.cfb_rules.specs.StreamCalls.{set_len}
+use Rattle.cfb_stream_window.specs.Answers.{IsOpen, IsReady}
+use Rattle.cfb_stream_window.specs.Windows.{Window, IsMemoryOrFull}
+use Rattle.cfb_stream_window.proofs.Breaking.{length_broken}
+use Rattle.cfb_stream_window.proofs.Refusing.{failed_for, broke_for}
+use Rattle.cfb_stream_window.proofs.Writing.{same_len_runs, too_long_refused, unsound_len_refused, resized_runs, len_work}
+use Rattle.cfb_stream_window.proofs.window.Window.set_len.Goals as goal
+
+pub returns-then-is_failed-clause-refused : goal.returns-then-is_failed-clause-refused
+returns-then-is_failed-clause-refused g c = λ _.
+    failed_for _ _ _ _ _ (set_len c.args.len) (sym c.is_failed.ensures ∙ c.if-is_failed.true) refl
+
+pub returns-then-len-self-clause-runs : goal.returns-then-len-self-clause-runs
+returns-then-len-self-clause-runs g c = λ _.
+    let f = sym c.is_failed.ensures ∙ c.if-is_failed.false in
+    same_len_runs _ _ _ c.args.len f _ c.take_back.ensures (c.if-len-self.true ∙ ap (λ (z : Window). z.size) c.self.view_is)
+
+pub returns-then-limit-len-clause-refused : goal.returns-then-limit-len-clause-refused
+returns-then-limit-len-clause-refused g c = λ _.
+    let f = sym c.is_failed.ensures ∙ c.if-is_failed.false in
+    let size = ap (λ (z : Window). z.size) c.self.view_is in
+    record {
+      rules = too_long_refused _ _ _ c.args.len f c.text.result (omega (arith, size, c.if-len-self.false)) (omega (arith, c.limit.ensures));
+      stops = inl refl;
+      untouched = (refl, refl);
+    }
+
+pub returns-then-not-is_sound-clause-refused : goal.returns-then-not-is_sound-clause-refused
+returns-then-not-is_sound-clause-refused g c = λ _.
+    let f = sym c.is_failed.ensures ∙ c.if-is_failed.false in
+    let size = ap (λ (z : Window). z.size) c.self.view_is in
+    record {
+      rules = unsound_len_refused _ _ _ c.args.len f (omega (arith, size, c.if-len-self.false)) (omega (arith, c.limit.ensures)) (sym c.is_sound.ensures ∙ c.if-not-is_sound.true);
+      stops = inl refl;
+      untouched = (refl, refl);
+    }
+
+pub returns-clause-runs : goal.returns-clause-runs
+returns-clause-runs g c = λ (h : IsOpen g.C.ReadContents c.args.content.now c.args.id c.args.self.now).
+    let f = sym c.is_failed.ensures ∙ c.if-is_failed.false in
+    let r : IsReady g.C.ReadContents c.args.content.now c.args.id c.args.self.now = record { told = h.told; agrees = h.suits f } in
+    let size = ap (λ (z : Window). z.size) c.self.view_is in
+    let other : c.args.len ≢ c.args.self.now.size = omega (arith, size, c.if-len-self.false) in
+    let fits : c.args.len ≤ (g.C.ReadContents.stored c.args.content.now c.args.id).limit = omega (arith, c.limit.ensures) in
+    let sound = sym c.is_sound.ensures ∙ c.if-not-is_sound.false in
+    resized_runs _ _ _ c.args.len f _ _ other fits sound (c.in_ok-resize.ensures.ok r sound fits)
+
+pub returns-in_err-resize-clause-refused : goal.returns-in_err-resize-clause-refused
+returns-in_err-resize-clause-refused g c = λ (h : IsOpen g.C.ReadContents c.args.content.now c.args.id c.args.self.now).
+    let f = sym c.is_failed.ensures ∙ c.if-is_failed.false in
+    let r : IsReady g.C.ReadContents c.args.content.now c.args.id c.args.self.now = record { told = h.told; agrees = h.suits f } in
+    let size = ap (λ (z : Window). z.size) c.self.view_is in
+    let other : c.args.len ≢ c.args.self.now.size = omega (arith, size, c.if-len-self.false) in
+    let fits : c.args.len ≤ (g.C.ReadContents.stored c.args.content.now c.args.id).limit = omega (arith, c.limit.ensures) in
+    let sound = sym c.is_sound.ensures ∙ c.if-not-is_sound.false in
+    let e = c.in_err-resize.ensures in
+    let why = e.refused r sound fits in
+    let p = err_from_is_err_and c.from_residual.result c.from_residual.ensures.1 in
+    rw (p.1, p.2) (broke_for _ _ _ _ _ _ _ _ _
+    (length_broken _ _ _ _ _ _ _ _ (set_len c.args.len) _ (len_work (g.C.ReadContents.stored c.args.content.now c.args.id) c.args.self.now c.args.len other) f (e.around h.told).counts why) _ _ IsMemoryOrFull why)

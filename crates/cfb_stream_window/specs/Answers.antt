@@ -1,0 +1,93 @@
+-- What a call on a buffered stream answers, and what it leaves.
+use Rattle.std.specs.Prelude.{ℕ, ◌≡◌, ◌⊎◌, Option, Some, Result}
+use Rattle.cfb_format.specs.Medium.{Rises}
+use Rattle.cfb_format.specs.Refused.{CountsFailure, HasReason, at_every_error}
+use Rattle.cfb_format.specs.declared.error.Error.{Error}
+use Rattle.cfb_rules.specs.Refusal.{Refusal, IsRefusal}
+use Rattle.cfb_rules.specs.StreamCalls.{StreamCall, StreamReply, set_len, ready}
+use Rattle.cfb_rules.specs.Runs.{Causes, Closes}
+use Rattle.cfb_stream_buffer.specs.declared.content.ReadContents as reading
+use Rattle.cfb_stream_buffer.specs.declared.content.Contents as writing
+use Rattle.cfb_stream_buffer.specs.Contents.{KeptOrFailed}
+use Rattle.cfb_stream_buffer.specs.Touched.{faults_of}
+use Rattle.cfb_stream_window.specs.Windows.{Window, Agrees, Suits, Runs, IsRefused, run_of}
+
+-- at a refusal of the input, of a file that is not sound or of one that failed earlier so much holds, and so much where bytes can't
+-- be read
+abbrev pub AtRefusal : Type 0 → Type 0 → Error → Type 0
+AtRefusal untouched only_read = HasReason (record (at_every_error (Unit {0})) { invalid_input = untouched; unsound = untouched; failed = untouched; invalid_data = only_read })
+
+module _ {C : Type 0} (r : reading.Ghosts C) where
+  -- it is known what is stored, and the window fits it, unless the file has failed
+  pub record IsOpen (content : C) (id : ℕ) (w : Window) : Type 0 where
+    pub told : r.tells content
+    pub suits : Suits (r.stored content id) w
+
+  -- and it has not failed
+  pub record IsReady (content : C) (id : ℕ) (w : Window) : Type 0 where
+    pub told : r.tells content
+    pub agrees : Agrees (r.stored content id) w
+
+  -- after any call the stream is open as before, with the same limits
+  pub record GoesOn (old new : C) (id : ℕ) (w' : Window) : Type 0 where
+    pub is_open : IsOpen new id w'
+    pub limit : (r.stored new id).limit ≡ (r.stored old id).limit
+    pub sound : (r.stored new id).sound ≡ (r.stored old id).sound
+
+  -- it was refused as the rules say, and what is stored is as it was or the file has failed; what the rules themselves refuse
+  -- changes nothing
+  pub record IsRefusedFor (causes : Causes) (old : C) (id : ℕ) (w : Window) (call : StreamCall) (new : C) (w' : Window) (e : Error) : Type 0 where
+    pub rules : IsRefused causes (r.stored old id) w call (r.stored new id) w' e
+    pub stops : KeptOrFailed (r.stored old id) (r.stored new id)
+    pub untouched : AtRefusal ((new ≡ old) × (w' ≡ w)) (r.kept new ≡ r.kept old) e
+
+  -- where nothing is pending the medium is blamed only if its count of failures rose, and the numbers never
+  abbrev pub causes_of_read : C → C → Causes
+  causes_of_read old new = record { medium = Rises (r.failures old) (r.failures new); full = ⊥ }
+
+  -- by the rules of calls on streams
+  abbrev pub RunsReading : C → ℕ → Window → StreamCall → StreamReply → C → Window → Type 0
+  RunsReading old id w call reply new w' = Runs (causes_of_read old new) (r.stored old id) w call reply (r.stored new id) w'
+
+  abbrev pub IsRefusedReading : C → ℕ → Window → StreamCall → C → Window → Error → Type 0
+  IsRefusedReading old id w call new w' e = IsRefusedFor (causes_of_read old new) old id w call new w' e
+
+module _ {C : Type 0} (r : reading.Ghosts C) (g : writing.Ghosts C) where
+  -- nothing has changed, or the length was changed once, with what comes of it
+  pub record IsResized {T : Type 0} (old new : C) (id : ℕ) (result : Result T Error) : Type 0 where
+    pub told : r.tells new
+    pub others : (new ≡ old) ⊎ g.keeps id old new
+    pub counts : CountsFailure (faults_of r g) result (r.failures old) (r.failures new)
+
+  -- the medium is blamed only where its count of failures rose, and the numbers only where the file is full then
+  abbrev pub causes_of : C → C → Causes
+  causes_of old new = record { medium = Rises (r.failures old) (r.failures new); full = g.is_full new }
+
+  -- or, of a length, where it is too long for them
+  abbrev pub causes_of_len : ℕ → ℕ → C → C → Causes
+  causes_of_len id len old new = record { medium = Rises (r.failures old) (r.failures new); full = g.is_too_long new id len }
+
+  -- by the rules of calls on streams
+  abbrev pub RunsOn : C → ℕ → Window → StreamCall → StreamReply → C → Window → Type 0
+  RunsOn old id w call reply new w' = Runs (causes_of old new) (r.stored old id) w call reply (r.stored new id) w'
+
+  abbrev pub IsRefusedOn : C → ℕ → Window → StreamCall → C → Window → Error → Type 0
+  IsRefusedOn old id w call new w' e = IsRefusedFor r (causes_of old new) old id w call new w' e
+
+  -- setting a length was done, or refused
+  abbrev pub RunsSettingLen : C → ℕ → Window → (len : ℕ) → C → Window → Type 0
+  RunsSettingLen old id w len new w' = Runs (causes_of_len id len old new) (r.stored old id) w (set_len len) ready (r.stored new id) w'
+
+  abbrev pub IsLengthRefusedOn : C → ℕ → Window → (len : ℕ) → C → Window → Error → Type 0
+  IsLengthRefusedOn old id w len new w' e = IsRefusedFor r (causes_of_len id len old new) old id w (set_len len) new w' e
+
+  -- closing answered this
+  abbrev pub ClosesOn : C → ℕ → Window → Option Refusal → C → Type 0
+  ClosesOn old id w closing new = Closes (causes_of old new) (run_of (r.stored old id) w) closing (r.stored new id).failed
+
+  -- it was refused, since bytes could not be written out, or since the file failed earlier, which touches nothing
+  pub record IsClosingRefused (old : C) (id : ℕ) (w : Window) (new : C) (e : Error) : Type 0 where
+    pub refusal : Refusal
+    pub is : IsRefusal refusal e
+    pub closes : ClosesOn old id w (Some refusal) new
+    pub untouched : AtRefusal (new ≡ old) (Unit {0}) e

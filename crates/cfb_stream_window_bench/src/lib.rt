@@ -1,0 +1,16 @@
+//! Tests of `cfb_stream_window`: a crate beside it, because `rt ci` proves the tests of one crate in one job.
+#![tactic(auto)]
+
+#[cfg(test)]
+mod calls;
+#[cfg(test)]
+mod lent;
+pub mod memory;
+#[cfg(test)]
+mod odd;
+#[cfg(test)]
+mod refusals;
+#[cfg(test)]
+mod room;
+#[cfg(test)]
+mod scripts;
