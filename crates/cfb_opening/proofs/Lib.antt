@@ -3,3 +3,5 @@ pub mod StreamNumbers
 pub mod TableParts
 pub mod Writable
 pub mod ReadParts
+pub mod BuiltParts
+pub mod OpenedFile

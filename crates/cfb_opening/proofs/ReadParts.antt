@@ -1,25 +1,22 @@
 -- What the directory's entries and the MiniFAT's words of an acceptable file are.
-use Rattle.std.proofs.Common.{◌≡◌, ◌≤◌, ◌*◌, ℕ, List, Bool, length, sym, subst, ap, ◌∙◌, refl}
+use Rattle.std.proofs.Common.{◌≡◌, ◌≤◌, ◌*◌, ℕ, List, Bool, length, sym, subst, ap, refl}
 use Rattle.std.specs.Prelude.{flat_map}
-use Rattle.std.specs.List.{AllZip}
 use Rattle.cfb_format.specs.declared.header.Header.{Header}
 use Rattle.cfb_format.specs.declared.validate.Validation.{Validation}
 use Rattle.cfb_format.specs.declared.version.Version.{Version}
 use Rattle.cfb_format.specs.Bytes.{sector_words, words_per_sector}
 use Rattle.cfb_format.specs.Chain.{IsChain}
-use Rattle.cfb_format.specs.DirectoryEntry.{Entry, IsStrictEntry, slots}
+use Rattle.cfb_format.specs.DirectoryEntry.{Entry}
 use Rattle.cfb_format.specs.Full.{max_entries}
 use Rattle.cfb_format.specs.Names.{Cases}
-use Rattle.cfb_format.specs.Reading.{IsDirectory, IsStrict, Reading}
-use Rattle.cfb_format.proofs.Unique.{IsChain-unique}
+use Rattle.cfb_format.specs.Reading.{IsStrict, Reading}
 use Rattle.cfb_sectors.specs.Sectors.{SectorFile}
-use Rattle.cfb_tables.specs.Tables.{TableState}
 use Rattle.cfb_alloc.specs.Alloc.{AllocatorState, IsMeasured}
 use Rattle.cfb_entries.specs.EntryList.{HaveShortNames}
 use Rattle.cfb_reading.specs.ReadDirectory.{AcceptsDirectory, AreFromSlots, FillsSlots, NoDirectory}
 use Rattle.cfb_reading.specs.ReadMinifat.{HasMinifatWords, NoMinifatWords}
 use Rattle.cfb_opening.specs.Acceptable.{IsAcceptable, IsRefused}
-use Rattle.cfb_opening.specs.Known.{KnowsEntries, KnowsTables, KnowsWords, unchanged_sectors}
+use Rattle.cfb_opening.specs.Known.{KnowsEntries, KnowsTables, KnowsWords}
 use Rattle.cfb_opening.proofs.TableParts.{if-strict, same-fat, same-header}
 use Rattle.cfb_opening.proofs.Writable.{slots-are-writable}
 

@@ -1,7 +1,7 @@
 -- How the refusal of a step is one of opening.
-use Rattle.std.proofs.Common.{◌≡◌, ℕ}
+use Rattle.std.proofs.Common.{ℕ}
 use Rattle.std.specs.Prelude.{Bool, IsTrue}
-use Rattle.cfb_format.specs.Refused.{CountsError, IsInvalidOrMemory, IsMemory}
+use Rattle.cfb_format.specs.Refused.{CountsError, IsInvalidOrMemory}
 use Rattle.cfb_format.specs.declared.error.Error.{Error}
 use Rattle.cfb_format.specs.declared.error.Error.TheVariants.{NotFound, AlreadyExists, InvalidInput, InvalidData, Medium, Memory, Full, Unsound, Failed, Unsupported}
 use Rattle.cfb_format.specs.declared.medium.MediumFault.{MediumFault}

@@ -1,6 +1,6 @@
 -- An entry that was read from a slot and is in use can be written into a slot.
-use Rattle.std.proofs.Common.{◌≡◌, ◌≢◌, ℕ, ◌<◌, ◌≤◌, List, true, false, length, refl, arith, subst, sym, ◌∙◌}
-use Rattle.std.specs.Prelude.{IsTrue, not, ◌&&◌, nat_le}
+use Rattle.std.proofs.Common.{◌≡◌, ◌≢◌, ℕ, ◌<◌, ◌≤◌, List, false, length, refl, arith, subst, sym}
+use Rattle.std.specs.Prelude.{IsTrue}
 use Rattle.std.specs.List.{list_any}
 use Rattle.std.proofs.lemmas.Bool.{le-leb}
 use Rattle.cfb_format.specs.declared.objtype.ObjType.{ObjType}
@@ -8,7 +8,7 @@ use Rattle.cfb_format.specs.declared.objtype.ObjType.TheVariants.{Root, Storage,
 use Rattle.cfb_format.specs.declared.validate.Validation.{Validation}
 use Rattle.cfb_format.specs.declared.version.Version.{Version}
 use Rattle.cfb_format.specs.declared.version.Version.TheVariants.{V3, V4}
-use Rattle.cfb_format.specs.Bytes.{max_stream_len, stream_len_modulus, word_at}
+use Rattle.cfb_format.specs.Bytes.{max_stream_len, stream_len_modulus}
 use Rattle.cfb_format.specs.DirectoryEntry.{Entry, IsAllowedChild, IsAllowedName, IsEntry, IsNameFor, IsValidEntry, is_entry_link, name_for, nil_clsid, stored_name, unless_storage, unless_stream}
 use Rattle.cfb_format.specs.Names.{is_forbidden_character, is_valid_name, max_name_len, utf16_units}
 use Rattle.cfb_format.specs.Siblings.{entry_at}

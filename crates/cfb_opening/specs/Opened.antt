@@ -19,9 +19,9 @@ pub record IsOpened (validation : Validation) (cases : Cases) (max_sectors : ℕ
   pub acceptable : (r : Reading) × IsAcceptable validation cases bytes r
   pub strict : IfStrict validation (IsStrictFile cases bytes)
   pub unfailed : (table_of base).file.begun ≡ false
-  pub bytes : bytes_of base ≡ bytes
-  pub failures : (table_of base).file.failures ≡ failures
-  pub cases : cases_of base ≡ cases
+  pub same_bytes : bytes_of base ≡ bytes
+  pub calm : (table_of base).file.failures ≡ failures
+  pub letters : cases_of base ≡ cases
   pub limit : (tables_in base).max_sectors ≡ min max_sectors max_regular_sector
 
 -- only bytes that opening in this mode does not accept are refused, and the medium fails only by a fault that it can give there; or memory was

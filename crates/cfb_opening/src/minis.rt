@@ -6,7 +6,8 @@ ghost use Rattle.cfb_format.specs.Reading.{IsStrictCount};
 ghost use Rattle.cfb_format.specs.Refused.{IsInvalidData};
 ghost use Rattle.cfb_reading.specs.PartRefused.{PartRefused};
 ghost use Rattle.cfb_opening.specs.Acceptable.{IsRefused};
-ghost use Rattle.cfb_opening.specs.Known.{KnowsDirectory, KnowsMinis, KnowsWords};
+ghost use Rattle.cfb_opening.specs.Known.{KnowsDirectory, KnowsWords};
+ghost use Rattle.cfb_opening.specs.KnownMinis.{KnowsMinis};
 
 use crate::parts::{FileParts, read_parts};
 use cfb_codecs::path::CaseMapper;
@@ -17,6 +18,7 @@ use cfb_format::medium::ReadMedium;
 use cfb_format::validate::Validation;
 use cfb_format::version::Version;
 use cfb_mini::mini_allocator::MiniAllocator;
+use cfb_reading::laws::words_make_the_minifat;
 use std::alloc::Allocator as Heap;
 
 /// A file whose directory is in memory.
@@ -79,7 +81,14 @@ fn open_directory<F: ReadMedium, A: Heap + Clone>(
         minifat_words,
     } = read_parts(heap, medium, validation)?;
     let start = header.first_dir_sector;
-    let directory = Directory::new(heap.clone()?, allocator, letters, entries, start, validation)?;
+    let directory = Directory::new(
+        heap.clone()?,
+        allocator,
+        letters,
+        entries,
+        start,
+        validation,
+    )?;
     let found = directory.sectors().len();
     if !counts_directory(header.version, header.num_dir_sectors, found, validation) {
         return Err(miscounted(header.num_dir_sectors, found));
@@ -110,6 +119,7 @@ pub(crate) fn open_minis<F: ReadMedium, A: Heap + Clone>(
         points_into_file,
         minifat_words,
     } = open_directory(heap, medium, letters, validation)?;
+    words_make_the_minifat();
     let _measured = directory.allocator().file_len();
     let mini = MiniAllocator::new(
         heap.clone()?,

@@ -1,13 +1,13 @@
 //! Whether a file that was read is sound.
-ghost use Rattle.std.specs.Prelude.{◌≡◌, ◌↔◌, ℕ, List, IsTrue, IfOk, IfErr};
+ghost use Rattle.std.specs.Prelude.{◌↔◌, ℕ, List, IsTrue, IfOk, IfErr};
 ghost use Rattle.cfb_format.specs.declared.header.Header.{Header as HeaderOf};
 ghost use Rattle.cfb_format.specs.declared.validate.Validation.{Validation};
 ghost use Rattle.cfb_format.specs.Names.{Cases};
 ghost use Rattle.cfb_format.specs.Reading.{IsOutline, Outline};
 ghost use Rattle.cfb_format.specs.Refused.{IsMemory};
 ghost use Rattle.cfb_format.specs.Soundness.{IsSound};
-ghost use Rattle.cfb_mini_sectors.specs.State.{bytes_of, entries_of, reading_of};
-ghost use Rattle.cfb_opening.specs.Known.{KnowsMinis};
+ghost use Rattle.cfb_mini_sectors.specs.State.{entries_of, reading_of};
+ghost use Rattle.cfb_opening.specs.KnownMinis.{KnowsMinis};
 
 use crate::streams::stream_numbers;
 use cfb_format::error::Error;

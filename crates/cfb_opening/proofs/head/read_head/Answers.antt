@@ -4,7 +4,7 @@ use Rattle.cfb_format.specs.declared.header.Header.{Header}
 use Rattle.cfb_format.specs.Bytes.{sector_len}
 use Rattle.cfb_format.specs.Header.{AcceptsHeader}
 use Rattle.cfb_reading.proofs.PartRefusals.{refused-bytes}
-use Rattle.cfb_opening.specs.Known.{AcceptsHead, AcceptsNoHead}
+use Rattle.cfb_opening.specs.Known.{AcceptsNoHead}
 use Rattle.cfb_opening.proofs.head.read_head.Goals as goal
 
 pub returns-in_err-header-clause-err : goal.returns-in_err-header-clause-err

@@ -1,4 +1,4 @@
-use Rattle.std.proofs.Common.{◌≡◌, ◌∙◌, ap, sym, arith, length, take}
+use Rattle.std.proofs.Common.{◌∙◌, ap, sym, arith}
 use Rattle.std.specs.List.{filter}
 use Rattle.std.proofs.lemmas.List.{take_all}
 use Rattle.cfb_codecs.specs.EntryModel.{entries_of}
@@ -13,12 +13,12 @@ loop-number-preserved g c =
     let xs = c.deref-number-items.result.now in
     let i = c.loop-number.number-index in
     elim c.if-is_stream.branch [
-      then-is_stream+in_ok-push w ↦
-        ap (λ v. v.items) w.streams-is ∙ w.in_ok-push.ensures.items
-        ∙ one-more p xs i c.loop-number.streams.items (omega arith) c.loop-number.invariant (sym c.is_stream.ensures ∙ w.if-is_stream.true)
-    | else-is_stream w ↦
-        ap (λ v. v.items) w.streams-is
-        ∙ none-more p xs i c.loop-number.streams.items (omega arith) c.loop-number.invariant (sym c.is_stream.ensures ∙ w.if-is_stream.false)
+      | then-is_stream+in_ok-push w ↦
+          ap (λ v. v.items) w.streams-is ∙ w.in_ok-push.ensures.items
+          ∙ one-more p xs i c.loop-number.streams.items (omega arith) c.loop-number.invariant (sym c.is_stream.ensures ∙ w.if-is_stream.true)
+      | else-is_stream w ↦
+          ap (λ v. v.items) w.streams-is
+          ∙ none-more p xs i c.loop-number.streams.items (omega arith) c.loop-number.invariant (sym c.is_stream.ensures ∙ w.if-is_stream.false)
     ]
 
 pub returns-clause-ok : goal.returns-clause-ok

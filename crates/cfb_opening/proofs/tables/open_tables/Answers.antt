@@ -1,4 +1,4 @@
-use Rattle.std.proofs.Common.{◌≡◌, ◌↔◌, ◌∙◌, List, ℕ, sym, subst, refl}
+use Rattle.std.proofs.Common.{◌≡◌, ◌↔◌, ◌∙◌, List, ℕ, sym, subst}
 use Rattle.std.specs.Prelude.{IsTrue}
 use Rattle.std.proofs.lemmas.Result.{err_from_is_err_and}
 use Rattle.cfb_sectors.specs.Sectors.{SectorFile}
@@ -8,7 +8,7 @@ use Rattle.cfb_reading.proofs.PartRefusals.{refused-weaker}
 use Rattle.cfb_tables.specs.ReadFat.{AcceptsNoFat}
 use Rattle.cfb_opening.specs.Known.{unchanged_sectors}
 use Rattle.cfb_opening.proofs.Refusals.{table-refused}
-use Rattle.cfb_opening.proofs.TableParts.{difat-accepted, difat-refused, fat-refused, none-without-head, tables-known, words-accepted, words-refused}
+use Rattle.cfb_opening.proofs.TableParts.{difat-accepted, difat-refused, fat-refused, tables-known, words-accepted, words-refused}
 use Rattle.cfb_opening.proofs.tables.open_tables.Goals as goal
 
 pub returns-in_err-fat_sectors-clause-err : goal.returns-in_err-fat_sectors-clause-err
