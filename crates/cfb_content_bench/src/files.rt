@@ -2,7 +2,6 @@
 use cfb_alloc::alloc::Allocator;
 use cfb_codecs::direntry::DirEntry;
 use cfb_codecs::path::CaseMapper;
-use cfb_compound_file::CompoundFile;
 use cfb_directory::directory::Directory;
 use cfb_format::bytes::u32_at;
 use cfb_format::consts::{DIR_ENTRY_LEN, END_OF_CHAIN, FREE_SECTOR, HEADER_LEN};
@@ -14,6 +13,7 @@ use cfb_format::objtype::ObjType;
 use cfb_format::validate::Validation;
 use cfb_format::version::Version;
 use cfb_mini::mini_allocator::MiniAllocator;
+use cfb_one_stream::CompoundFile;
 use cfb_sectors::sector::Sectors;
 use cfb_soundness::parts::Parts;
 use cfb_soundness::soundness::is_sound_file;
