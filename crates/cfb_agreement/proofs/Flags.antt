@@ -1,5 +1,5 @@
 -- Neither the flag of a change that was begun nor the count of failures is read where it is said what a file holds.
-use Rattle.std.proofs.Common.{◌≡◌, ℕ, List, Bool, true, false, refl, sym, ◌∙◌, ap}
+use Rattle.std.proofs.Common.{◌≡◌, ℕ, List, Bool, ◌∙◌, ap}
 use Rattle.cfb_format.specs.declared.validate.Validation.{Validation}
 use Rattle.cfb_format.specs.declared.validate.Validation.TheVariants.{Permissive, Strict}
 use Rattle.cfb_format.specs.Header.{IfStrict}
@@ -7,7 +7,7 @@ use Rattle.cfb_alloc.specs.Alloc.{HoldsTables}
 use Rattle.cfb_directory.specs.State.{HoldsDirectory}
 use Rattle.cfb_mini_sectors.specs.Held.{with_table}
 use Rattle.cfb_mini_sectors.specs.State.{HoldsMini, IsChangeable, IsStrictMini, MiniState, table_of}
-use Rattle.cfb_agreement.specs.Files.{FileState, IsAsMade, failures_of, is_failed}
+use Rattle.cfb_agreement.specs.Files.{IsAsMade, failures_of, is_failed}
 use Rattle.cfb_agreement.specs.Laws.{AsBeforeIsSame, FlagsAreNotMade, FlagsAreNotRead}
 
 -- the same with this count of failures, and with a change begun or not

@@ -3,7 +3,7 @@ use Rattle.std.proofs.Common.{◌≡◌, ◌-◌, Bool, true, false, refl, sym, 
 use Rattle.cfb_format.specs.declared.header.Header.{Header}
 use Rattle.cfb_format.specs.declared.validate.Validation.TheVariants.{Permissive}
 use Rattle.cfb_format.specs.Bytes.{words_per_sector}
-use Rattle.cfb_format.specs.Full.{HasExactTables, rounded_up}
+use Rattle.cfb_format.specs.Full.{rounded_up}
 use Rattle.cfb_format.specs.Header.{header_difat_len}
 use Rattle.cfb_format.specs.Meaning.{tree_of}
 use Rattle.cfb_format.specs.Content.{readable}
@@ -15,7 +15,6 @@ use Rattle.cfb_soundness.proofs.Owned.{nothing-loose-owned}
 use Rattle.cfb_objects.specs.Objects.{tree_from}
 use Rattle.cfb_mini_sectors.specs.State.{MiniState, bytes_of, cases_of, content_of, entries_of, header_of_version, reading_of, tables_in, version_of}
 use Rattle.cfb_mini_sectors.proofs.HeldMini.{held-mini-is-read, held-mini-is-strict}
-use Rattle.cfb_agreement.specs.Files.{FileState, Holds}
 use Rattle.cfb_agreement.specs.Laws.{AsMadeIsInOrder, ChangeableIsHeld, HeldMeansItsTree, SoundIsExact}
 
 pub changeable-is-held : ChangeableIsHeld

@@ -1,5 +1,5 @@
 -- One change of a file, and what it leaves alone.
-use Rattle.std.specs.Prelude.{ℕ, ◌≡◌, ◌≢◌, ◌⊎◌, List, true, false, Contains}
+use Rattle.std.specs.Prelude.{ℕ, ◌≡◌, ◌⊎◌, List, true, false, Contains}
 use Rattle.cfb_format.specs.declared.objtype.ObjType.{ObjType}
 use Rattle.cfb_format.specs.declared.objtype.ObjType.TheVariants.{Unallocated, Storage, Stream, Root}
 use Rattle.cfb_format.specs.Names.{Cases}
@@ -7,7 +7,7 @@ use Rattle.cfb_format.specs.Reading.{IsOutline, Outline, stream_numbers}
 use Rattle.cfb_format.specs.Siblings.{entry_at}
 use Rattle.cfb_format.specs.Tree.{Tree}
 use Rattle.cfb_rules.specs.CallChanges.{storage_added_at, stream_added_at}
-use Rattle.cfb_mini_sectors.specs.State.{MiniState, bytes_of, cases_of, entries_of, table_of}
+use Rattle.cfb_mini_sectors.specs.State.{MiniState, cases_of, entries_of}
 use Rattle.cfb_content.specs.Contents.{KeepsContent, KeepsOthers, MovesContent}
 use Rattle.cfb_agreement.specs.Files.{FileState, IsAsBefore, IsAsMade, LeavesNoneFree, SameSetting, is_failed}
 

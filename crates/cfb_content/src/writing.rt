@@ -1,5 +1,5 @@
 //! The bytes of a stream written over where they stand, inside its length.
-ghost use Rattle.std.specs.Prelude.{◌≡◌, ◌<◌, ◌≤◌, ◌+◌, ◌||◌, length, false, IsTrue, IfErr, OnOk, OnErr};
+ghost use Rattle.std.specs.Prelude.{◌≡◌, ◌<◌, ◌≤◌, ◌+◌, ◌||◌, length, false, true, IsTrue, IfErr, OnOk, OnErr};
 ghost use Rattle.cfb_format.specs.declared.validate.Validation.{Validation};
 ghost use Rattle.cfb_format.specs.Medium.{written};
 ghost use Rattle.cfb_format.specs.Refused.{CountsFailure};
@@ -9,8 +9,9 @@ ghost use Rattle.cfb_tables.specs.Refused.{ChangeRefused};
 ghost use Rattle.cfb_mini_sectors.specs.State.{IsChangeable, bytes_of, content_of, entries_of, table_of};
 ghost use Rattle.cfb_content.specs.Contents.{IsNotChangeable, IsStreamOf, KeepsOthers, StopsStillOrBegun, len_of};
 
-use crate::in_minis::{put_in_minis, whole_mini_chain};
-use crate::in_sectors::{put_in_sectors, whole_chain};
+use crate::in_minis::put_in_minis;
+use crate::in_sectors::put_in_sectors;
+use crate::listed::{whole_chain_in, whole_mini_chain_in};
 use crate::reading::content_in;
 use cfb_format::consts::MINI_STREAM_CUTOFF;
 use cfb_format::error::Error;
@@ -45,11 +46,38 @@ pub fn write_content<F: Medium, A: Heap + Clone>(
     if bytes.is_empty() {
         return Ok(());
     }
+    let list = Vec::new(mini.heap().clone()?);
+    write_listed(mini, list, entry, at, bytes)
+}
+
+/// `write_content` of one byte at least, with the stream's chain in the list that is given, whatever it held: it asks for memory only where
+/// that has too little room.
+pub fn write_listed<F: Medium, A: Heap>(
+    mini: &mut MiniAllocator<F, A>,
+    list: Vec<u32, A>,
+    entry: u32,
+    at: u64,
+    bytes: &[u8],
+) -> Result<(), Error>
+    requires stream { IsStreamOf mini.old entry }
+    requires some { 0 < length bytes.now }
+    requires inside { at + length bytes.now ≤ len_of mini.old entry }
+    ensures rest { mini.new ≡ record mini.old { directory = record mini.old.directory { table = record (table_of mini.old) { file = (table_of mini.new).file } } } }
+    ensures content { IsTrue F.tells → (validation : Validation) → IsChangeable validation mini.old
+        → OnOk result (content_of mini.new (entry_at (entries_of mini.old) entry) ≡ written (content_of mini.old (entry_at (entries_of mini.old) entry)) at bytes.now) }
+    ensures others { IsTrue F.tells → (validation : Validation) → IsChangeable validation mini.old → KeepsOthers entry mini.old mini.new }
+    ensures holds { IsTrue F.tells → (validation : Validation) → IsChangeable validation mini.old → OnOk result (IsChangeable validation mini.new) }
+    ensures begun { OnOk result ((table_of mini.new).file.begun ≡ true) }
+    ensures refused { IfErr result (StopsStillOrBegun mini.old mini.new) }
+    ensures unwritten { IsTrue F.tells → (table_of mini.new).file.begun ≡ false → bytes_of mini.new ≡ bytes_of mini.old }
+    ensures err { IfErr result (ChangeRefused (IsNotChangeable mini.old) Unit ⊥ Unit) }
+    ensures counts { IsTrue F.tells → CountsFailure (λ f. F.read_faults f || F.write_faults f) result (table_of mini.old).file.failures (table_of mini.new).file.failures }
+{
     let (start, len) = content_in(mini, entry);
     if len >= MINI_STREAM_CUTOFF as u64 {
-        let ids = whole_chain(mini.allocator(), start, len)?;
+        let ids = whole_chain_in(list, mini.allocator(), start, len)?;
         return put_in_sectors(mini.allocator_mut(), &ids, at, bytes);
     }
-    let ids = whole_mini_chain(mini, start, len)?;
+    let ids = whole_mini_chain_in(list, mini, start, len)?;
     put_in_minis(mini, &ids, at, bytes)
 }

@@ -1,7 +1,6 @@
 //! The allocators of files, and the entries in the slots of their directories.
 use cfb_alloc::alloc::Allocator;
 use cfb_codecs::direntry::DirEntry;
-use cfb_compound_file::CompoundFile;
 use cfb_format::consts::{DIR_ENTRY_LEN, FREE_SECTOR, HEADER_LEN};
 use cfb_format::error::Error;
 use cfb_format::header::Header;
@@ -9,6 +8,7 @@ use cfb_format::medium::Medium;
 use cfb_format::memory::MemoryMedium;
 use cfb_format::validate::Validation;
 use cfb_format::version::Version;
+use cfb_one_stream::CompoundFile;
 use cfb_sectors::sector::Sectors;
 use std::alloc::{Allocator as Heap, Global};
 

@@ -2,7 +2,6 @@
 use cfb_alloc::alloc::Allocator;
 use cfb_codecs::direntry::DirEntry;
 use cfb_codecs::path::CaseMapper;
-use cfb_compound_file::CompoundFile;
 use cfb_directory::directory::Directory;
 use cfb_format::bytes::u32_at;
 use cfb_format::consts::{DIR_ENTRY_LEN, HEADER_LEN};
@@ -13,6 +12,7 @@ use cfb_format::memory::MemoryMedium;
 use cfb_format::validate::Validation::Strict;
 use cfb_format::version::Version;
 use cfb_mini::mini_allocator::MiniAllocator;
+use cfb_one_stream::CompoundFile;
 use cfb_sectors::sector::Sectors;
 use std::alloc::{Allocator as Heap, Global};
 

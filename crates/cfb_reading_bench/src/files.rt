@@ -1,12 +1,12 @@
 //! Files of one FAT sector, and their allocators.
 use cfb_alloc::alloc::Allocator;
-use cfb_compound_file::CompoundFile;
 use cfb_format::bytes::put;
 use cfb_format::error::Error;
 use cfb_format::medium::ReadMedium;
 use cfb_format::memory::MemoryMedium;
 use cfb_format::validate::Validation;
 use cfb_format::version::Version;
+use cfb_one_stream::CompoundFile;
 use cfb_sectors::sector::Sectors;
 use std::alloc::{Allocator as Heap, Global};
 

@@ -17,3 +17,4 @@ pub mod MiniGrowth
 pub mod GrownLengths
 pub mod TakenRest
 pub mod CutShort
+pub mod PutBehind

@@ -1,5 +1,6 @@
 -- The numbers that are left once a stream cannot grow: taking them keeps the other streams, and leaves the tables full.
-use Rattle.std.proofs.Common.{◌≡◌, ◌≤◌, ◌<◌, ◌+◌, ◌/◌, ◌%◌, min, inl, inr, ℕ, List, [], refl, sym, ◌∙◌, ap, subst, length, arith}
+use Rattle.std.proofs.Common.{◌≡◌, ◌≤◌, ◌<◌, ◌+◌, ◌/◌, ◌%◌, ◌⊎◌, min, inl, inr, ℕ, List, [], true, false, refl, sym, ◌∙◌, ap, subst, length, arith}
+use Rattle.std.specs.Prelude.{Err, IfErr, Ok, OnOk, Result}
 use Rattle.std.proofs.lemmas.Bool.{cases_lt}
 use Rattle.std.proofs.lemmas.List.Elements.{Contains-append_left}
 use Rattle.cfb_format.specs.declared.error.Error.{Error}
@@ -7,7 +8,7 @@ use Rattle.cfb_format.specs.declared.error.Error.TheVariants.{AlreadyExists, Fai
 use Rattle.cfb_format.specs.declared.validate.Validation.{Validation}
 use Rattle.cfb_format.specs.Bytes.{sector_len}
 use Rattle.cfb_format.specs.DirectoryEntry.{Entry}
-use Rattle.cfb_format.specs.Full.{rounded_up}
+use Rattle.cfb_format.specs.Full.{IsFullOfMiniSectors, rounded_up}
 use Rattle.cfb_format.specs.Siblings.{entry_at}
 use Rattle.cfb_tables.specs.Refused.{ChangeRefused}
 use Rattle.cfb_tables.specs.Tables.{AreFullTables, HasTaken, IsTooFew}
@@ -16,9 +17,12 @@ use Rattle.cfb_tables.proofs.RoomLemmas.{all-taken-is-full}
 use Rattle.cfb_alloc.specs.Alloc.{AllocatorState}
 use Rattle.cfb_alloc.specs.Frame.{Spares}
 use Rattle.cfb_chains.proofs.LentContent.{wanted_is}
-use Rattle.cfb_mini_sectors.specs.State.{IsChangeable, MiniState, entries_of, table_of, tables_in, version_of}
+use Rattle.cfb_mini_table.specs.MiniTable.{IsTooFewMini}
+use Rattle.cfb_mini_table.proofs.LawLemmas.{full-of-mini}
+use Rattle.cfb_mini_sectors.specs.State.{HoldsMini, IsChangeable, MiniState, bytes_of, entries_of, parts_of, table_of, tables_in, version_of}
 use Rattle.cfb_mini_sectors.specs.Steps.{ButContent, IsTooFewFor, MovesRoot, SparesMini, StopsShortOrFull, system_sectors}
 use Rattle.cfb_mini_sectors.specs.Held.{with_table}
+use Rattle.cfb_mini.specs.MiniSectors.{IsStill}
 use Rattle.cfb_content.specs.Contents.{IsStreamOf, KeepsOthers, MovesContent, len_of, sectors_owned}
 use Rattle.cfb_content.proofs.Kept.{spared-is-kept, spared-sectors-kept}
 use Rattle.cfb_content.proofs.Outlines.{stream-is-no-root}
@@ -45,17 +49,65 @@ rest-minis-others v s new i own change at none spares mini_spares =
     spared-is-kept v (system_sectors s) [] s new i change at spares (λ n c. Contains-append_left (system_sectors s) (sectors_owned s i) n c)
     (subst (λ (l : List ℕ). SparesMini l s new) none mini_spares) (λ m c. absurd (Contains-nil m c))
 
-pub short-or-full : (old new : MiniState) (e : Error) → StopsShortOrFull 1 old new e → StopsOrIsFull old new e
-short-or-full old new (NotFound d) h = h
-short-or-full old new (AlreadyExists d) h = h
-short-or-full old new (InvalidInput d) h = h
-short-or-full old new (InvalidData d) h = inl h
-short-or-full old new (Medium m) h = inr h
-short-or-full old new Memory h = h
-short-or-full old new Full h = h
-short-or-full old new Unsound h = h
-short-or-full old new Failed h = h
-short-or-full old new Unsupported h = h
+-- so says each way that a call can end
+pub on-both-ways : {T E P : Type 0} (r : Result T E) → OnOk r P → IfErr r (λ e. P) → P
+on-both-ways (Ok x) ok err = ok
+on-both-ways (Err e) ok err = err
+
+same-still : (old new : MiniState) → new ≡ old → IsStill old new ⊎ ((table_of new).file.begun ≡ true)
+same-still old new same = inl (subst (λ (s : MiniState). IsStill old s) (sym same) refl)
+
+same-or-begun : (old new : MiniState) → (new ≡ old) ⊎ ((table_of new).file.begun ≡ true) → IsStill old new ⊎ ((table_of new).file.begun ≡ true)
+same-or-begun old new (inl same) = same-still old new same
+same-or-begun old new (inr up) = inr up
+
+pub short-still : (old new : MiniState) (e : Error) → StopsShortOrFull 1 old new e → IsStill old new ⊎ ((table_of new).file.begun ≡ true)
+short-still old new (NotFound d) h = same-still old new h
+short-still old new (AlreadyExists d) h = same-still old new h
+short-still old new (InvalidInput d) h = same-still old new h
+short-still old new (InvalidData d) h = same-still old new h
+short-still old new (Medium m) h = inr h
+short-still old new Memory h = same-or-begun old new h
+short-still old new Full h = same-or-begun old new h.0
+short-still old new Unsound h = same-still old new h
+short-still old new Failed h = same-still old new h
+short-still old new Unsupported h = same-still old new h
+
+same-bytes : (old new : MiniState) → new ≡ old → bytes_of new ≡ bytes_of old
+same-bytes old new same = ap (λ (s : MiniState). bytes_of s) same
+
+calm-bytes : (old new : MiniState) → (new ≡ old) ⊎ ((table_of new).file.begun ≡ true) → (table_of new).file.begun ≡ false → bytes_of new ≡ bytes_of old
+calm-bytes old new (inl same) calm = same-bytes old new same
+calm-bytes old new (inr up) calm = absurd (let clash : true ≡ false = sym up ∙ calm in cc)
+
+pub short-unwritten : (old new : MiniState) (e : Error) → StopsShortOrFull 1 old new e → (table_of new).file.begun ≡ false → bytes_of new ≡ bytes_of old
+short-unwritten old new (NotFound d) h calm = same-bytes old new h
+short-unwritten old new (AlreadyExists d) h calm = same-bytes old new h
+short-unwritten old new (InvalidInput d) h calm = same-bytes old new h
+short-unwritten old new (InvalidData d) h calm = same-bytes old new h
+short-unwritten old new (Medium m) h calm = calm-bytes old new (inr h) calm
+short-unwritten old new Memory h calm = calm-bytes old new h calm
+short-unwritten old new Full h calm = calm-bytes old new h.0 calm
+short-unwritten old new Unsound h calm = same-bytes old new h
+short-unwritten old new Failed h calm = same-bytes old new h
+short-unwritten old new Unsupported h calm = same-bytes old new h
+
+-- where no mini sector is left, though there may be more of them, sectors are lacking
+module _ (v : Validation) (old new : MiniState) (held : HoldsMini v old) (short : length old.minifat ≤ old.max_mini_sectors) (free : IsFullOfMiniSectors (parts_of old) → ⊥) where
+  minis-left : IsTooFewMini old.max_mini_sectors old.minifat 1 → ⊥
+  minis-left few = let full = (full-of-mini old.max_mini_sectors old.minifat short).0 few in free (full.0, subst (λ n. n ≤ length old.minifat) held.limit full.1)
+
+  pub short-or-full : (e : Error) → StopsShortOrFull 1 old new e → StopsOrIsFull old new e
+  short-or-full (NotFound d) h = h
+  short-or-full (AlreadyExists d) h = h
+  short-or-full (InvalidInput d) h = h
+  short-or-full (InvalidData d) h = inl h
+  short-or-full (Medium m) h = inr h
+  short-or-full Memory h = h
+  short-or-full Full h = (h.0, elim h.1 [ inl few ↦ absurd (minis-left few) | inr full ↦ inr full ])
+  short-or-full Unsound h = h
+  short-or-full Failed h = h
+  short-or-full Unsupported h = h
 
 -- where the length has numbers, what is refused is not so for want of them
 pub begun-or-full : (old new : MiniState) (invalid full : Type 0) (e : Error) → (full → ⊥) → StopsOrBegun old new e → ChangeRefused invalid Unit full Unit e → StopsOrIsFull old new e

@@ -1,7 +1,7 @@
 -- Tables that a change of one content left tight, and what else of the state it left.
 use Rattle.std.proofs.Common.{◌≡◌, ◌≤◌, ◌⊎◌, inl, inr, ℕ, List, [], ◌++◌, refl, sym, ◌∙◌, ap, subst, length, arith}
 use Rattle.std.specs.Prelude.{Contains, Option, unwrap_or}
-use Rattle.std.proofs.lemmas.Bool.{cases_lt}
+use Rattle.std.proofs.lemmas.Bool.{cases_lt, leb-true}
 use Rattle.std.proofs.lemmas.List.Elements.{Contains-append_cases, Contains-append_right}
 use Rattle.cfb_format.specs.Bytes.{free_sector, words_per_sector}
 use Rattle.cfb_format.specs.Chain.{value}
@@ -17,7 +17,8 @@ use Rattle.cfb_mini_sectors.specs.State.{MiniState, mini_stream_of, tables_in}
 use Rattle.cfb_mini_sectors.specs.Steps.{GrowsFor, KeepsMini, KeepsSystem, system_sectors}
 use Rattle.cfb_mini_sectors.specs.Held.{with_table}
 use Rattle.cfb_mini.specs.MiniSectors.{ChangesFileOnly}
-use Rattle.cfb_resizing.specs.Turning.{KeepsAround, KeepsTablesTight}
+use Rattle.cfb_content.specs.Contents.{len_of, sectors_owned}
+use Rattle.cfb_resizing.specs.Turning.{KeepsAround, KeepsTablesTight, Turns}
 
 -- ---- tables
 
@@ -63,6 +64,36 @@ grown-tight old new count grown =
             (first.none_free (omega (arith, longer, same))) same
       ];
     }
+
+-- ---- no growth frees a sector
+
+taken-stays-full : (a b : TableState) (touched more : List ℕ) → HasTaken a b touched more → NoneFree a.fat → NoneFree b.fat
+taken-stays-full a b touched more h none = elim (cases_lt (length a.fat) (length b.fat)) [
+  | inl longer ↦ h.none_free longer
+  | inr same ↦ none-free-then a b touched more h none same
+]
+
+grown-stays-full : (old new : MiniState) (count : ℕ) → GrowsFor count old new → NoneFree (tables_in old).fat → NoneFree (tables_in new).fat
+grown-stays-full old new count grown none =
+    taken-stays-full grown.between (tables_in new) (ends_of (mini_stream_of old)) (gained (mini_stream_of old) grown.stream) grown.mini_stream.taken
+    (taken-stays-full (tables_in old) grown.between (ends_of old.minifat_sectors) (gained old.minifat_sectors new.minifat_sectors) grown.minifat.taken none)
+
+same-stays-full : (old new : MiniState) → KeepsSystem old new → NoneFree (tables_in old).fat → NoneFree (tables_in new).fat
+same-stays-full old new system none = subst (λ (t : TableState). NoneFree t.fat) (sym system.tables) none
+
+pub turned-stays-full : (old new : MiniState) (i size start : ℕ) → len_of old i ≤ size → Turns old new i size start → NoneFree (tables_in old).fat → NoneFree (tables_in new).fat
+turned-stays-full old new i size start le (inl t) none =
+    taken-stays-full (tables_in old) (tables_in new) (ends_of (sectors_owned old i)) (gained (sectors_owned old i) t.ys) t.longer.taken none
+turned-stays-full old new i size start le (inr (inl t)) none = absurd (let fewer = t.fewer in omega (arith, fewer, le))
+turned-stays-full old new i size start le (inr (inr (inl t))) none = elim t.grown [
+  | inl (grows, takes) ↦ grown-stays-full old new t.count grows none
+  | inr (same, system, mini) ↦ same-stays-full old new system none
+]
+turned-stays-full old new i size start le (inr (inr (inr (inl t)))) none = same-stays-full old new t.system none
+turned-stays-full old new i size start le (inr (inr (inr (inr (inl t))))) none =
+    absurd (let large = leb-true 4096 (len_of old i) t.was in let small = t.lies.small in omega (arith, large, small, le))
+turned-stays-full old new i size start le (inr (inr (inr (inr (inr t))))) none =
+    taken-stays-full (tables_in t.mid) (tables_in new) (ends_of []) (gained [] t.ys) t.longer.taken (same-stays-full old t.mid t.system none)
 
 -- ---- sectors
 

@@ -155,6 +155,7 @@ module _ (v : Validation) (old : MiniState) (i size wanted : ℕ) (list list' : 
     was = large-entry old i long;
     ys = list';
     left = wanted;
+    fewer = shorter;
     mini = record { minifat = refl; minifat_sectors = refl; mini_stream = refl };
     shorter = subst (λ (l : List ℕ). Shortens wanted l list' (tables_in old) a.tables) (sym owned) short;
     lies = cut-lies;

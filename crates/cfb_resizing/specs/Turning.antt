@@ -5,7 +5,7 @@ use Rattle.cfb_format.specs.declared.error.Error.{Error}
 use Rattle.cfb_format.specs.Bytes.{end_of_chain, sector_len}
 use Rattle.cfb_format.specs.Chain.{IsChain}
 use Rattle.cfb_format.specs.Content.{is_large, mini_sector_len, mini_stream_cutoff}
-use Rattle.cfb_format.specs.Full.{rounded_up}
+use Rattle.cfb_format.specs.Full.{IsFullOfMiniSectors, rounded_up}
 use Rattle.cfb_format.specs.Refused.{HasReason, at_every_error}
 use Rattle.cfb_format.specs.Siblings.{entry_at}
 use Rattle.cfb_tables.specs.Changes.{AreDisjoint, NoneFree}
@@ -14,8 +14,8 @@ use Rattle.cfb_tables.specs.Tables.{AreExactTables, AreFullTables, IsTooFew}
 use Rattle.cfb_alloc.specs.Frame.{table_sectors}
 use Rattle.cfb_alloc.specs.ListedChain.{Lengthens, Shortens}
 use Rattle.cfb_chains.specs.ChainPlaces.{place_along}
-use Rattle.cfb_mini_table.specs.MiniTable.{IsTooFewMini, MiniGivesBack, TakesMini}
-use Rattle.cfb_mini_sectors.specs.State.{MiniState, bytes_of, content_of, entries_of, table_of, tables_in, version_of}
+use Rattle.cfb_mini_table.specs.MiniTable.{MiniGivesBack, TakesMini}
+use Rattle.cfb_mini_sectors.specs.State.{MiniState, bytes_of, content_of, entries_of, parts_of, table_of, tables_in, version_of}
 use Rattle.cfb_mini_sectors.specs.Steps.{GrowsFor, IsTooFewFor, KeepsLimits, KeepsMini, KeepsSystem, MovesRoot, system_sectors}
 use Rattle.cfb_mini.specs.MiniSectors.{IsStill}
 use Rattle.cfb_content.specs.Contents.{len_of, mini_place_along, mini_sectors_owned, sectors_owned}
@@ -67,6 +67,7 @@ pub record TurnsByCut (old new : MiniState) (i size start : ℕ) : Type 0 where
   pub was : is_large (entry_at (entries_of old) i) ≡ true
   pub ys : List ℕ
   pub left : ℕ
+  pub fewer : size < len_of old i
   pub mini : KeepsMini old new
   pub shorter : Shortens left (sectors_owned old i) ys (tables_in old) (tables_in new)
   pub lies : LiesTurnedInSectors old new i size start ys
@@ -162,12 +163,12 @@ CannotGrow s i = ((mini_stream_cutoff ≤ len_of s i) × AreFullTables (tables_i
     ⊎ ((len_of s i + 1 ≡ mini_stream_cutoff) × IsTooFew (tables_in s) (rounded_up mini_stream_cutoff (sector_len (version_of s))))
     ⊎ ((len_of s i + 1 < mini_stream_cutoff) × IsTooFewFor s 1)
 
--- the same where `Full` comes with full tables, or where all mini sectors are in use that there may be: the sectors that there were, too
--- few, may have been taken then
+-- the same where `Full` comes with full tables as they are left, or where all mini sectors are in use that there may be: the sectors that
+-- there were, too few, may have been taken then
 abbrev pub StopsOrIsFull : MiniState → MiniState → Error → Type 0
 StopsOrIsFull old new = HasReason (record (at_every_error (new ≡ old)) {
   medium = λ f. IsStill old new ⊎ ((table_of new).file.begun ≡ true);
   memory = (new ≡ old) ⊎ ((table_of new).file.begun ≡ true);
   invalid_data = (new ≡ old) ⊎ ((table_of new).file.begun ≡ true);
-  full = ((new ≡ old) ⊎ ((table_of new).file.begun ≡ true)) × (IsTooFewMini old.max_mini_sectors old.minifat 1 ⊎ AreFullTables (tables_in new));
+  full = ((new ≡ old) ⊎ ((table_of new).file.begun ≡ true)) × (IsFullOfMiniSectors (parts_of new) ⊎ AreFullTables (tables_in new));
 })

@@ -1,15 +1,16 @@
 //! How far a stream can grow with the numbers that are left, and its growth as far as that.
-ghost use Rattle.std.specs.Prelude.{◌≡◌, ◌+◌, ◌<◌, ◌≤◌, ◌⊎◌, ◌||◌, false, true, IsTrue, IfOk, IfErr, OnOk, OnErr};
+ghost use Rattle.std.specs.Prelude.{◌≡◌, ◌+◌, ◌<◌, ◌≤◌, ◌⊎◌, ◌↔◌, ◌||◌, length, false, true, IsTrue, IfOk, IfErr, OnOk, OnErr};
 ghost use Rattle.cfb_format.specs.declared.validate.Validation.{Validation};
 ghost use Rattle.cfb_format.specs.Bytes.{max_stream_len, sector_len};
 ghost use Rattle.cfb_format.specs.Content.{mini_stream_cutoff};
-ghost use Rattle.cfb_format.specs.Full.{rounded_up};
+ghost use Rattle.cfb_format.specs.Full.{IsFullOfMiniSectors, rounded_up};
 ghost use Rattle.cfb_format.specs.Refused.{CountsFailure};
 ghost use Rattle.cfb_format.specs.Siblings.{entry_at};
 ghost use Rattle.cfb_rules.specs.StreamCalls.{resized};
+ghost use Rattle.cfb_tables.specs.Changes.{NoneFree};
 ghost use Rattle.cfb_tables.specs.Refused.{ChangeRefused};
 ghost use Rattle.cfb_tables.specs.Tables.{AreFullTables, IsTooFew};
-ghost use Rattle.cfb_mini_sectors.specs.State.{HoldsMini, IsChangeable, bytes_of, content_of, entries_of, table_of, tables_in, version_of};
+ghost use Rattle.cfb_mini_sectors.specs.State.{HoldsMini, IsChangeable, bytes_of, content_of, entries_of, parts_of, table_of, tables_in, version_of};
 ghost use Rattle.cfb_mini_sectors.specs.Steps.{IsTooFewFor, KeepsLimits};
 ghost use Rattle.cfb_mini.specs.MiniSectors.{IsStill};
 ghost use Rattle.cfb_content.specs.Contents.{AreAllUsed, IsNotChangeable, IsStreamOf, KeepsOthers, MovesContent, len_of};
@@ -20,10 +21,11 @@ use crate::resizing::{resize_content, unplaced};
 use cfb_content::in_minis::whole_mini_chain;
 use cfb_content::in_sectors::whole_chain;
 use cfb_content::reading::content_in;
-use cfb_format::consts::{END_OF_CHAIN, MINI_SECTOR_LEN, MINI_STREAM_CUTOFF};
+use cfb_format::consts::{END_OF_CHAIN, FREE_SECTOR, MINI_SECTOR_LEN, MINI_STREAM_CUTOFF};
 use cfb_format::error::Error;
 use cfb_format::medium::{Medium, ReadMedium};
 use cfb_mini::mini_allocator::MiniAllocator;
+use cfb_mini_table::mini_table::max_len;
 use cfb_sectors::sector::SectorInit;
 use std::alloc::Allocator as Heap;
 
@@ -117,6 +119,21 @@ fn grown_len<F: ReadMedium, A: Heap + Clone>(
     len_in_minis(mini, entry, wanted)
 }
 
+/// Whether no mini sector is free and their number is at its limit.
+fn are_minis_full<F: ReadMedium, A: Heap>(mini: &MiniAllocator<F, A>) -> bool
+    ensures full { IsTrue result ↔ IsFullOfMiniSectors (parts_of mini.now) }
+    ensures within { length mini.now.minifat ≤ mini.now.max_mini_sectors }
+{
+    let limit = max_len(mini.version()) as usize;
+    let len = mini.minifat_len();
+    let free = mini
+        .minifat()
+        .iter()
+        .filter(|value| **value == FREE_SECTOR)
+        .count();
+    free == 0 && limit <= len
+}
+
 /// Takes what is left of the numbers that a stream lacks which cannot grow, so that `Full` comes with full tables.
 fn take_the_rest<F: Medium, A: Heap + Clone>(
     mini: &mut MiniAllocator<F, A>,
@@ -126,9 +143,10 @@ fn take_the_rest<F: Medium, A: Heap + Clone>(
     requires stuck { CannotGrow mini.old entry }
     ensures others { IsTrue F.tells → (validation : Validation) → IsChangeable validation mini.old → KeepsOthers entry mini.old mini.new }
     ensures around { KeepsAround mini.old mini.new }
-    ensures full { OnOk result (AreFullTables (tables_in mini.new)) }
+    ensures full { OnOk result (IsFullOfMiniSectors (parts_of mini.new) ⊎ AreFullTables (tables_in mini.new)) }
     ensures begun { OnOk result ((mini.new ≡ mini.old) ⊎ ((table_of mini.new).file.begun ≡ true)) }
-    ensures refused { IfErr result (StopsOrIsFull mini.old mini.new) }
+    ensures refused { (validation : Validation) → HoldsMini validation mini.old → IfErr result (StopsOrIsFull mini.old mini.new) }
+    ensures still { OnErr result (IsStill mini.old mini.new ⊎ ((table_of mini.new).file.begun ≡ true)) }
     ensures unwritten { IsTrue F.tells → (table_of mini.new).file.begun ≡ false → bytes_of mini.new ≡ bytes_of mini.old }
     ensures err { IfErr result (ChangeRefused (IsNotChangeable mini.old) Unit Unit Unit) }
     ensures counts { IsTrue F.tells → CountsFailure F.write_faults result (table_of mini.old).file.failures (table_of mini.new).file.failures }
@@ -139,6 +157,9 @@ fn take_the_rest<F: Medium, A: Heap + Clone>(
         return Ok(());
     }
     if len + 1 < cutoff {
+        if are_minis_full(mini) {
+            return Ok(());
+        }
         let mut ids = Vec::new(mini.heap().clone()?);
         return mini.extend_mini_listed(&mut ids, 1);
     }
@@ -153,7 +174,7 @@ fn take_the_rest<F: Medium, A: Heap + Clone>(
 /// its length then, which is more than it was.
 ///
 /// `Full` only where not one byte more can be had, and then with full tables, or with all mini sectors that there may be in use: the
-/// sectors that there were for it may have been taken. `InvalidData`, `Memory` and `Medium` as in `resize_content`.
+/// sectors that there were for it may have been taken. No sector becomes free. `InvalidData`, `Memory` and `Medium` as in `resize_content`.
 pub fn grow_content<F: Medium, A: Heap + Clone>(
     mini: &mut MiniAllocator<F, A>,
     entry: u32,
@@ -170,6 +191,7 @@ pub fn grow_content<F: Medium, A: Heap + Clone>(
     ensures holds { IsTrue F.tells → (validation : Validation) → IsChangeable validation mini.old → OnOk result (IsChangeable validation mini.new) }
     ensures owned { IsTrue F.tells → (validation : Validation) → IsChangeable validation mini.old → AreAllUsed mini.old → OnOk result (AreAllUsed mini.new) }
     ensures tight { OnOk result (KeepsTablesTight mini.old mini.new) }
+    ensures stays_full { IsTrue F.tells → (validation : Validation) → IsChangeable validation mini.old → NoneFree (tables_in mini.old).fat → OnOk result (NoneFree (tables_in mini.new).fat) }
     ensures directory { mini.new.directory.sectors ≡ mini.old.directory.sectors }
     ensures limits { KeepsLimits mini.old mini.new }
     ensures begun { OnOk result ((table_of mini.new).file.begun ≡ true) }

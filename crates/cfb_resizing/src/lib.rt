@@ -5,4 +5,5 @@
 pub mod growing;
 mod in_place;
 mod moving;
+pub mod putting;
 pub mod resizing;

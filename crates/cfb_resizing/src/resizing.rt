@@ -39,9 +39,9 @@ pub(crate) fn unplaced(entry: u32) -> Error
 }
 
 /// Gives the stream of that entry this length: it is cut, or padded with zeros. From 4096 bytes on it lies in sectors, below in mini
-/// sectors; what it leaves is free before anything is taken, and a chain that is cut keeps no more than it needs. An empty stream has no
-/// chain, and starts at END. The length that it has changes nothing. All memory is asked for before anything changes, and the entry's slot
-/// is written last.
+/// sectors; what it leaves is free before anything is taken, and a chain that is cut keeps no more than it needs. No growth frees a sector.
+/// An empty stream has no chain, and starts at END. The length that it has changes nothing. All memory is asked for before anything changes,
+/// and the entry's slot is written last.
 ///
 /// `Full` exactly where the sectors of the stream, of the MiniFAT and of the mini stream that it needs are more than are free or left once
 /// the chain that it moves away from is free, or the mini sectors more than there may be; `InvalidData` where the stream's chain is none
@@ -72,6 +72,8 @@ pub fn resize_content<F: Medium, A: Heap + Clone>(
     ensures exact { AreExactTables (tables_in mini.old) → OnOk result (AreExactTables (tables_in mini.new)) }
     ensures no_shorter { OnOk result (length (tables_in mini.old).fat ≤ length (tables_in mini.new).fat) }
     ensures none_free { length (tables_in mini.old).fat < length (tables_in mini.new).fat → OnOk result (NoneFree (tables_in mini.new).fat) }
+    ensures stays_full { IsTrue F.tells → (validation : Validation) → IsChangeable validation mini.old → len_of mini.old entry ≤ size
+        → NoneFree (tables_in mini.old).fat → OnOk result (NoneFree (tables_in mini.new).fat) }
     ensures directory { mini.new.directory.sectors ≡ mini.old.directory.sectors }
     ensures limits { KeepsLimits mini.old mini.new }
     ensures enough { size ≢ len_of mini.old entry → (validation : Validation) → HoldsMini validation mini.old → OnOk result (IsTooLongFor mini.old entry size → ⊥) }

@@ -1,0 +1,4 @@
+pub mod InsertedObjects
+pub mod ContentSteps
+pub mod Fullness
+pub mod Refusals

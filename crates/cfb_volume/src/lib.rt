@@ -1,4 +1,5 @@
 //! A file whose memory is what its bytes say, and its changes, each told by the tree.
 #![tactic(auto)]
 
+mod inserting;
 pub mod volume;

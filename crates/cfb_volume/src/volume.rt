@@ -31,21 +31,21 @@ use cfb_codecs::direntry::DirEntry;
 use cfb_codecs::path::CaseMapper;
 use cfb_codecs::timestamp::Timestamp;
 use cfb_content::reading::{read_content, readable_len};
-use cfb_content::writing::write_content;
 use cfb_format::error::Error;
 use cfb_format::medium::{Medium, ReadMedium};
 use cfb_format::objtype::ObjType;
 use cfb_format::version::Version;
 use cfb_mini::mini_allocator::MiniAllocator;
-use cfb_resizing::growing::grow_content;
+use cfb_resizing::putting::put_content;
 use cfb_resizing::resizing::resize_content;
+use cfb_siblings::find::find_path;
 use std::alloc::{Allocator as Heap, Global};
 use std::marker::Model;
 
 /// A file whose memory is what its bytes say, on a medium.
 #[derive(Drop)]
 pub struct Volume<F: ReadMedium, A: Heap = Global> {
-    mini: MiniAllocator<F, A>,
+    pub(crate) mini: MiniAllocator<F, A>,
     is_sound: bool,
     buffer_limit: usize,
 }
@@ -148,8 +148,7 @@ impl<F: ReadMedium, A: Heap> Volume<F, A> {
             → result ≡ number_at_path (cases_of self.now.base) (entries_of self.now.base) o (chars path.now) }
         ensures reached { (o : Outline) → IsOutline (cases_of self.now.base) (entries_of self.now.base) o → IfSome result (IsReached o) }
     {
-        let _ = path;
-        None
+        find_path(self.mini.letters(), self.mini.entries(), path)
     }
 
     /// The number of the entry that these names lead to from the root: `None` where nothing is there. It takes no memory.
@@ -257,7 +256,9 @@ impl<F: Medium, A: Heap + Clone> Volume<F, A> {
         ensures err { IsTrue F.tells → Holds self.old → IfErr result (IsBreak ((len_of self.old.base entry ≤ at) × IsFullFile self.new)) }
         ensures counts { IsTrue F.tells → CountsFailure (λ f. F.read_faults f || F.write_faults f) result (failures_of self.old) (failures_of self.new) }
     {
-        Err(Error::Memory)
+        let count = put_content(&mut self.mini, entry, at, bytes)?;
+        self.mini.end_change();
+        Ok(count)
     }
 
     /// Gives the stream of that entry this length: it is cut, or padded with zeros. The length that it has changes nothing.
@@ -282,51 +283,8 @@ impl<F: Medium, A: Heap + Clone> Volume<F, A> {
         ensures err { IsTrue F.tells → Holds self.old → IfErr result (IsBreak (IsTooLongFor self.old.base entry len × (self.new ≡ self.old))) }
         ensures counts { IsTrue F.tells → CountsFailure (λ f. F.read_faults f || F.write_faults f) result (failures_of self.old) (failures_of self.new) }
     {
-        Err(Error::Memory)
-    }
-
-    /// Puts a new storage or stream into the storage `parent`, where no child has that name, and answers its number. It is empty; a
-    /// storage has `moment` for both of its moments, and a stream has none.
-    ///
-    /// `Full` exactly where no entry can be had, `Memory`: nothing has changed then. After `Medium`, where the medium fails, the file has
-    /// failed.
-    pub fn insert(
-        &mut self,
-        parent: u32,
-        name: &str,
-        kind: ObjType,
-        moment: Timestamp,
-    ) -> Result<u32, Error>
-        requires sound { self.old.is_sound ≡ true }
-        requires unfailed { is_failed self.old ≡ false }
-        requires parent { IsReachedStorage (cases_of self.old.base) (entries_of self.old.base) parent }
-        requires valid { IsTrue (is_valid_name (chars name.now)) }
-        requires absent { (list : List ℕ) → HasChildren (cases_of self.old.base) (entries_of self.old.base) parent list
-            → IsAbsent (cases_of self.old.base) (entries_of self.old.base) (chars name.now) list }
-        requires kind { (kind ≡ Storage) ⊎ (kind ≡ Stream) }
-        ensures named { IfOk result (λ n. (o : Outline) → IsOutline (cases_of self.new.base) (entries_of self.new.base) o → IsReached o n) }
-        ensures is_kind { IfOk result (λ n. (entry_at (entries_of self.new.base) n).obj_type ≡ kind) }
-        ensures empty { IfOk result (λ n. len_of self.new.base n ≡ 0) }
-        ensures setting { SameSetting self.old self.new }
-        ensures tree { IsTrue F.tells → Holds self.old → OnOk result ((names : List (List ℕ)) (o : Outline) → IsOutline (cases_of self.old.base) (entries_of self.old.base) o
-            → number_from (cases_of self.old.base) (entries_of self.old.base) 0 o (parent_names names) ≡ Some parent → last_name names ≡ chars name.now
-            → BecomesTree (cases_of self.old.base) (bytes_of self.old.base) (bytes_of self.new.base) (object_added_at (cases_of self.old.base) kind moment names)) }
-        ensures found { IfOk result (λ n. (first : List ℕ) (names : List (List ℕ)) (before after : Outline) → IsOutline (cases_of self.old.base) (entries_of self.old.base) before
-            → IsOutline (cases_of self.new.base) (entries_of self.new.base) after
-            → number_from (cases_of self.old.base) (entries_of self.old.base) 0 before (parent_names (first ∷ names)) ≡ Some parent → last_name (first ∷ names) ≡ chars name.now
-            → number_from (cases_of self.new.base) (entries_of self.new.base) 0 after (first ∷ names) ≡ Some n) }
-        ensures others { IsTrue F.tells → Holds self.old → KeepsStreams self.old.base self.new.base }
-        ensures made { IsTrue F.tells → Holds self.old → IsAsMade self.old.base → OnOk result (IsAsMade self.new.base) }
-        ensures grows { OnOk result (LeavesNoneFree self.old.base self.new.base) }
-        ensures balanced { OnOk result (KeepsBalance (entries_of self.old.base) (entries_of self.new.base) parent) }
-        ensures root_len { OnOk result (len_of self.new.base 0 ≡ len_of self.old.base 0) }
-        ensures agrees { IsTrue F.tells → Holds self.old → Agrees self.new }
-        ensures ended { OnOk result (is_failed self.new ≡ false) }
-        ensures refused { IsTrue F.tells → Holds self.old → OnErr result (StaysOrFails self.old self.new) }
-        ensures enough { OnOk result (IsFullForEntry self.old.base.directory → ⊥) }
-        ensures err { IsTrue F.tells → Holds self.old → IfErr result (IsBreak (IsFullFile self.new × (self.new ≡ self.old))) }
-        ensures counts { IsTrue F.tells → CountsFailure F.write_faults result (failures_of self.old) (failures_of self.new) }
-    {
-        Err(Error::Memory)
+        resize_content(&mut self.mini, entry, len)?;
+        self.mini.end_change();
+        Ok(())
     }
 }

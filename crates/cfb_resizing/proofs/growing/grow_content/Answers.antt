@@ -1,4 +1,4 @@
-use Rattle.std.proofs.Common.{◌≡◌, ◌≤◌, true, false, inr, sym, ◌∙◌, ap, subst}
+use Rattle.std.proofs.Common.{◌≡◌, ◌≤◌, true, false, sym, ◌∙◌, ap, subst, arith}
 use Rattle.std.specs.Prelude.{IsTrue}
 use Rattle.std.proofs.lemmas.Result.{err_from_is_err_and}
 use Rattle.cfb_format.specs.declared.validate.Validation.{Validation}
@@ -61,10 +61,14 @@ returns-then-size-len-clause-holds g c told v change = c.in_ok-resize_content.en
 pub returns-then-size-len-clause-owned : goal.returns-then-size-len-clause-owned
 returns-then-size-len-clause-owned g c told v change all = c.in_ok-resize_content.ensures.owned told v change all
 
+pub returns-then-size-len-clause-stays_full : goal.returns-then-size-len-clause-stays_full
+returns-then-size-len-clause-stays_full g c told v change none =
+    c.in_ok-resize_content.ensures.stays_full told v change (omega (arith, c.content_in-len.ensures.len, c.if-size-len.true)) none
+
 -- ---- one that can't
 
 pub returns-clause-entries : goal.returns-clause-entries
 returns-clause-entries g c = root-moves-content c.args.mini.now c.take_the_rest.new.mini c.args.entry c.requires.stream c.take_the_rest.ensures.around.entries
 
 pub returns-clause-refused : goal.returns-clause-refused
-returns-clause-refused g c told v held = (c.in_ok-take_the_rest.ensures.begun, inr c.in_ok-take_the_rest.ensures.full)
+returns-clause-refused g c told v held = (c.in_ok-take_the_rest.ensures.begun, c.in_ok-take_the_rest.ensures.full)

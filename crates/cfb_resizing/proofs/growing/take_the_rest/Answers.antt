@@ -1,14 +1,18 @@
-use Rattle.std.proofs.Common.{◌≡◌, ◌+◌, ◌<◌, ◌⊎◌, inl, inr, refl, ap, length, arith}
+use Rattle.std.proofs.Common.{◌≡◌, ◌+◌, ◌<◌, ◌⊎◌, inl, inr, true, false, refl, sym, ◌∙◌, ap, length, arith}
+use Rattle.std.specs.Prelude.{IsTrue}
 use Rattle.std.proofs.lemmas.Result.{err_from_is_err_and, on_ok_weaker, IfErr-weaker}
+use Rattle.cfb_format.specs.Full.{IsFullOfMiniSectors}
 use Rattle.cfb_tables.specs.Listed.{ends_of}
 use Rattle.cfb_tables.specs.Refused.{ChangeRefused}
 use Rattle.cfb_mini_sectors.specs.Steps.{EndsNoChain, IsNotHeld, IsTooFewFor, StopsShortOrFull}
+use Rattle.cfb_mini_sectors.specs.State.{bytes_of, parts_of, table_of}
+use Rattle.cfb_mini.specs.MiniSectors.{IsStill}
 use Rattle.cfb_content.specs.Contents.{IsNotChangeable, len_of}
 use Rattle.cfb_content.proofs.Kept.{nothing-is-moved}
 use Rattle.cfb_content.proofs.Refusals.{refused-as}
 use Rattle.cfb_content.proofs.StreamEntry.{stream-inside}
 use Rattle.cfb_resizing.specs.Turning.{StopsOrIsFull}
-use Rattle.cfb_resizing.proofs.TakenRest.{lacks-mini, rest-around, rest-full, rest-minis-others, rest-others, short-or-full}
+use Rattle.cfb_resizing.proofs.TakenRest.{lacks-mini, on-both-ways, rest-around, rest-full, rest-minis-others, rest-others, short-or-full, short-still, short-unwritten}
 use Rattle.cfb_resizing.proofs.TurnedInMinis.{not-held}
 use Rattle.cfb_resizing.proofs.TurnedInSectors.{not-usable}
 use Rattle.cfb_resizing.proofs.growing.take_the_rest.Goals as goal
@@ -24,6 +28,12 @@ returns-in_err-clone-clause-others g c told v change = nothing-is-moved c.args.e
 
 -- ---- a mini sector that is lacking
 
+pub returns-then-are_minis_full-clause-others : goal.returns-then-are_minis_full-clause-others
+returns-then-are_minis_full-clause-others g c told v change = nothing-is-moved c.args.entry c.args.mini.now
+
+pub returns-then-are_minis_full-clause-full : goal.returns-then-are_minis_full-clause-full
+returns-then-are_minis_full-clause-full g c = inl (c.are_minis_full.ensures.full.0 c.if-are_minis_full.true)
+
 pub returns-then-len-cutoff-2-clause-others : goal.returns-then-len-cutoff-2-clause-others
 returns-then-len-cutoff-2-clause-others g c told v change =
     rest-minis-others v c.args.mini.now c.extend_mini_listed.new.self c.args.entry (ends_of c.new-ids.result.items) change c.requires.stream (ap ends_of c.new-ids.ensures.items)
@@ -35,10 +45,35 @@ returns-then-len-cutoff-2-clause-full g c =
     on_ok_weaker c.extend_mini_listed.result (λ enough. absurd (enough (lacks-mini c.args.mini.now c.args.entry c.requires.stuck short)))
     (c.extend_mini_listed.ensures.enough (omega arith))
 
+pub returns-then-len-cutoff-2-clause-begun : goal.returns-then-len-cutoff-2-clause-begun
+returns-then-len-cutoff-2-clause-begun g c =
+    let short : len_of c.args.mini.now c.args.entry + 1 < 4096 = omega (arith, c.content_in-len.ensures.len, c.if-len-cutoff-2.true) in
+    on_ok_weaker c.extend_mini_listed.result (λ enough. absurd (enough (lacks-mini c.args.mini.now c.args.entry c.requires.stuck short)))
+    (c.extend_mini_listed.ensures.enough (omega arith))
+
+pub returns-then-len-cutoff-2-clause-still : goal.returns-then-len-cutoff-2-clause-still
+returns-then-len-cutoff-2-clause-still g c =
+    let s = c.args.mini.now in
+    let new = c.extend_mini_listed.new.self in
+    IfErr-weaker c.extend_mini_listed.result (StopsShortOrFull 1 s new) (λ e. IsStill s new ⊎ ((table_of new).file.begun ≡ true)) (short-still s new) c.extend_mini_listed.ensures.refused
+
+pub returns-then-len-cutoff-2-clause-unwritten : goal.returns-then-len-cutoff-2-clause-unwritten
+returns-then-len-cutoff-2-clause-unwritten g c told calm =
+    let s = c.args.mini.now in
+    let new = c.extend_mini_listed.new.self in
+    let short : len_of s c.args.entry + 1 < 4096 = omega (arith, c.content_in-len.ensures.len, c.if-len-cutoff-2.true) in
+    on-both-ways c.extend_mini_listed.result
+    (on_ok_weaker c.extend_mini_listed.result (λ enough. absurd (enough (lacks-mini s c.args.entry c.requires.stuck short))) (c.extend_mini_listed.ensures.enough (omega arith)))
+    (IfErr-weaker c.extend_mini_listed.result (StopsShortOrFull 1 s new) (λ e. bytes_of new ≡ bytes_of s) (λ e stops. short-unwritten s new e stops calm)
+    c.extend_mini_listed.ensures.refused)
+
 pub returns-then-len-cutoff-2-clause-refused : goal.returns-then-len-cutoff-2-clause-refused
-returns-then-len-cutoff-2-clause-refused g c =
-    IfErr-weaker c.extend_mini_listed.result (StopsShortOrFull 1 c.args.mini.now c.extend_mini_listed.new.self) (StopsOrIsFull c.args.mini.now c.extend_mini_listed.new.self)
-    (short-or-full c.args.mini.now c.extend_mini_listed.new.self) c.extend_mini_listed.ensures.refused
+returns-then-len-cutoff-2-clause-refused g c v held =
+    let s = c.args.mini.now in
+    let some : IsFullOfMiniSectors (parts_of s) → ⊥ = λ full.
+    (let yes : IsTrue c.are_minis_full.result = c.are_minis_full.ensures.full.1 full in let clash : true ≡ false = sym yes ∙ c.if-are_minis_full.false in cc) in
+    IfErr-weaker c.extend_mini_listed.result (StopsShortOrFull 1 s c.extend_mini_listed.new.self) (StopsOrIsFull s c.extend_mini_listed.new.self)
+    (short-or-full v s c.extend_mini_listed.new.self held c.are_minis_full.ensures.within some) c.extend_mini_listed.ensures.refused
 
 pub returns-then-len-cutoff-2-clause-err : goal.returns-then-len-cutoff-2-clause-err
 returns-then-len-cutoff-2-clause-err g c =
@@ -81,6 +116,6 @@ returns-clause-full g c =
     let s = c.args.mini.now in
     let last : len_of s c.args.entry + 1 ≡ 4096 = omega (arith, c.content_in-len.ensures.len, c.if-len-cutoff.false, c.if-len-cutoff-2.false) in
     let count : length c.in_ok-extend_chain_by.field-0.items ≡ c.takable-rest.result = omega (arith, c.in_ok-extend_chain_by.ensures.count, c.in_ok-extend_chain_by.field-0.ok.0) in
-    rest-full s c.args.entry c.allocator_mut-allocator.result.now c.extend_chain_by.new.self c.allocator_mut-allocator.ensures.value c.in_ok-extend_chain_by.field-0.items
+    inr (rest-full s c.args.entry c.allocator_mut-allocator.result.now c.extend_chain_by.new.self c.allocator_mut-allocator.ensures.value c.in_ok-extend_chain_by.field-0.items
     c.in_ok-extend_chain_by.ensures.taken c.sector_len.result c.div_ceil-needed.result c.takable-rest.result c.sector_len.ensures c.div_ceil-needed.ensures c.requires.stuck last
-    c.takable-rest.ensures.few c.takable-rest.ensures.fits c.takable-rest.ensures.most count
+    c.takable-rest.ensures.few c.takable-rest.ensures.fits c.takable-rest.ensures.most count)

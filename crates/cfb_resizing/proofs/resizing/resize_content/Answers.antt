@@ -24,6 +24,7 @@ use Rattle.cfb_content.proofs.Rewritten.{resized-same}
 use Rattle.cfb_content.proofs.Sound.{all-used-kept, changed-is-changeable}
 use Rattle.cfb_content.proofs.StreamEntry.{stream-inside}
 use Rattle.cfb_resizing.proofs.Named.{WasNamed, moves-then, named-changes, named-keeps-others, placed-stays}
+use Rattle.cfb_resizing.proofs.Tightness.{turned-stays-full}
 use Rattle.cfb_resizing.proofs.Turned.{WasTurned, always-on-ok, turned, turned-whole}
 use Rattle.cfb_resizing.proofs.resizing.resize_content.Goals as goal
 
@@ -171,6 +172,12 @@ returns-clause-none_free g c longer =
     let same = sym c.name_content.ensures.system.tables in
     let old = length (tables_in c.args.mini.now).fat in
     always-on-ok c.name_content.result (subst (λ (t : TableState). old < length t.fat → NoneFree t.fat) same c.in_ok-start.ensures.tight.none_free longer)
+
+pub returns-clause-stays_full : goal.returns-clause-stays_full
+returns-clause-stays_full g c told validation change longer none =
+    let s = c.args.mini.now in
+    let full = turned-stays-full s c.turn.new.mini c.args.entry c.args.size c.in_ok-start.start longer (c.in_ok-start.ensures.turned told validation change) none in
+    always-on-ok c.name_content.result (subst (λ (t : TableState). NoneFree t.fat) (sym c.name_content.ensures.system.tables) full)
 
 pub returns-clause-enough : goal.returns-clause-enough
 returns-clause-enough g c differs validation held =

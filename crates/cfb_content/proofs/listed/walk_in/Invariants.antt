@@ -1,0 +1,12 @@
+use Rattle.std.proofs.Common.{◌-◌, ◌≤◌, length, vec_len}
+use Rattle.cfb_tables.proofs.WalkLemmas.{Walked}
+use Rattle.cfb_content.proofs.listed.walk_in.Given as goal
+
+abbrev pub invariant-loop-sector : goal.invariant-loop-sector
+invariant-loop-sector g l = record {
+  short : vec_len l.list ≤ length l.table;
+  walked : Walked l.table l.fn.start l.list.items l.sector;
+}
+
+abbrev pub decreases-loop-sector : goal.decreases-loop-sector
+decreases-loop-sector g l = length l.table - vec_len l.list

@@ -1,0 +1,4 @@
+pub mod Pieces
+pub mod Refusals
+pub mod Parts
+pub mod CreatedFile

@@ -1,0 +1,6 @@
+//! Making an empty compound file on an empty medium, with memory that is what its bytes say.
+#![tactic(auto)]
+
+mod created;
+pub mod creating;
+mod kept;

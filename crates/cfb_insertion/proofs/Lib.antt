@@ -1,0 +1,7 @@
+pub mod Spared
+pub mod Entries
+pub mod SameUse
+pub mod Streams
+pub mod Sound
+pub mod Joined
+pub mod Fullness

@@ -1,0 +1,44 @@
+-- A new object in the directory of a file, by what the layers below say of it (MS-CFB 2.6).
+use Rattle.std.specs.Prelude.{ℕ, ◌≡◌, ◌⊎◌, List, true, false}
+use Rattle.cfb_format.specs.declared.objtype.ObjType.{ObjType}
+use Rattle.cfb_format.specs.declared.objtype.ObjType.TheVariants.{Storage, Stream}
+use Rattle.cfb_format.specs.declared.validate.Validation.{Validation}
+use Rattle.cfb_codecs.specs.EntryModel.{new_entry}
+use Rattle.cfb_format.specs.Reading.{IsOutline, Outline}
+use Rattle.cfb_format.specs.Siblings.{entry_at}
+use Rattle.cfb_outline.specs.Outlines.{IsReachedStorage}
+use Rattle.cfb_alloc.specs.Frame.{Spares}
+use Rattle.cfb_alloc.specs.ListedChain.{Lengthens}
+use Rattle.cfb_entries.specs.EntryList.{InsertsEntry, has_free}
+use Rattle.cfb_directory.specs.State.{with_room}
+use Rattle.cfb_directory.specs.Steps.{StaysRedApart}
+use Rattle.cfb_mini_sectors.specs.State.{HoldsMini, IsChangeable, MiniState, cases_of, entries_of, table_of, tables_in}
+use Rattle.cfb_mini_sectors.specs.Steps.{KeepsLimits, KeepsMini}
+use Rattle.cfb_trees.specs.Reached.{IsReached}
+use Rattle.cfb_content.specs.Contents.{len_of}
+
+-- in memory an empty object of that name and kind was put into the free slot n, and among the children of the storage `parent`. Where no
+-- slot was free the directory got one sector more, and else it has the sectors that it had; the mini sectors and the limits stay
+pub record PutsObject (old new : MiniState) (parent n : ℕ) (name : List ℕ) (kind : ObjType) (moment : ℕ) : Type 0 where
+  pub storage : IsReachedStorage (cases_of old) (entries_of old) parent
+  pub kinds : (kind ≡ Storage) ⊎ (kind ≡ Stream)
+  pub entry : InsertsEntry (cases_of old) (with_room old.directory) (entries_of new) parent n (new_entry name kind moment)
+  pub red_apart : StaysRedApart old.directory new.directory parent
+  pub kept : has_free (entries_of old) ≡ true → (new.directory.sectors ≡ old.directory.sectors) × (tables_in new ≡ tables_in old)
+  pub lengthened : has_free (entries_of old) ≡ false → Lengthens 1 old.directory.sectors new.directory.sectors (tables_in old) (tables_in new)
+  pub mini : KeepsMini old new
+  pub limits : KeepsLimits old new
+
+-- so it is in a file that could be changed, whose bytes hold the mini sectors again, and in which all sectors in use stay but those of the
+-- tables and of the directory
+pub record WritesObject (validation : Validation) (old new : MiniState) (parent n : ℕ) (name : List ℕ) (kind : ObjType) (moment : ℕ) : Type 0 where
+  pub changeable : IsChangeable validation old
+  pub put : PutsObject old new parent n name kind moment
+  pub held : HoldsMini validation new
+  pub spares : Spares old.directory.sectors (table_of old) (table_of new)
+
+-- the entry n is one of the tree: an empty object of that kind
+pub record IsNewObject (s : MiniState) (n : ℕ) (kind : ObjType) : Type 0 where
+  pub reached : (o : Outline) → IsOutline (cases_of s) (entries_of s) o → IsReached o n
+  pub is_kind : (entry_at (entries_of s) n).obj_type ≡ kind
+  pub empty : len_of s n ≡ 0

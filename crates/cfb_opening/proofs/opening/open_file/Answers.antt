@@ -1,0 +1,20 @@
+use Rattle.std.proofs.Common.{sym, subst}
+use Rattle.cfb_mini_sectors.specs.State.{MiniState}
+use Rattle.cfb_opening.specs.Opened.{IsOpened}
+use Rattle.cfb_opening.proofs.OpenedFile.{opened}
+use Rattle.cfb_opening.proofs.opening.open_file.Goals as goal
+
+pub returns-clause-answers : goal.returns-clause-answers
+returns-clause-answers g c told =
+    let bytes = g.F.ReadMedium.bytes c.args.medium in
+    let failures = g.F.ReadMedium.failures c.args.medium in
+    let v = c.args.validation in
+    let cases = c.args.letters in
+    let max_sectors = c.args.max_sectors in
+    let minis = c.in_ok-mini.field-0 in
+    let known = c.in_ok-mini.ensures.ok told in
+    let outline = known.1.directory.outline in
+    let is_sound = c.in_ok-is_sound.is_sound in
+    let exact = c.in_ok-is_sound.ensures.exact v cases bytes failures known.0 outline known.1 known.1.directory.outlined.outline in
+    subst (λ (s : MiniState). IsOpened v cases max_sectors bytes failures s is_sound) (sym c.set_max_sectors.ensures)
+    (opened v cases bytes failures known.0 minis.mini minis.points_into_file known.1 max_sectors is_sound exact)

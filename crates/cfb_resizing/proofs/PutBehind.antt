@@ -1,0 +1,123 @@
+-- Bytes that are put into a stream: what the write leaves, and that a growth and the write behind it are one change.
+use Rattle.std.proofs.Common.{◌≡◌, ◌≤◌, ◌<◌, ◌+◌, ◌-◌, ◌⊎◌, inl, inr, ℕ, List, [], ◌++◌, true, refl, sym, ◌∙◌, ap, subst, length, take, drop, replicate, arith}
+use Rattle.std.proofs.lemmas.List.{drop_all, length-take, take-append-le, take_all}
+use Rattle.cfb_format.specs.declared.error.Error.{Error}
+use Rattle.cfb_format.specs.declared.error.Error.TheVariants.{AlreadyExists, Failed, Full, InvalidData, InvalidInput, Medium, Memory, NotFound, Unsound, Unsupported}
+use Rattle.cfb_format.specs.declared.version.Version.{Version}
+use Rattle.cfb_format.specs.declared.version.Version.TheVariants.{V3, V4}
+use Rattle.cfb_format.specs.Bytes.{max_stream_len}
+use Rattle.cfb_format.specs.Medium.{written}
+use Rattle.cfb_rules.specs.StreamCalls.{resized}
+use Rattle.cfb_sectors.specs.Sectors.{SectorFile}
+use Rattle.cfb_tables.specs.Changes.{NoneFree}
+use Rattle.cfb_tables.specs.Refused.{ChangeRefused}
+use Rattle.cfb_tables.specs.Tables.{AreExactTables, TableState}
+use Rattle.cfb_mini_sectors.specs.State.{MiniState, entries_of, table_of, tables_in}
+use Rattle.cfb_mini_sectors.specs.Steps.{KeepsLimits}
+use Rattle.cfb_mini_sectors.specs.Held.{with_table}
+use Rattle.cfb_mini.specs.MiniSectors.{IsStill}
+use Rattle.cfb_content.specs.Contents.{AreAllUsed, IsNotChangeable, MovesContent, StopsStillOrBegun}
+use Rattle.cfb_content.proofs.Outlines.{same-entries-moved}
+use Rattle.cfb_content.proofs.Rewritten.{resized-len}
+use Rattle.cfb_resizing.specs.Turning.{KeepsTablesTight, StopsOrIsFull}
+
+-- ---- a length that fits
+
+pub fits-u64 : (v : Version) (n : ℕ) → n ≤ max_stream_len v → n < 18446744073709551616
+fits-u64 V3 n le = omega (arith, le)
+fits-u64 V4 n le = omega (arith, le)
+
+-- ---- a write changes the file alone
+
+module _ (old new : MiniState) (rest : new ≡ with_table old (record (table_of old) { file = (table_of new).file })) where
+  pub filed-tables : tables_in new ≡ tables_in old
+  filed-tables = ap (λ (s : MiniState). tables_in s) rest
+
+  pub filed-entries : entries_of new ≡ entries_of old
+  filed-entries = ap (λ (s : MiniState). entries_of s) rest
+
+  pub filed-limits : KeepsLimits old new
+  filed-limits = subst (λ (s : MiniState). KeepsLimits old s) (sym rest) (record { version = refl; cases = refl; max_sectors = refl; max_mini_sectors = refl })
+
+  pub filed-moves : (i : ℕ) → MovesContent old new i
+  filed-moves i = same-entries-moved old new i filed-entries
+
+  pub filed-used : AreAllUsed old → AreAllUsed new
+  filed-used used = subst AreAllUsed (sym rest) (record { sectors = used.sectors; mini_sectors = used.mini_sectors })
+
+-- tables that stay tight, and stay
+pub tight-then : (old mid new : MiniState) → KeepsTablesTight old mid → tables_in new ≡ tables_in mid → KeepsTablesTight old new
+tight-then old mid new t same = record {
+  exact = λ e. subst AreExactTables (sym same) (t.exact e);
+  no_shorter = subst (λ (w : TableState). length (tables_in old).fat ≤ length w.fat) (sym same) t.no_shorter;
+  none_free = subst (λ (w : TableState). length (tables_in old).fat < length w.fat → NoneFree w.fat) (sym same) t.none_free;
+}
+
+-- ---- refusals of a write
+
+same-is-still : (old new : MiniState) → new ≡ old → IsStill old new
+same-is-still old new same = subst (λ (s : MiniState). IsStill old s) (sym same) refl
+
+pub still-or-begun : (old new : MiniState) (e : Error) → StopsStillOrBegun old new e → IsStill old new ⊎ ((table_of new).file.begun ≡ true)
+still-or-begun old new (NotFound d) h = inl (same-is-still old new h)
+still-or-begun old new (AlreadyExists d) h = inl (same-is-still old new h)
+still-or-begun old new (InvalidInput d) h = inl (same-is-still old new h)
+still-or-begun old new (InvalidData d) h = inl (same-is-still old new h)
+still-or-begun old new (Medium m) h = h
+still-or-begun old new Memory h = inl (same-is-still old new h)
+still-or-begun old new Full h = inl (same-is-still old new h)
+still-or-begun old new Unsound h = inl (same-is-still old new h)
+still-or-begun old new Failed h = inl (same-is-still old new h)
+still-or-begun old new Unsupported h = inl (same-is-still old new h)
+
+-- a write stops where numbers are no matter
+pub stops-inside : (old new : MiniState) (e : Error) → StopsStillOrBegun old new e → ChangeRefused (IsNotChangeable old) (Unit {0}) ⊥ (Unit {0}) e → StopsOrIsFull old new e
+stops-inside old new (NotFound d) h r = h
+stops-inside old new (AlreadyExists d) h r = h
+stops-inside old new (InvalidInput d) h r = h
+stops-inside old new (InvalidData d) h r = inl h
+stops-inside old new (Medium m) h r = h
+stops-inside old new Memory h r = inl h
+stops-inside old new Full h r = absurd r
+stops-inside old new Unsound h r = h
+stops-inside old new Failed h r = h
+stops-inside old new Unsupported h r = h
+
+-- behind a growth the change was begun, whatever the write is refused for
+module _ (old mid new : MiniState) (e : Error) (up : (table_of mid).file.begun ≡ true) (stops : StopsStillOrBegun mid new e) where
+  pub still-begun : (table_of new).file.begun ≡ true
+  still-begun = elim (still-or-begun mid new e stops) [
+    | inl still ↦ ap (λ (s : MiniState). (table_of s).file.begun) still ∙ up
+    | inr begun ↦ begun
+  ]
+
+  pub stops-behind : ChangeRefused (IsNotChangeable mid) (Unit {0}) ⊥ (Unit {0}) e → StopsOrIsFull old new e
+  stops-behind = go e still-begun
+    where
+      go : (x : Error) → (table_of new).file.begun ≡ true → ChangeRefused (IsNotChangeable mid) (Unit {0}) ⊥ (Unit {0}) x → StopsOrIsFull old new x
+      go (NotFound d) b r = absurd r
+      go (AlreadyExists d) b r = absurd r
+      go (InvalidInput d) b r = absurd r
+      go (InvalidData d) b r = inr b
+      go (Medium m) b r = inr b
+      go Memory b r = inr b
+      go Full b r = absurd r
+      go Unsound b r = absurd r
+      go Failed b r = absurd r
+      go Unsupported b r = absurd r
+
+-- ---- the content
+
+-- where it was padded first, it reads as if it were written behind its end
+pub appended : (c from : List ℕ) (len size : ℕ) → length c ≡ len → len + length from ≡ size → written (resized c size) len from ≡ written c len from
+unfolding written
+appended c from len size whole sum =
+    let r = resized c size in
+    let long : length r ≡ size = resized-len c size in
+    let front : take len r ≡ take len c =
+    take-append-le len (take size c) (replicate (size - length c) 0) (omega (arith, length-take size c, whole, sum)) ∙ ap (take len) (take_all size c (omega (arith, whole, sum))) in
+    let left : take len (r ++ replicate (len - length r) 0) ≡ take len (c ++ replicate (len - length c) 0) =
+    take-append-le len r (replicate (len - length r) 0) (omega (arith, long, sum)) ∙ front ∙ sym (take-append-le len c (replicate (len - length c) 0) (omega (arith, whole))) in
+    let right : drop (len + length from) r ≡ drop (len + length from) c =
+    drop_all (len + length from) r (omega (arith, long, sum)) ∙ sym (drop_all (len + length from) c (omega (arith, whole))) in
+    λ i. left i ++ from ++ right i

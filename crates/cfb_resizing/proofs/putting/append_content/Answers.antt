@@ -1,0 +1,79 @@
+use Rattle.std.proofs.Common.{◌≡◌, ◌-◌, ◌+◌, List, sym, ◌∙◌, ap, subst, length, take, arith}
+use Rattle.std.proofs.lemmas.List.{length-take}
+use Rattle.std.proofs.lemmas.Result.{err_from_is_err_and}
+use Rattle.cfb_format.specs.DirectoryEntry.{Entry}
+use Rattle.cfb_format.specs.Medium.{written}
+use Rattle.cfb_format.specs.Siblings.{entry_at}
+use Rattle.cfb_tables.specs.Changes.{NoneFree}
+use Rattle.cfb_tables.specs.Tables.{TableState}
+use Rattle.cfb_mini_sectors.specs.State.{content_of, entries_of}
+use Rattle.cfb_content.specs.Contents.{len_of}
+use Rattle.cfb_content.proofs.Kept.{nothing-is-moved, others-kept-then}
+use Rattle.cfb_content.proofs.Outlines.{stream-stays}
+use Rattle.cfb_content.proofs.Readable.{whole-of}
+use Rattle.cfb_content.proofs.Refusals.{refused-as}
+use Rattle.cfb_content.proofs.StreamEntry.{stream-inside}
+use Rattle.cfb_resizing.proofs.PutBehind.{appended, filed-entries, filed-tables, filed-used}
+use Rattle.cfb_resizing.proofs.putting.append_content.Goals as goal
+
+pub content_in-len-requires : goal.content_in-len-requires
+content_in-len-requires g c = record { inside = stream-inside c.args.mini.now c.args.entry c.requires.stream }
+
+pub returns-in_err-list-clause-others : goal.returns-in_err-list-clause-others
+returns-in_err-list-clause-others g c told v change = nothing-is-moved c.args.entry c.args.mini.now
+
+-- ---- it has grown
+
+pub write_listed-requires-clause-stream : goal.write_listed-requires-clause-stream
+write_listed-requires-clause-stream g c =
+    let grown = c.grow_content.ensures in
+    stream-stays c.args.mini.now c.grow_content.new.mini c.args.entry c.args.entry grown.limits.cases grown.entries c.requires.stream
+
+pub returns-in_err-write_listed-clause-others : goal.returns-in_err-write_listed-clause-others
+returns-in_err-write_listed-clause-others g c told v change =
+    let grown = c.grow_content.ensures in
+    others-kept-then c.args.entry c.args.mini.now c.grow_content.new.mini c.write_listed.new.mini grown.limits grown.entries (grown.others told v change)
+    (c.write_listed.ensures.others told v (c.in_ok-grown.ensures.holds told v change))
+
+pub returns-in_err-write_listed-clause-err : goal.returns-in_err-write_listed-clause-err
+returns-in_err-write_listed-clause-err g c =
+    let p = err_from_is_err_and c.from_residual-in_err-write_listed.result c.from_residual-in_err-write_listed.ensures.1 in
+    rw (p.1, p.2) (refused-as _ _ _ _ _ _ _ _ (λ bad told v change. bad v (c.in_ok-grown.ensures.holds told v change)) (λ u. u) (λ no. absurd no) (λ u. u)
+    c.in_err-write_listed.field-0.0 c.in_err-write_listed.ensures.err)
+
+pub returns-clause-content : goal.returns-clause-content
+returns-clause-content g c told v change =
+    let s = c.args.mini.now in
+    let mid = c.grow_content.new.mini in
+    let new = c.write_listed.new.mini in
+    let i = c.args.entry in
+    let len = c.content_in-len.result.1 in
+    let was = content_of s (entry_at (entries_of s) i) in
+    let from = take (c.in_ok-grown.grown - len) c.args.bytes.now in
+    let len-is = c.content_in-len.ensures.len in
+    let grown = c.in_ok-grown.ensures.len in
+    let whole : length was ≡ len = whole-of v s i change c.requires.stream ∙ sym len-is in
+    let sum : len + length from ≡ len_of mid i = omega (arith, length-take (c.in_ok-grown.grown - len) c.args.bytes.now, len-is, grown.0, grown.1, grown.2) in
+    ap (λ (es : List Entry). content_of new (entry_at es i)) (filed-entries mid new c.in_ok-write_listed.ensures.rest)
+    ∙ c.in_ok-write_listed.ensures.content told v (c.in_ok-grown.ensures.holds told v change)
+    ∙ ap (λ l. written l len from) (c.in_ok-grown.ensures.content told v change)
+    ∙ appended was from len (len_of mid i) whole sum
+    ∙ ap (λ n. written was n from) len-is
+
+pub returns-clause-others : goal.returns-clause-others
+returns-clause-others g c told v change =
+    let grown = c.grow_content.ensures in
+    others-kept-then c.args.entry c.args.mini.now c.grow_content.new.mini c.write_listed.new.mini grown.limits grown.entries (grown.others told v change)
+    (c.write_listed.ensures.others told v (c.in_ok-grown.ensures.holds told v change))
+
+pub returns-clause-holds : goal.returns-clause-holds
+returns-clause-holds g c told v change = c.in_ok-write_listed.ensures.holds told v (c.in_ok-grown.ensures.holds told v change)
+
+pub returns-clause-owned : goal.returns-clause-owned
+returns-clause-owned g c told v change all =
+    filed-used c.grow_content.new.mini c.write_listed.new.mini c.in_ok-write_listed.ensures.rest (c.in_ok-grown.ensures.owned told v change all)
+
+pub returns-clause-stays_full : goal.returns-clause-stays_full
+returns-clause-stays_full g c told v change none =
+    subst (λ (t : TableState). NoneFree t.fat) (sym (filed-tables c.grow_content.new.mini c.write_listed.new.mini c.in_ok-write_listed.ensures.rest))
+    (c.in_ok-grown.ensures.stays_full told v change none)

@@ -1,0 +1,142 @@
+//! Bytes that are put into a stream inside its length, or behind its end, where it grows as far as there are numbers.
+ghost use Rattle.std.specs.Prelude.{◌≡◌, ◌+◌, ◌<◌, ◌≤◌, ◌⊎◌, ◌||◌, length, max, take, false, true, IsTrue, IfOk, IfErr, OnOk, OnErr};
+ghost use Rattle.cfb_format.specs.declared.validate.Validation.{Validation};
+ghost use Rattle.cfb_format.specs.Bytes.{max_stream_len};
+ghost use Rattle.cfb_format.specs.Medium.{written};
+ghost use Rattle.cfb_format.specs.Refused.{CountsFailure};
+ghost use Rattle.cfb_format.specs.Siblings.{entry_at};
+ghost use Rattle.cfb_tables.specs.Changes.{NoneFree};
+ghost use Rattle.cfb_tables.specs.Refused.{ChangeRefused};
+ghost use Rattle.cfb_mini_sectors.specs.State.{HoldsMini, IsChangeable, bytes_of, content_of, entries_of, table_of, tables_in, version_of};
+ghost use Rattle.cfb_mini_sectors.specs.Steps.{KeepsLimits};
+ghost use Rattle.cfb_mini.specs.MiniSectors.{IsStill};
+ghost use Rattle.cfb_content.specs.Contents.{AreAllUsed, IsNotChangeable, IsStreamOf, KeepsOthers, MovesContent, len_of};
+ghost use Rattle.cfb_resizing.specs.Turning.{KeepsTablesTight, StopsOrIsFull};
+
+use crate::growing::grow_content;
+use cfb_content::in_minis::whole_mini_chain;
+use cfb_content::in_sectors::whole_chain;
+use cfb_content::reading::content_in;
+use cfb_content::writing::{write_content, write_listed};
+use cfb_format::consts::{MINI_SECTOR_LEN, MINI_STREAM_CUTOFF};
+use cfb_format::error::Error;
+use cfb_format::medium::{Medium, ReadMedium};
+use cfb_mini::mini_allocator::MiniAllocator;
+use std::alloc::Allocator as Heap;
+
+/// The sectors of a stream, or its mini sectors. `InvalidData` where its chain is none or the file ends before it, and `Memory`.
+fn listed<F: ReadMedium, A: Heap + Clone>(
+    mini: &MiniAllocator<F, A>,
+    entry: u32,
+) -> Result<Vec<u32, A>, Error>
+    requires stream { IsStreamOf mini.now entry }
+    ensures err { IfErr result (ChangeRefused (IsNotChangeable mini.now) Unit ⊥ ⊥) }
+{
+    let (start, len) = content_in(mini, entry);
+    if len >= MINI_STREAM_CUTOFF as u64 {
+        return whole_chain(mini.allocator(), start, len);
+    }
+    whole_mini_chain(mini, start, len)
+}
+
+/// A list with room for the chain of a stream once it is so long. `InvalidData` and `Memory` as in `listed`.
+fn list_for<F: ReadMedium, A: Heap + Clone>(
+    mini: &MiniAllocator<F, A>,
+    entry: u32,
+    wanted: u64,
+) -> Result<Vec<u32, A>, Error>
+    requires stream { IsStreamOf mini.now entry }
+    ensures err { IfErr result (ChangeRefused (IsNotChangeable mini.now) Unit ⊥ ⊥) }
+{
+    let mut list = listed(mini, entry)?;
+    let sectors = wanted.div_ceil(mini.sector_len() as u64) as usize;
+    let most = sectors.max(MINI_STREAM_CUTOFF as usize / MINI_SECTOR_LEN);
+    list.reserve(most.saturating_sub(list.len()))?;
+    Ok(list)
+}
+
+/// Puts a beginning of `bytes` behind the end of the stream of that entry, as far as there are numbers for them, and answers how many bytes
+/// that is: at least one. The refusals are those of `put_content`.
+fn append_content<F: Medium, A: Heap + Clone>(
+    mini: &mut MiniAllocator<F, A>,
+    entry: u32,
+    bytes: &[u8],
+) -> Result<usize, Error>
+    requires stream { IsStreamOf mini.old entry }
+    requires some { 0 < length bytes.now }
+    requires limit { len_of mini.old entry + length bytes.now ≤ max_stream_len (version_of mini.old) }
+    ensures count { IfOk result (λ n. (0 < n) × (n ≤ length bytes.now)) }
+    ensures len { IfOk result (λ n. len_of mini.new entry ≡ len_of mini.old entry + n) }
+    ensures entries { MovesContent mini.old mini.new entry }
+    ensures content { IsTrue F.tells → (validation : Validation) → IsChangeable validation mini.old
+        → IfOk result (λ n. content_of mini.new (entry_at (entries_of mini.new) entry)
+        ≡ written (content_of mini.old (entry_at (entries_of mini.old) entry)) (len_of mini.old entry) (take n bytes.now)) }
+    ensures others { IsTrue F.tells → (validation : Validation) → IsChangeable validation mini.old → KeepsOthers entry mini.old mini.new }
+    ensures holds { IsTrue F.tells → (validation : Validation) → IsChangeable validation mini.old → OnOk result (IsChangeable validation mini.new) }
+    ensures owned { IsTrue F.tells → (validation : Validation) → IsChangeable validation mini.old → AreAllUsed mini.old → OnOk result (AreAllUsed mini.new) }
+    ensures tight { OnOk result (KeepsTablesTight mini.old mini.new) }
+    ensures stays_full { IsTrue F.tells → (validation : Validation) → IsChangeable validation mini.old → NoneFree (tables_in mini.old).fat → OnOk result (NoneFree (tables_in mini.new).fat) }
+    ensures limits { KeepsLimits mini.old mini.new }
+    ensures refused { IsTrue F.tells → (validation : Validation) → HoldsMini validation mini.old → IfErr result (StopsOrIsFull mini.old mini.new) }
+    ensures still { OnErr result (IsStill mini.old mini.new ⊎ ((table_of mini.new).file.begun ≡ true)) }
+    ensures unwritten { IsTrue F.tells → (table_of mini.new).file.begun ≡ false → bytes_of mini.new ≡ bytes_of mini.old }
+    ensures err { IfErr result (ChangeRefused (IsTrue F.tells → IsNotChangeable mini.old) Unit Unit Unit) }
+    ensures counts { IsTrue F.tells
+        → CountsFailure (λ f. F.read_faults f || F.write_faults f) result (table_of mini.old).file.failures (table_of mini.new).file.failures }
+{
+    let (_, len) = content_in(mini, entry);
+    let wanted = len + bytes.len() as u64;
+    // Once the stream has grown memory is not to be wanted: it could not go back.
+    let list = list_for(mini, entry, wanted)?;
+    let grown = grow_content(mini, entry, wanted)?;
+    let count = (grown - len) as usize;
+    write_listed(mini, list, entry, len, &bytes[..count])?;
+    Ok(count)
+}
+
+/// Puts a beginning of `bytes` into the stream of that entry at byte `at`, and answers how many bytes that is: none exactly where there is
+/// none. Inside the length it goes as far as the end; at the end the stream grows first, as far as there are numbers.
+///
+/// `Full` only at the end, where not one byte more can be had, and then with full tables, or with all mini sectors that there may be in use;
+/// `InvalidData` where the stream's chain is none or the file ends before it; `Memory`. After `Medium`, where the medium fails, no byte of
+/// another stream has changed. All memory is asked for before the first write.
+pub fn put_content<F: Medium, A: Heap + Clone>(
+    mini: &mut MiniAllocator<F, A>,
+    entry: u32,
+    at: u64,
+    bytes: &[u8],
+) -> Result<usize, Error>
+    requires stream { IsStreamOf mini.old entry }
+    requires inside { at ≤ len_of mini.old entry }
+    requires limit { at + length bytes.now ≤ max_stream_len (version_of mini.old) }
+    ensures count { IfOk result (λ n. n ≤ length bytes.now) }
+    ensures some { 0 < length bytes.now → IfOk result (λ n. 0 < n) }
+    ensures len { IfOk result (λ n. len_of mini.new entry ≡ max (len_of mini.old entry) (at + n)) }
+    ensures entries { MovesContent mini.old mini.new entry }
+    ensures content { IsTrue F.tells → (validation : Validation) → IsChangeable validation mini.old
+        → IfOk result (λ n. content_of mini.new (entry_at (entries_of mini.new) entry)
+        ≡ written (content_of mini.old (entry_at (entries_of mini.old) entry)) at (take n bytes.now)) }
+    ensures others { IsTrue F.tells → (validation : Validation) → IsChangeable validation mini.old → KeepsOthers entry mini.old mini.new }
+    ensures holds { IsTrue F.tells → (validation : Validation) → IsChangeable validation mini.old → OnOk result (IsChangeable validation mini.new) }
+    ensures owned { IsTrue F.tells → (validation : Validation) → IsChangeable validation mini.old → AreAllUsed mini.old → OnOk result (AreAllUsed mini.new) }
+    ensures tight { OnOk result (KeepsTablesTight mini.old mini.new) }
+    ensures stays_full { IsTrue F.tells → (validation : Validation) → IsChangeable validation mini.old → NoneFree (tables_in mini.old).fat → OnOk result (NoneFree (tables_in mini.new).fat) }
+    ensures limits { KeepsLimits mini.old mini.new }
+    ensures refused { IsTrue F.tells → (validation : Validation) → HoldsMini validation mini.old → IfErr result (StopsOrIsFull mini.old mini.new) }
+    ensures still { OnErr result (IsStill mini.old mini.new ⊎ ((table_of mini.new).file.begun ≡ true)) }
+    ensures unwritten { IsTrue F.tells → (table_of mini.new).file.begun ≡ false → bytes_of mini.new ≡ bytes_of mini.old }
+    ensures err { IfErr result (ChangeRefused (IsTrue F.tells → IsNotChangeable mini.old) Unit (len_of mini.old entry ≤ at) Unit) }
+    ensures counts { IsTrue F.tells
+        → CountsFailure (λ f. F.read_faults f || F.write_faults f) result (table_of mini.old).file.failures (table_of mini.new).file.failures }
+{
+    if bytes.is_empty() {
+        return Ok(0);
+    }
+    let (_, len) = content_in(mini, entry);
+    if at >= len {
+        return append_content(mini, entry, bytes);
+    }
+    let count = (bytes.len() as u64).min(len - at) as usize;
+    write_content(mini, entry, at, &bytes[..count])?;
+    Ok(count)
+}

@@ -1,0 +1,138 @@
+-- What the layers below made of one stream's content is one change of the file: once it has ended, and where it broke off.
+use Rattle.std.proofs.Common.{◌≡◌, ◌⊎◌, inl, inr, ℕ, Bool, true, false, sym, ◌∙◌, ap, subst}
+use Rattle.cfb_format.specs.declared.validate.Validation.{Validation}
+use Rattle.cfb_format.specs.declared.validate.Validation.TheVariants.{Permissive, Strict}
+use Rattle.cfb_format.specs.Reading.{IsOutline}
+use Rattle.cfb_tables.specs.Tables.{AreExactTables}
+use Rattle.cfb_mini_sectors.specs.Held.{with_table}
+use Rattle.cfb_mini_sectors.specs.State.{IsChangeable, MiniState, bytes_of, cases_of, entries_of, table_of, tables_in}
+use Rattle.cfb_mini_sectors.specs.Steps.{KeepsLimits}
+use Rattle.cfb_mini.specs.MiniSectors.{IsStill}
+use Rattle.cfb_content.specs.Contents.{AreAllUsed, IsStreamOf, KeepsOthers, MovesContent}
+use Rattle.cfb_content.proofs.Outlines.{moved-is-outline, stream-stays}
+use Rattle.cfb_agreement.specs.Changes.{ChangesOneContent, StaysOrFails}
+use Rattle.cfb_agreement.specs.Files.{Agrees, FileState, Holds, IsAsBefore, IsAsMade, LeavesNoneFree, SameSetting, failures_of, is_failed}
+use Rattle.cfb_agreement.proofs.ContentChanges.{content-keeps-made}
+use Rattle.cfb_agreement.proofs.Flags.{as-before-same, flags-not-made, flags-not-read}
+use Rattle.cfb_agreement.proofs.HeldBytes.{changeable-is-held}
+use Rattle.cfb_agreement.proofs.InTurn.{as-before-is-none}
+
+-- the file that stands on this
+abbrev pub file_on : Bool → ℕ → MiniState → FileState
+file_on sound limit s = record { base = s; is_sound = sound; buffer_limit = limit }
+
+-- the same, with no change begun
+abbrev pub ended : MiniState → MiniState
+ended s = with_table s (record (table_of s) { file = record (table_of s).file { begun = false } })
+
+-- what was promised of a change that went well
+pub record WasChanged (old new : MiniState) (i : ℕ) : Type 0 where
+  pub stream : IsStreamOf old i
+  pub limits : KeepsLimits old new
+  pub entries : MovesContent old new i
+  pub others : (v : Validation) → IsChangeable v old → KeepsOthers i old new
+  pub holds : (v : Validation) → IsChangeable v old → IsChangeable v new
+  pub owned : (v : Validation) → IsChangeable v old → AreAllUsed old → AreAllUsed new
+  pub exact : AreExactTables (tables_in old) → AreExactTables (tables_in new)
+  pub none_free : LeavesNoneFree old new
+
+-- and of one that was refused
+pub record WasRefused (old new : MiniState) (i : ℕ) : Type 0 where
+  pub limits : KeepsLimits old new
+  pub entries : MovesContent old new i
+  pub others : (v : Validation) → IsChangeable v old → KeepsOthers i old new
+  pub still : IsStill old new ⊎ ((table_of new).file.begun ≡ true)
+  pub unwritten : (table_of new).file.begun ≡ false → bytes_of new ≡ bytes_of old
+
+up-is-not-down : {P : Type 0} (b : Bool) → b ≡ true → b ≡ false → P
+up-is-not-down b up down = absurd (let clash : true ≡ false = sym up ∙ down in cc)
+
+module _ (old : FileState) (mid : MiniState) (i : ℕ) (sound : Bool) (limit : ℕ) (sound-is : sound ≡ old.is_sound) (limit-is : limit ≡ old.buffer_limit) where
+  -- ---- it went well, and has ended
+
+  pub ended-setting : KeepsLimits old.base mid → SameSetting old (file_on sound limit (ended mid))
+  ended-setting limits = record {
+    limits = record { version = limits.version; cases = limits.cases; max_sectors = limits.max_sectors; max_mini_sectors = limits.max_mini_sectors };
+    is_sound = sound-is;
+    buffer_limit = limit-is;
+  }
+
+  ended-entries : MovesContent old.base mid i → MovesContent old.base (ended mid) i
+  ended-entries entries = record {
+    same_length = entries.same_length;
+    own = entries.own;
+    root = entries.root;
+    root_len = entries.root_len;
+    others = entries.others;
+  }
+
+  pub ended-stream : KeepsLimits old.base mid → MovesContent old.base mid i → IsStreamOf old.base i → IsStreamOf (ended mid) i
+  ended-stream limits entries stream = stream-stays old.base (ended mid) i i limits.cases (ended-entries entries) stream
+
+  module _ (was : WasChanged old.base mid i) where
+    out : IsOutline (cases_of mid) (entries_of mid) was.stream.outline
+    out = moved-is-outline old.base mid i was.stream.outline was.limits.cases was.entries was.stream.is
+
+    made-then : IsAsMade old.base → IsAsMade mid
+    made-then made =
+        content-keeps-made i old.base mid was.limits was.entries was.stream made (was.holds Strict made.changeable) (was.owned Strict made.changeable made.used) (was.exact made.exact)
+
+    module _ (held : Holds old) (yes : old.is_sound ≡ true) where
+      pub ended-holds : Holds (file_on sound limit (ended mid))
+      ended-holds = flags-not-read (file_on sound limit mid) (table_of mid).file.failures false
+          (changeable-is-held (file_on sound limit mid) was.stream.outline (sound-is ∙ yes) (was.holds Permissive (held.sound yes)) out)
+
+      pub ended-changes : ChangesOneContent i old (file_on sound limit (ended mid))
+      ended-changes = record {
+        setting = ended-setting was.limits;
+        entries = ended-entries was.entries;
+        others = λ o is k m ne.
+            let kept = was.others Permissive (held.sound yes) o is k m ne in
+            record { chain = kept.chain; sectors = kept.sectors; places = kept.places; mini_sectors = kept.mini_sectors };
+        made = λ calm made. flags-not-made (file_on sound limit mid) (table_of mid).file.failures false (made-then made);
+        grows = λ calm. was.none_free;
+      }
+
+  -- ---- it was refused
+
+  pub refused-setting : KeepsLimits old.base mid → SameSetting old (file_on sound limit mid)
+  refused-setting limits = record { limits = limits; is_sound = sound-is; buffer_limit = limit-is }
+
+  pub refused-stream : KeepsLimits old.base mid → MovesContent old.base mid i → IsStreamOf old.base i → IsStreamOf mid i
+  refused-stream limits entries stream = stream-stays old.base mid i i limits.cases entries stream
+
+  module _ (was : WasRefused old.base mid i) (calm : is_failed old ≡ false) where
+    pub refused-stays : StaysOrFails old (file_on sound limit mid)
+    refused-stays = elim was.still [
+      | inl still ↦ inl (record {
+        base = still;
+        bytes = was.unwritten (ap (λ (s : MiniState). (table_of s).file.begun) still ∙ calm);
+        is_sound = sound-is;
+        buffer_limit = limit-is;
+      })
+      | inr begun ↦ inr begun
+    ]
+
+    module _ (held : Holds old) where
+      pub refused-agrees : Agrees (file_on sound limit mid)
+      refused-agrees down = elim refused-stays [
+        | inl before ↦ subst Holds (sym (as-before-same old (file_on sound limit mid) before)) (flags-not-read old (failures_of (file_on sound limit mid)) (is_failed old) held)
+        | inr up ↦ up-is-not-down (table_of mid).file.begun up down
+      ]
+
+      pub refused-changes : old.is_sound ≡ true → ChangesOneContent i old (file_on sound limit mid)
+      refused-changes yes = elim refused-stays [
+        | inl before ↦ as-before-is-none i old (file_on sound limit mid) before
+        | inr up ↦ record {
+          setting = refused-setting was.limits;
+          entries = was.entries;
+          others = was.others Permissive (held.sound yes);
+          made = λ down made. up-is-not-down (table_of mid).file.begun up down;
+          grows = λ down longer. up-is-not-down (table_of mid).file.begun up down;
+        }
+      ]
+
+-- ---- a flag that was down
+
+pub ended-same : (s : MiniState) → (table_of s).file.begun ≡ false → ended s ≡ s
+ended-same s calm = ap (λ (b : Bool). with_table s (record (table_of s) { file = record (table_of s).file { begun = b } })) (sym calm)

@@ -1,0 +1,39 @@
+-- What the layers below refuse, as refusals of the file.
+use Rattle.std.proofs.Common.{◌≡◌, ◌⊎◌, ℕ}
+use Rattle.cfb_format.specs.declared.error.Error.{Error}
+use Rattle.cfb_format.specs.declared.error.Error.TheVariants.{AlreadyExists, Failed, Full, InvalidData, InvalidInput, Medium, Memory, NotFound, Unsound, Unsupported}
+use Rattle.cfb_format.specs.Full.{IsFull}
+use Rattle.cfb_tables.specs.Refused.{ChangeRefused}
+use Rattle.cfb_mini_sectors.specs.State.{MiniState, parts_of, tables_in}
+use Rattle.cfb_resizing.specs.Turning.{StopsOrBegun, StopsOrIsFull}
+use Rattle.cfb_volume.specs.Answers.{IsBreak}
+use Rattle.cfb_volume.proofs.Fullness.{full-as-left}
+
+-- bytes that hold a sound file are not refused
+module _ (old new : MiniState) (invalid full whole : Type 0) (sound : invalid → ⊥) where
+  -- a length that is too long changes nothing
+  pub resize-break : (long : Type 0) → (full → long) → (new ≡ old → whole) → (e : Error) → StopsOrBegun old new e → ChangeRefused invalid (Unit {0}) full (Unit {0}) e → IsBreak (long × whole) e
+  resize-break long is same (NotFound d) h r = r
+  resize-break long is same (AlreadyExists d) h r = r
+  resize-break long is same (InvalidInput d) h r = r
+  resize-break long is same (InvalidData d) h r = absurd (sound r)
+  resize-break long is same (Medium m) h r = tt
+  resize-break long is same Memory h r = tt
+  resize-break long is same Full h r = (is r, same h)
+  resize-break long is same Unsound h r = r
+  resize-break long is same Failed h r = r
+  resize-break long is same Unsupported h r = r
+
+  -- a write that finds no room leaves a full file
+  pub write-break : (full → whole) → (e : Error) → StopsOrIsFull old new e → ChangeRefused invalid (Unit {0}) full (Unit {0}) e
+      → IsBreak (whole × IsFull (tables_in new).max_sectors (parts_of new)) e
+  write-break is (NotFound d) h r = r
+  write-break is (AlreadyExists d) h r = r
+  write-break is (InvalidInput d) h r = r
+  write-break is (InvalidData d) h r = absurd (sound r)
+  write-break is (Medium m) h r = tt
+  write-break is Memory h r = tt
+  write-break is Full h r = (is r, full-as-left new h.1)
+  write-break is Unsound h r = r
+  write-break is Failed h r = r
+  write-break is Unsupported h r = r

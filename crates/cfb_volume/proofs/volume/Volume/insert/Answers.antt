@@ -1,0 +1,159 @@
+use Rattle.std.proofs.Common.{◌≡◌, ◌∷◌, ℕ, List, refl, sym, ap, subst, chars}
+use Rattle.std.specs.Prelude.{Some}
+use Rattle.std.proofs.lemmas.Result.{err_from_is_err_and}
+use Rattle.cfb_format.specs.declared.validate.Validation.TheVariants.{Permissive, Strict}
+use Rattle.cfb_format.specs.Reading.{IsOutline, Outline}
+use Rattle.cfb_rules.specs.Finding.{last_name, parent_names}
+use Rattle.cfb_siblings.specs.Children.{KeepsBalance}
+use Rattle.cfb_siblings.specs.Paths.{number_from}
+use Rattle.cfb_trees.specs.Reached.{IsReached}
+use Rattle.cfb_tables.specs.Refused.{ChangeRefused}
+use Rattle.cfb_alloc.specs.Frame.{Spares}
+use Rattle.cfb_directory.specs.State.{IsFullForEntry}
+use Rattle.cfb_directory.specs.Steps.{IsNotHeld}
+use Rattle.cfb_objects.specs.Laws.{BecomesTree}
+use Rattle.cfb_mini_sectors.specs.State.{HoldsMini, MiniState, bytes_of, cases_of, entries_of, table_of}
+use Rattle.cfb_mini_sectors.specs.Steps.{KeepsMini, StopsShort}
+use Rattle.cfb_content.specs.Contents.{len_of}
+use Rattle.cfb_insertion.proofs.Entries.{put-is-found, put-is-new, put-keeps-root, put-leaves-none-free}
+use Rattle.cfb_agreement.specs.Changes.{KeepsStreams, object_added_at}
+use Rattle.cfb_agreement.specs.Files.{Agrees, FileState, Holds, IsAsMade, IsFullFile, LeavesNoneFree}
+use Rattle.cfb_volume.specs.Answers.{IsBreak}
+use Rattle.cfb_volume.proofs.InsertedObjects.{ended, insert-holds, insert-keeps-streams, insert-made, insert-tree, puts-object, refused-agrees, refused-full, refused-reason, same-file, streams-ended}
+use Rattle.cfb_volume.proofs.volume.Volume.insert.Goals as goal
+
+-- ---- refused
+
+pub returns-in_err-number-clause-others : goal.returns-in_err-number-clause-others
+returns-in_err-number-clause-others g c told holds =
+    let was = c.insert_dir_entry.ensures in
+    let mid = c.insert_dir_entry.new.self in
+    let e = ap (λ (f : FileState). f.base) c.self.view_is in
+    insert-keeps-streams c.args.self.now mid c.requires.sound holds
+    (subst (λ (s : MiniState). Spares s.directory.sectors (table_of s) (table_of mid)) e (was.spares told)) (subst (λ (s : MiniState). KeepsMini s mid) e was.mini)
+
+pub returns-in_err-number-clause-agrees : goal.returns-in_err-number-clause-agrees
+returns-in_err-number-clause-agrees g c told holds =
+    let mid = c.insert_dir_entry.new.self in
+    let stops = subst (λ (f : FileState). StopsShort f.base mid c.in_err-number.field-0.0) c.self.view_is c.in_err-number.ensures.refused in
+    subst (λ (f : FileState). Agrees f) (same-file c.self.inside.mini mid mid c.self.inside.is_sound c.self.inside.buffer_limit c.args.self.now c.self.view_is refl)
+    (refused-agrees c.args.self.now mid c.in_err-number.field-0.0 stops holds)
+
+pub returns-in_err-number-clause-err : goal.returns-in_err-number-clause-err
+returns-in_err-number-clause-err g c told holds =
+    let mid = c.insert_dir_entry.new.self in
+    let old = c.args.self.now in
+    let p = err_from_is_err_and c.from_residual.result c.from_residual.ensures.1 in
+    rw (p.1, p.2) (subst (λ (f : FileState). IsBreak (IsFullFile f × (f ≡ c.args.self.now)) c.in_err-number.field-0.0)
+    (same-file c.self.inside.mini mid mid c.self.inside.is_sound c.self.inside.buffer_limit c.args.self.now c.self.view_is refl)
+    (refused-full old mid c.requires.sound holds (IsFullForEntry old.base.directory → ⊥) c.in_err-number.field-0.0
+    (subst (λ (f : FileState). ChangeRefused (IsNotHeld f.base.directory) (IsFullForEntry f.base.directory → ⊥) (IsFullForEntry f.base.directory) (Unit {0}) c.in_err-number.field-0.0) c.self.view_is
+    c.in_err-number.ensures.err)
+    (subst (λ (f : FileState). StopsShort f.base mid c.in_err-number.field-0.0) c.self.view_is c.in_err-number.ensures.refused)))
+
+pub returns-in_err-number-clause-reason : goal.returns-in_err-number-clause-reason
+returns-in_err-number-clause-reason g c holds =
+    let old = c.args.self.now in
+    let p = err_from_is_err_and c.from_residual.result c.from_residual.ensures.1 in
+    rw (p.1, p.2) (refused-reason old c.insert_dir_entry.new.self c.requires.sound holds (IsFullForEntry old.base.directory → ⊥) c.in_err-number.field-0.0
+    (subst (λ (f : FileState). ChangeRefused (IsNotHeld f.base.directory) (IsFullForEntry f.base.directory → ⊥) (IsFullForEntry f.base.directory) (Unit {0}) c.in_err-number.field-0.0) c.self.view_is
+    c.in_err-number.ensures.err))
+
+-- ---- a new object
+
+pub returns-clause-named : goal.returns-clause-named
+returns-clause-named g c =
+    let w = c.in_ok-number.ensures in
+    let mid = c.insert_dir_entry.new.self in
+    let put = puts-object c.self.inside.mini c.args.self.now.base mid c.args.parent c.in_ok-number.number (chars c.args.name.now) c.args.kind c.args.moment
+    (ap (λ (f : FileState). f.base) c.self.view_is) c.requires.parent c.requires.kind w.inserted w.red_apart w.kept w.lengthened w.mini w.limits in
+    subst (λ (s : MiniState). (o : Outline) → IsOutline (cases_of s) (entries_of s) o → IsReached o c.in_ok-number.number) (sym c.end_change.ensures)
+    (put-is-new c.args.self.now.base mid c.args.parent c.in_ok-number.number (chars c.args.name.now) c.args.kind c.args.moment put).reached
+
+pub returns-clause-tree : goal.returns-clause-tree
+returns-clause-tree g c told holds =
+    let w = c.in_ok-number.ensures in
+    let mid = c.insert_dir_entry.new.self in
+    let old = c.args.self.now in
+    let e = ap (λ (f : FileState). f.base) c.self.view_is in
+    let put = puts-object c.self.inside.mini c.args.self.now.base mid c.args.parent c.in_ok-number.number (chars c.args.name.now) c.args.kind c.args.moment
+    e c.requires.parent c.requires.kind w.inserted w.red_apart w.kept w.lengthened w.mini w.limits in
+    subst (λ (s : MiniState). (names : List (List ℕ)) (o : Outline) → IsOutline (cases_of old.base) (entries_of old.base) o
+    → number_from (cases_of old.base) (entries_of old.base) 0 o (parent_names names) ≡ Some c.args.parent → last_name names ≡ chars c.args.name.now
+    → BecomesTree (cases_of old.base) (bytes_of old.base) (bytes_of s) (object_added_at (cases_of old.base) c.args.kind c.args.moment names)) (sym c.end_change.ensures)
+    (insert-tree old mid c.args.parent c.in_ok-number.number (chars c.args.name.now) c.args.kind c.args.moment put
+    (subst (λ (s : MiniState). Spares s.directory.sectors (table_of s) (table_of mid)) e (w.spares told)) c.requires.sound holds
+    (w.holds told Permissive (subst (λ (s : MiniState). HoldsMini Permissive s) (sym e) (holds.sound c.requires.sound).held)))
+
+pub returns-clause-found : goal.returns-clause-found
+returns-clause-found g c =
+    let w = c.in_ok-number.ensures in
+    let mid = c.insert_dir_entry.new.self in
+    let old = c.args.self.now in
+    let put = puts-object c.self.inside.mini c.args.self.now.base mid c.args.parent c.in_ok-number.number (chars c.args.name.now) c.args.kind c.args.moment
+    (ap (λ (f : FileState). f.base) c.self.view_is) c.requires.parent c.requires.kind w.inserted w.red_apart w.kept w.lengthened w.mini w.limits in
+    subst (λ (s : MiniState). (first : List ℕ) (names : List (List ℕ)) (before after : Outline) → IsOutline (cases_of old.base) (entries_of old.base) before
+    → IsOutline (cases_of s) (entries_of s) after
+    → number_from (cases_of old.base) (entries_of old.base) 0 before (parent_names (first ∷ names)) ≡ Some c.args.parent → last_name (first ∷ names) ≡ chars c.args.name.now
+    → number_from (cases_of s) (entries_of s) 0 after (first ∷ names) ≡ Some c.in_ok-number.number) (sym c.end_change.ensures)
+    (put-is-found c.args.self.now.base mid c.args.parent c.in_ok-number.number (chars c.args.name.now) c.args.kind c.args.moment put)
+
+pub returns-clause-others : goal.returns-clause-others
+returns-clause-others g c told holds =
+    let was = c.insert_dir_entry.ensures in
+    let mid = c.insert_dir_entry.new.self in
+    let e = ap (λ (f : FileState). f.base) c.self.view_is in
+    subst (λ (s : MiniState). KeepsStreams c.args.self.now.base s) (sym c.end_change.ensures) (streams-ended c.args.self.now.base mid
+    (insert-keeps-streams c.args.self.now mid c.requires.sound holds
+    (subst (λ (s : MiniState). Spares s.directory.sectors (table_of s) (table_of mid)) e (was.spares told)) (subst (λ (s : MiniState). KeepsMini s mid) e was.mini)))
+
+pub returns-clause-made : goal.returns-clause-made
+returns-clause-made g c told holds made =
+    let w = c.in_ok-number.ensures in
+    let mid = c.insert_dir_entry.new.self in
+    let old = c.args.self.now in
+    let e = ap (λ (f : FileState). f.base) c.self.view_is in
+    let put = puts-object c.self.inside.mini c.args.self.now.base mid c.args.parent c.in_ok-number.number (chars c.args.name.now) c.args.kind c.args.moment
+    e c.requires.parent c.requires.kind w.inserted w.red_apart w.kept w.lengthened w.mini w.limits in
+    subst (λ (s : MiniState). IsAsMade s) (sym c.end_change.ensures)
+    (insert-made old mid c.args.parent c.in_ok-number.number (chars c.args.name.now) c.args.kind c.args.moment put
+    (subst (λ (s : MiniState). Spares s.directory.sectors (table_of s) (table_of mid)) e (w.spares told)) made
+    (w.holds told Strict (subst (λ (s : MiniState). HoldsMini Strict s) (sym e) made.changeable.held)))
+
+pub returns-clause-grows : goal.returns-clause-grows
+returns-clause-grows g c =
+    let w = c.in_ok-number.ensures in
+    let mid = c.insert_dir_entry.new.self in
+    let put = puts-object c.self.inside.mini c.args.self.now.base mid c.args.parent c.in_ok-number.number (chars c.args.name.now) c.args.kind c.args.moment
+    (ap (λ (f : FileState). f.base) c.self.view_is) c.requires.parent c.requires.kind w.inserted w.red_apart w.kept w.lengthened w.mini w.limits in
+    subst (λ (s : MiniState). LeavesNoneFree c.args.self.now.base s) (sym c.end_change.ensures)
+    (put-leaves-none-free c.args.self.now.base mid c.args.parent c.in_ok-number.number (chars c.args.name.now) c.args.kind c.args.moment put)
+
+pub returns-clause-balanced : goal.returns-clause-balanced
+returns-clause-balanced g c =
+    let mid = c.insert_dir_entry.new.self in
+    subst (λ (s : MiniState). KeepsBalance (entries_of c.args.self.now.base) (entries_of s) c.args.parent) (sym c.end_change.ensures)
+    (subst (λ (f : FileState). KeepsBalance (entries_of f.base) (entries_of mid) c.args.parent) c.self.view_is c.in_ok-number.ensures.balanced)
+
+pub returns-clause-root_len : goal.returns-clause-root_len
+returns-clause-root_len g c =
+    let w = c.in_ok-number.ensures in
+    let mid = c.insert_dir_entry.new.self in
+    let put = puts-object c.self.inside.mini c.args.self.now.base mid c.args.parent c.in_ok-number.number (chars c.args.name.now) c.args.kind c.args.moment
+    (ap (λ (f : FileState). f.base) c.self.view_is) c.requires.parent c.requires.kind w.inserted w.red_apart w.kept w.lengthened w.mini w.limits in
+    subst (λ (s : MiniState). len_of s 0 ≡ len_of c.args.self.now.base 0) (sym c.end_change.ensures)
+    (put-keeps-root c.args.self.now.base mid c.args.parent c.in_ok-number.number (chars c.args.name.now) c.args.kind c.args.moment put)
+
+pub returns-clause-agrees : goal.returns-clause-agrees
+returns-clause-agrees g c told holds unfailed =
+    let w = c.in_ok-number.ensures in
+    let mid = c.insert_dir_entry.new.self in
+    let old = c.args.self.now in
+    let e = ap (λ (f : FileState). f.base) c.self.view_is in
+    let put = puts-object c.self.inside.mini c.args.self.now.base mid c.args.parent c.in_ok-number.number (chars c.args.name.now) c.args.kind c.args.moment
+    e c.requires.parent c.requires.kind w.inserted w.red_apart w.kept w.lengthened w.mini w.limits in
+    subst (λ (f : FileState). Holds f)
+    (same-file c.self.inside.mini (ended mid) c.end_change.new.self c.self.inside.is_sound c.self.inside.buffer_limit c.args.self.now c.self.view_is c.end_change.ensures)
+    (insert-holds old mid c.args.parent c.in_ok-number.number (chars c.args.name.now) c.args.kind c.args.moment put
+    (subst (λ (s : MiniState). Spares s.directory.sectors (table_of s) (table_of mid)) e (w.spares told)) c.requires.sound holds
+    (w.holds told Permissive (subst (λ (s : MiniState). HoldsMini Permissive s) (sym e) (holds.sound c.requires.sound).held)))

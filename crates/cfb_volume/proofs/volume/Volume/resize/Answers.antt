@@ -1,0 +1,163 @@
+use Rattle.std.proofs.Common.{◌≡◌, ◌≢◌, ◌≤◌, false, sym, ◌∙◌, ap, subst}
+use Rattle.std.specs.Prelude.{IsTrue}
+use Rattle.std.proofs.lemmas.Result.{err_from_is_err_and}
+use Rattle.cfb_format.specs.declared.validate.Validation.{Validation}
+use Rattle.cfb_format.specs.declared.validate.Validation.TheVariants.{Permissive}
+use Rattle.cfb_format.specs.Bytes.{max_stream_len}
+use Rattle.cfb_format.specs.Siblings.{entry_at}
+use Rattle.cfb_rules.specs.StreamCalls.{resized}
+use Rattle.cfb_mini_sectors.specs.State.{HoldsMini, IsChangeable, MiniState, content_of, entries_of, table_of, version_of}
+use Rattle.cfb_mini_sectors.specs.Steps.{KeepsLimits}
+use Rattle.cfb_content.specs.Contents.{IsNotChangeable, IsStreamOf, IsTooLongFor, MovesContent, len_of}
+use Rattle.cfb_agreement.specs.Changes.{ChangesOneContent}
+use Rattle.cfb_agreement.specs.Files.{FileState, Holds, SameSetting}
+use Rattle.cfb_volume.proofs.ContentSteps.{WasChanged, WasRefused, ended, ended-changes, ended-holds, ended-same, ended-setting, ended-stream, file_on, refused-agrees, refused-changes, refused-setting, refused-stays, refused-stream}
+use Rattle.cfb_volume.proofs.Refusals.{resize-break}
+use Rattle.cfb_volume.proofs.volume.Volume.resize.Goals as goal
+
+pub resize_content-requires-clause-stream : goal.resize_content-requires-clause-stream
+resize_content-requires-clause-stream g c = subst (λ (f : FileState). IsStreamOf f.base c.args.entry) (sym c.self.view_is) c.requires.stream
+
+pub resize_content-requires-clause-limit : goal.resize_content-requires-clause-limit
+resize_content-requires-clause-limit g c = subst (λ (f : FileState). c.args.len ≤ max_stream_len (version_of f.base)) (sym c.self.view_is) c.requires.limit
+
+-- ---- it was refused
+
+refused : (g : _) (c : goal.After-from_residual g) → IsTrue g.F.ReadMedium.tells → WasRefused c.args.self.now.base c.resize_content.new.mini c.args.entry
+refused g c told =
+    let e = c.resize_content.ensures in
+    subst (λ (f : FileState). WasRefused f.base c.resize_content.new.mini c.args.entry) c.self.view_is (record {
+      limits = e.limits;
+      entries = e.entries;
+      others = λ v change. e.others told v change;
+      still = c.in_err-resize_content.ensures.still;
+      unwritten = λ calm. e.unwritten told calm;
+    })
+
+pub returns-in_err-resize_content-clause-stream : goal.returns-in_err-resize_content-clause-stream
+returns-in_err-resize_content-clause-stream g c =
+    let mid = c.resize_content.new.mini in
+    refused-stream c.args.self.now mid c.args.entry c.self.inside.is_sound c.self.inside.buffer_limit
+    (ap (λ (f : FileState). f.is_sound) c.self.view_is) (ap (λ (f : FileState). f.buffer_limit) c.self.view_is)
+    (subst (λ (f : FileState). KeepsLimits f.base mid) c.self.view_is c.resize_content.ensures.limits)
+    (subst (λ (f : FileState). MovesContent f.base mid c.args.entry) c.self.view_is c.resize_content.ensures.entries) c.requires.stream
+
+pub returns-in_err-resize_content-clause-setting : goal.returns-in_err-resize_content-clause-setting
+returns-in_err-resize_content-clause-setting g c =
+    let mid = c.resize_content.new.mini in
+    refused-setting c.args.self.now mid c.args.entry c.self.inside.is_sound c.self.inside.buffer_limit
+    (ap (λ (f : FileState). f.is_sound) c.self.view_is) (ap (λ (f : FileState). f.buffer_limit) c.self.view_is)
+    (subst (λ (f : FileState). KeepsLimits f.base mid) c.self.view_is c.resize_content.ensures.limits)
+
+pub returns-in_err-resize_content-clause-none : goal.returns-in_err-resize_content-clause-none
+returns-in_err-resize_content-clause-none g c same =
+    absurd (c.in_err-resize_content.ensures.none (subst (λ (f : FileState). c.args.len ≡ len_of f.base c.args.entry) (sym c.self.view_is) same)).0
+
+pub returns-in_err-resize_content-clause-changes : goal.returns-in_err-resize_content-clause-changes
+returns-in_err-resize_content-clause-changes g c told held =
+    refused-changes c.args.self.now c.resize_content.new.mini c.args.entry c.self.inside.is_sound c.self.inside.buffer_limit
+    (ap (λ (f : FileState). f.is_sound) c.self.view_is) (ap (λ (f : FileState). f.buffer_limit) c.self.view_is)
+    (refused g c told) c.requires.unfailed held c.requires.sound
+
+pub returns-in_err-resize_content-clause-agrees : goal.returns-in_err-resize_content-clause-agrees
+returns-in_err-resize_content-clause-agrees g c told held =
+    refused-agrees c.args.self.now c.resize_content.new.mini c.args.entry c.self.inside.is_sound c.self.inside.buffer_limit
+    (ap (λ (f : FileState). f.is_sound) c.self.view_is) (ap (λ (f : FileState). f.buffer_limit) c.self.view_is)
+    (refused g c told) c.requires.unfailed held
+
+pub returns-in_err-resize_content-clause-refused : goal.returns-in_err-resize_content-clause-refused
+returns-in_err-resize_content-clause-refused g c told held =
+    let p = err_from_is_err_and c.from_residual.result c.from_residual.ensures.1 in
+    rw (p.1, p.2) (refused-stays c.args.self.now c.resize_content.new.mini c.args.entry c.self.inside.is_sound c.self.inside.buffer_limit
+    (ap (λ (f : FileState). f.is_sound) c.self.view_is) (ap (λ (f : FileState). f.buffer_limit) c.self.view_is)
+    (refused g c told) c.requires.unfailed)
+
+pub returns-in_err-resize_content-clause-err : goal.returns-in_err-resize_content-clause-err
+returns-in_err-resize_content-clause-err g c told held =
+    let p = err_from_is_err_and c.from_residual.result c.from_residual.ensures.1 in
+    let s = c.self.inside.mini in
+    let mid = c.resize_content.new.mini in
+    let i = c.args.entry in
+    let sound : IsChangeable Permissive s = subst (λ (f : FileState). IsChangeable Permissive f.base) (sym c.self.view_is) (held.sound c.requires.sound) in
+    rw (p.1, p.2) (resize-break s mid (IsTrue g.F.ReadMedium.tells → IsNotChangeable s) ((validation : Validation) → HoldsMini validation s → IsTooLongFor s i c.args.len)
+    (file_on c.self.inside.is_sound c.self.inside.buffer_limit mid ≡ c.args.self.now) (λ none. none told Permissive sound) (IsTooLongFor c.args.self.now.base i c.args.len)
+    (λ long. subst (λ (f : FileState). IsTooLongFor f.base i c.args.len) c.self.view_is (long Permissive sound.held))
+    (λ same. ap (λ (x : MiniState). file_on c.self.inside.is_sound c.self.inside.buffer_limit x) same ∙ c.self.view_is)
+    c.in_err-resize_content.field-0.0 (c.in_err-resize_content.ensures.refused told) c.in_err-resize_content.ensures.err)
+
+-- ---- it went well
+
+changed : (g : _) (c : goal.After-end_change g) → IsTrue g.F.ReadMedium.tells → WasChanged c.args.self.now.base c.resize_content.new.mini c.args.entry
+changed g c told =
+    let e = c.resize_content.ensures in
+    let ok = c.in_ok-resize_content.ensures in
+    subst (λ (f : FileState). IsStreamOf f.base c.args.entry → WasChanged f.base c.resize_content.new.mini c.args.entry) c.self.view_is (λ at. record {
+      stream = at;
+      limits = e.limits;
+      entries = e.entries;
+      others = λ v change. e.others told v change;
+      holds = λ v change. ok.holds told v change;
+      owned = λ v change all. ok.owned told v change all;
+      exact = λ x. ok.exact x;
+      none_free = λ longer. ok.none_free longer;
+    }) (subst (λ (f : FileState). IsStreamOf f.base c.args.entry) (sym c.self.view_is) c.requires.stream)
+
+pub returns-clause-len : goal.returns-clause-len
+returns-clause-len g c = ap (λ (s : MiniState). len_of s c.args.entry) c.end_change.ensures ∙ c.in_ok-resize_content.ensures.len
+
+pub returns-clause-stream : goal.returns-clause-stream
+returns-clause-stream g c =
+    let mid = c.resize_content.new.mini in
+    subst (λ (s : MiniState). IsStreamOf s c.args.entry) (sym c.end_change.ensures)
+    (ended-stream c.args.self.now mid c.args.entry c.self.inside.is_sound c.self.inside.buffer_limit
+    (ap (λ (f : FileState). f.is_sound) c.self.view_is) (ap (λ (f : FileState). f.buffer_limit) c.self.view_is)
+    (subst (λ (f : FileState). KeepsLimits f.base mid) c.self.view_is c.resize_content.ensures.limits)
+    (subst (λ (f : FileState). MovesContent f.base mid c.args.entry) c.self.view_is c.resize_content.ensures.entries) c.requires.stream)
+
+pub returns-clause-setting : goal.returns-clause-setting
+returns-clause-setting g c =
+    let mid = c.resize_content.new.mini in
+    subst (λ (s : MiniState). SameSetting c.args.self.now (file_on c.self.inside.is_sound c.self.inside.buffer_limit s)) (sym c.end_change.ensures)
+    (ended-setting c.args.self.now mid c.args.entry c.self.inside.is_sound c.self.inside.buffer_limit
+    (ap (λ (f : FileState). f.is_sound) c.self.view_is) (ap (λ (f : FileState). f.buffer_limit) c.self.view_is)
+    (subst (λ (f : FileState). KeepsLimits f.base mid) c.self.view_is c.resize_content.ensures.limits))
+
+pub returns-clause-none : goal.returns-clause-none
+returns-clause-none g c same =
+    let s = c.self.inside.mini in
+    let unchanged = (c.in_ok-resize_content.ensures.none (subst (λ (f : FileState). c.args.len ≡ len_of f.base c.args.entry) (sym c.self.view_is) same)).1 in
+    let calm : (table_of s).file.begun ≡ false = subst (λ (f : FileState). (table_of f.base).file.begun ≡ false) (sym c.self.view_is) c.requires.unfailed in (
+      tt,
+      ap (λ (x : MiniState). file_on c.self.inside.is_sound c.self.inside.buffer_limit x) (c.end_change.ensures ∙ ap ended unchanged ∙ ended-same s calm) ∙ c.self.view_is,
+    )
+
+pub returns-clause-content : goal.returns-clause-content
+returns-clause-content g c told held =
+    let mid = c.resize_content.new.mini in
+    let i = c.args.entry in
+    let sound = subst (λ (f : FileState). IsChangeable Permissive f.base) (sym c.self.view_is) (held.sound c.requires.sound) in
+    subst (λ (s : MiniState). content_of s (entry_at (entries_of s) i) ≡ resized (content_of c.args.self.now.base (entry_at (entries_of c.args.self.now.base) i)) c.args.len) (sym c.end_change.ensures)
+    (subst (λ (f : FileState). content_of mid (entry_at (entries_of mid) i) ≡ resized (content_of f.base (entry_at (entries_of f.base) i)) c.args.len) c.self.view_is
+    (c.in_ok-resize_content.ensures.content told Permissive sound))
+
+pub returns-clause-changes : goal.returns-clause-changes
+returns-clause-changes g c told held =
+    subst (λ (s : MiniState). ChangesOneContent c.args.entry c.args.self.now (file_on c.self.inside.is_sound c.self.inside.buffer_limit s)) (sym c.end_change.ensures)
+    (ended-changes c.args.self.now c.resize_content.new.mini c.args.entry c.self.inside.is_sound c.self.inside.buffer_limit
+    (ap (λ (f : FileState). f.is_sound) c.self.view_is) (ap (λ (f : FileState). f.buffer_limit) c.self.view_is)
+    (changed g c told) held c.requires.sound)
+
+pub returns-clause-agrees : goal.returns-clause-agrees
+returns-clause-agrees g c told held calm =
+    subst (λ (s : MiniState). Holds (file_on c.self.inside.is_sound c.self.inside.buffer_limit s)) (sym c.end_change.ensures)
+    (ended-holds c.args.self.now c.resize_content.new.mini c.args.entry c.self.inside.is_sound c.self.inside.buffer_limit
+    (ap (λ (f : FileState). f.is_sound) c.self.view_is) (ap (λ (f : FileState). f.buffer_limit) c.self.view_is)
+    (changed g c told) held c.requires.sound)
+
+pub returns-clause-ended : goal.returns-clause-ended
+returns-clause-ended g c = ap (λ (s : MiniState). (table_of s).file.begun) c.end_change.ensures
+
+pub returns-clause-enough : goal.returns-clause-enough
+returns-clause-enough g c told held differs =
+    subst (λ (f : FileState). c.args.len ≢ len_of f.base c.args.entry → IsChangeable Permissive f.base → IsTooLongFor f.base c.args.entry c.args.len → ⊥) c.self.view_is
+    (λ other change. c.in_ok-resize_content.ensures.enough other Permissive change.held) differs (held.sound c.requires.sound)

@@ -1,0 +1,160 @@
+use Rattle.std.proofs.Common.{◌≡◌, ◌≤◌, ◌+◌, false, max, sym, ◌∙◌, ap, subst, length, take}
+use Rattle.std.specs.Prelude.{IsTrue}
+use Rattle.std.proofs.lemmas.Result.{err_from_is_err_and}
+use Rattle.cfb_format.specs.declared.validate.Validation.TheVariants.{Permissive}
+use Rattle.cfb_format.specs.Bytes.{max_stream_len}
+use Rattle.cfb_format.specs.Medium.{written}
+use Rattle.cfb_format.specs.Siblings.{entry_at}
+use Rattle.cfb_tables.specs.Changes.{NoneFree}
+use Rattle.cfb_mini_sectors.specs.State.{IsChangeable, MiniState, content_of, entries_of, table_of, tables_in, version_of}
+use Rattle.cfb_mini_sectors.specs.Steps.{KeepsLimits}
+use Rattle.cfb_content.specs.Contents.{IsNotChangeable, IsStreamOf, MovesContent, len_of}
+use Rattle.cfb_agreement.specs.Changes.{ChangesOneContent}
+use Rattle.cfb_agreement.specs.Files.{FileState, Holds, SameSetting}
+use Rattle.cfb_volume.proofs.ContentSteps.{WasChanged, WasRefused, ended-changes, ended-holds, ended-setting, ended-stream, file_on, refused-agrees, refused-changes, refused-setting, refused-stays, refused-stream}
+use Rattle.cfb_volume.proofs.Refusals.{write-break}
+use Rattle.cfb_volume.proofs.volume.Volume.write.Goals as goal
+
+pub put_content-count-requires-clause-stream : goal.put_content-count-requires-clause-stream
+put_content-count-requires-clause-stream g c = subst (λ (f : FileState). IsStreamOf f.base c.args.entry) (sym c.self.view_is) c.requires.stream
+
+pub put_content-count-requires-clause-inside : goal.put_content-count-requires-clause-inside
+put_content-count-requires-clause-inside g c = subst (λ (f : FileState). c.args.at ≤ len_of f.base c.args.entry) (sym c.self.view_is) c.requires.inside
+
+pub put_content-count-requires-clause-limit : goal.put_content-count-requires-clause-limit
+put_content-count-requires-clause-limit g c = subst (λ (f : FileState). c.args.at + length c.args.bytes.now ≤ max_stream_len (version_of f.base)) (sym c.self.view_is) c.requires.fits
+
+-- ---- it was refused
+
+refused : (g : _) (c : goal.After-from_residual g) → IsTrue g.F.ReadMedium.tells → WasRefused c.args.self.now.base c.put_content.new.mini c.args.entry
+refused g c told =
+    let e = c.put_content.ensures in
+    subst (λ (f : FileState). WasRefused f.base c.put_content.new.mini c.args.entry) c.self.view_is (record {
+      limits = e.limits;
+      entries = e.entries;
+      others = λ v change. e.others told v change;
+      still = c.in_err-count.ensures.still;
+      unwritten = λ calm. e.unwritten told calm;
+    })
+
+pub returns-in_err-count-clause-stream : goal.returns-in_err-count-clause-stream
+returns-in_err-count-clause-stream g c =
+    let mid = c.put_content.new.mini in
+    refused-stream c.args.self.now mid c.args.entry c.self.inside.is_sound c.self.inside.buffer_limit
+    (ap (λ (f : FileState). f.is_sound) c.self.view_is) (ap (λ (f : FileState). f.buffer_limit) c.self.view_is)
+    (subst (λ (f : FileState). KeepsLimits f.base mid) c.self.view_is c.put_content.ensures.limits)
+    (subst (λ (f : FileState). MovesContent f.base mid c.args.entry) c.self.view_is c.put_content.ensures.entries) c.requires.stream
+
+pub returns-in_err-count-clause-setting : goal.returns-in_err-count-clause-setting
+returns-in_err-count-clause-setting g c =
+    let mid = c.put_content.new.mini in
+    refused-setting c.args.self.now mid c.args.entry c.self.inside.is_sound c.self.inside.buffer_limit
+    (ap (λ (f : FileState). f.is_sound) c.self.view_is) (ap (λ (f : FileState). f.buffer_limit) c.self.view_is)
+    (subst (λ (f : FileState). KeepsLimits f.base mid) c.self.view_is c.put_content.ensures.limits)
+
+pub returns-in_err-count-clause-changes : goal.returns-in_err-count-clause-changes
+returns-in_err-count-clause-changes g c told held =
+    refused-changes c.args.self.now c.put_content.new.mini c.args.entry c.self.inside.is_sound c.self.inside.buffer_limit
+    (ap (λ (f : FileState). f.is_sound) c.self.view_is) (ap (λ (f : FileState). f.buffer_limit) c.self.view_is)
+    (refused g c told) c.requires.unfailed held c.requires.sound
+
+pub returns-in_err-count-clause-agrees : goal.returns-in_err-count-clause-agrees
+returns-in_err-count-clause-agrees g c told held =
+    refused-agrees c.args.self.now c.put_content.new.mini c.args.entry c.self.inside.is_sound c.self.inside.buffer_limit
+    (ap (λ (f : FileState). f.is_sound) c.self.view_is) (ap (λ (f : FileState). f.buffer_limit) c.self.view_is)
+    (refused g c told) c.requires.unfailed held
+
+pub returns-in_err-count-clause-refused : goal.returns-in_err-count-clause-refused
+returns-in_err-count-clause-refused g c told held =
+    let p = err_from_is_err_and c.from_residual.result c.from_residual.ensures.1 in
+    rw (p.1, p.2) (refused-stays c.args.self.now c.put_content.new.mini c.args.entry c.self.inside.is_sound c.self.inside.buffer_limit
+    (ap (λ (f : FileState). f.is_sound) c.self.view_is) (ap (λ (f : FileState). f.buffer_limit) c.self.view_is)
+    (refused g c told) c.requires.unfailed)
+
+pub returns-in_err-count-clause-err : goal.returns-in_err-count-clause-err
+returns-in_err-count-clause-err g c told held =
+    let p = err_from_is_err_and c.from_residual.result c.from_residual.ensures.1 in
+    let s = c.self.inside.mini in
+    let mid = c.put_content.new.mini in
+    let i = c.args.entry in
+    let sound : IsChangeable Permissive s = subst (λ (f : FileState). IsChangeable Permissive f.base) (sym c.self.view_is) (held.sound c.requires.sound) in
+    rw (p.1, p.2) (write-break s mid (IsTrue g.F.ReadMedium.tells → IsNotChangeable s) (len_of s i ≤ c.args.at) (len_of c.args.self.now.base i ≤ c.args.at) (λ none. none told Permissive sound)
+    (λ end. subst (λ (f : FileState). len_of f.base i ≤ c.args.at) c.self.view_is end)
+    c.in_err-count.field-0.0 (c.in_err-count.ensures.refused told Permissive sound.held) c.in_err-count.ensures.err)
+
+-- ---- it went well
+
+changed : (g : _) (c : goal.After-end_change g) → IsTrue g.F.ReadMedium.tells → WasChanged c.args.self.now.base c.put_content.new.mini c.args.entry
+changed g c told =
+    let e = c.put_content.ensures in
+    let ok = c.in_ok-count.ensures in
+    subst (λ (f : FileState). IsStreamOf f.base c.args.entry → WasChanged f.base c.put_content.new.mini c.args.entry) c.self.view_is (λ at. record {
+      stream = at;
+      limits = e.limits;
+      entries = e.entries;
+      others = λ v change. e.others told v change;
+      holds = λ v change. ok.holds told v change;
+      owned = λ v change all. ok.owned told v change all;
+      exact = λ x. ok.tight.exact x;
+      none_free = λ longer. ok.tight.none_free longer;
+    }) (subst (λ (f : FileState). IsStreamOf f.base c.args.entry) (sym c.self.view_is) c.requires.stream)
+
+pub returns-clause-stream : goal.returns-clause-stream
+returns-clause-stream g c =
+    let mid = c.put_content.new.mini in
+    subst (λ (s : MiniState). IsStreamOf s c.args.entry) (sym c.end_change.ensures)
+    (ended-stream c.args.self.now mid c.args.entry c.self.inside.is_sound c.self.inside.buffer_limit
+    (ap (λ (f : FileState). f.is_sound) c.self.view_is) (ap (λ (f : FileState). f.buffer_limit) c.self.view_is)
+    (subst (λ (f : FileState). KeepsLimits f.base mid) c.self.view_is c.put_content.ensures.limits)
+    (subst (λ (f : FileState). MovesContent f.base mid c.args.entry) c.self.view_is c.put_content.ensures.entries) c.requires.stream)
+
+pub returns-clause-setting : goal.returns-clause-setting
+returns-clause-setting g c =
+    let mid = c.put_content.new.mini in
+    subst (λ (s : MiniState). SameSetting c.args.self.now (file_on c.self.inside.is_sound c.self.inside.buffer_limit s)) (sym c.end_change.ensures)
+    (ended-setting c.args.self.now mid c.args.entry c.self.inside.is_sound c.self.inside.buffer_limit
+    (ap (λ (f : FileState). f.is_sound) c.self.view_is) (ap (λ (f : FileState). f.buffer_limit) c.self.view_is)
+    (subst (λ (f : FileState). KeepsLimits f.base mid) c.self.view_is c.put_content.ensures.limits))
+
+pub returns-clause-changes : goal.returns-clause-changes
+returns-clause-changes g c told held =
+    subst (λ (s : MiniState). ChangesOneContent c.args.entry c.args.self.now (file_on c.self.inside.is_sound c.self.inside.buffer_limit s)) (sym c.end_change.ensures)
+    (ended-changes c.args.self.now c.put_content.new.mini c.args.entry c.self.inside.is_sound c.self.inside.buffer_limit
+    (ap (λ (f : FileState). f.is_sound) c.self.view_is) (ap (λ (f : FileState). f.buffer_limit) c.self.view_is)
+    (changed g c told) held c.requires.sound)
+
+pub returns-clause-agrees : goal.returns-clause-agrees
+returns-clause-agrees g c told held calm =
+    subst (λ (s : MiniState). Holds (file_on c.self.inside.is_sound c.self.inside.buffer_limit s)) (sym c.end_change.ensures)
+    (ended-holds c.args.self.now c.put_content.new.mini c.args.entry c.self.inside.is_sound c.self.inside.buffer_limit
+    (ap (λ (f : FileState). f.is_sound) c.self.view_is) (ap (λ (f : FileState). f.buffer_limit) c.self.view_is)
+    (changed g c told) held c.requires.sound)
+
+pub returns-clause-ended : goal.returns-clause-ended
+returns-clause-ended g c = ap (λ (s : MiniState). (table_of s).file.begun) c.end_change.ensures
+
+pub returns-clause-len : goal.returns-clause-len
+returns-clause-len g c =
+    ap (λ (s : MiniState). len_of s c.args.entry) c.end_change.ensures ∙ c.in_ok-count.ensures.len
+    ∙ ap (λ (f : FileState). max (len_of f.base c.args.entry) (c.args.at + c.in_ok-count.count)) c.self.view_is
+
+pub returns-clause-content : goal.returns-clause-content
+returns-clause-content g c told held =
+    let mid = c.put_content.new.mini in
+    let i = c.args.entry in
+    let from = take c.in_ok-count.count c.args.bytes.now in
+    let sound = subst (λ (f : FileState). IsChangeable Permissive f.base) (sym c.self.view_is) (held.sound c.requires.sound) in
+    subst (λ (s : MiniState). content_of s (entry_at (entries_of s) i) ≡ written (content_of c.args.self.now.base (entry_at (entries_of c.args.self.now.base) i)) c.args.at from) (sym c.end_change.ensures)
+    (subst (λ (f : FileState). content_of mid (entry_at (entries_of mid) i) ≡ written (content_of f.base (entry_at (entries_of f.base) i)) c.args.at from) c.self.view_is
+    (c.in_ok-count.ensures.content told Permissive sound))
+
+pub returns-clause-no_shorter : goal.returns-clause-no_shorter
+returns-clause-no_shorter g c =
+    subst (λ (s : MiniState). length (tables_in c.args.self.now.base).fat ≤ length (tables_in s).fat) (sym c.end_change.ensures)
+    (subst (λ (f : FileState). length (tables_in f.base).fat ≤ length (tables_in c.put_content.new.mini).fat) c.self.view_is c.in_ok-count.ensures.tight.no_shorter)
+
+pub returns-clause-stays_full : goal.returns-clause-stays_full
+returns-clause-stays_full g c told held none =
+    let sound = subst (λ (f : FileState). IsChangeable Permissive f.base) (sym c.self.view_is) (held.sound c.requires.sound) in
+    subst (λ (s : MiniState). NoneFree (tables_in s).fat) (sym c.end_change.ensures)
+    (c.in_ok-count.ensures.stays_full told Permissive sound (subst (λ (f : FileState). NoneFree (tables_in f.base).fat) (sym c.self.view_is) none))
