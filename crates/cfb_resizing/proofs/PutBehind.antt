@@ -1,5 +1,5 @@
 -- Bytes that are put into a stream: what the write leaves, and that a growth and the write behind it are one change.
-use Rattle.std.proofs.Common.{◌≡◌, ◌≤◌, ◌<◌, ◌+◌, ◌-◌, ◌⊎◌, inl, inr, ℕ, List, [], ◌++◌, true, refl, sym, ◌∙◌, ap, subst, length, take, drop, replicate, arith}
+use Rattle.std.proofs.Common.{◌≡◌, ◌≤◌, ◌<◌, ◌+◌, ◌-◌, ◌⊎◌, inl, inr, ℕ, List, ◌++◌, true, refl, sym, ◌∙◌, ap, subst, length, take, drop, replicate, arith}
 use Rattle.std.proofs.lemmas.List.{drop_all, length-take, take-append-le, take_all}
 use Rattle.cfb_format.specs.declared.error.Error.{Error}
 use Rattle.cfb_format.specs.declared.error.Error.TheVariants.{AlreadyExists, Failed, Full, InvalidData, InvalidInput, Medium, Memory, NotFound, Unsound, Unsupported}
@@ -8,7 +8,6 @@ use Rattle.cfb_format.specs.declared.version.Version.TheVariants.{V3, V4}
 use Rattle.cfb_format.specs.Bytes.{max_stream_len}
 use Rattle.cfb_format.specs.Medium.{written}
 use Rattle.cfb_rules.specs.StreamCalls.{resized}
-use Rattle.cfb_sectors.specs.Sectors.{SectorFile}
 use Rattle.cfb_tables.specs.Changes.{NoneFree}
 use Rattle.cfb_tables.specs.Refused.{ChangeRefused}
 use Rattle.cfb_tables.specs.Tables.{AreExactTables, TableState}

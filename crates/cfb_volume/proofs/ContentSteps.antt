@@ -77,17 +77,17 @@ module _ (old : FileState) (mid : MiniState) (i : ℕ) (sound : Bool) (limit : �
     made-then made =
         content-keeps-made i old.base mid was.limits was.entries was.stream made (was.holds Strict made.changeable) (was.owned Strict made.changeable made.used) (was.exact made.exact)
 
-    module _ (held : Holds old) (yes : old.is_sound ≡ true) where
+    module _ (held : Holds old) (certain : old.is_sound ≡ true) where
       pub ended-holds : Holds (file_on sound limit (ended mid))
       ended-holds = flags-not-read (file_on sound limit mid) (table_of mid).file.failures false
-          (changeable-is-held (file_on sound limit mid) was.stream.outline (sound-is ∙ yes) (was.holds Permissive (held.sound yes)) out)
+          (changeable-is-held (file_on sound limit mid) was.stream.outline (sound-is ∙ certain) (was.holds Permissive (held.sound certain)) out)
 
       pub ended-changes : ChangesOneContent i old (file_on sound limit (ended mid))
       ended-changes = record {
         setting = ended-setting was.limits;
         entries = ended-entries was.entries;
         others = λ o is k m ne.
-            let kept = was.others Permissive (held.sound yes) o is k m ne in
+            let kept = was.others Permissive (held.sound certain) o is k m ne in
             record { chain = kept.chain; sectors = kept.sectors; places = kept.places; mini_sectors = kept.mini_sectors };
         made = λ calm made. flags-not-made (file_on sound limit mid) (table_of mid).file.failures false (made-then made);
         grows = λ calm. was.none_free;
@@ -121,12 +121,12 @@ module _ (old : FileState) (mid : MiniState) (i : ℕ) (sound : Bool) (limit : �
       ]
 
       pub refused-changes : old.is_sound ≡ true → ChangesOneContent i old (file_on sound limit mid)
-      refused-changes yes = elim refused-stays [
+      refused-changes certain = elim refused-stays [
         | inl before ↦ as-before-is-none i old (file_on sound limit mid) before
         | inr up ↦ record {
           setting = refused-setting was.limits;
           entries = was.entries;
-          others = was.others Permissive (held.sound yes);
+          others = was.others Permissive (held.sound certain);
           made = λ down made. up-is-not-down (table_of mid).file.begun up down;
           grows = λ down longer. up-is-not-down (table_of mid).file.begun up down;
         }

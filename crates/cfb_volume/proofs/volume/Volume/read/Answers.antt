@@ -10,14 +10,15 @@ use Rattle.cfb_content.specs.Contents.{TellsPlaces, len_of}
 use Rattle.cfb_agreement.specs.Files.{FileState, Holds, failures_of}
 use Rattle.cfb_volume.specs.Answers.{content_at}
 use Rattle.cfb_volume.proofs.volume.Volume.read.Goals as goal
+use Rattle.cfb_volume.proofs.volume.Volume.read.Goals.{After-read_content}
 
 pub read_content-requires : goal.read_content-requires
 read_content-requires g c = record { inside = subst (λ (f : FileState). c.args.entry < length (entries_of f.base)) (sym c.self.view_is) c.requires.inside }
 
-still : (g : _) (c : goal.After-read_content g) → IsStill c.args.self.now.base c.read_content.new.mini
+still : (g : _) (c : After-read_content g) → IsStill c.args.self.now.base c.read_content.new.mini
 still g c = subst (λ (f : FileState). IsStill f.base c.read_content.new.mini) c.self.view_is c.read_content.ensures.kept
 
-places : (g : _) (c : goal.After-read_content g) → Holds c.args.self.now → TellsPlaces c.self.inside.mini
+places : (g : _) (c : After-read_content g) → Holds c.args.self.now → TellsPlaces c.self.inside.mini
 places g c held = subst (λ (f : FileState). TellsPlaces f.base) (sym c.self.view_is) held.places
 
 pub returns-clause-same : goal.returns-clause-same

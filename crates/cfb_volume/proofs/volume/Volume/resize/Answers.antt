@@ -68,7 +68,7 @@ returns-in_err-resize_content-clause-agrees g c told held =
 pub returns-in_err-resize_content-clause-refused : goal.returns-in_err-resize_content-clause-refused
 returns-in_err-resize_content-clause-refused g c told held =
     let p = err_from_is_err_and c.from_residual.result c.from_residual.ensures.1 in
-    rw (p.1, p.2) (refused-stays c.args.self.now c.resize_content.new.mini c.args.entry c.self.inside.is_sound c.self.inside.buffer_limit
+    rw p.1 (refused-stays c.args.self.now c.resize_content.new.mini c.args.entry c.self.inside.is_sound c.self.inside.buffer_limit
     (ap (λ (f : FileState). f.is_sound) c.self.view_is) (ap (λ (f : FileState). f.buffer_limit) c.self.view_is)
     (refused g c told) c.requires.unfailed)
 
@@ -100,7 +100,7 @@ changed g c told =
       owned = λ v change all. ok.owned told v change all;
       exact = λ x. ok.exact x;
       none_free = λ longer. ok.none_free longer;
-    }) (subst (λ (f : FileState). IsStreamOf f.base c.args.entry) (sym c.self.view_is) c.requires.stream)
+    }) c.requires.stream
 
 pub returns-clause-len : goal.returns-clause-len
 returns-clause-len g c = ap (λ (s : MiniState). len_of s c.args.entry) c.end_change.ensures ∙ c.in_ok-resize_content.ensures.len

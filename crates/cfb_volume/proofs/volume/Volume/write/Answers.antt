@@ -15,14 +15,14 @@ use Rattle.cfb_volume.proofs.ContentSteps.{WasChanged, WasRefused, ended-changes
 use Rattle.cfb_volume.proofs.Refusals.{write-break}
 use Rattle.cfb_volume.proofs.volume.Volume.write.Goals as goal
 
-pub put_content-count-requires-clause-stream : goal.put_content-count-requires-clause-stream
-put_content-count-requires-clause-stream g c = subst (λ (f : FileState). IsStreamOf f.base c.args.entry) (sym c.self.view_is) c.requires.stream
+pub put_content-requires-clause-stream : goal.put_content-requires-clause-stream
+put_content-requires-clause-stream g c = subst (λ (f : FileState). IsStreamOf f.base c.args.entry) (sym c.self.view_is) c.requires.stream
 
-pub put_content-count-requires-clause-inside : goal.put_content-count-requires-clause-inside
-put_content-count-requires-clause-inside g c = subst (λ (f : FileState). c.args.at ≤ len_of f.base c.args.entry) (sym c.self.view_is) c.requires.inside
+pub put_content-requires-clause-inside : goal.put_content-requires-clause-inside
+put_content-requires-clause-inside g c = subst (λ (f : FileState). c.args.at ≤ len_of f.base c.args.entry) (sym c.self.view_is) c.requires.inside
 
-pub put_content-count-requires-clause-limit : goal.put_content-count-requires-clause-limit
-put_content-count-requires-clause-limit g c = subst (λ (f : FileState). c.args.at + length c.args.bytes.now ≤ max_stream_len (version_of f.base)) (sym c.self.view_is) c.requires.fits
+pub put_content-requires-clause-limit : goal.put_content-requires-clause-limit
+put_content-requires-clause-limit g c = subst (λ (f : FileState). c.args.at + length c.args.bytes.now ≤ max_stream_len (version_of f.base)) (sym c.self.view_is) c.requires.fits
 
 -- ---- it was refused
 
@@ -67,7 +67,7 @@ returns-in_err-count-clause-agrees g c told held =
 pub returns-in_err-count-clause-refused : goal.returns-in_err-count-clause-refused
 returns-in_err-count-clause-refused g c told held =
     let p = err_from_is_err_and c.from_residual.result c.from_residual.ensures.1 in
-    rw (p.1, p.2) (refused-stays c.args.self.now c.put_content.new.mini c.args.entry c.self.inside.is_sound c.self.inside.buffer_limit
+    rw p.1 (refused-stays c.args.self.now c.put_content.new.mini c.args.entry c.self.inside.is_sound c.self.inside.buffer_limit
     (ap (λ (f : FileState). f.is_sound) c.self.view_is) (ap (λ (f : FileState). f.buffer_limit) c.self.view_is)
     (refused g c told) c.requires.unfailed)
 
@@ -79,7 +79,7 @@ returns-in_err-count-clause-err g c told held =
     let i = c.args.entry in
     let sound : IsChangeable Permissive s = subst (λ (f : FileState). IsChangeable Permissive f.base) (sym c.self.view_is) (held.sound c.requires.sound) in
     rw (p.1, p.2) (write-break s mid (IsTrue g.F.ReadMedium.tells → IsNotChangeable s) (len_of s i ≤ c.args.at) (len_of c.args.self.now.base i ≤ c.args.at) (λ none. none told Permissive sound)
-    (λ end. subst (λ (f : FileState). len_of f.base i ≤ c.args.at) c.self.view_is end)
+    (λ past. subst (λ (f : FileState). len_of f.base i ≤ c.args.at) c.self.view_is past)
     c.in_err-count.field-0.0 (c.in_err-count.ensures.refused told Permissive sound.held) c.in_err-count.ensures.err)
 
 -- ---- it went well
@@ -97,7 +97,7 @@ changed g c told =
       owned = λ v change all. ok.owned told v change all;
       exact = λ x. ok.tight.exact x;
       none_free = λ longer. ok.tight.none_free longer;
-    }) (subst (λ (f : FileState). IsStreamOf f.base c.args.entry) (sym c.self.view_is) c.requires.stream)
+    }) c.requires.stream
 
 pub returns-clause-stream : goal.returns-clause-stream
 returns-clause-stream g c =
