@@ -2,11 +2,11 @@
 //! but gives the public names of all crates of the library.
 #![tactic(auto)]
 
-pub use cfb_compound_file::{CompoundFile, Stream, laws};
 pub use cfb_format::error::{Detail, Error};
 pub use cfb_format::medium::{Medium, MediumFault, ReadMedium};
 pub use cfb_format::memory::MemoryMedium;
 pub use cfb_format::version::Version;
+pub use cfb_one_stream::{CompoundFile, Stream, laws};
 
 /// The layers that compound files are made of.
 pub mod internal {

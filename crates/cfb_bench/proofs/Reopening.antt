@@ -10,9 +10,9 @@ use Rattle.cfb_format.specs.Bytes.{sector_len}
 use Rattle.cfb_format.specs.Laws.{CreatedIsThreeSectors, CreatedHeaderIsAccepted}
 use Rattle.cfb_format.specs.Reading.{HasLength}
 use Rattle.cfb_format.specs.Created.{created_bytes, created_header}
-use Rattle.cfb_compound_file.specs.Files.{FileState, IsAsCreated}
-use Rattle.cfb_compound_file.specs.Laws.{CreatedHoldsNone}
-use Rattle.cfb_compound_file.specs.OneStreamOpening.{HasHead, OpeningAnswers}
+use Rattle.cfb_one_stream.specs.Files.{FileState, IsAsCreated}
+use Rattle.cfb_one_stream.specs.Laws.{CreatedHoldsNone}
+use Rattle.cfb_one_stream.specs.OneStreamOpening.{HasHead, OpeningAnswers}
 use Rattle.cfb_media.specs.Faults.{IsWantOfMemory}
 
 has_length : (version : Version) (bytes : List ℕ) → length bytes ≡ 3 * sector_len version → HasLength version bytes

@@ -4,7 +4,7 @@ ghost use Rattle.std.specs.Prelude.{◌≡◌, ◌≢◌, ◌<◌, ◌≤◌, �
 ghost use Rattle.cfb_format.specs.Medium.{part, written};
 ghost use Rattle.cfb_format.specs.Refused.{number_of};
 ghost use Rattle.cfb_format.specs.declared.medium.MediumFault.TheVariants.{Memory};
-ghost use Rattle.cfb_compound_file.specs.Files.{IsAsCreated};
+ghost use Rattle.cfb_one_stream.specs.Files.{IsAsCreated};
 ghost use Rattle.cfb_media.specs.Faults.{IsWantOfMemory};
 
 use cfb::{CompoundFile, Error, Version};

@@ -1,0 +1,4 @@
+pub mod StoredStreams
+pub mod OpenStreams
+pub mod StreamCalls
+pub mod FoundStreams

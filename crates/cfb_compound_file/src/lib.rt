@@ -2,3 +2,6 @@
 #![tactic(auto)]
 
 pub mod compound_file;
+pub mod contents;
+pub mod held;
+pub mod stream;

@@ -6,6 +6,7 @@ ghost use Rattle.cfb_outline.specs.Outlines.{IsReachedStorage};
 ghost use Rattle.cfb_mini_sectors.specs.State.{cases_of, entries_of};
 ghost use Rattle.cfb_content.specs.Contents.{IsStreamOf};
 
+use crate::files::{created, opened};
 use cfb_codecs::path::validate_name;
 use cfb_codecs::timestamp::Timestamp;
 use cfb_content::reading::{read_content, readable_len};
@@ -13,7 +14,10 @@ use cfb_content::writing::write_content;
 use cfb_entries_bench::directories::is_stream;
 use cfb_format::error::{Detail, Error};
 use cfb_format::medium::{Medium, ReadMedium};
+use cfb_format::memory::MemoryMedium;
 use cfb_format::objtype::ObjType;
+use cfb_format::validate::Validation::Strict;
+use cfb_format::version::Version;
 use cfb_mini::mini_allocator::MiniAllocator;
 use cfb_resizing::growing::grow_content;
 use cfb_resizing::resizing::resize_content;
@@ -199,12 +203,42 @@ pub fn asked<F: Medium, A: Heap + Clone>(
     }
 }
 
-/// Bytes that count up to 250 and begin anew.
-fn pattern(alloc: Global, len: usize) -> Result<Vec<u8>, Error> {
-    let mut bytes = Vec::new(alloc);
-    for at in 0..len {
-        bytes.push((at % 251) as u8)?;
+/// Asks all in turn, up to the first that is refused. Each change is ended.
+pub fn asked_all<F: Medium, A: Heap + Clone>(
+    alloc: Global,
+    mini: &mut MiniAllocator<F, A>,
+    asks: &[Ask],
+) -> Result<(), Error> {
+    for ask in asks {
+        asked(alloc, mini, *ask)?;
+        mini.end_change();
     }
+    Ok(())
+}
+
+/// A new file after what it is asked for.
+pub fn made(
+    alloc: Global,
+    version: Version,
+    asks: &[Ask],
+) -> Result<MiniAllocator<MemoryMedium>, Error> {
+    let file = MemoryMedium::from_bytes(created(alloc, version)?);
+    let mut mini = opened(alloc, file, version, Strict)?;
+    asked_all(alloc, &mut mini, asks)?;
+    Ok(mini)
+}
+
+/// Bytes that count up to 250 and begin anew. A long list is put together from pieces, since a push takes a call.
+fn pattern(alloc: Global, len: usize) -> Result<Vec<u8>, Error> {
+    let mut once = Vec::new(alloc);
+    for value in 0..251u8 {
+        once.push(value)?;
+    }
+    let mut bytes = Vec::new(alloc);
+    for _turn in 0..len.div_ceil(251) {
+        bytes.extend_from_slice(&once)?;
+    }
+    bytes.truncate(len);
     Ok(bytes)
 }
 

@@ -1,7 +1,7 @@
 //! Each word, each slot and each piece of a change is written by a call of its own, and nothing else is.
 use crate::asks::Ask::{self, Extend, Fill, Free, Make, Put, Resize};
-use crate::asks::asked;
-use crate::files::{created, opened};
+use crate::asks::{asked, made};
+use crate::files::{copied, opened};
 use cfb_format::consts::END_OF_CHAIN as END;
 use cfb_format::error::Error;
 use cfb_format::memory::MemoryMedium;
@@ -52,7 +52,7 @@ fn writes_within(
     start: u64,
     end: u64,
 ) -> Result<u64, Error> {
-    let file = MemoryMedium::from_bytes(before.to_vec(alloc)?);
+    let file = MemoryMedium::from_bytes(copied(alloc, before)?);
     let mut mini = opened(alloc, Counting::within(file, start, end), V3, Strict)?;
     asked(alloc, &mut mini, written.ask)?;
     Ok(mini.into_inner().writes())
@@ -71,12 +71,7 @@ fn touching(ranges: &[(u64, u64)], start: u64, end: u64) -> u64 {
 
 /// Whether there are as many writes as ranges, each is touched by those that are to write there, and no other bytes of its sector are.
 fn is_written_so(alloc: Global, written: &Written) -> Result<bool, Error> {
-    let file = MemoryMedium::from_bytes(created(alloc, V3)?);
-    let mut mini = opened(alloc, file, V3, Strict)?;
-    for ask in written.before {
-        asked(alloc, &mut mini, *ask)?;
-    }
-    let before = mini.into_inner().bytes().to_vec(alloc)?;
+    let before = made(alloc, V3, written.before)?.into_inner().into_bytes();
     let all = writes_within(alloc, written, &before, 0, u64::MAX)?;
     let mut is_so = all == written.ranges.len() as u64;
     for (start, end) in written.ranges {

@@ -24,7 +24,14 @@ pub fn created(alloc: Global, version: Version) -> Result<Vec<u8>, Error> {
     let letters = CaseMapper::new(alloc)?;
     let medium = MemoryMedium::new(alloc);
     let file = create_file(alloc, version, medium, letters, MAX_REGULAR_SECTOR)?;
-    Ok(file.into_inner().bytes().to_vec(alloc)?)
+    Ok(file.into_inner().into_bytes())
+}
+
+/// The same bytes once more, in one piece: `to_vec` copies byte by byte.
+pub fn copied(alloc: Global, bytes: &[u8]) -> Result<Vec<u8>, Error> {
+    let mut copy = Vec::new(alloc);
+    copy.extend_from_slice(bytes)?;
+    Ok(copy)
 }
 
 /// The sectors of a medium of at most 16 million bytes.
@@ -203,19 +210,17 @@ fn are_same_entries<A: Heap, B: Heap>(ours: &[DirEntry<A>], theirs: &[DirEntry<B
     true
 }
 
-/// Whether tables, directory and mini sectors are what strict opening reads from these bytes, and the file has just these.
-pub fn is_as_in<A: Heap>(
+/// Whether tables, directory and mini sectors are what strict opening reads from the file's bytes.
+pub fn is_read_back<A: Heap>(
     alloc: Global,
     mini: &MiniAllocator<MemoryMedium, A>,
-    bytes: &[u8],
 ) -> Result<bool, Error> {
-    let file = MemoryMedium::from_bytes(bytes.to_vec(alloc)?);
+    let file = MemoryMedium::from_bytes(copied(alloc, mini.inner().bytes())?);
     let other = opened(alloc, file, mini.version(), Validation::Strict)?;
     let ours = mini.allocator();
     let theirs = other.allocator();
     Ok(
-        mini.inner().bytes() == bytes
-            && ours.fat() == theirs.fat()
+        ours.fat() == theirs.fat()
             && ours.fat_sectors() == theirs.fat_sectors()
             && ours.difat_sectors() == theirs.difat_sectors()
             && mini.directory().sectors() == other.directory().sectors()
@@ -224,6 +229,15 @@ pub fn is_as_in<A: Heap>(
             && mini.minifat_sectors() == other.minifat_sectors()
             && mini.mini_stream() == other.mini_stream(),
     )
+}
+
+/// The same, and whether the file has just these bytes.
+pub fn is_as_in<A: Heap>(
+    alloc: Global,
+    mini: &MiniAllocator<MemoryMedium, A>,
+    bytes: &[u8],
+) -> Result<bool, Error> {
+    Ok(mini.inner().bytes() == bytes && is_read_back(alloc, mini)?)
 }
 
 /// Whether the file is sound (MS-CFB 2.3 to 2.6).

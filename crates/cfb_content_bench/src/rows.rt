@@ -40,7 +40,7 @@ pub const ROWS: [Row; 34] = [
     // Over mini sectors with foreign bytes that lie before another stream's.
     Row { version: V3, asks: &[Make("b"), Resize("b", 1000), Make("o"), Resize("o", 100), Resize("b", 0), Foreign(0, 16), Make("a"), Resize("a", 4095)], answer: 0, sizes: [12, 0, 6656, 4224, 9, 1], content: &[(0, 4095)], words: &[(60, 2), (64, 1)] },
     // Another FAT sector, and the first DIFAT sector.
-    Row { version: V3, asks: &[Make("a"), Resize("a", 64512), Fill("a")], answer: 0, sizes: [128, 0, 66048, 0, 0, 0], content: &[(FILLED, 64512)], words: &[(44, 1)] },
+    Row { version: V3, asks: &[Make("a"), Resize("a", 64000), Fill("a"), Resize("a", 64512)], answer: 0, sizes: [128, 0, 66048, 0, 0, 0], content: &[(FILLED, 64000), (0, 512)], words: &[(44, 1)] },
     Row { version: V3, asks: &[Make("a"), Resize("a", 64512), Fill("a"), Resize("a", 64513)], answer: 0, sizes: [130, 0, 67072, 0, 0, 0], content: &[(FILLED, 64512), (0, 1)], words: &[(44, 2), (80, 128)] },
     // Limits.
     Row { version: V3, asks: &[Make("a"), Resize("a", 5120), Fill("a"), Limit(12), Resize("a", 5121)], answer: 7, sizes: [12, 0, 6656, 0, 0, 0], content: &[(FILLED, 5120)], words: &[] },
@@ -76,11 +76,13 @@ pub const MINI: [Row; 4] = [
     Row { version: V3, asks: &[Make("a"), Resize("a", 64), Extend(END, 300, 1)], answer: 0, sizes: [43, 0, 22528, 19264, 38, 3], content: &[(0, 64)], words: &[(60, 2), (64, 3)] },
 ];
 
-/// Files with a DIFAT sector, or at the edge of one, with the content from byte 7087000 on.
+/// Asked of one file in turn, which gets a DIFAT sector. The content is that from byte `LONG_FROM` on.
 #[rattlefmt::skip]
-pub const LONG: [Row; 4] = [
-    Row { version: V3, asks: &[Make("a"), Resize("a", 7087104)], answer: 0, sizes: [13952, 0, 7143936, 0, 0, 0], content: &[(0, 104)], words: &[(44, 109)] },
-    Row { version: V3, asks: &[Make("a"), Resize("a", 7087104), Resize("a", 7087105)], answer: 0, sizes: [13955, 0, 7145472, 0, 0, 0], content: &[(0, 105)], words: &[(44, 110), (68, 13953), (72, 1)] },
-    Row { version: V3, asks: &[Make("a"), Resize("a", 7087104), Limit(13954), Resize("a", 7087105)], answer: 7, sizes: [13952, 0, 7143936, 0, 0, 0], content: &[(0, 104)], words: &[(44, 109)] },
-    Row { version: V3, asks: &[Make("a"), Resize("a", 7087104), Limit(13955), Resize("a", 7087105)], answer: 0, sizes: [13955, 0, 7145472, 0, 0, 0], content: &[(0, 105)], words: &[(44, 110), (68, 13953), (72, 1)] },
+pub const LONG: [Row; 3] = [
+    Row { version: V3, asks: &[Make("a"), Resize("a", 7_087_104), Fill("a")], answer: 0, sizes: [13952, 0, 7_143_936, 0, 0, 0], content: &[(FILLED, 119)], words: &[(44, 109)] },
+    Row { version: V3, asks: &[Limit(13954), Resize("a", 7_087_105)], answer: 7, sizes: [13952, 0, 7_143_936, 0, 0, 0], content: &[(FILLED, 119)], words: &[(44, 109)] },
+    Row { version: V3, asks: &[Limit(13955), Resize("a", 7_087_105)], answer: 0, sizes: [13955, 0, 7_145_472, 0, 0, 0], content: &[(FILLED, 119), (0, 1)], words: &[(44, 110), (68, 13953), (72, 1)] },
 ];
+
+/// A place where the bytes that count up begin anew.
+pub const LONG_FROM: u64 = 251 * 28235;

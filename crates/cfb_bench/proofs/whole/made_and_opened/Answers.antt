@@ -1,7 +1,7 @@
 use Rattle.std.proofs.Common.{◌≡◌, false, refl, ◌∙◌, ap, subst}
 use Rattle.cfb_format.specs.declared.validate.Validation.TheVariants.{Permissive}
 use Rattle.cfb_format.specs.Created.{created_bytes}
-use Rattle.cfb_compound_file.specs.OneStreamOpening.{OpeningAnswers}
+use Rattle.cfb_one_stream.specs.OneStreamOpening.{OpeningAnswers}
 use Rattle.cfb_bench.proofs.Reopening.{opened_as_created, refused_for_memory}
 use Rattle.cfb_bench.proofs.whole.made_and_opened.Goals as goal
 

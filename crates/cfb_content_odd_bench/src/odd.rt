@@ -1,0 +1,256 @@
+//! Files as other programs leave them: foreign bytes in free places, a last sector that is cut short, chains that are none.
+use cfb_content_bench::asks::Ask::{self, Fill, Foreign, Grow, Make, Put, Resize};
+use cfb_content_bench::asks::{
+    FILLED, FOREIGN, asked, asked_all, content_of, is_made_of, made, number_of_error,
+};
+use cfb_content_bench::files::{copied, is_read_back, is_sound, opened};
+use cfb_format::consts::END_OF_CHAIN as END;
+use cfb_format::error::Error;
+use cfb_format::medium::Medium;
+use cfb_format::memory::MemoryMedium;
+use cfb_format::validate::Validation::{self, Permissive, Strict};
+use cfb_format::version::Version::{self, V3, V4};
+use cfb_mini::mini_allocator::MiniAllocator;
+use std::alloc::Global;
+use std::test::Fail;
+
+/// Whether the file is sound, strict opening reads what memory has, and the stream is so many bytes that count up and then so many zeros.
+fn is_well(
+    alloc: Global,
+    mini: &mut MiniAllocator<MemoryMedium>,
+    name: &str,
+    filled: usize,
+    zeros: usize,
+) -> Result<bool, Error> {
+    let content = content_of(alloc, mini, name, 0)?;
+    Ok(
+        is_made_of(&content, &[(FILLED, filled), (0, zeros)])
+            && is_sound(alloc, mini)?
+            && is_read_back(alloc, mini)?,
+    )
+}
+
+/// How many bytes of the file are foreign.
+fn foreign_in(bytes: &[u8]) -> usize {
+    let mut count = 0usize;
+    for byte in bytes {
+        if *byte == FOREIGN {
+            count = count.saturating_add(1);
+        }
+    }
+    count
+}
+
+/// The streams `b`, behind free mini sectors, and `c`, which is empty.
+#[rattlefmt::skip]
+const BEHIND_FREE: [Ask; 7] = [Make("a"), Resize("a", 1000), Make("b"), Resize("b", 100), Fill("b"), Resize("a", 0), Make("c")];
+
+/// The length at which one of the streams is wrong, if there is one: free mini sectors before the stream `b`, and so many in the rest of
+/// the mini stream behind it, are full of foreign bytes.
+fn wrong_over_foreign_bytes(
+    alloc: Global,
+    version: Version,
+    behind: u32,
+) -> Result<Option<usize>, Error> {
+    let mut mini = made(alloc, version, &BEHIND_FREE)?;
+    asked_all(alloc, &mut mini, &[Foreign(0, 16), Foreign(18, behind)])?;
+    let foreign = foreign_in(mini.inner().bytes());
+    if foreign / 64 != 16 + behind as usize || !is_well(alloc, &mut mini, "b", 100, 0)? {
+        return Ok(Some(0));
+    }
+    for size in [100usize, 1000, 4095] {
+        asked_all(alloc, &mut mini, &[Resize("c", size as u64)])?;
+        if !is_well(alloc, &mut mini, "c", 0, size)? || !is_well(alloc, &mut mini, "b", 100, 0)? {
+            return Ok(Some(size));
+        }
+    }
+    Ok(match foreign_in(mini.inner().bytes()) {
+        0 => None,
+        _ => Some(4096),
+    })
+}
+
+#[test]
+fn foreign_bytes_are_not_read(rt: HostRuntime) -> Result<(), Fail> {
+    assert_eq!(rt; wrong_over_foreign_bytes(rt.alloc(), V3, 6)?, None);
+    assert_eq!(rt; wrong_over_foreign_bytes(rt.alloc(), V4, 46)?, None);
+    Ok(())
+}
+
+/// A file with 100 bytes in a stream, whose last sector, of the mini stream, is cut short.
+fn cut_file(alloc: Global, len: usize) -> Result<MiniAllocator<MemoryMedium>, Error> {
+    let mini = made(alloc, V3, &[Make("a"), Resize("a", 100), Fill("a")])?;
+    let mut bytes = mini.into_inner().into_bytes();
+    if bytes.len() != 2560 {
+        return Err(Error::Failed);
+    }
+    bytes.truncate(len);
+    opened(alloc, MemoryMedium::from_bytes(bytes), V3, Strict)
+}
+
+/// Lengths that the stream of a cut file gets in turn, how much of its content is left then, and how many sectors the file has.
+struct Lengths {
+    lens: &'static [usize],
+    filled: usize,
+    sectors: usize,
+}
+
+#[rattlefmt::skip]
+const LENGTHS: [Lengths; 7] = [
+    Lengths { lens: &[300, 5000, 100], filled: 100, sectors: 14 },
+    Lengths { lens: &[5000, 100, 5000], filled: 100, sectors: 14 },
+    Lengths { lens: &[128, 513, 129], filled: 100, sectors: 5 },
+    Lengths { lens: &[10, 300, 10], filled: 10, sectors: 4 },
+    Lengths { lens: &[64, 128, 100], filled: 64, sectors: 4 },
+    Lengths { lens: &[0, 100, 0], filled: 0, sectors: 4 },
+    Lengths { lens: &[0, 5000, 600], filled: 0, sectors: 14 },
+];
+
+/// The first of the lengths at which the stream of a cut file is wrong, or the number of sectors that are wrong then, if there is one.
+fn wrong_in_cut_file(alloc: Global, len: usize, lengths: &Lengths) -> Result<Option<usize>, Error> {
+    let mut mini = cut_file(alloc, len)?;
+    if !is_well(alloc, &mut mini, "a", 100, 0)? {
+        return Ok(Some(len));
+    }
+    for size in lengths.lens {
+        asked_all(alloc, &mut mini, &[Resize("a", *size as u64)])?;
+        let filled = lengths.filled.min(*size);
+        if !is_well(alloc, &mut mini, "a", filled, size.saturating_sub(filled))? {
+            return Ok(Some(*size));
+        }
+    }
+    let sectors = mini.allocator().fat().len();
+    Ok(if sectors == lengths.sectors {
+        None
+    } else {
+        Some(sectors)
+    })
+}
+
+/// A file that is cut short behind the stream's bytes, or behind its mini sectors, is sound, and stays so; one byte less, and it is not.
+#[test]
+fn a_cut_mini_stream_changes(rt: HostRuntime) -> Result<(), Fail> {
+    let cut = cut_file(rt.alloc(), 2048 + 99)?;
+    assert!(rt; !is_sound(rt.alloc(), &cut)?);
+    for len in [2048 + 100, 2048 + 110, 2048 + 128] {
+        for lengths in &LENGTHS {
+            assert_eq!(rt; wrong_in_cut_file(rt.alloc(), len, lengths)?, None);
+        }
+    }
+    Ok(())
+}
+
+/// A file of version 3 made by calls, with other words at these places of its bytes then, and calls that are refused.
+struct Odd {
+    asks: &'static [Ask],
+    words: &'static [(u64, u32)],
+    refused: &'static [Ask],
+}
+
+/// Sector 0 has the FAT, 1 the directory, whose slots are the root's and `a`'s. `a` begins at sector 2.
+const LARGE: [Ask; 2] = [Make("a"), Resize("a", 5000)];
+
+/// Sector 2 has the MiniFAT, 3 the mini stream. `a` begins at mini sector 0.
+const SMALL: [Ask; 2] = [Make("a"), Resize("a", 300)];
+
+const CALLS: [Ask; 3] = [
+    Put("a", 0, 0x61, 3),
+    Resize("a", 6000),
+    Grow("a", 7000, 7000),
+];
+
+/// Where the root and `a` begin, by their slots.
+const ROOT_START: u64 = 1024 + 116;
+
+const START: u64 = 1024 + 128 + 116;
+
+#[rattlefmt::skip]
+const ODD: [Odd; 10] = [
+    // A chain that comes back to itself, one that ends early, one that starts in the directory, one that starts past the end.
+    Odd { asks: &LARGE, words: &[(512 + 12, 2)], refused: &CALLS },
+    Odd { asks: &LARGE, words: &[(512 + 12, END)], refused: &CALLS },
+    Odd { asks: &LARGE, words: &[(START, 1)], refused: &CALLS },
+    Odd { asks: &LARGE, words: &[(START, 77)], refused: &CALLS },
+    Odd { asks: &SMALL, words: &[(1536 + 4, 0)], refused: &CALLS },
+    Odd { asks: &SMALL, words: &[(1536 + 4, END)], refused: &CALLS },
+    Odd { asks: &SMALL, words: &[(START, 77)], refused: &CALLS },
+    // A mini stream whose chain is none.
+    Odd { asks: &SMALL, words: &[(ROOT_START, 77)], refused: &CALLS },
+    // One with fewer sectors than the MiniFAT has mini sectors, in sectors 3 and 4: nothing is freed for a stream that cannot move.
+    Odd { asks: &[Make("b"), Resize("b", 1000), Make("a"), Resize("a", 5000)], words: &[(512 + 12, END)], refused: &[Resize("a", 100)] },
+    // The MiniFAT in the stream's last sector, which is full of free words.
+    Odd { asks: &[Make("a"), Resize("a", 5120), Put("a", 4608, 0xff, 512)], words: &[(60, 11), (64, 1)], refused: &[Resize("a", 100)] },
+];
+
+/// The bytes of a file with other words at these places.
+fn with_words(alloc: Global, asks: &[Ask], words: &[(u64, u32)]) -> Result<MemoryMedium, Error> {
+    let mut file = made(alloc, V3, asks)?.into_inner();
+    for (place, word) in words {
+        let count = file.write_at(*place, &word.to_le_bytes());
+        let _ = count.map_err(Error::Medium)?;
+    }
+    Ok(file)
+}
+
+/// The place of the first call that is not refused, or not without a change, if there is one.
+fn wrong_call(alloc: Global, odd: &Odd) -> Result<Option<usize>, Error> {
+    let file = with_words(alloc, odd.asks, odd.words)?;
+    let before = copied(alloc, file.bytes())?;
+    let mut mini = opened(alloc, file, V3, Permissive)?;
+    for at in 0..odd.refused.len() {
+        let answer = number_of_error(&asked(alloc, &mut mini, odd.refused[at]));
+        if answer != 4 || mini.begun() || mini.inner().bytes() != before.as_slice() {
+            return Ok(Some(at));
+        }
+    }
+    Ok(None)
+}
+
+#[test]
+fn odd_chains_are_refused(rt: HostRuntime) -> Result<(), Fail> {
+    let mut at = 0usize;
+    for odd in &ODD {
+        assert!(rt; wrong_call(rt.alloc(), odd)? == None, "odd file {at}");
+        at = at.saturating_add(1);
+    }
+    Ok(())
+}
+
+/// Words of a small file, and how many entries its MiniFAT has once it is opened strictly, and not strictly: none where it is refused.
+struct Table {
+    words: &'static [(u64, u32)],
+    strict: usize,
+    permissive: usize,
+}
+
+#[rattlefmt::skip]
+const TABLES: [Table; 4] = [
+    Table { words: &[], strict: 5, permissive: 5 },
+    // A pointer past the end, and a mini sector that is named twice.
+    Table { words: &[(1536 + 16, 77)], strict: 0, permissive: 0 },
+    Table { words: &[(1536 + 4, 3)], strict: 0, permissive: 0 },
+    // An end after four, and a root of four.
+    Table { words: &[(1536 + 12, END), (1024 + 120, 256)], strict: 0, permissive: 4 },
+];
+
+/// How many entries the MiniFAT has, or none where `InvalidData` comes.
+fn entries_read(alloc: Global, table: &Table, validation: Validation) -> Result<usize, Error> {
+    let file = with_words(alloc, &SMALL, table.words)?;
+    match opened(alloc, file, V3, validation) {
+        Ok(mini) => Ok(mini.minifat().len()),
+        Err(Error::InvalidData(_)) => Ok(0),
+        Err(other) => Err(other),
+    }
+}
+
+#[test]
+fn odd_minifats_are_refused_or_cut(rt: HostRuntime) -> Result<(), Fail> {
+    for table in &TABLES {
+        assert_eq!(rt; entries_read(rt.alloc(), table, Strict)?, table.strict);
+        assert_eq!(rt;
+            entries_read(rt.alloc(), table, Permissive)?,
+            table.permissive
+        );
+    }
+    Ok(())
+}

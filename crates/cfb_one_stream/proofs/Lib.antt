@@ -1,0 +1,14 @@
+pub mod OneStreamFat
+pub mod OneStreamFacts
+pub mod OneStreamReads
+pub mod OneStreamMeans
+pub mod OneStreamLayout
+pub mod OneStreamContent
+pub mod OneStreamLinks
+pub mod OneStreamRuns
+pub mod OneStreamPathCalls
+pub mod OneStreamWriteCalls
+pub mod OneStreamReadCalls
+pub mod OneStreamRestCalls
+pub mod OneStreamOpening
+pub mod Pieces

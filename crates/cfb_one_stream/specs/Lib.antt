@@ -1,0 +1,11 @@
+pub mod OneStream
+pub mod OneStreamOpening
+pub mod OneStreamHead
+pub mod OneStreamFinding
+pub mod OneStreamStates
+pub mod OneStreamCreating
+pub mod OneStreamWriting
+pub mod Files
+pub mod Answers
+pub mod Streams
+pub mod Laws
