@@ -5,7 +5,9 @@ use cfb_codecs::path::CaseMapper;
 use cfb_creating::creating::create_file;
 use cfb_directory::directory::Directory;
 use cfb_format::bytes::u32_at;
-use cfb_format::consts::{DIR_ENTRY_LEN, END_OF_CHAIN, FREE_SECTOR, HEADER_LEN, MAX_REGULAR_SECTOR};
+use cfb_format::consts::{
+    DIR_ENTRY_LEN, END_OF_CHAIN, FREE_SECTOR, HEADER_LEN, MAX_REGULAR_SECTOR,
+};
 use cfb_format::error::Error;
 use cfb_format::header::Header;
 use cfb_format::medium::Medium;
