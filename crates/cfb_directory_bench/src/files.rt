@@ -1,20 +1,23 @@
 //! The allocators of files, and the entries in the slots of their directories.
 use cfb_alloc::alloc::Allocator;
 use cfb_codecs::direntry::DirEntry;
-use cfb_format::consts::{DIR_ENTRY_LEN, FREE_SECTOR, HEADER_LEN};
+use cfb_codecs::path::CaseMapper;
+use cfb_creating::creating::create_file;
+use cfb_format::consts::{DIR_ENTRY_LEN, FREE_SECTOR, HEADER_LEN, MAX_REGULAR_SECTOR};
 use cfb_format::error::Error;
 use cfb_format::header::Header;
 use cfb_format::medium::Medium;
 use cfb_format::memory::MemoryMedium;
 use cfb_format::validate::Validation;
 use cfb_format::version::Version;
-use cfb_one_stream::CompoundFile;
 use cfb_sectors::sector::Sectors;
 use std::alloc::{Allocator as Heap, Global};
 
 /// The bytes of a file that was just made.
 pub fn created(alloc: Global, version: Version) -> Result<Vec<u8>, Error> {
-    let file = CompoundFile::create_with_version(alloc, version, MemoryMedium::new(alloc))?;
+    let letters = CaseMapper::new(alloc)?;
+    let medium = MemoryMedium::new(alloc);
+    let file = create_file(alloc, version, medium, letters, MAX_REGULAR_SECTOR)?;
     Ok(file.into_inner().bytes().to_vec(alloc)?)
 }
 

@@ -2,9 +2,10 @@
 use cfb_alloc::alloc::Allocator;
 use cfb_codecs::direntry::DirEntry;
 use cfb_codecs::path::CaseMapper;
+use cfb_creating::creating::create_file;
 use cfb_directory::directory::Directory;
 use cfb_format::bytes::u32_at;
-use cfb_format::consts::{DIR_ENTRY_LEN, HEADER_LEN};
+use cfb_format::consts::{DIR_ENTRY_LEN, HEADER_LEN, MAX_REGULAR_SECTOR};
 use cfb_format::error::Error;
 use cfb_format::header::Header;
 use cfb_format::medium::Medium;
@@ -12,13 +13,14 @@ use cfb_format::memory::MemoryMedium;
 use cfb_format::validate::Validation::Strict;
 use cfb_format::version::Version;
 use cfb_mini::mini_allocator::MiniAllocator;
-use cfb_one_stream::CompoundFile;
 use cfb_sectors::sector::Sectors;
 use std::alloc::{Allocator as Heap, Global};
 
 /// The bytes of a file that was just made.
 pub fn created(alloc: Global) -> Result<Vec<u8>, Error> {
-    let file = CompoundFile::create_with_version(alloc, Version::V3, MemoryMedium::new(alloc))?;
+    let letters = CaseMapper::new(alloc)?;
+    let medium = MemoryMedium::new(alloc);
+    let file = create_file(alloc, Version::V3, medium, letters, MAX_REGULAR_SECTOR)?;
     Ok(file.into_inner().bytes().to_vec(alloc)?)
 }
 

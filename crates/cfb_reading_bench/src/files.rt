@@ -1,12 +1,14 @@
 //! Files of one FAT sector, and their allocators.
 use cfb_alloc::alloc::Allocator;
+use cfb_codecs::path::CaseMapper;
+use cfb_creating::creating::create_file;
 use cfb_format::bytes::put;
+use cfb_format::consts::MAX_REGULAR_SECTOR;
 use cfb_format::error::Error;
 use cfb_format::medium::ReadMedium;
 use cfb_format::memory::MemoryMedium;
 use cfb_format::validate::Validation;
 use cfb_format::version::Version;
-use cfb_one_stream::CompoundFile;
 use cfb_sectors::sector::Sectors;
 use std::alloc::{Allocator as Heap, Global};
 
@@ -23,7 +25,9 @@ pub fn number_of<T>(answer: &Result<T, Error>) -> u8 {
 
 /// The bytes of a file that was just made: sector 0 is the FAT, and sector 1 the directory.
 pub fn created(alloc: Global, version: Version) -> Result<Vec<u8>, Error> {
-    let file = CompoundFile::create_with_version(alloc, version, MemoryMedium::new(alloc))?;
+    let letters = CaseMapper::new(alloc)?;
+    let medium = MemoryMedium::new(alloc);
+    let file = create_file(alloc, version, medium, letters, MAX_REGULAR_SECTOR)?;
     Ok(file.into_inner().bytes().to_vec(alloc)?)
 }
 
