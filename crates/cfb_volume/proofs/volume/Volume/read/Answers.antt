@@ -7,45 +7,46 @@ use Rattle.cfb_tables.specs.Refused.{ChangeRefused}
 use Rattle.cfb_mini_sectors.specs.State.{MiniState, bytes_of, cases_of, content_of, entries_of, table_of, tables_in, version_of}
 use Rattle.cfb_mini.specs.MiniSectors.{IsStill}
 use Rattle.cfb_content.specs.Contents.{TellsPlaces, len_of}
-use Rattle.cfb_agreement.specs.Files.{FileState, Holds, failures_of}
+use Rattle.cfb_agreement.specs.Files.{FileState, failures_of}
 use Rattle.cfb_volume.specs.Answers.{content_at}
 use Rattle.cfb_volume.proofs.volume.Volume.read.Goals as goal
-use Rattle.cfb_volume.proofs.volume.Volume.read.Goals.{After-read_content}
 
 pub read_content-requires : goal.read_content-requires
 read_content-requires g c = record { inside = subst (λ (f : FileState). c.args.entry < length (entries_of f.base)) (sym c.self.view_is) c.requires.inside }
 
-still : (g : _) (c : After-read_content g) → IsStill c.args.self.now.base c.read_content.new.mini
-still g c = subst (λ (f : FileState). IsStill f.base c.read_content.new.mini) c.self.view_is c.read_content.ensures.kept
-
-places : (g : _) (c : After-read_content g) → Holds c.args.self.now → TellsPlaces c.self.inside.mini
-places g c held = subst (λ (f : FileState). TellsPlaces f.base) (sym c.self.view_is) held.places
-
 pub returns-clause-same : goal.returns-clause-same
-returns-clause-same g c told = record {
-  base = still g c;
-  bytes = subst (λ (f : FileState). bytes_of c.read_content.new.mini ≡ bytes_of f.base) c.self.view_is (c.read_content.ensures.bytes told);
-  is_sound = ap (λ (f : FileState). f.is_sound) c.self.view_is;
-  buffer_limit = ap (λ (f : FileState). f.buffer_limit) c.self.view_is;
-}
+returns-clause-same g c told =
+    let still : IsStill c.args.self.now.base c.read_content.new.mini = subst (λ (f : FileState). IsStill f.base c.read_content.new.mini) c.self.view_is c.read_content.ensures.kept in
+    record {
+      base = still;
+      bytes = subst (λ (f : FileState). bytes_of c.read_content.new.mini ≡ bytes_of f.base) c.self.view_is (c.read_content.ensures.bytes told);
+      is_sound = ap (λ (f : FileState). f.is_sound) c.self.view_is;
+      buffer_limit = ap (λ (f : FileState). f.buffer_limit) c.self.view_is;
+    }
 
 pub returns-clause-flag : goal.returns-clause-flag
-returns-clause-flag g c = ap (λ (s : MiniState). (table_of s).file.begun) (still g c)
+returns-clause-flag g c =
+    let still : IsStill c.args.self.now.base c.read_content.new.mini = subst (λ (f : FileState). IsStill f.base c.read_content.new.mini) c.self.view_is c.read_content.ensures.kept in
+    ap (λ (s : MiniState). (table_of s).file.begun) still
 
 pub returns-clause-entries : goal.returns-clause-entries
-returns-clause-entries g c = ap (λ (s : MiniState). entries_of s) (still g c)
+returns-clause-entries g c =
+    let still : IsStill c.args.self.now.base c.read_content.new.mini = subst (λ (f : FileState). IsStill f.base c.read_content.new.mini) c.self.view_is c.read_content.ensures.kept in
+    ap (λ (s : MiniState). entries_of s) still
 
 pub returns-clause-setting : goal.returns-clause-setting
-returns-clause-setting g c = record {
-  limits = record {
-    version = ap (λ (s : MiniState). version_of s) (still g c);
-    cases = ap (λ (s : MiniState). cases_of s) (still g c);
-    max_sectors = ap (λ (s : MiniState). (tables_in s).max_sectors) (still g c);
-    max_mini_sectors = ap (λ (s : MiniState). s.max_mini_sectors) (still g c);
-  };
-  is_sound = ap (λ (f : FileState). f.is_sound) c.self.view_is;
-  buffer_limit = ap (λ (f : FileState). f.buffer_limit) c.self.view_is;
-}
+returns-clause-setting g c =
+    let still : IsStill c.args.self.now.base c.read_content.new.mini = subst (λ (f : FileState). IsStill f.base c.read_content.new.mini) c.self.view_is c.read_content.ensures.kept in
+    record {
+      limits = record {
+        version = ap (λ (s : MiniState). version_of s) still;
+        cases = ap (λ (s : MiniState). cases_of s) still;
+        max_sectors = ap (λ (s : MiniState). (tables_in s).max_sectors) still;
+        max_mini_sectors = ap (λ (s : MiniState). s.max_mini_sectors) still;
+      };
+      is_sound = ap (λ (f : FileState). f.is_sound) c.self.view_is;
+      buffer_limit = ap (λ (f : FileState). f.buffer_limit) c.self.view_is;
+    }
 
 pub returns-clause-count : goal.returns-clause-count
 returns-clause-count g c =
@@ -58,23 +59,23 @@ returns-clause-some g c =
 pub returns-clause-ok : goal.returns-clause-ok
 returns-clause-ok g c told held =
     subst (λ (f : FileState). IfOk c.read_content.result (λ n. take n c.read_content.new.into ≡ part (content_at f c.args.entry) c.args.at n)) c.self.view_is
-    (c.read_content.ensures.ok told (places g c held))
+    (c.read_content.ensures.ok told (subst (λ (f : FileState). TellsPlaces f.base) (sym c.self.view_is) held.places))
 
 pub returns-clause-within : goal.returns-clause-within
 returns-clause-within g c told held =
-    subst (λ (f : FileState). IfOk c.read_content.result (λ n. 0 < n → c.args.at + n ≤ length (content_at f c.args.entry))) c.self.view_is (c.read_content.ensures.within told (places g c held))
+    subst (λ (f : FileState). IfOk c.read_content.result (λ n. 0 < n → c.args.at + n ≤ length (content_at f c.args.entry))) c.self.view_is (c.read_content.ensures.within told (subst (λ (f : FileState). TellsPlaces f.base) (sym c.self.view_is) held.places))
 
 pub returns-clause-err : goal.returns-clause-err
 returns-clause-err g c told held =
     subst (λ (f : FileState). IfErr c.read_content.result (ChangeRefused
     ((length (content_at f c.args.entry) ≤ c.args.at) × (0 < min (length c.args.into.now) (len_of f.base c.args.entry - c.args.at))) (Unit {0}) ⊥ (Unit {0}))) c.self.view_is
-    (c.read_content.ensures.err told (places g c held))
+    (c.read_content.ensures.err told (subst (λ (f : FileState). TellsPlaces f.base) (sym c.self.view_is) held.places))
 
 pub returns-clause-past : goal.returns-clause-past
 returns-clause-past g c told held =
     subst (λ (f : FileState). length (content_at f c.args.entry) ≤ c.args.at → 0 < min (length c.args.into.now) (len_of f.base c.args.entry - c.args.at)
     → IsErrAnd c.read_content.result (λ e. IsInvalidData e ⊎ IsMemory e)) c.self.view_is
-    (c.read_content.ensures.past told (places g c held))
+    (c.read_content.ensures.past told (subst (λ (f : FileState). TellsPlaces f.base) (sym c.self.view_is) held.places))
 
 pub returns-clause-counts : goal.returns-clause-counts
 returns-clause-counts g c told =
