@@ -1,4 +1,0 @@
-pub mod StoredStreams
-pub mod OpenStreams
-pub mod StreamCalls
-pub mod FoundStreams

@@ -1,9 +1,0 @@
-use Rattle.std.proofs.Common.{refl}
-use Rattle.cfb_compound_file.proofs.StreamCalls.{asks}
-use Rattle.cfb_compound_file.proofs.stream.Stream+F+A.consume.Goals as goal
-
-pub invariant_of-self : goal.invariant_of-self
-invariant_of-self g c = record { there = c.args.self.now.there; is_open = λ told calm. c.consume.ensures.agrees _ (c.args.self.now.is_open told calm) }
-
-pub returns-clause-runs : goal.returns-clause-runs
-returns-clause-runs g c = asks _ _ _ _ _ _ refl refl (c.consume.ensures.runs _)
