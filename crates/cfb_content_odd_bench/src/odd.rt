@@ -45,6 +45,16 @@ fn foreign_in(bytes: &[u8]) -> usize {
 #[rattlefmt::skip]
 const BEHIND_FREE: [Ask; 7] = [Make("a"), Resize("a", 1000), Make("b"), Resize("b", 100), Fill("b"), Resize("a", 0), Make("c")];
 
+/// Sets the length of the stream `c`, and tells whether both streams are as they must be then.
+fn is_zeroed_at(
+    alloc: Global,
+    mini: &mut MiniAllocator<MemoryMedium>,
+    size: usize,
+) -> Result<bool, Error> {
+    asked_all(alloc, mini, &[Resize("c", size as u64)])?;
+    Ok(is_well(alloc, mini, "c", 0, size)? && is_well(alloc, mini, "b", 100, 0)?)
+}
+
 /// The length at which one of the streams is wrong, if there is one: free mini sectors before the stream `b`, and so many in the rest of
 /// the mini stream behind it, are full of foreign bytes.
 fn wrong_over_foreign_bytes(
@@ -59,8 +69,7 @@ fn wrong_over_foreign_bytes(
         return Ok(Some(0));
     }
     for size in [100usize, 1000, 4095] {
-        asked_all(alloc, &mut mini, &[Resize("c", size as u64)])?;
-        if !is_well(alloc, &mut mini, "c", 0, size)? || !is_well(alloc, &mut mini, "b", 100, 0)? {
+        if !is_zeroed_at(alloc, &mut mini, size)? {
             return Ok(Some(size));
         }
     }
@@ -106,6 +115,17 @@ const LENGTHS: [Lengths; 7] = [
     Lengths { lens: &[0, 5000, 600], filled: 0, sectors: 14 },
 ];
 
+/// Sets the length of the stream `a`, and tells whether the file is as it must be then, with so many bytes that are left.
+fn is_cut_to(
+    alloc: Global,
+    mini: &mut MiniAllocator<MemoryMedium>,
+    size: usize,
+    filled: usize,
+) -> Result<bool, Error> {
+    asked_all(alloc, mini, &[Resize("a", size as u64)])?;
+    is_well(alloc, mini, "a", filled, size.saturating_sub(filled))
+}
+
 /// The first of the lengths at which the stream of a cut file is wrong, or the number of sectors that are wrong then, if there is one.
 fn wrong_in_cut_file(alloc: Global, len: usize, lengths: &Lengths) -> Result<Option<usize>, Error> {
     let mut mini = cut_file(alloc, len)?;
@@ -113,9 +133,7 @@ fn wrong_in_cut_file(alloc: Global, len: usize, lengths: &Lengths) -> Result<Opt
         return Ok(Some(len));
     }
     for size in lengths.lens {
-        asked_all(alloc, &mut mini, &[Resize("a", *size as u64)])?;
-        let filled = lengths.filled.min(*size);
-        if !is_well(alloc, &mut mini, "a", filled, size.saturating_sub(filled))? {
+        if !is_cut_to(alloc, &mut mini, *size, lengths.filled.min(*size))? {
             return Ok(Some(*size));
         }
     }
