@@ -2,11 +2,31 @@
 //! but gives the public names of all crates of the library.
 #![tactic(auto)]
 
+pub use cfb_codecs::path::CaseMapper;
+pub use cfb_codecs::timestamp::Timestamp;
+pub use cfb_compound_file::compound_file::CompoundFile;
+pub use cfb_compound_file::options::OpenOptions;
+pub use cfb_compound_file::read_stream::ReadStream;
+pub use cfb_compound_file::stream::Stream;
 pub use cfb_format::error::{Detail, Error};
 pub use cfb_format::medium::{Medium, MediumFault, ReadMedium};
 pub use cfb_format::memory::MemoryMedium;
+pub use cfb_format::validate::Validation;
 pub use cfb_format::version::Version;
-pub use cfb_one_stream::{CompoundFile, Stream, laws};
+pub use cfb_listing::entries::Entries;
+pub use cfb_listing::entry::Entry;
+
+/// What follows from what the calls promise. None of these functions does anything: each has laws as its contract.
+pub mod laws {
+    /// What follows from what a file keeps in memory: the bytes mean its tree, and whether they are sound.
+    pub use cfb_agreement::laws as files;
+    /// What bytes mean.
+    pub use cfb_format::laws as bytes;
+    /// What listings are, and where the paths in them lead.
+    pub use cfb_listing::laws as listings;
+    /// What each call answers and makes of the tree.
+    pub use cfb_rules::laws as rules;
+}
 
 /// The layers that compound files are made of.
 pub mod internal {
@@ -16,6 +36,7 @@ pub mod internal {
     pub use cfb_codecs::direntry::DirEntry;
     pub use cfb_codecs::path::{self, CaseMapper};
     pub use cfb_codecs::timestamp::Timestamp;
+    pub use cfb_content::writing::write_content;
     pub use cfb_directory::directory::Directory;
     pub use cfb_entries::fields::Fields;
     pub use cfb_format::color::Color;
@@ -23,7 +44,9 @@ pub mod internal {
     pub use cfb_format::header::Header;
     pub use cfb_format::objtype::ObjType;
     pub use cfb_format::validate::Validation;
+    pub use cfb_listing::listing::EntriesOrder;
     pub use cfb_mini::mini_allocator::MiniAllocator;
     pub use cfb_mini_chains::mini_chain::MiniChain;
+    pub use cfb_resizing::resizing::resize_content;
     pub use cfb_sectors::sector::{Sector, SectorInit, Sectors};
 }

@@ -1,10 +1,12 @@
-//! Whole reads and writes with their contracts, and the tests of compound files.
+//! Helpers for the tests of compound files, and the worked files step by step. Tests with other files stand in crates beside.
 #![tactic(auto)]
 
 #[cfg(test)]
-mod files;
-#[cfg(test)]
-mod streams;
-#[cfg(test)]
-mod support;
-pub mod whole;
+mod rows;
+pub mod support;
+
+// Each library that a crate names beside others that stand on it costs the gate minutes, so the tests above name this one alone.
+pub use cfb::{
+    CaseMapper, CompoundFile, Entry, Error, Medium, MemoryMedium, OpenOptions, ReadMedium,
+    ReadStream, Stream, Version,
+};

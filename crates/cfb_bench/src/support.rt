@@ -1,7 +1,7 @@
 //! What the tests of compound files share.
-use cfb::{CompoundFile, Error, Medium, MemoryMedium, Version};
+use cfb::{CompoundFile, Error, Medium, MemoryMedium, ReadMedium, Stream, Version};
 use std::alloc::{AllocError, Allocator, Global};
-use std::test::Fail;
+use std::io::SeekFrom;
 
 pub type File = CompoundFile<MemoryMedium, Global>;
 
@@ -39,7 +39,8 @@ const EMPTY_4: [Part; 12] = [
     (8308, 0, 1, &[0xfe, 0xff, 0xff, 0xff]), (8260, 128, 32, &[0xff; 12]),
 ];
 
-fn empty_bytes(alloc: Global, version: Version) -> Result<Vec<u8>, AllocError> {
+/// The bytes of a file without objects, put together by hand.
+pub fn empty_bytes(alloc: Global, version: Version) -> Result<Vec<u8>, AllocError> {
     let (len, parts) = match version {
         Version::V3 => (1536, &EMPTY_3),
         Version::V4 => (12288, &EMPTY_4),
@@ -47,34 +48,46 @@ fn empty_bytes(alloc: Global, version: Version) -> Result<Vec<u8>, AllocError> {
     let mut bytes = vec![in alloc; 0u8; len]?;
     for (at, step, times, part) in parts {
         for i in 0..*times {
-            let start = at.saturating_add(i.saturating_mul(*step));
-            for (place, byte) in bytes.iter_mut().skip(start).zip(*part) {
-                *place = *byte;
-            }
+            put_bytes(&mut bytes, at.saturating_add(i.saturating_mul(*step)), part);
         }
     }
     Ok(bytes)
 }
 
-/// The bytes of a file without objects, put together by hand, or with a stream of this length, `/a`.
-pub fn file_bytes(alloc: Global, version: Version, stream: Option<usize>) -> Result<Vec<u8>, Fail> {
-    let Some(len) = stream else {
-        return Ok(empty_bytes(alloc, version)?);
-    };
-    let content = content(alloc, len)?;
-    let medium = MemoryMedium::new(alloc);
-    let mut file = CompoundFile::create_with_version(alloc, version, medium)?;
-    on_stream(&mut file, b'c', "/a", content.as_slice())?;
-    Ok(file.into_inner().into_bytes())
+/// A version 3 file without objects whose DIFAT has a sector for one FAT sector, and zeros behind it.
+pub fn long_difat(alloc: Global) -> Result<Vec<u8>, AllocError> {
+    let mut bytes = vec![in alloc; 0xffu8; 57856]?;
+    let empty = empty_bytes(alloc, Version::V3)?;
+    put_bytes(&mut bytes, 0, empty.get(..512).unwrap_or(&[]));
+    put_words(&mut bytes, 44, &[110, 111]);
+    put_words(&mut bytes, 68, &[110, 1]);
+    for i in 0..109u32 {
+        put_words(
+            &mut bytes,
+            76usize.saturating_add(4usize.saturating_mul(i as usize)),
+            &[i],
+        );
+    }
+    for i in 0..110usize {
+        put_words(
+            &mut bytes,
+            512usize.saturating_add(4usize.saturating_mul(i)),
+            &[0xffff_fffd],
+        );
+    }
+    put_words(&mut bytes, 952, &[0xffff_fffc, 0xffff_fffe]);
+    put_words(&mut bytes, 56832, &[109]);
+    put_bytes(&mut bytes, 56836, &[0; 504]);
+    put_words(&mut bytes, 57340, &[0xffff_fffe]);
+    put_bytes(&mut bytes, 57344, empty.get(1024..).unwrap_or(&[]));
+    Ok(bytes)
 }
 
 /// The same bytes but for some at these places.
 pub fn changed(alloc: Global, bytes: &[u8], to: &[(usize, u8)]) -> Result<Vec<u8>, AllocError> {
     let mut other = Vec::from_slice(alloc, bytes)?;
     for (at, byte) in to {
-        if let Some(place) = other.get_mut(*at) {
-            *place = *byte;
-        }
+        put_bytes(&mut other, *at, &[*byte]);
     }
     Ok(other)
 }
@@ -101,8 +114,42 @@ pub fn answers(alloc: Global, bytes: &[u8]) -> (u8, u8) {
     (permissive, number(opened(alloc, bytes, true)))
 }
 
-/// A call on the stream at this path, which is closed again: `c` creates it and writes, `n` newly
-/// creates it and writes, `w` opens it and writes, and `o` opens it and answers its length.
+/// Writes all bytes at the position. Each write serves a beginning of what is left.
+pub fn write_all<F: Medium, A: Allocator + Clone>(
+    stream: &mut Stream<'_, F, A>,
+    bytes: &[u8],
+) -> Result<(), Error> {
+    let mut left = bytes;
+    for _turn in 0..bytes.len() {
+        if left.is_empty() {
+            break;
+        }
+        let served = stream.write(left)?;
+        left = left.get(served..).unwrap_or(&[]);
+    }
+    Ok(())
+}
+
+/// What one call does on an open stream, and its length then: `c`, `n` and `w` write the bytes at the position, `a` at the end, and `s` sets
+/// the length to theirs.
+fn call_on<F: Medium, A: Allocator + Clone>(
+    stream: &mut Stream<'_, F, A>,
+    call: u8,
+    bytes: &[u8],
+) -> Result<u64, Error> {
+    match call {
+        b'c' | b'n' | b'w' => write_all(stream, bytes)?,
+        b'a' => {
+            stream.seek(SeekFrom::End(0))?;
+            write_all(stream, bytes)?;
+        }
+        b's' => stream.set_len(bytes.len() as u64)?,
+        _ => {}
+    }
+    Ok(stream.len())
+}
+
+/// A call on the stream at this path, which is closed again: `c` creates it first, `n` creates it where nothing is, and others open it.
 pub fn on_stream<F: Medium, A: Allocator + Clone>(
     file: &mut CompoundFile<F, A>,
     call: u8,
@@ -114,24 +161,60 @@ pub fn on_stream<F: Medium, A: Allocator + Clone>(
         b'n' => file.create_new_stream(path)?,
         _ => file.open_stream(path)?,
     };
-    let answer = if call == b'o' {
-        Ok(stream.len())
-    } else {
-        match stream.write(bytes) {
-            Ok(written) => Ok(written as u64),
-            Err(e) => Err(e),
-        }
-    };
-    stream.close()?;
-    answer
+    let answer = call_on(&mut stream, call, bytes);
+    let closed = stream.close();
+    let len = answer?;
+    closed?;
+    Ok(len)
+}
+
+/// The bytes of a version 3 file with these in its stream `/a`.
+pub fn with_stream(alloc: Global, bytes: &[u8]) -> Result<Vec<u8>, Error> {
+    let medium = MemoryMedium::new(alloc);
+    let mut file = CompoundFile::create_with_version(alloc, Version::V3, medium)?;
+    on_stream(&mut file, b'c', "/a", bytes)?;
+    Ok(file.into_inner().into_bytes())
 }
 
 /// Appends all bytes of a stream, and answers its length as it says.
-pub fn read_all(file: &mut File, path: &str, into: &mut Vec<u8>) -> Result<u64, Error> {
-    let mut stream = file.open_stream(path)?;
+pub fn read_all<F: ReadMedium>(
+    file: &mut CompoundFile<F>,
+    path: &str,
+    into: &mut Vec<u8>,
+) -> Result<u64, Error> {
+    let mut stream = file.open_read_stream(path)?;
     let len = stream.len();
     let read = stream.read_to_end(into);
     stream.close()?;
     read?;
     Ok(len)
+}
+
+/// The number in four bytes at a place; those past the end are 0.
+pub fn word(bytes: &[u8], at: usize) -> u32 {
+    let mut four = [0u8; 4];
+    for (i, place) in four.iter_mut().enumerate() {
+        *place = bytes.get(at.saturating_add(i)).copied().unwrap_or(0);
+    }
+    u32::from_le_bytes(four)
+}
+
+/// Puts bytes at a place, as far as there are places.
+pub fn put_bytes(bytes: &mut [u8], at: usize, from: &[u8]) {
+    for (i, byte) in from.iter().enumerate() {
+        if let Some(place) = bytes.get_mut(at.saturating_add(i)) {
+            *place = *byte;
+        }
+    }
+}
+
+/// Puts these words at a place, one behind the other.
+pub fn put_words(bytes: &mut [u8], at: usize, words: &[u32]) {
+    for (i, word) in words.iter().enumerate() {
+        put_bytes(
+            bytes,
+            at.saturating_add(i.saturating_mul(4)),
+            &word.to_le_bytes(),
+        );
+    }
 }

@@ -1,4 +1,5 @@
-//! Vectors of the codecs, printed texts, and tests of the media and of the calls that take memory.
+//! Vectors of the codecs, printed texts, tests of the media and of the calls that take memory, and
+//! whole reads and writes at media in memory.
 #![tactic(auto)]
 
 #[cfg(test)]
@@ -15,3 +16,4 @@ mod names;
 mod refusals;
 #[cfg(test)]
 mod texts;
+pub mod whole;

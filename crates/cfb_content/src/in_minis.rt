@@ -1,5 +1,5 @@
 //! Contents that lie in mini sectors (MS-CFB 2.4), by the list of a mini chain's numbers.
-ghost use Rattle.std.specs.Prelude.{◌≡◌, ℕ, ◌+◌, ◌-◌, ◌/◌, ◌<◌, ◌≤◌, List, length, drop, replicate, true, nat_eq, slice_index, IsTrue, IfOk, IfErr, OnOk, OnErr};
+ghost use Rattle.std.specs.Prelude.{◌≡◌, ℕ, ◌+◌, ◌-◌, ◌/◌, ◌^◌, ◌<◌, ◌≤◌, List, length, drop, replicate, true, nat_eq, slice_index, IsTrue, IfOk, IfErr, OnOk, OnErr};
 ghost use Rattle.std.specs.List.{IsDistinct};
 ghost use Rattle.cfb_format.specs.declared.validate.Validation.{Validation};
 ghost use Rattle.cfb_format.specs.Content.{mini_sector_len};
@@ -85,7 +85,7 @@ pub fn whole_mini_chain<F: ReadMedium, A: Heap + Clone>(
 }
 
 /// Reads from byte `at` of these mini sectors on as much as lies in one mini sector, as far as `into` has room and the file goes.
-pub(crate) fn read_in_minis<F: ReadMedium, A: Heap>(
+fn read_in_minis<F: ReadMedium, A: Heap>(
     mini: &mut MiniAllocator<F, A>,
     ids: &[u32],
     at: u64,
@@ -109,6 +109,32 @@ pub(crate) fn read_in_minis<F: ReadMedium, A: Heap>(
     mini.read_mini(ids[index], offset, into)
 }
 
+/// Reads the bytes of these mini sectors from byte `at` on, as many as `into` has room for, all of which the file has.
+pub(crate) fn fill_from_minis<F: ReadMedium, A: Heap>(
+    mini: &mut MiniAllocator<F, A>,
+    ids: &[u32],
+    at: u64,
+    into: &mut [u8],
+) -> Result<(), Error>
+    requires bounded { at + length into.old < 2 ^ 64 }
+    requires there { (k : ℕ) → k < length into.old → IsThereInMinis mini.old ids.now (at + k) }
+    ensures kept { IsStill mini.old mini.new }
+    ensures got { IsTrue F.tells → OnOk result ((k : ℕ) → k < length into.new
+        → slice_index into.new k ≡ slice_index (bytes_of mini.old) (mini_place_along mini.old ids.now (at + k))) }
+    ensures len { length into.new ≡ length into.old }
+    ensures err { IfErr result IsMediumError }
+    ensures same { IsTrue F.tells → OnOk result (mini.new ≡ mini.old) }
+    ensures bytes { IsTrue F.tells → bytes_of mini.new ≡ bytes_of mini.old }
+    ensures counts { IsTrue F.tells → CountsFailure F.read_faults result (table_of mini.old).file.failures (table_of mini.new).file.failures }
+{
+    let mut done = 0;
+    while done < into.len() {
+        let count = read_in_minis(mini, ids, at + done as u64, &mut into[done..])?;
+        done += count;
+    }
+    Ok(())
+}
+
 /// Reads the first bytes of these mini sectors, as many as `into` has room for, all of which the file has.
 pub fn get_from_minis<F: ReadMedium, A: Heap>(
     mini: &mut MiniAllocator<F, A>,
@@ -124,12 +150,7 @@ pub fn get_from_minis<F: ReadMedium, A: Heap>(
     ensures bytes { IsTrue F.tells → bytes_of mini.new ≡ bytes_of mini.old }
     ensures counts { IsTrue F.tells → CountsFailure F.read_faults result (table_of mini.old).file.failures (table_of mini.new).file.failures }
 {
-    let mut done = 0;
-    while done < into.len() {
-        let count = read_in_minis(mini, ids, done as u64, &mut into[done..])?;
-        done += count;
-    }
-    Ok(())
+    fill_from_minis(mini, ids, 0, into)
 }
 
 /// Writes all of these bytes into these mini sectors, from byte `at` of them on. `Medium` where the medium fails.

@@ -1,5 +1,5 @@
 //! Contents that lie in sectors (MS-CFB 2.3), by the list of a chain's sectors.
-ghost use Rattle.std.specs.Prelude.{◌≡◌, ℕ, ◌+◌, ◌-◌, ◌/◌, ◌<◌, ◌≤◌, List, length, min, take, drop, replicate, true, nat_eq, slice_index, IsTrue, IfOk, IfErr, OnOk, OnErr};
+ghost use Rattle.std.specs.Prelude.{◌≡◌, ℕ, ◌+◌, ◌-◌, ◌/◌, ◌^◌, ◌<◌, ◌≤◌, List, length, min, take, drop, replicate, true, nat_eq, slice_index, IsTrue, IfOk, IfErr, OnOk, OnErr};
 ghost use Rattle.std.specs.List.{IsDistinct};
 ghost use Rattle.cfb_format.specs.declared.validate.Validation.{Validation};
 ghost use Rattle.cfb_format.specs.Bytes.{sector_len, sector_start};
@@ -130,7 +130,7 @@ fn read_some<F: ReadMedium, A: Heap>(
 }
 
 /// Reads from byte `at` of these sectors on as much as lies in one sector, as far as `into` has room and the file goes.
-pub(crate) fn read_in_sectors<F: ReadMedium, A: Heap>(
+fn read_in_sectors<F: ReadMedium, A: Heap>(
     allocator: &mut Allocator<F, A>,
     ids: &[u32],
     at: u64,
@@ -157,6 +157,33 @@ pub(crate) fn read_in_sectors<F: ReadMedium, A: Heap>(
     read_some(allocator, ids, index, offset, into)
 }
 
+/// Reads the bytes of these sectors from byte `at` on, as many as `into` has room for, all of which the file has.
+pub(crate) fn fill_from_sectors<F: ReadMedium, A: Heap>(
+    allocator: &mut Allocator<F, A>,
+    ids: &[u32],
+    at: u64,
+    into: &mut [u8],
+) -> Result<(), Error>
+    requires bounded { at + length into.old < 2 ^ 64 }
+    requires there { (k : ℕ) → k < length into.old → IsThereInSectors allocator.old.tables.version ids.now allocator.old.file.len (at + k) }
+    ensures tables { allocator.new.tables ≡ allocator.old.tables }
+    ensures kept { allocator.new.file ≡ record allocator.old.file { bytes = allocator.new.file.bytes; failures = allocator.new.file.failures } }
+    ensures got { IsTrue F.tells → OnOk result ((k : ℕ) → k < length into.new
+        → slice_index into.new k ≡ slice_index allocator.old.file.bytes (place_along allocator.old.tables.version ids.now (at + k))) }
+    ensures len { length into.new ≡ length into.old }
+    ensures err { IfErr result IsMediumError }
+    ensures same { IsTrue F.tells → OnOk result (allocator.new ≡ allocator.old) }
+    ensures bytes { IsTrue F.tells → allocator.new.file.bytes ≡ allocator.old.file.bytes }
+    ensures counts { IsTrue F.tells → CountsFailure F.read_faults result allocator.old.file.failures allocator.new.file.failures }
+{
+    let mut done = 0;
+    while done < into.len() {
+        let count = read_in_sectors(allocator, ids, at + done as u64, &mut into[done..])?;
+        done += count;
+    }
+    Ok(())
+}
+
 /// Reads the first bytes of these sectors, as many as `into` has room for, all of which the file has.
 pub fn get_from_sectors<F: ReadMedium, A: Heap>(
     allocator: &mut Allocator<F, A>,
@@ -174,12 +201,7 @@ pub fn get_from_sectors<F: ReadMedium, A: Heap>(
     ensures bytes { IsTrue F.tells → allocator.new.file.bytes ≡ allocator.old.file.bytes }
     ensures counts { IsTrue F.tells → CountsFailure F.read_faults result allocator.old.file.failures allocator.new.file.failures }
 {
-    let mut done = 0;
-    while done < into.len() {
-        let count = read_in_sectors(allocator, ids, done as u64, &mut into[done..])?;
-        done += count;
-    }
-    Ok(())
+    fill_from_sectors(allocator, ids, 0, into)
 }
 
 /// Writes all of `from` into the listed sector with that index, from `offset` on.

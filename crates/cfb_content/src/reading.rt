@@ -10,8 +10,8 @@ ghost use Rattle.cfb_content.specs.Along.{IsByteAlong, IsCutBy, IsMiniByteAlong,
 ghost use Rattle.cfb_content.specs.Contents.{TellsPlaces, len_of};
 ghost use Rattle.cfb_content.specs.Parts.{HasFirst};
 
-use crate::in_minis::{read_in_minis, there_in_minis};
-use crate::in_sectors::{cut_short, read_in_sectors, there_in_sectors};
+use crate::in_minis::{fill_from_minis, there_in_minis};
+use crate::in_sectors::{cut_short, fill_from_sectors, there_in_sectors};
 use cfb_alloc::alloc::Allocator;
 use cfb_format::consts::MINI_STREAM_CUTOFF;
 use cfb_format::error::Error;
@@ -112,7 +112,9 @@ fn read_along<F: ReadMedium, A: Heap + Clone>(
     if at >= there {
         return Err(cut_short(len, there));
     }
-    read_in_sectors(allocator, &ids, at, into)
+    let served = (into.len() as u64).min(there - at) as usize;
+    fill_from_sectors(allocator, &ids, at, &mut into[..served])?;
+    Ok(served)
 }
 
 /// Reads a beginning of the bytes from `at` on of the mini chain from `start`, whose first `len` bytes are a stream. `InvalidData` exactly
@@ -143,7 +145,9 @@ fn read_along_minis<F: ReadMedium, A: Heap + Clone>(
     if at >= there {
         return Err(cut_short(len, there));
     }
-    read_in_minis(mini, &ids, at, into)
+    let served = (into.len() as u64).min(there - at) as usize;
+    fill_from_minis(mini, &ids, at, &mut into[..served])?;
+    Ok(served)
 }
 
 /// Reads a beginning of the bytes from `at` on of the stream of that entry, which go on to the end of `into` at least. `InvalidData`

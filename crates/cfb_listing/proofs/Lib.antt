@@ -3,3 +3,9 @@ pub mod Telling
 pub mod Levels
 pub mod Leaving
 pub mod Walked
+pub mod PlainPaths
+pub mod PathNames
+pub mod FoundNames
+pub mod ReachedFound
+pub mod MeantNames
+pub mod PathFacts

@@ -3,7 +3,8 @@ use Rattle.std.proofs.Common.{refl, ℕ, ◌+◌, ◌≡◌, ◌<◌, ◌≤◌,
 use Rattle.cfb_format.specs.declared.error.Error.{Error}
 use Rattle.cfb_stream_buffer.specs.Contents.{Stored, laid, IsFitting, IsRefusedRead}
 use Rattle.cfb_rules.specs.StreamCalls.{opened}
-use Rattle.cfb_stream_window.specs.Windows.{Window, Agrees, Suits, Carries, Stays, CalmBrokeOff, Unreadable, state_of, settled, window_settled, window_at, IsLoaded, window_opened}
+use Rattle.cfb_stream_window.specs.Windows.{Window, Agrees, Suits, Carries, Stays, CalmBrokeOff, Unreadable, state_of, settled, window_settled, window_at, IsLoaded, window_over}
+use Rattle.cfb_stream_buffer.specs.Buffers.{Buffered}
 use Rattle.cfb_stream_buffer.proofs.Lists.{length-laid, laid-nothing, laid-own, laid-twice}
 
 -- the same, where nothing may be held
@@ -137,8 +138,8 @@ settled_agrees s t w a is = subst (λ (z : Stored). Agrees z w) (sym is) (record
   trusted = a.trusted;
 })
 
-pub opened_agrees : (s : Stored) (bound : ℕ) → s.failed ≡ false → IsFitting s → Agrees s (window_opened s.size bound)
-opened_agrees s bound f k = record {
+pub opened_agrees : (s : Stored) (buffer : Buffered) → s.failed ≡ false → IsFitting s → Agrees s (window_over s.size buffer)
+opened_agrees s buffer f k = record {
   unfailed = f;
   begins = omega arith;
   total = omega arith;
@@ -152,13 +153,13 @@ opened_agrees s bound f k = record {
 }
 
 -- as it is opened it is the rules' stream at its start
-pub opened_state : (s : Stored) (bound : ℕ) (w : Window) → w ≡ window_opened s.size bound → state_of s w ≡ opened s.size s.content
-opened_state s bound w is = subst (λ (z : Window). state_of s z ≡ opened s.size s.content) (sym is)
+pub opened_state : (s : Stored) (buffer : Buffered) (w : Window) → w ≡ window_over s.size buffer → state_of s w ≡ opened s.size s.content
+opened_state s buffer w is = subst (λ (z : Window). state_of s z ≡ opened s.size s.content) (sym is)
     (ap (λ (c : List ℕ). record { len = s.size; content = c; position = 0; ahead = 0; pending = false }) (laid-nothing 0 s.content))
 
 -- and it is open, failed or not
-pub opened_suits : (s : Stored) (bound : ℕ) (w : Window) → IsFitting s → w ≡ window_opened s.size bound → Suits s w
-opened_suits s bound w k is = λ (f : s.failed ≡ false). subst (λ (z : Window). Agrees s z) (sym is) (opened_agrees s bound f k)
+pub opened_suits : (s : Stored) (buffer : Buffered) (w : Window) → IsFitting s → w ≡ window_over s.size buffer → Suits s w
+opened_suits s buffer w k is = λ (f : s.failed ≡ false). subst (λ (z : Window). Agrees s z) (sym is) (opened_agrees s buffer f k)
 
 -- ---- the window let go where nothing is pending
 

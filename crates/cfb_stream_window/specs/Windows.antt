@@ -7,6 +7,7 @@ use Rattle.cfb_format.specs.declared.error.Error.{Error}
 use Rattle.cfb_rules.specs.Refusal.{Refusal, IsRefusal}
 use Rattle.cfb_rules.specs.StreamCalls.{StreamState, StreamCall, StreamReply, not_done, Whence, from_start, from_end, from_current, place_within, place_from, resized}
 use Rattle.cfb_rules.specs.Runs.{Causes, StreamRun, StreamCallRuns}
+use Rattle.cfb_stream_buffer.specs.Buffers.{Buffered}
 use Rattle.cfb_stream_buffer.specs.Contents.{Stored, setting_of, laid, IsBreak, Fails}
 
 -- the bytes held, which of them is the next, how many there is room for and can be, where they lie in the stream,
@@ -76,6 +77,10 @@ pub record Agrees (s : Stored) (w : Window) : Type 0 where
 -- unless the file has failed
 abbrev pub Suits : Stored → Window → Type 0
 Suits s w = s.failed ≡ false → Agrees s w
+
+-- the window at the start of a stream of this length, over a buffer that holds nothing
+abbrev pub window_over : ℕ → Buffered → Window
+window_over size buffer = record { filled = []; cursor = 0; room = buffer.room; bound = buffer.bound; base = 0; size = size; ahead = 0; pending = false }
 
 -- the window of a stream that was opened
 abbrev pub window_opened : ℕ → ℕ → Window

@@ -3,7 +3,7 @@ ghost use Rattle.std.specs.Prelude.{◌≡◌, ◌+◌, ◌-◌, ◌<◌, ◌≤
 ghost use Rattle.cfb_format.specs.Refused.{IsInvalidOrMemory, IsMemory};
 ghost use Rattle.cfb_rules.specs.StreamCalls.{StreamStep, consume, ask_len, ask_position, ask_is_empty, ready, offset, answered, opened};
 ghost use Rattle.cfb_stream_buffer.specs.Contents.{Stored, setting_of, IsRefusedRead, IsFitting};
-ghost use Rattle.cfb_stream_window.specs.Windows.{state_of, Agrees, Carries, CalmBrokeOff, Unreadable, window_at, window_opened, IsLoaded, target_of, IsReadable, IsUnreadable, Appended};
+ghost use Rattle.cfb_stream_window.specs.Windows.{state_of, Agrees, Carries, CalmBrokeOff, Unreadable, window_at, window_opened, window_over, IsLoaded, target_of, IsReadable, IsUnreadable, Appended};
 ghost use Rattle.cfb_stream_window.specs.Answers.{IsOpen, IsReady};
 ghost use Rattle.cfb_stream_buffer.specs.Touched.{IsRead};
 
@@ -62,13 +62,26 @@ impl<A: Allocator> Window<A> {
         let Ok(buffer) = StreamBuffer::new(alloc, limit) else {
             return Err(Error::Memory);
         };
-        Ok(Window {
+        Ok(Window::over(buffer, content, id))
+    }
+
+    /// Opens the stream under a number at its start, over a buffer that holds nothing. It takes no memory,
+    /// so that the buffer can be had before a stream is made.
+    pub fn over<C: ReadContents>(buffer: StreamBuffer<A>, content: &C, id: u32) -> Window<A>
+        requires there { C.has content.now id }
+        requires unfilled { buffer.filled ≡ [] }
+        requires start { buffer.cursor ≡ 0 }
+        ensures value { result ≡ window_over (C.stored content.now id).size buffer }
+        ensures begins { state_of (C.stored content.now id) result ≡ opened (C.stored content.now id).size (C.stored content.now id).content }
+        ensures is_open { C.tells content.now → IsFitting (C.stored content.now id) → IsOpen C.ReadContents content.now id result }
+    {
+        Window {
             buffer,
             base: 0,
             size: content.len(id),
             ahead: 0,
             pending: false,
-        })
+        }
     }
 
     /// The length of the stream.

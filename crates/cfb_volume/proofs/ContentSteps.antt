@@ -11,7 +11,7 @@ use Rattle.cfb_mini.specs.MiniSectors.{IsStill}
 use Rattle.cfb_content.specs.Contents.{AreAllUsed, IsStreamOf, KeepsOthers, MovesContent}
 use Rattle.cfb_content.proofs.Outlines.{moved-is-outline, stream-stays}
 use Rattle.cfb_agreement.specs.Changes.{ChangesOneContent, StaysOrFails}
-use Rattle.cfb_agreement.specs.Files.{Agrees, FileState, Holds, IsAsBefore, IsAsMade, LeavesNoneFree, SameSetting, failures_of, is_failed}
+use Rattle.cfb_agreement.specs.Files.{Agrees, FileState, Holds, IsAsMade, LeavesNoneFree, SameSetting, failures_of, is_failed}
 use Rattle.cfb_agreement.proofs.ContentChanges.{content-keeps-made}
 use Rattle.cfb_agreement.proofs.Flags.{as-before-same, flags-not-made, flags-not-read}
 use Rattle.cfb_agreement.proofs.HeldBytes.{changeable-is-held}
@@ -57,7 +57,7 @@ module _ (old : FileState) (mid : MiniState) (i : ℕ) (sound : Bool) (limit : �
     buffer_limit = limit-is;
   }
 
-  ended-entries : MovesContent old.base mid i → MovesContent old.base (ended mid) i
+  pub ended-entries : MovesContent old.base mid i → MovesContent old.base (ended mid) i
   ended-entries entries = record {
     same_length = entries.same_length;
     own = entries.own;

@@ -1,5 +1,5 @@
 -- Tables with no number left are those of a full file.
-use Rattle.std.proofs.Common.{◌⊎◌, inl, inr, ℕ}
+use Rattle.std.proofs.Common.{◌⊎◌, inl, inr}
 use Rattle.cfb_format.specs.Full.{CanTake, IsFull, IsFullOfMiniSectors}
 use Rattle.cfb_tables.specs.Tables.{AreFullTables}
 use Rattle.cfb_tables.proofs.FullLemmas.{full-is-too-few}

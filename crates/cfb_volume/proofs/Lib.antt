@@ -2,3 +2,4 @@ pub mod InsertedObjects
 pub mod ContentSteps
 pub mod Fullness
 pub mod Refusals
+pub mod Emptying

@@ -1,5 +1,5 @@
 -- What the layers below refuse, as refusals of the file.
-use Rattle.std.proofs.Common.{◌≡◌, ◌⊎◌, ℕ}
+use Rattle.std.proofs.Common.{◌≡◌}
 use Rattle.cfb_format.specs.declared.error.Error.{Error}
 use Rattle.cfb_format.specs.declared.error.Error.TheVariants.{AlreadyExists, Failed, Full, InvalidData, InvalidInput, Medium, Memory, NotFound, Unsound, Unsupported}
 use Rattle.cfb_format.specs.Full.{IsFull}

@@ -21,7 +21,7 @@ ghost use Rattle.cfb_objects.specs.Laws.{BecomesTree};
 ghost use Rattle.cfb_directory.specs.State.{IsFullForEntry};
 ghost use Rattle.cfb_mini_sectors.specs.Held.{with_table};
 ghost use Rattle.cfb_mini_sectors.specs.State.{bytes_of, cases_of, entries_of, table_of, tables_in, version_of};
-ghost use Rattle.cfb_content.specs.Contents.{IsStreamOf, IsTooLongFor, len_of};
+ghost use Rattle.cfb_content.specs.Contents.{IsStreamOf, IsTooLongFor, MovesContent, len_of};
 ghost use Rattle.cfb_agreement.specs.Changes.{ChangesOneContent, KeepsStreams, StaysOrFails, object_added_at};
 ghost use Rattle.cfb_agreement.specs.Files.{Agrees, Holds, IsAsBefore, IsAsMade, IsFullFile, LeavesNoneFree, SameSetting, failures_of, is_failed};
 ghost use Rattle.cfb_agreement.specs.Laws.{with_flags};
@@ -111,16 +111,18 @@ impl<F: ReadMedium, A: Heap> Volume<F, A> {
         self.mini.inner()
     }
 
-    /// Gives the medium back.
+    /// Gives the medium back. The MiniFAT is no longer than it may be.
     pub fn into_inner(self) -> F
         ensures bytes { F.bytes result ≡ bytes_of self.base }
         ensures failures { F.failures result ≡ failures_of self }
+        ensures short { length self.base.minifat ≤ self.base.max_mini_sectors }
     {
         let Volume {
             mini,
             is_sound: _,
             buffer_limit: _,
         } = self;
+        let _short = mini.minifat_len();
         mini.into_inner()
     }
 
@@ -247,6 +249,7 @@ impl<F: Medium, A: Heap + Clone> Volume<F, A> {
         ensures stream { IsStreamOf self.new.base entry }
         ensures setting { SameSetting self.old self.new }
         ensures content { IsTrue F.tells → Holds self.old → IfOk result (λ n. content_at self.new entry ≡ written (content_at self.old entry) at (take n bytes.now)) }
+        ensures entries { MovesContent self.old.base self.new.base entry }
         ensures changes { IsTrue F.tells → Holds self.old → ChangesOneContent entry self.old self.new }
         ensures no_shorter { OnOk result (length (tables_in self.old.base).fat ≤ length (tables_in self.new.base).fat) }
         ensures stays_full { IsTrue F.tells → Holds self.old → NoneFree (tables_in self.old.base).fat → OnOk result (NoneFree (tables_in self.new.base).fat) }
@@ -263,8 +266,9 @@ impl<F: Medium, A: Heap + Clone> Volume<F, A> {
 
     /// Gives the stream of that entry this length: it is cut, or padded with zeros. The length that it has changes nothing.
     ///
-    /// `Full` exactly where the length needs more numbers than are free or left once the chain that it moves away from is free: nothing
-    /// has changed then. `Memory`, and `Medium` where the medium fails: all is as before, or the file has failed.
+    /// `Full` exactly where the length needs more numbers than are free or left once the chain that it moves away from is free, so never
+    /// where the stream is emptied: nothing has changed then. `Memory`, and `Medium` where the medium fails: all is as before, or the file
+    /// has failed.
     pub fn resize(&mut self, entry: u32, len: u64) -> Result<(), Error>
         requires sound { self.old.is_sound ≡ true }
         requires unfailed { is_failed self.old ≡ false }
@@ -275,14 +279,18 @@ impl<F: Medium, A: Heap + Clone> Volume<F, A> {
         ensures setting { SameSetting self.old self.new }
         ensures none { len ≡ len_of self.old.base entry → OnErr result ⊥ × (self.new ≡ self.old) }
         ensures content { IsTrue F.tells → Holds self.old → OnOk result (content_at self.new entry ≡ resized (content_at self.old entry) len) }
+        ensures entries { MovesContent self.old.base self.new.base entry }
         ensures changes { IsTrue F.tells → Holds self.old → ChangesOneContent entry self.old self.new }
         ensures agrees { IsTrue F.tells → Holds self.old → Agrees self.new }
         ensures ended { OnOk result (is_failed self.new ≡ false) }
         ensures refused { IsTrue F.tells → Holds self.old → OnErr result (StaysOrFails self.old self.new) }
         ensures enough { IsTrue F.tells → Holds self.old → len ≢ len_of self.old.base entry → OnOk result (IsTooLongFor self.old.base entry len → ⊥) }
+        ensures emptied { Holds self.old → len ≡ 0 → IsTooLongFor self.old.base entry len → ⊥ }
         ensures err { IsTrue F.tells → Holds self.old → IfErr result (IsBreak (IsTooLongFor self.old.base entry len × (self.new ≡ self.old))) }
         ensures counts { IsTrue F.tells → CountsFailure (λ f. F.read_faults f || F.write_faults f) result (failures_of self.old) (failures_of self.new) }
     {
+        // The MiniFAT is no longer than it may be: else there were lengths too long that take nothing.
+        let _ = self.mini.minifat_len();
         resize_content(&mut self.mini, entry, len)?;
         self.mini.end_change();
         Ok(())

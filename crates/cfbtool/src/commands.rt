@@ -11,7 +11,8 @@ use std::rt::Files;
 /// line on `faults`, and 2 where the words are wrong.
 ///
 /// - `create 3 FILE`, `create 4 FILE`: a new empty file of this version; an old one is overwritten.
-/// - `check FILE`, `check FILE strict`: prints `version V sound` or `version V not sound`.
+/// - `check FILE`, `check FILE strict`: prints `version V sound`, or `version V not sound` with the
+///   status 1.
 /// - `put FILE PATH`: a stream at this path, with the bytes of `input`. The file is written back
 ///   whenever it was opened, refused or not.
 /// - `cat FILE PATH`: the bytes of this stream on `out`, none where it is refused.
@@ -29,9 +30,11 @@ pub fn tool<H: Files + AllocGlobal, R: Read, W: Write, E: Write>(
         [call, version, path] if call.as_str() == "create" && version.as_str() == "4" => {
             create(rt, Version::V4, path.as_str())
         }
-        [call, path] if call.as_str() == "check" => check(rt, path.as_str(), false, out),
+        [call, path] if call.as_str() == "check" => {
+            return checked(check(rt, path.as_str(), false, out), faults);
+        }
         [call, path, mode] if call.as_str() == "check" && mode.as_str() == "strict" => {
-            check(rt, path.as_str(), true, out)
+            return checked(check(rt, path.as_str(), true, out), faults);
         }
         [call, path, stream] if call.as_str() == "put" => {
             put(rt, path.as_str(), stream.as_str(), input)
@@ -55,6 +58,15 @@ fn wrong_words<E: Write>(faults: &mut E) -> ExitCode {
 fn refused<E: Write>(e: Error, faults: &mut E) -> ExitCode {
     let _ = writeln!(faults, "cfbtool: {e}");
     ExitCode::from(1)
+}
+
+/// A file that is not sound was told to be so on standard output already.
+fn checked<E: Write>(is_sound: Result<bool, Error>, faults: &mut E) -> ExitCode {
+    match is_sound {
+        Ok(true) => ExitCode::SUCCESS,
+        Ok(false) => ExitCode::from(1),
+        Err(e) => refused(e, faults),
+    }
 }
 
 /// A file is held in memory while it is worked on.
@@ -82,12 +94,13 @@ fn create<H: Files + AllocGlobal>(rt: &H, version: Version, path: &str) -> Resul
     write_file(rt, path, &file.into_inner())
 }
 
+/// Whether the file is sound, which is printed.
 fn check<H: Files + AllocGlobal, W: Write>(
     rt: &H,
     path: &str,
     strict: bool,
     out: &mut W,
-) -> Result<(), Error> {
+) -> Result<bool, Error> {
     let medium = read_file(rt, path)?;
     let file = if strict {
         CompoundFile::open_strict(rt.alloc(), medium)?
@@ -95,13 +108,10 @@ fn check<H: Files + AllocGlobal, W: Write>(
         CompoundFile::open(rt.alloc(), medium)?
     };
     let number = file.version().number();
-    let verdict = if file.is_sound() {
-        "sound"
-    } else {
-        "not sound"
-    };
+    let is_sound = file.is_sound();
+    let verdict = if is_sound { "sound" } else { "not sound" };
     match writeln!(out, "version {number} {verdict}") {
-        Ok(()) => Ok(()),
+        Ok(()) => Ok(is_sound),
         Err(_) => Err(Error::Medium(MediumFault::Write)),
     }
 }

@@ -34,17 +34,23 @@ const WRONG_WORDS: &[u8] = b"cfbtool: wrong words\n";
 
 const MEDIUM_FAILED: &[u8] = b"cfbtool: medium failed\n";
 
-const NOT_YET: &[u8] = b"cfbtool: not supported yet\n";
+const UNSOUND: &[u8] = b"cfbtool: file is not sound\n";
+
+/// How any refusal begins.
+const REFUSED: &[u8] = b"cfbtool: ";
 
 const SOUND_3: &[u8] = b"version 3 sound\n";
 
+const NOT_SOUND_3: &[u8] = b"version 3 not sound\n";
+
 const SOUND_4: &[u8] = b"version 4 sound\n";
 
-/// Runs, each on the file `tool.cfb` that the last one left: words, how many bytes are put in, status,
-/// how many bytes come out, the line behind them or of the faults, and the length of the file; 0 where
-/// it stays as it was.
+/// A run on the file that the last one left: words, how many bytes are put in, status, how many bytes come out, the line behind them
+/// or how that of the faults begins, and the length of the file; 0 where it stays as it was.
+type Run = (&'static str, usize, u8, usize, &'static [u8], usize);
+
 #[rattlefmt::skip]
-const RUNS: [(&str, usize, u8, usize, &[u8], usize); 64] = [
+const RUNS: [Run; 85] = [
     ("", 0, 2, 0, WRONG_WORDS, 0),
     ("create 5 tool.cfb", 0, 2, 0, WRONG_WORDS, 0),
     ("create 3", 0, 2, 0, WRONG_WORDS, 0),
@@ -70,18 +76,21 @@ const RUNS: [(&str, usize, u8, usize, &[u8], usize); 64] = [
     ("put tool.cfb /s/x", 4096, 1, 0, b"cfbtool: no parent storage\n", 0),
     ("put tool.cfb /", 4096, 1, 0, b"cfbtool: the root is there\n", 0),
     ("put tool.cfb /../a", 4096, 1, 0, b"cfbtool: a path stays below the root\n", 0),
-    ("cat tool.cfb /a", 4096, 1, 0, b"cfbtool: no stream of this name\n", 0),
-    ("cat tool.cfb /", 4096, 1, 0, b"cfbtool: no path to a stream\n", 0),
+    ("put tool.cfb /a:b", 4096, 1, 0, REFUSED, 0),
+    ("cat tool.cfb /a", 4096, 1, 0, REFUSED, 0),
+    ("cat tool.cfb /", 4096, 1, 0, REFUSED, 0),
+    // one stream from 4096 bytes on
     ("put tool.cfb /a", 4096, 0, 0, b"", 5632),
     ("cat tool.cfb a", 0, 0, 4096, b"", 0),
     ("check tool.cfb strict", 0, 0, 0, SOUND_3, 0),
+    ("put tool.cfb /a/x", 1, 1, 0, b"cfbtool: the parent is a stream\n", 0),
+    ("put tool.cfb /a/x/y", 1, 1, 0, b"cfbtool: no parent storage\n", 0),
     ("create 3 tool.cfb", 0, 0, 0, b"", 1536),
     ("put tool.cfb /a", 5000, 0, 0, b"", 6656),
     ("cat tool.cfb a", 0, 0, 5000, b"", 0),
-    ("check tool.cfb strict", 0, 0, 0, SOUND_3, 0),
-    ("create 3 tool.cfb", 0, 0, 0, b"", 1536),
-    ("put tool.cfb /a", 64512, 0, 0, b"", 66048),
-    ("cat tool.cfb a", 0, 0, 64512, b"", 0),
+    ("put tool.cfb /b", 5000, 0, 0, b"", 11776),
+    ("cat tool.cfb b", 0, 0, 5000, b"", 0),
+    ("cat tool.cfb a", 0, 0, 5000, b"", 0),
     ("check tool.cfb strict", 0, 0, 0, SOUND_3, 0),
     ("create 4 tool.cfb", 0, 0, 0, b"", 12288),
     ("check tool.cfb", 0, 0, 0, SOUND_4, 0),
@@ -91,60 +100,162 @@ const RUNS: [(&str, usize, u8, usize, &[u8], usize); 64] = [
     ("check tool.cfb strict", 0, 0, 0, SOUND_4, 0),
     ("create 4 tool.cfb", 0, 0, 0, b"", 12288),
     ("put tool.cfb /a", 5000, 0, 0, b"", 20480),
-    ("cat tool.cfb a", 0, 0, 5000, b"", 0),
-    ("check tool.cfb strict", 0, 0, 0, SOUND_4, 0),
     ("create 4 tool.cfb", 0, 0, 0, b"", 12288),
     ("put tool.cfb /a", 64512, 0, 0, b"", 77824),
     ("cat tool.cfb a", 0, 0, 64512, b"", 0),
     ("check tool.cfb strict", 0, 0, 0, SOUND_4, 0),
-    // a write that is not served leaves an empty stream, and the file is written back with it
+    // as much as one FAT sector covers, and a byte more
+    ("create 3 tool.cfb", 0, 0, 0, b"", 1536),
+    ("put tool.cfb /a", 64512, 0, 0, b"", 66048),
+    ("cat tool.cfb a", 0, 0, 64512, b"", 0),
+    ("create 3 tool.cfb", 0, 0, 0, b"", 1536),
+    ("put tool.cfb /a", 64513, 0, 0, b"", 67072),
+    ("cat tool.cfb A", 0, 0, 64513, b"", 0),
+    ("check tool.cfb strict", 0, 0, 0, SOUND_3, 0),
+    // below 4096 bytes, and across; other bytes for a stream that is there
+    ("create 3 tool.cfb", 0, 0, 0, b"", 1536),
+    ("put tool.cfb /a", 4095, 0, 0, b"", 6144),
+    ("cat tool.cfb /a", 0, 0, 4095, b"", 0),
+    ("put tool.cfb /a", 4096, 0, 0, b"", 10240),
+    ("cat tool.cfb /a", 0, 0, 4096, b"", 0),
+    ("put tool.cfb /a", 4095, 0, 0, b"", 10240),
+    ("cat tool.cfb /a", 0, 0, 4095, b"", 0),
+    ("put tool.cfb /a", 0, 0, 0, b"", 10240),
+    ("cat tool.cfb /a", 0, 0, 0, b"", 0),
+    // names past ASCII
+    ("put tool.cfb /b", 100, 0, 0, b"", 10240),
+    ("put tool.cfb /\u{e4}\u{f6}\u{fc}", 65, 0, 0, b"", 10240),
+    ("cat tool.cfb /\u{c4}\u{d6}\u{dc}", 0, 0, 65, b"", 0),
+    ("cat tool.cfb /b", 0, 0, 100, b"", 0),
+    ("cat tool.cfb /a", 0, 0, 0, b"", 0),
+    ("check tool.cfb strict", 0, 0, 0, SOUND_3, 0),
+    // several streams in version 4
     ("create 4 tool.cfb", 0, 0, 0, b"", 12288),
-    ("put tool.cfb /a", 100, 1, 0, NOT_YET, 12288),
-    ("cat tool.cfb /a", 0, 0, 0, b"", 0),
-    ("create 3 tool.cfb", 0, 0, 0, b"", 1536),
-    ("put tool.cfb /a", 100, 1, 0, NOT_YET, 1536),
-    ("cat tool.cfb /a", 0, 0, 0, b"", 0),
-    ("create 3 tool.cfb", 0, 0, 0, b"", 1536),
-    ("put tool.cfb /a", 64513, 1, 0, NOT_YET, 1536),
-    ("cat tool.cfb /a", 0, 0, 0, b"", 0),
+    ("put tool.cfb /a", 100, 0, 0, b"", 20480),
+    ("put tool.cfb /bb", 64513, 0, 0, b"", 86016),
+    ("put tool.cfb /a", 4096, 0, 0, b"", 90112),
+    ("cat tool.cfb /a", 0, 0, 4096, b"", 0),
+    ("cat tool.cfb /bb", 0, 0, 64513, b"", 0),
+    ("put tool.cfb /a", 3000, 0, 0, b"", 90112),
+    ("cat tool.cfb /a", 0, 0, 3000, b"", 0),
+    ("check tool.cfb strict", 0, 0, 0, SOUND_4, 0),
     // no bytes make an empty stream
     ("create 3 tool.cfb", 0, 0, 0, b"", 1536),
     ("put tool.cfb /a", 0, 0, 0, b"", 1536),
     ("cat tool.cfb /a", 0, 0, 0, b"", 0),
-    ("check tool.cfb strict", 0, 0, 0, SOUND_3, 0),
 ];
+
+/// Does these runs in turn on this file, and answers the words of the first that is not answered so.
+fn first_wrong(rt: &HostRuntime, path: &str, runs: &[Run]) -> Result<Option<&'static str>, Fail> {
+    let all = content(rt.alloc(), 64513)?;
+    let mut before = fs::read(rt, path).unwrap_or(Vec::new(rt.alloc()));
+    for (words, len, status, out_len, line, file_len) in runs {
+        let mut input = all.get(..*len).unwrap_or(&[]);
+        let mut out = Vec::new(rt.alloc());
+        let (found, faults) = run(rt, words, &mut input, &mut out)?;
+        // a file that is not sound is told to be so where others are told sound
+        let is_printed = *status == 0 || *line == NOT_SOUND_3;
+        let told = out.strip_prefix(all.get(..*out_len).unwrap_or(&[]));
+        let is_told = if is_printed {
+            told == Some(*line) && faults.is_empty()
+        } else {
+            told == Some(b"") && faults.starts_with(line) && faults.last() == Some(&b'\n')
+        };
+        let after = fs::read(rt, path).unwrap_or(Vec::new(rt.alloc()));
+        let is_left = if *file_len == 0 {
+            after.as_slice() == before.as_slice()
+        } else {
+            after.len() == *file_len
+        };
+        if found != ExitCode::from(*status) || !is_told || !is_left {
+            return Ok(Some(words));
+        }
+        before = after;
+    }
+    Ok(None)
+}
 
 #[test]
 fn runs(rt: HostRuntime) -> Result<(), Fail> {
     fs::write(&rt, "other.cfb", b"no compound file".as_slice())?;
-    let all = content(rt.alloc(), 64513)?;
-    let mut before = Vec::new(rt.alloc());
-    for (i, (words, len, status, out_len, line, file_len)) in RUNS.iter().enumerate() {
-        let mut input = all.get(..*len).unwrap_or(&[]);
-        let mut out = Vec::new(rt.alloc());
-        let (found, faults) = run(&rt, words, &mut input, &mut out)?;
-        assert!(rt; found == ExitCode::from(*status), "of run {i}");
-        let (out_line, fault) = if *status == 0 {
-            (*line, &b""[..])
-        } else {
-            (&b""[..], *line)
-        };
-        assert!(rt;
-            out.strip_prefix(all.get(..*out_len).unwrap_or(&[])) == Some(out_line),
-            "of run {i}"
-        );
-        assert!(rt; faults.as_slice() == fault, "of run {i}");
-        let after = fs::read(&rt, "tool.cfb").unwrap_or(Vec::new(rt.alloc()));
-        if *file_len == 0 {
-            assert!(rt; after.as_slice() == before.as_slice(), "of run {i}");
-        } else {
-            assert!(rt; after.len() == *file_len, "of run {i}");
-        }
-        before = after;
-    }
+    assert_eq!(rt; first_wrong(&rt, "tool.cfb", &RUNS)?, None);
     assert_eq!(rt; fs::read(&rt, "other.cfb")?.len(), 1536);
     fs::remove_file(&rt, "other.cfb")?;
     fs::remove_file(&rt, "tool.cfb")?;
+    Ok(())
+}
+
+/// Where bytes of a file are set, how many, and to what.
+type Change = (usize, usize, u8);
+
+#[rattlefmt::skip]
+const ONE: [Run; 2] = [("create 3 odd.cfb", 0, 0, 0, b"", 1536), ("put odd.cfb /a", 5000, 0, 0, b"", 6656)];
+
+/// What files are refused, or not changed: how one is made, what is set in it then, how long it is cut, and the runs on it.
+#[rattlefmt::skip]
+const ODD: [(&[Run], &[Change], usize, &[Run]); 7] = [
+    // the free words of the FAT are 0
+    (&[("create 3 odd.cfb", 0, 0, 0, b"", 1536)], &[(520, 504, 0)], 1536, &[
+        ("check odd.cfb strict", 0, 1, 0, REFUSED, 0),
+        ("check odd.cfb", 0, 0, 0, SOUND_3, 0),
+        ("put odd.cfb /a", 5000, 0, 0, b"", 6656),
+        ("cat odd.cfb /a", 0, 0, 5000, b"", 0),
+    ]),
+    // the last sector is cut short behind the stream's end, and before it
+    (&ONE, &[], 6556, &[
+        ("check odd.cfb", 0, 0, 0, SOUND_3, 0),
+        ("cat odd.cfb /a", 0, 0, 5000, b"", 0),
+    ]),
+    (&ONE, &[], 6500, &[
+        ("check odd.cfb", 0, 1, 0, NOT_SOUND_3, 0),
+        ("cat odd.cfb /a", 0, 1, 0, REFUSED, 0),
+        ("put odd.cfb /a", 4096, 1, 0, UNSOUND, 0),
+        ("put odd.cfb /b", 0, 1, 0, UNSOUND, 0),
+    ]),
+    (&ONE, &[], 511, &[
+        ("check odd.cfb", 0, 1, 0, REFUSED, 0),
+    ]),
+    // the stream's chain goes back to its start, and to another of its sectors
+    (&ONE, &[(556, 1, 2), (557, 3, 0)], 6656, &[
+        ("check odd.cfb", 0, 1, 0, NOT_SOUND_3, 0),
+        ("cat odd.cfb /a", 0, 1, 0, REFUSED, 0),
+        ("put odd.cfb /b", 4096, 1, 0, UNSOUND, 0),
+    ]),
+    (&ONE, &[(556, 1, 3), (557, 3, 0)], 6656, &[
+        ("check odd.cfb", 0, 1, 0, REFUSED, 0),
+        ("cat odd.cfb /a", 0, 1, 0, REFUSED, 0),
+        ("put odd.cfb /a", 4096, 1, 0, REFUSED, 0),
+    ]),
+    // two streams have one start
+    (&[("create 3 odd.cfb", 0, 0, 0, b"", 1536), ("put odd.cfb /a", 5000, 0, 0, b"", 6656), ("put odd.cfb /b", 5000, 0, 0, b"", 11776)], &[(1396, 1, 2), (1397, 3, 0)], 11776, &[
+        ("check odd.cfb", 0, 1, 0, NOT_SOUND_3, 0),
+        ("cat odd.cfb /a", 0, 0, 5000, b"", 0),
+        ("cat odd.cfb /b", 0, 0, 5000, b"", 0),
+        ("put odd.cfb /b", 4096, 1, 0, UNSOUND, 0),
+    ]),
+];
+
+/// Sets bytes of the file, and cuts it to this length.
+fn change(rt: &HostRuntime, changes: &[Change], len: usize) -> Result<(), Fail> {
+    let mut bytes = fs::read(rt, "odd.cfb")?;
+    for (start, count, byte) in changes {
+        for place in bytes.iter_mut().skip(*start).take(*count) {
+            *place = *byte;
+        }
+    }
+    bytes.truncate(len);
+    fs::write(rt, "odd.cfb", bytes.as_slice())?;
+    Ok(())
+}
+
+#[test]
+fn odd_files(rt: HostRuntime) -> Result<(), Fail> {
+    for (making, changes, len, runs) in &ODD {
+        assert_eq!(rt; first_wrong(&rt, "odd.cfb", making)?, None);
+        change(&rt, changes, *len)?;
+        assert_eq!(rt; first_wrong(&rt, "odd.cfb", runs)?, None);
+    }
+    fs::remove_file(&rt, "odd.cfb")?;
     Ok(())
 }
 

@@ -1,10 +1,9 @@
 use Rattle.std.proofs.Common.{◌≡◌, ◌≤◌, ◌<◌, ◌+◌, ◌-◌, ◌⊎◌, min, sym, ap, subst, length, take}
-use Rattle.std.specs.Prelude.{IfErr, IfOk, IsErrAnd, IsTrue}
+use Rattle.std.specs.Prelude.{IfErr, IfOk, IsErrAnd}
 use Rattle.cfb_format.specs.Medium.{part}
 use Rattle.cfb_format.specs.Refused.{CountsFailure, IsInvalidData, IsMemory}
-use Rattle.cfb_format.specs.Siblings.{entry_at}
 use Rattle.cfb_tables.specs.Refused.{ChangeRefused}
-use Rattle.cfb_mini_sectors.specs.State.{MiniState, bytes_of, cases_of, content_of, entries_of, table_of, tables_in, version_of}
+use Rattle.cfb_mini_sectors.specs.State.{MiniState, bytes_of, cases_of, entries_of, table_of, tables_in, version_of}
 use Rattle.cfb_mini.specs.MiniSectors.{IsStill}
 use Rattle.cfb_content.specs.Contents.{TellsPlaces, len_of}
 use Rattle.cfb_agreement.specs.Files.{FileState, failures_of}

@@ -1,4 +1,4 @@
-use Rattle.std.proofs.Common.{◌≡◌, ◌≢◌, ◌≤◌, false, sym, ◌∙◌, ap, subst}
+use Rattle.std.proofs.Common.{◌≡◌, ◌≢◌, ◌≤◌, ℕ, Bool, true, false, length, sym, ◌∙◌, ap, subst}
 use Rattle.std.specs.Prelude.{IsTrue}
 use Rattle.std.proofs.lemmas.Result.{err_from_is_err_and}
 use Rattle.cfb_format.specs.declared.validate.Validation.{Validation}
@@ -11,7 +11,8 @@ use Rattle.cfb_mini_sectors.specs.Steps.{KeepsLimits}
 use Rattle.cfb_content.specs.Contents.{IsNotChangeable, IsStreamOf, IsTooLongFor, MovesContent, len_of}
 use Rattle.cfb_agreement.specs.Changes.{ChangesOneContent}
 use Rattle.cfb_agreement.specs.Files.{FileState, Holds, SameSetting}
-use Rattle.cfb_volume.proofs.ContentSteps.{WasChanged, WasRefused, ended, ended-changes, ended-holds, ended-same, ended-setting, ended-stream, file_on, refused-agrees, refused-changes, refused-setting, refused-stays, refused-stream}
+use Rattle.cfb_volume.proofs.ContentSteps.{WasChanged, WasRefused, ended, ended-changes, ended-entries, ended-holds, ended-same, ended-setting, ended-stream, file_on, refused-agrees, refused-changes, refused-setting, refused-stays, refused-stream}
+use Rattle.cfb_volume.proofs.Emptying.{emptying-fits}
 use Rattle.cfb_volume.proofs.Refusals.{resize-break}
 use Rattle.cfb_volume.proofs.volume.Volume.resize.Goals as goal
 
@@ -52,6 +53,9 @@ returns-in_err-resize_content-clause-setting g c =
 pub returns-in_err-resize_content-clause-none : goal.returns-in_err-resize_content-clause-none
 returns-in_err-resize_content-clause-none g c same =
     absurd (c.in_err-resize_content.ensures.none (subst (λ (f : FileState). c.args.len ≡ len_of f.base c.args.entry) (sym c.self.view_is) same)).0
+
+pub returns-in_err-resize_content-clause-entries : goal.returns-in_err-resize_content-clause-entries
+returns-in_err-resize_content-clause-entries g c = subst (λ (f : FileState). MovesContent f.base c.resize_content.new.mini c.args.entry) c.self.view_is c.resize_content.ensures.entries
 
 pub returns-in_err-resize_content-clause-changes : goal.returns-in_err-resize_content-clause-changes
 returns-in_err-resize_content-clause-changes g c told held =
@@ -140,6 +144,14 @@ returns-clause-content g c told held =
     (subst (λ (f : FileState). content_of mid (entry_at (entries_of mid) i) ≡ resized (content_of f.base (entry_at (entries_of f.base) i)) c.args.len) c.self.view_is
     (c.in_ok-resize_content.ensures.content told Permissive sound))
 
+pub returns-clause-entries : goal.returns-clause-entries
+returns-clause-entries g c =
+    let mid = c.resize_content.new.mini in
+    subst (λ (s : MiniState). MovesContent c.args.self.now.base s c.args.entry) (sym c.end_change.ensures)
+    (ended-entries c.args.self.now mid c.args.entry c.self.inside.is_sound c.self.inside.buffer_limit
+    (ap (λ (f : FileState). f.is_sound) c.self.view_is) (ap (λ (f : FileState). f.buffer_limit) c.self.view_is)
+    (subst (λ (f : FileState). MovesContent f.base mid c.args.entry) c.self.view_is c.resize_content.ensures.entries))
+
 pub returns-clause-changes : goal.returns-clause-changes
 returns-clause-changes g c told held =
     subst (λ (s : MiniState). ChangesOneContent c.args.entry c.args.self.now (file_on c.self.inside.is_sound c.self.inside.buffer_limit s)) (sym c.end_change.ensures)
@@ -161,3 +173,19 @@ pub returns-clause-enough : goal.returns-clause-enough
 returns-clause-enough g c told held differs =
     subst (λ (f : FileState). c.args.len ≢ len_of f.base c.args.entry → IsChangeable Permissive f.base → IsTooLongFor f.base c.args.entry c.args.len → ⊥) c.self.view_is
     (λ other change. c.in_ok-resize_content.ensures.enough other Permissive change.held) differs (held.sound c.requires.sound)
+
+-- ---- emptied
+
+emptied : (s : MiniState) (f : FileState) (limit : ℕ) (sound : Bool) (i len : ℕ) → record { base = s; is_sound = sound; buffer_limit = limit } ≡ f → f.is_sound ≡ true
+    → length s.minifat ≤ s.max_mini_sectors → Holds f → len ≡ 0 → IsTooLongFor f.base i len → ⊥
+emptied s f limit sound i len view certain short held empty long =
+    emptying-fits f.base i (held.sound certain).held (subst (λ (g : FileState). length g.base.minifat ≤ g.base.max_mini_sectors) view short)
+    (subst (λ n. IsTooLongFor f.base i n) empty long)
+
+pub returns-in_err-resize_content-clause-emptied : goal.returns-in_err-resize_content-clause-emptied
+returns-in_err-resize_content-clause-emptied g c =
+    emptied c.self.inside.mini c.args.self.now c.self.inside.buffer_limit c.self.inside.is_sound c.args.entry c.args.len c.self.view_is c.requires.sound c.minifat_len.ensures.short
+
+pub returns-clause-emptied : goal.returns-clause-emptied
+returns-clause-emptied g c =
+    emptied c.self.inside.mini c.args.self.now c.self.inside.buffer_limit c.self.inside.is_sound c.args.entry c.args.len c.self.view_is c.requires.sound c.minifat_len.ensures.short

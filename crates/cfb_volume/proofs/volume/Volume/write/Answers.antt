@@ -1,4 +1,4 @@
-use Rattle.std.proofs.Common.{◌≡◌, ◌≤◌, ◌+◌, false, max, sym, ◌∙◌, ap, subst, length, take}
+use Rattle.std.proofs.Common.{◌≡◌, ◌≤◌, ◌+◌, max, sym, ◌∙◌, ap, subst, length, take}
 use Rattle.std.specs.Prelude.{IsTrue}
 use Rattle.std.proofs.lemmas.Result.{err_from_is_err_and}
 use Rattle.cfb_format.specs.declared.validate.Validation.TheVariants.{Permissive}
@@ -11,7 +11,7 @@ use Rattle.cfb_mini_sectors.specs.Steps.{KeepsLimits}
 use Rattle.cfb_content.specs.Contents.{IsNotChangeable, IsStreamOf, MovesContent, len_of}
 use Rattle.cfb_agreement.specs.Changes.{ChangesOneContent}
 use Rattle.cfb_agreement.specs.Files.{FileState, Holds, SameSetting}
-use Rattle.cfb_volume.proofs.ContentSteps.{WasChanged, WasRefused, ended-changes, ended-holds, ended-setting, ended-stream, file_on, refused-agrees, refused-changes, refused-setting, refused-stays, refused-stream}
+use Rattle.cfb_volume.proofs.ContentSteps.{WasChanged, WasRefused, ended-changes, ended-entries, ended-holds, ended-setting, ended-stream, file_on, refused-agrees, refused-changes, refused-setting, refused-stays, refused-stream}
 use Rattle.cfb_volume.proofs.Refusals.{write-break}
 use Rattle.cfb_volume.proofs.volume.Volume.write.Goals as goal
 
@@ -51,6 +51,9 @@ returns-in_err-count-clause-setting g c =
     refused-setting c.args.self.now mid c.args.entry c.self.inside.is_sound c.self.inside.buffer_limit
     (ap (λ (f : FileState). f.is_sound) c.self.view_is) (ap (λ (f : FileState). f.buffer_limit) c.self.view_is)
     (subst (λ (f : FileState). KeepsLimits f.base mid) c.self.view_is c.put_content.ensures.limits)
+
+pub returns-in_err-count-clause-entries : goal.returns-in_err-count-clause-entries
+returns-in_err-count-clause-entries g c = subst (λ (f : FileState). MovesContent f.base c.put_content.new.mini c.args.entry) c.self.view_is c.put_content.ensures.entries
 
 pub returns-in_err-count-clause-changes : goal.returns-in_err-count-clause-changes
 returns-in_err-count-clause-changes g c told held =
@@ -115,6 +118,14 @@ returns-clause-setting g c =
     (ended-setting c.args.self.now mid c.args.entry c.self.inside.is_sound c.self.inside.buffer_limit
     (ap (λ (f : FileState). f.is_sound) c.self.view_is) (ap (λ (f : FileState). f.buffer_limit) c.self.view_is)
     (subst (λ (f : FileState). KeepsLimits f.base mid) c.self.view_is c.put_content.ensures.limits))
+
+pub returns-clause-entries : goal.returns-clause-entries
+returns-clause-entries g c =
+    let mid = c.put_content.new.mini in
+    subst (λ (s : MiniState). MovesContent c.args.self.now.base s c.args.entry) (sym c.end_change.ensures)
+    (ended-entries c.args.self.now mid c.args.entry c.self.inside.is_sound c.self.inside.buffer_limit
+    (ap (λ (f : FileState). f.is_sound) c.self.view_is) (ap (λ (f : FileState). f.buffer_limit) c.self.view_is)
+    (subst (λ (f : FileState). MovesContent f.base mid c.args.entry) c.self.view_is c.put_content.ensures.entries))
 
 pub returns-clause-changes : goal.returns-clause-changes
 returns-clause-changes g c told held =

@@ -1,0 +1,31 @@
+-- Files that were opened or made with options.
+use Rattle.std.proofs.Common.{◌≡◌, ◌↔◌, ℕ, List, Bool, true, Option, subst}
+use Rattle.std.specs.Option.{unwrap_or}
+use Rattle.cfb_format.specs.declared.validate.Validation.{Validation}
+use Rattle.cfb_format.specs.Names.{Cases, default_cases}
+use Rattle.cfb_format.specs.Soundness.{IsSoundFile}
+use Rattle.cfb_mini_sectors.specs.State.{bytes_of}
+use Rattle.cfb_agreement.specs.Files.{FileState}
+use Rattle.cfb_agreement.specs.Laws.{SoundIsExact}
+use Rattle.cfb_opening.specs.Opened.{IsOpened}
+use Rattle.cfb_compound_file.specs.Opening.{IsOpenedWith, Options}
+
+-- the options that these fields are, where letters may have been given or not
+abbrev pub options_of : ℕ → ℕ → Option Cases → Validation → Options
+options_of buffer_limit max_sectors letters validation = record {
+  buffer_limit = buffer_limit;
+  max_sectors = max_sectors;
+  cases = unwrap_or letters default_cases;
+  validation = validation;
+}
+
+-- what was opened is as the options want it, and counts as sound exactly if its bytes are
+pub opened-with : (options : Options) (bytes : List ℕ) (failures : ℕ) (file : FileState) → SoundIsExact
+    → IsOpened options.validation options.cases options.max_sectors bytes failures file.base file.is_sound → file.buffer_limit ≡ options.buffer_limit
+    → IsOpenedWith options bytes failures file
+opened-with options bytes failures file exact opened limit = record {
+  opened = opened;
+  sound = subst (λ (b : List ℕ). (file.is_sound ≡ true) ↔ IsSoundFile options.cases b) opened.same_bytes
+      (subst (λ (cases : Cases). (file.is_sound ≡ true) ↔ IsSoundFile cases (bytes_of file.base)) opened.letters (exact file (opened.holds file.buffer_limit)));
+  buffer_limit = limit;
+}

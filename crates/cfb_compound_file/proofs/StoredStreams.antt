@@ -1,0 +1,243 @@
+-- What reading and changing one stream of a file comes to for the layer of buffered streams.
+use Rattle.std.proofs.Common.{◌≡◌, ◌<◌, ◌≤◌, ◌+◌, ◌-◌, ◌++◌, ◌⊎◌, inl, inr, ℕ, Bool, true, false, List, [], refl, sym, ◌∙◌, ap, subst, length, take, drop, min, max, replicate, arith, length-take, append-nil}
+use Rattle.std.proofs.Math.Logic.{∥∥₁_elim, ∥∥₁_map}
+use Rattle.std.proofs.Math.Bridge.{le_prop}
+use Rattle.std.specs.Prelude.{IsTrue, Result, Ok, Err, IfOk, IfErr, OnOk, OnErr, if◌then◌else◌}
+use Rattle.cfb_format.specs.declared.error.Error.{Error}
+use Rattle.cfb_format.specs.declared.error.Error.TheVariants.{NotFound, AlreadyExists, InvalidInput, InvalidData, Medium, Memory, Full, Unsound, Failed, Unsupported}
+use Rattle.cfb_format.specs.declared.validate.Validation.TheVariants.{Permissive}
+use Rattle.cfb_format.specs.Bytes.{max_stream_len}
+use Rattle.cfb_format.specs.Medium.{part, written}
+use Rattle.cfb_format.specs.DirectoryEntry.{Entry}
+use Rattle.cfb_format.specs.Names.{Cases}
+use Rattle.cfb_format.specs.Reading.{IsOutline, stream_numbers}
+use Rattle.cfb_format.specs.Siblings.{entry_at}
+use Rattle.cfb_tables.specs.Changes.{NoneFree}
+use Rattle.cfb_tables.specs.Owners.{tally}
+use Rattle.cfb_tables.proofs.Counts.{in-tally, tally-in}
+use Rattle.cfb_tables.specs.Refused.{ChangeRefused}
+use Rattle.cfb_rules.specs.StreamCalls.{resized}
+use Rattle.cfb_entries.specs.EntryList.{AreInOrder}
+use Rattle.cfb_mini_sectors.specs.State.{MiniState, bytes_of, cases_of, content_of, entries_of, tables_in, version_of}
+use Rattle.cfb_content.specs.Contents.{IsStreamOf, IsTooLongFor, len_of}
+use Rattle.cfb_content.proofs.Apart.{same-reached}
+use Rattle.cfb_content.proofs.Readable.{whole-of}
+use Rattle.cfb_content.proofs.StreamEntry.{stream-inside as entry-inside}
+use Rattle.cfb_agreement.specs.Changes.{ChangesOneContent, StaysOrFails}
+use Rattle.cfb_agreement.specs.Files.{Agrees, FileState, Holds, IsAsBefore, SameSetting, failures_of, is_failed}
+use Rattle.cfb_agreement.specs.Laws.{with_flags}
+use Rattle.cfb_agreement.proofs.Flags.{as-before-same, flags-not-read}
+use Rattle.cfb_agreement.proofs.InTurn.{contents-in-turn, same-content-is-none}
+use Rattle.cfb_volume.specs.Answers.{IsBreak as IsVolumeBreak, content_at}
+use Rattle.cfb_stream_buffer.specs.Contents.{Fails, IsBreak, IsRefusedRead, KeptOrFailed, ReadsPart, Stored, WritesPart, laid, stored_after_resize, stored_after_write}
+use Rattle.cfb_compound_file.specs.Flags.{flags_change_nothing}
+use Rattle.cfb_compound_file.specs.Stored.{ChangesStream, kept_of, stored_of}
+
+-- ---- entries
+
+pub stream_inside : (s : MiniState) (k : ℕ) → ∥ IsStreamOf s k ∥₁ → k < length (entries_of s)
+stream_inside s k there = ∥∥₁_elim there le_prop (λ at. entry-inside s k at)
+
+-- the outline is that of the entries in memory
+pub stream_there : (s : MiniState) (k : ℕ) → AreInOrder (cases_of s) (entries_of s) → ∥ IsStreamOf s k ∥₁ → IsStreamOf s k
+stream_there s k order there =
+    let counted : 1 ≤ tally k (stream_numbers order.outline) = ∥∥₁_elim there le_prop (λ at. tally-in k (stream_numbers order.outline) (same-reached s order.outline k order.is at)) in
+    record { outline = order.outline; is = order.is; reached = in-tally k (stream_numbers order.outline) counted }
+
+same_stream : (old new : MiniState) (k : ℕ) → entries_of new ≡ entries_of old → cases_of new ≡ cases_of old → IsStreamOf old k → IsStreamOf new k
+same_stream old new k entries cases at = record {
+  outline = at.outline;
+  is = subst (λ (es : List Entry). IsOutline (cases_of new) es at.outline) (sym entries) (subst (λ (cs : Cases). IsOutline cs (entries_of old) at.outline) (sym cases) at.is);
+  reached = at.reached;
+}
+
+pub stream_stays : (old new : MiniState) (k : ℕ) → entries_of new ≡ entries_of old → cases_of new ≡ cases_of old → ∥ IsStreamOf old k ∥₁ → ∥ IsStreamOf new k ∥₁
+stream_stays old new k entries cases there = ∥∥₁_map there (λ at. same_stream old new k entries cases at)
+
+-- ---- what is readable
+
+pub failed_content : (file : FileState) (i : ℕ) → is_failed file ≡ true → (stored_of file i).content ≡ []
+failed_content file i failed = ap (λ (b : Bool). if b then [] else content_at file i) failed
+
+pub unfailed_content : (file : FileState) (i : ℕ) → is_failed file ≡ false → (stored_of file i).content ≡ content_at file i
+unfailed_content file i unfailed = ap (λ (b : Bool). if b then [] else content_at file i) unfailed
+
+pub whole_content : (file : FileState) (i : ℕ) → Holds file → file.is_sound ≡ true → IsStreamOf file.base i → length (content_at file i) ≡ len_of file.base i
+whole_content file i held sound at = whole-of Permissive file.base i (held.sound sound) at
+
+-- ---- flags
+
+pub agrees_with_flags : (old new : FileState) (failures : ℕ) (begun : Bool) → new ≡ with_flags old failures begun → (begun ≡ false → is_failed old ≡ false) → Agrees old → Agrees new
+agrees_with_flags old new failures begun is calm agrees = λ unfailed.
+    subst (λ (z : FileState). Holds z) (sym is) (flags-not-read old failures begun (agrees (calm (sym (ap (λ (z : FileState). is_failed z) is) ∙ unfailed))))
+
+pub agrees_as_before : (old new : FileState) → IsAsBefore old new → Agrees old → Agrees new
+agrees_as_before old new before agrees = agrees_with_flags old new (failures_of new) (is_failed old) (as-before-same old new before) (λ calm. calm) agrees
+
+pub kept_as_before : (old new : FileState) → IsAsBefore old new → kept_of new ≡ kept_of old
+kept_as_before old new before = ap kept_of (as-before-same old new before)
+
+pub stored_as_before : (old new : FileState) (i : ℕ) → IsAsBefore old new → stored_of new i ≡ stored_of old i
+stored_as_before old new i before = ap (λ (z : FileState). stored_of z i) (as-before-same old new before)
+
+-- ---- reading
+
+module _ (file : FileState) (i at : ℕ) (unfailed : is_failed file ≡ false) where
+  pub read_done : (wanted : ℕ) (into : List ℕ) (r : Result ℕ Error) → at < len_of file.base i → 0 < wanted → IfOk r (λ n. 0 < min wanted (len_of file.base i - at) → 0 < n)
+      → IfOk r (λ n. take n into ≡ part (content_at file i) at n) → IfOk r (λ n. 0 < n → at + n ≤ length (content_at file i))
+      → IfOk r (ReadsPart (stored_of file i).content at into)
+  read_done wanted into (Ok n) before some counted gives within =
+      let same = unfailed_content file i unfailed in
+      let more : 0 < n = counted (omega (arith, before, some)) in
+      record {
+        some = more;
+        inside = omega (arith, within more, ap (λ (xs : List ℕ). length xs) same);
+        gives = gives ∙ ap (λ (xs : List ℕ). take n (drop at xs)) (sym same);
+      }
+  read_done wanted into (Err e) before some counted gives within = tt
+
+  pub read_refused : (wanted : ℕ) (r : Result ℕ Error) → IfErr r (ChangeRefused ((length (content_at file i) ≤ at) × (0 < min wanted (len_of file.base i - at))) (Unit {0}) ⊥ (Unit {0}))
+      → IfErr r (IsRefusedRead (stored_of file i) at)
+  read_refused wanted (Ok n) why = tt
+  read_refused wanted (Err (NotFound d)) why = absurd why
+  read_refused wanted (Err (AlreadyExists d)) why = absurd why
+  read_refused wanted (Err (InvalidInput d)) why = absurd why
+  read_refused wanted (Err (InvalidData d)) why = inr (refl, omega (arith, why.0, ap (λ (xs : List ℕ). length xs) (unfailed_content file i unfailed)))
+  read_refused wanted (Err (Medium f)) why = inl tt
+  read_refused wanted (Err Memory) why = inl tt
+  read_refused wanted (Err Full) why = absurd why
+  read_refused wanted (Err Unsound) why = absurd why
+  read_refused wanted (Err Failed) why = absurd why
+  read_refused wanted (Err Unsupported) why = absurd why
+
+-- ---- changing
+
+pub same_limits_fail : (old new : FileState) (i : ℕ) → SameSetting old new → is_failed new ≡ true → Fails (stored_of old i) (stored_of new i)
+same_limits_fail old new i setting failed = record { is_failed = failed; same_limit = ap max_stream_len setting.limits.version; same_sound = setting.is_sound }
+
+pub stays_stored : (old new : FileState) (i : ℕ) → SameSetting old new → StaysOrFails old new → KeptOrFailed (stored_of old i) (stored_of new i)
+stays_stored old new i setting stays = elim stays [
+  | inl before ↦ inl (stored_as_before old new i before)
+  | inr failed ↦ inr (same_limits_fail old new i setting failed)
+]
+
+pub nothing_changes : (i : ℕ) (file : FileState) → ChangesStream i file file
+nothing_changes i file = record { content = same-content-is-none i file; unsound = λ _ _. refl; failed = λ failed. failed }
+
+pub fails_then : (i : ℕ) (first old new : FileState) (failures : ℕ) → new ≡ with_flags old failures true → ChangesStream i first old → ChangesStream i first new
+fails_then i first old new failures is k =
+    subst (λ (z : FileState). ChangesStream i first z) (sym is)
+    (flags_change_nothing first old i failures true (λ calm. absurd (let w : true ≡ false = calm in cc)) (λ _. refl) k)
+
+-- of a file that has not failed
+pub flushes_then : (i : ℕ) (first old new : FileState) (failures : ℕ) (begun : Bool) → is_failed old ≡ false → new ≡ with_flags old failures begun
+    → ChangesStream i first old → ChangesStream i first new
+flushes_then i first old new failures begun unfailed is k =
+    subst (λ (z : FileState). ChangesStream i first z) (sym is)
+    (flags_change_nothing first old i failures begun (λ _. unfailed) (λ failed. absurd (let w : true ≡ false = sym (k.failed failed) ∙ unfailed in cc)) k)
+
+-- a change of a sound file that has not failed, one after what was changed before
+pub changes_in_turn : (i : ℕ) (first old new : FileState) → old.is_sound ≡ true → is_failed old ≡ false → ChangesOneContent i old new
+    → (is_failed new ≡ false → length (tables_in old.base).fat ≤ length (tables_in new.base).fat)
+    → (is_failed new ≡ false → NoneFree (tables_in old.base).fat → NoneFree (tables_in new.base).fat)
+    → ChangesStream i first old → ChangesStream i first new
+changes_in_turn i first old new sound unfailed change no_shorter none k = record {
+  content = contents-in-turn i first old new k.content change (λ failed. absurd (let w : true ≡ false = sym failed ∙ unfailed in cc)) no_shorter none;
+  unsound = λ unsound _. absurd (let w : true ≡ false = sym sound ∙ k.content.setting.is_sound ∙ unsound in cc);
+  failed = λ failed. absurd (let w : true ≡ false = sym (k.failed failed) ∙ unfailed in cc);
+}
+
+-- the first change of such a file
+pub changes_at_once : (i : ℕ) (old new : FileState) → old.is_sound ≡ true → is_failed old ≡ false → ChangesOneContent i old new → ChangesStream i old new
+changes_at_once i old new sound unfailed change = record {
+  content = change;
+  unsound = λ unsound _. absurd (let w : true ≡ false = sym sound ∙ unsound in cc);
+  failed = λ failed. absurd (let w : true ≡ false = sym failed ∙ unfailed in cc);
+}
+
+-- where it broke off it gave nothing back, or failed
+pub stops_no_shorter : (old new : FileState) → StaysOrFails old new → is_failed new ≡ false → (tables_in new.base).fat ≡ (tables_in old.base).fat
+stops_no_shorter old new stays unfailed = elim stays [
+  | inl before ↦ ap (λ (z : FileState). (tables_in z.base).fat) (as-before-same old new before)
+  | inr failed ↦ absurd (let w : true ≡ false = sym failed ∙ unfailed in cc)
+]
+
+-- ---- bytes
+
+pub written_is_laid : (at : ℕ) (f c : List ℕ) → at ≤ length c → written c at f ≡ laid at f c
+unfolding written laid
+written_is_laid at f c inside =
+    let none : at - length c ≡ 0 = omega (arith, inside) in
+    let same : c ++ replicate (at - length c) 0 ≡ c = ap (λ (n : ℕ). c ++ replicate n 0) none ∙ append-nil c in
+    ap (λ (xs : List ℕ). take at xs ++ f ++ drop (at + length f) c) same
+
+module _ (old new : FileState) (i : ℕ) (setting : SameSetting old new) (was : is_failed old ≡ false) (is : is_failed new ≡ false) where
+  stored_with : (size : ℕ) (content : List ℕ) → len_of new.base i ≡ size → content_at new i ≡ content
+      → stored_of new i ≡ record (stored_of old i) { size = size; content = content }
+  stored_with size content long bytes =
+      let list = unfailed_content new i is ∙ bytes in
+      let limit = ap max_stream_len setting.limits.version in
+      let unfailed = is ∙ sym was in
+      λ j. record { size = long j; content = list j; limit = limit j; sound = setting.is_sound j; failed = unfailed j }
+
+  stored_written : Holds old → old.is_sound ≡ true → IsStreamOf old.base i → (at n : ℕ) (bytes : List ℕ) → at ≤ len_of old.base i → n ≤ length bytes → len_of new.base i ≡ max (len_of old.base i) (at + n)
+      → content_at new i ≡ written (content_at old i) at (take n bytes) → stored_of new i ≡ stored_after_write (stored_of old i) at (take n bytes)
+  stored_written held sound stream at n bytes inside most long put =
+      let count : length (take n bytes) ≡ n = omega (arith, most, length-take n bytes) in
+      let over : at ≤ length (content_at old i) = omega (arith, inside, whole_content old i held sound stream) in
+      stored_with (max (len_of old.base i) (at + length (take n bytes))) (laid at (take n bytes) (stored_of old i).content)
+      (long ∙ ap (λ (m : ℕ). max (len_of old.base i) (at + m)) (sym count))
+      (put ∙ written_is_laid at (take n bytes) (content_at old i) over ∙ ap (λ (xs : List ℕ). laid at (take n bytes) xs) (sym (unfailed_content old i was)))
+
+  pub stored_resized : (len : ℕ) → len_of new.base i ≡ len → content_at new i ≡ resized (content_at old i) len → stored_of new i ≡ stored_after_resize (stored_of old i) len
+  stored_resized len long put =
+      stored_with len (resized (stored_of old i).content len) long (put ∙ ap (λ (xs : List ℕ). resized xs len) (sym (unfailed_content old i was)))
+
+  pub written_done : Holds old → old.is_sound ≡ true → IsStreamOf old.base i → (at : ℕ) (bytes : List ℕ) (r : Result ℕ Error) → at ≤ len_of old.base i → 0 < length bytes → IfOk r (λ n. n ≤ length bytes) → IfOk r (λ n. 0 < n)
+      → IfOk r (λ n. len_of new.base i ≡ max (len_of old.base i) (at + n)) → IfOk r (λ n. content_at new i ≡ written (content_at old i) at (take n bytes))
+      → IfOk r (WritesPart (stored_of old i) at bytes (stored_of new i))
+  written_done held sound stream at bytes (Ok n) inside some most more long put = record { some = more; puts = stored_written held sound stream at n bytes inside most long put }
+  written_done held sound stream at bytes (Err e) inside some most more long put = tt
+
+-- ---- refusals
+
+break_by : (P Q : Type 0) (e : Error) → (P → Q) → IsVolumeBreak P e → IsBreak Q e
+break_by P Q (NotFound d) by why = why
+break_by P Q (AlreadyExists d) by why = why
+break_by P Q (InvalidInput d) by why = why
+break_by P Q (InvalidData d) by why = why
+break_by P Q (Medium f) by why = tt
+break_by P Q Memory by why = tt
+break_by P Q Full by why = by why
+break_by P Q Unsound by why = why
+break_by P Q Failed by why = why
+break_by P Q Unsupported by why = why
+
+pub change_refused : {T : Type 0} (P Q : Type 0) (old new : FileState) (i : ℕ) (r : Result T Error) → (P → Q) → SameSetting old new → IfErr r (IsVolumeBreak P) → OnErr r (StaysOrFails old new)
+    → IfErr r (λ e. IsBreak Q e × KeptOrFailed (stored_of old i) (stored_of new i))
+change_refused P Q old new i (Ok x) by setting why stays = tt
+change_refused P Q old new i (Err e) by setting why stays = (break_by P Q e by why, stays_stored old new i setting stays)
+
+pub resized_done : {T : Type 0} (old new : FileState) (i len : ℕ) (r : Result T Error) → SameSetting old new → is_failed old ≡ false → OnOk r (len_of new.base i ≡ len)
+    → OnOk r (content_at new i ≡ resized (content_at old i) len) → OnOk r (is_failed new ≡ false) → OnOk r (stored_of new i ≡ stored_after_resize (stored_of old i) len)
+resized_done old new i len (Ok x) setting was long put is = stored_resized old new i setting was is len long put
+resized_done old new i len (Err e) setting was long put is = tt
+
+pub write_done : (old new : FileState) (i at : ℕ) (bytes : List ℕ) (r : Result ℕ Error) → SameSetting old new → Holds old → old.is_sound ≡ true → IsStreamOf old.base i → is_failed old ≡ false
+    → at ≤ len_of old.base i → 0 < length bytes → IfOk r (λ n. n ≤ length bytes) → (0 < length bytes → IfOk r (λ n. 0 < n))
+    → IfOk r (λ n. len_of new.base i ≡ max (len_of old.base i) (at + n)) → IfOk r (λ n. content_at new i ≡ written (content_at old i) at (take n bytes)) → OnOk r (is_failed new ≡ false)
+    → IfOk r (WritesPart (stored_of old i) at bytes (stored_of new i))
+write_done old new i at bytes (Ok n) setting held sound stream was inside some most more long put is =
+    written_done old new i setting was is held sound stream at bytes (Ok n) inside some most (more some) long put
+write_done old new i at bytes (Err e) setting held sound stream was inside some most more long put is = tt
+
+-- where a write ended in a file that has not failed, it is no shorter, and none is free where none was
+pub write_no_shorter : (old new : FileState) (r : Result ℕ Error) → OnOk r (length (tables_in old.base).fat ≤ length (tables_in new.base).fat) → OnErr r (StaysOrFails old new)
+    → is_failed new ≡ false → length (tables_in old.base).fat ≤ length (tables_in new.base).fat
+write_no_shorter old new (Ok n) grown stays calm = grown
+write_no_shorter old new (Err e) grown stays calm = omega (arith, ap (λ (xs : List ℕ). length xs) (stops_no_shorter old new stays calm))
+
+pub write_stays_full : (old new : FileState) (r : Result ℕ Error) → (NoneFree (tables_in old.base).fat → OnOk r (NoneFree (tables_in new.base).fat)) → OnErr r (StaysOrFails old new)
+    → is_failed new ≡ false → NoneFree (tables_in old.base).fat → NoneFree (tables_in new.base).fat
+write_stays_full old new (Ok n) full stays calm none = full none
+write_stays_full old new (Err e) full stays calm none = subst (λ (xs : List ℕ). NoneFree xs) (sym (stops_no_shorter old new stays calm)) none

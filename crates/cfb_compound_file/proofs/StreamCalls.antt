@@ -1,0 +1,74 @@
+-- What the window answers, said of an open stream.
+use Rattle.std.proofs.Common.{◌≡◌, ℕ, Bool, true, false, List, refl, sym, ◌∙◌, ap}
+use Rattle.std.specs.Prelude.{IsTrue, Some, Result, Ok, Err, IfErr, OnErr, OnOk, MatchBool}
+use Rattle.cfb_format.specs.declared.error.Error.{Error}
+use Rattle.cfb_format.specs.declared.medium.MediumFault.{MediumFault}
+use Rattle.cfb_format.specs.Refused.{CountsError, CountsFailure}
+use Rattle.cfb_rules.specs.Refusal.{Refusal, failed_earlier}
+use Rattle.cfb_rules.specs.Runs.{BlamesOneOf, Causes, Closes, StreamRun, is_never_refused, is_served}
+use Rattle.cfb_rules.specs.StreamCalls.{StreamCall, StreamReply, StreamStep}
+use Rattle.cfb_agreement.specs.Files.{FileState, is_failed}
+use Rattle.cfb_volume.specs.Answers.{content_at}
+use Rattle.cfb_stream_buffer.specs.Contents.{Stored, setting_of}
+use Rattle.cfb_stream_window.specs.Windows.{Runs, Suits, Window, run_of, settled, state_of}
+use Rattle.cfb_stream_window.proofs.Carrying.{settled_agrees}
+use Rattle.cfb_compound_file.specs.Stored.{ChangesStream, stored_of}
+use Rattle.cfb_compound_file.specs.StreamAnswers.{GoesOn, OpenStream, closing_of}
+use Rattle.cfb_compound_file.proofs.OpenStreams.{asked, rest_then}
+use Rattle.cfb_compound_file.proofs.StoredStreams.{unfailed_content}
+
+pub goes_on_by : (tells : Bool) (old new : OpenStream) → new.entry ≡ old.entry → new.window.bound ≡ old.window.bound
+    → (IsTrue tells → ChangesStream old.entry old.file new.file) → GoesOn tells old new
+goes_on_by tells old new entry bound changes = record {
+  entry = entry;
+  bound = bound;
+  changes = changes;
+  rest = λ told first k. rest_then old.entry old.file new.file first (changes told) k;
+}
+
+-- a refusal, with what the count of failures says
+pub refused_with : {T : Type 0} (P Q : Error → Type 0) (can : MediumFault → Bool) (m n : ℕ) (result : Result T Error) → IfErr result P → CountsFailure can result m n
+    → ((e : Error) → P e → CountsError can m n e → Q e) → IfErr result Q
+refused_with P Q can m n (Ok x) why counts by = tt
+refused_with P Q can m n (Err e) why counts by = by e why counts
+
+pub refused_as : {T : Type 0} (P Q : Error → Type 0) (result : Result T Error) → IfErr result P → ((e : Error) → P e → Q e) → IfErr result Q
+refused_as P Q (Ok x) why by = tt
+refused_as P Q (Err e) why by = by e why
+
+-- so much follows from any refusal
+pub refused_then : {T : Type 0} (P : Error → Type 0) (X : Type 0) (result : Result T Error) → IfErr result P → ((e : Error) → P e → X) → OnErr result X
+refused_then P X (Ok x) why by = tt
+refused_then P X (Err e) why by = by e why
+
+-- a call that is never refused
+pub asks : (causes : Causes) (s : Stored) (w x : Window) (call : StreamCall) (reply : StreamReply) → is_never_refused call ≡ true → is_served reply ≡ true
+    → StreamStep (setting_of s) (state_of s w) call reply (state_of s x) → Runs causes s w call reply s x
+unfolding Runs
+asks causes s w x call reply never served step = asked causes (setting_of s) call reply (run_of s w) (run_of s x) s.failed refl refl never served step
+
+-- ---- closing
+
+-- closing is refused on a failed file alone
+pub closing_failed : (causes : Causes) (old : StreamRun) (refusal : Refusal) (failed : Bool) → Closes causes old (Some refusal) failed → failed ≡ true
+closing_failed causes old refusal failed = go old.failed
+  where
+    go : (b : Bool) → MatchBool b ((Some refusal ≡ Some failed_earlier) × (failed ≡ true))
+        (IsTrue old.stream.pending × BlamesOneOf causes.medium (Unit {0}) causes.full refusal × (failed ≡ true)) → failed ≡ true
+    go true why = why.1
+    go false why = why.2
+
+pub closed_suits : {T : Type 0} (s t : Stored) (w : Window) (r : Result T Error) → Suits s w → OnOk r (t ≡ settled s w) → OnErr r (t.failed ≡ true) → Suits t w
+closed_suits s t w (Ok x) suits is failed = λ (calm : t.failed ≡ false). settled_agrees s t w (suits (sym (ap (λ (z : Stored). z.failed) is) ∙ calm)) is
+closed_suits s t w (Err e) suits is failed = λ (calm : t.failed ≡ false). absurd (let x : true ≡ false = sym failed ∙ calm in cc)
+
+pub closed_content : {T : Type 0} (s : Stored) (w : Window) (new : FileState) (i : ℕ) (r : Result T Error) → OnOk r (stored_of new i ≡ settled s w) → OnErr r (is_failed new ≡ true)
+    → is_failed new ≡ false → content_at new i ≡ (state_of s w).content
+closed_content s w new i (Ok x) is failed calm = sym (unfailed_content new i calm) ∙ ap (λ (z : Stored). z.content) is
+closed_content s w new i (Err e) is failed calm = absurd (let x : true ≡ false = sym failed ∙ calm in cc)
+
+-- a stream that is only read is closed
+pub read_closes : {T : Type 0} (causes : Causes) (old : StreamRun) (r : Result T Error) (failed : Bool) → old.failed ≡ failed → OnOk r (failed ≡ false) → OnErr r (failed ≡ true)
+    → Closes causes old (closing_of r) failed
+read_closes causes old (Ok x) failed same calm why = rw (same ∙ calm) calm
+read_closes causes old (Err e) failed same calm why = rw (same ∙ why) (refl, why)

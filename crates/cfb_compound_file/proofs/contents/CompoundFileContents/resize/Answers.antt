@@ -1,0 +1,45 @@
+use Rattle.std.proofs.Common.{◌≡◌, ◌∙◌, sym, subst}
+use Rattle.cfb_content.specs.Contents.{IsTooLongFor}
+use Rattle.cfb_agreement.specs.Files.{FileState}
+use Rattle.cfb_compound_file.proofs.StoredStreams.{change_refused, changes_at_once, nothing_changes, resized_done, stream_there}
+use Rattle.cfb_compound_file.proofs.contents.CompoundFileContents.resize.Goals as goal
+
+pub returns-then-is_failed-clause-others : goal.returns-then-is_failed-clause-others
+returns-then-is_failed-clause-others g c = rw (← c.self.view_is) (λ _. nothing_changes _ _)
+
+pub returns-then-not-is_sound-clause-others : goal.returns-then-not-is_sound-clause-others
+returns-then-not-is_sound-clause-others g c = rw (← c.self.view_is) (λ _. nothing_changes _ _)
+
+pub returns-then-stream_len_mask-len-clause-others : goal.returns-then-stream_len_mask-len-clause-others
+returns-then-stream_len_mask-len-clause-others g c = rw (← c.self.view_is) (λ _. nothing_changes _ _)
+
+pub resize-requires-clause-stream : goal.resize-requires-clause-stream
+resize-requires-clause-stream g c = stream_there _ _ c.entries-entries.ensures.in_order (rw (← c.self.view_is) at c.requires.there)
+
+pub invariant_of-self : goal.invariant_of-self
+invariant_of-self g c = λ told. c.resize.ensures.agrees told (c.self.invariant told (sym c.is_failed.ensures ∙ c.if-is_failed.false))
+
+pub returns-clause-others : goal.returns-clause-others
+returns-clause-others g c =
+    let unfailed = sym c.is_failed.ensures ∙ c.if-is_failed.false in
+    let sound = sym c.is_sound.ensures ∙ c.if-not-is_sound.false in
+    rw (← c.self.view_is) (λ told. changes_at_once _ _ _ sound unfailed (c.resize.ensures.changes told (c.self.invariant told unfailed)))
+
+pub returns-clause-counts : goal.returns-clause-counts
+returns-clause-counts g c = rw (← c.self.view_is) (λ told. c.resize.ensures.counts told)
+
+pub returns-clause-ok : goal.returns-clause-ok
+returns-clause-ok g c =
+    let unfailed = sym c.is_failed.ensures ∙ c.if-is_failed.false in
+    let e = c.resize.ensures in
+    rw (← c.self.view_is) (λ told takes. resized_done _ _ _ _ c.resize.result e.setting unfailed e.len (e.content told (c.self.invariant told unfailed)) e.ended)
+
+pub returns-clause-refused : goal.returns-clause-refused
+returns-clause-refused g c =
+    let unfailed = sym c.is_failed.ensures ∙ c.if-is_failed.false in
+    let e = c.resize.ensures in
+    let old = c.self.inside.volume in
+    let new = c.resize.new.self in
+    rw (← c.self.view_is) (λ told takes. change_refused (IsTooLongFor old.base c.args.id c.args.len × (new ≡ old)) (IsTooLongFor new.base c.args.id c.args.len) _ _ _ c.resize.result
+    (λ why. subst (λ (z : FileState). IsTooLongFor z.base c.args.id c.args.len) (sym why.1) why.0) e.setting
+    (e.err told (c.self.invariant told unfailed)) (e.refused told (c.self.invariant told unfailed)))

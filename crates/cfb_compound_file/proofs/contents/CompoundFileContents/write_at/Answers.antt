@@ -1,0 +1,53 @@
+use Rattle.std.proofs.Common.{◌≡◌, ◌≤◌, ◌∙◌, ap, arith, false, sym, true}
+use Rattle.cfb_format.specs.Bytes.{max_stream_len}
+use Rattle.cfb_agreement.specs.Files.{IsFullFile}
+use Rattle.cfb_content.specs.Contents.{len_of}
+use Rattle.cfb_compound_file.proofs.StoredStreams.{change_refused, changes_in_turn, stream_inside, stream_there, write_done, write_no_shorter, write_stays_full}
+use Rattle.cfb_compound_file.proofs.contents.CompoundFileContents.write_at.Goals as goal
+
+pub len-requires : goal.len-requires
+len-requires g c = record { inside = stream_inside _ _ (rw (← c.self.view_is) at c.requires.there) }
+
+pub write-requires-clause-stream : goal.write-requires-clause-stream
+write-requires-clause-stream g c = stream_there _ _ c.entries-entries.ensures.in_order (rw (← c.self.view_is) at c.requires.there)
+
+pub invariant_of-self : goal.invariant_of-self
+invariant_of-self g c = λ told. c.write.ensures.agrees told (c.self.invariant told (sym c.is_failed.ensures ∙ c.if-is_failed.false))
+
+pub returns-clause-others : goal.returns-clause-others
+returns-clause-others g c =
+    let unfailed = sym c.is_failed.ensures ∙ c.if-is_failed.false in
+    let sound = sym c.is_sound.ensures ∙ c.if-not-is_sound.false in
+    let e = c.write.ensures in
+    rw (← c.self.view_is) (λ told first k.
+    let held = c.self.invariant told unfailed in
+    changes_in_turn _ first _ _ sound unfailed (e.changes told held) (write_no_shorter _ _ c.write.result e.no_shorter (e.refused told held))
+    (write_stays_full _ _ c.write.result (e.stays_full told held) (e.refused told held)) k)
+
+pub returns-clause-counts : goal.returns-clause-counts
+returns-clause-counts g c = rw (← c.self.view_is) (λ told. c.write.ensures.counts told)
+
+pub returns-clause-ok : goal.returns-clause-ok
+returns-clause-ok g c =
+    let unfailed = sym c.is_failed.ensures ∙ c.if-is_failed.false in
+    let sound = sym c.is_sound.ensures ∙ c.if-not-is_sound.false in
+    let e = c.write.ensures in
+    let stream = stream_there _ _ c.entries-entries.ensures.in_order (rw (← c.self.view_is) at c.requires.there) in
+    rw (← c.self.view_is) (λ told takes some.
+    let held = c.self.invariant told unfailed in
+    write_done _ _ _ _ _ c.write.result e.setting held sound stream unfailed takes.inside some e.count e.some e.len (e.content told held) e.ended)
+
+pub returns-clause-refused : goal.returns-clause-refused
+returns-clause-refused g c =
+    let unfailed = sym c.is_failed.ensures ∙ c.if-is_failed.false in
+    let e = c.write.ensures in
+    let old = c.self.inside.volume in
+    let full = (len_of old.base c.args.id ≤ c.args.at) × IsFullFile c.write.new.self in
+    rw (← c.self.view_is) (λ told takes some.
+    let held = c.self.invariant told unfailed in
+    change_refused full full _ _ _ c.write.result (λ why. why) e.setting (e.err told held) (e.refused told held))
+
+pub returns-then-not-is_inside-clause-refused : goal.returns-then-not-is_inside-clause-refused
+returns-then-not-is_inside-clause-refused g c = rw (← c.self.view_is) (λ told takes some.
+    let inside = c.is_inside.ensures.1 (omega (arith, takes.inside, c.len.ensures), omega (arith, takes.fits, c.stream_len_mask-limit.ensures, ap max_stream_len c.version.ensures)) in
+    absurd (let w : false ≡ true = sym c.if-not-is_inside.true ∙ inside in cc))

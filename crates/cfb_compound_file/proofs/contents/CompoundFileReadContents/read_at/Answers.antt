@@ -1,0 +1,11 @@
+use Rattle.cfb_compound_file.proofs.StoredStreams.{agrees_as_before, stream_inside, stream_stays}
+use Rattle.cfb_compound_file.proofs.contents.CompoundFileReadContents.read_at.Goals as goal
+
+pub read-requires : goal.read-requires
+read-requires g c = record { inside = stream_inside _ _ (rw (← c.self.view_is) at c.requires.there) }
+
+pub invariant_of-self : goal.invariant_of-self
+invariant_of-self g c = λ told. agrees_as_before _ _ (c.read.ensures.same told) (c.self.invariant told)
+
+pub returns-clause-there : goal.returns-clause-there
+returns-clause-there g c = stream_stays _ _ _ c.read.ensures.entries c.read.ensures.setting.limits.cases (rw (← c.self.view_is) at c.requires.there)

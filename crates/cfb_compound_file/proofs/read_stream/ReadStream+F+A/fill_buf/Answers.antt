@@ -1,0 +1,35 @@
+use Rattle.std.proofs.Common.{refl}
+use Rattle.cfb_compound_file.specs.Flags.{reads_keep}
+use Rattle.cfb_compound_file.proofs.StoredStreams.{nothing_changes}
+use Rattle.cfb_compound_file.proofs.StreamCalls.{goes_on_by}
+use Rattle.cfb_compound_file.proofs.read_stream.ReadStream+F+A.fill_buf.Goals as goal
+
+pub returns-in-Ok : goal.returns-in-Ok
+returns-in-Ok g c = (
+  (
+    refl,
+    (λ _. tt),
+    record {
+      same_file = refl;
+      runs = λ told. rw c.rest.ensures (c.in-Ok.ensures.runs (record { told = told; suits = c.args.self.now.is_open told }));
+      goes_on = goes_on_by _ _ _ refl c.fill.ensures.bound (λ told. reads_keep _ _ _ _ (c.fill.ensures.around told).kept (nothing_changes _ _));
+      kept = λ told. (c.fill.ensures.around told).kept;
+    },
+  ),
+  record { after_borrow = tt },
+)
+
+pub returns-in-Err : goal.returns-in-Err
+returns-in-Err g c = (
+  (
+    refl,
+    (λ _. tt),
+    record {
+      same_file = refl;
+      runs = λ told. (let why = c.in-Err.ensures.refused (record { told = told; suits = c.args.self.now.is_open told }) in record { rules = why.rules; stops = why.stops; untouched = why.untouched; counts = (c.in-Err.ensures.around told).counts });
+      goes_on = goes_on_by _ _ _ refl c.fill.ensures.bound (λ told. reads_keep _ _ _ _ (c.fill.ensures.around told).kept (nothing_changes _ _));
+      kept = λ told. (c.fill.ensures.around told).kept;
+    },
+  ),
+  record { after_borrow = tt },
+)

@@ -1,0 +1,21 @@
+use Rattle.std.proofs.Common.{refl}
+use Rattle.cfb_compound_file.specs.Flags.{reads_keep}
+use Rattle.cfb_compound_file.proofs.StoredStreams.{nothing_changes}
+use Rattle.cfb_compound_file.proofs.StreamCalls.{goes_on_by, refused_with}
+use Rattle.cfb_compound_file.proofs.read_stream.ReadStream+F+A.read_to_end.Goals as goal
+
+pub invariant_of-self : goal.invariant_of-self
+invariant_of-self g c = record { there = c.read_to_end.ensures.there; is_open = λ told. (c.read_to_end.ensures.goes_on (record { told = told; suits = c.args.self.now.is_open told })).is_open.suits }
+
+pub returns-clause-runs : goal.returns-clause-runs
+returns-clause-runs g c = λ told. c.read_to_end.ensures.runs (record { told = told; suits = c.args.self.now.is_open told })
+
+pub returns-clause-refused : goal.returns-clause-refused
+returns-clause-refused g c = λ told. refused_with _ _ _ _ _ c.read_to_end.result (c.read_to_end.ensures.refused (record { told = told; suits = c.args.self.now.is_open told })) (c.read_to_end.ensures.around told).counts
+    (λ e why counts. record { rules = why.rules; stops = why.stops; untouched = why.untouched; counts = counts })
+
+pub returns-clause-goes_on : goal.returns-clause-goes_on
+returns-clause-goes_on g c = goes_on_by _ _ _ refl c.read_to_end.ensures.bound (λ told. reads_keep _ _ _ _ (c.read_to_end.ensures.around told).kept (nothing_changes _ _))
+
+pub returns-clause-kept : goal.returns-clause-kept
+returns-clause-kept g c = λ told. (c.read_to_end.ensures.around told).kept

@@ -1,0 +1,11 @@
+use Rattle.cfb_compound_file.proofs.StreamCalls.{refused_as}
+use Rattle.cfb_compound_file.proofs.read_stream.ReadStream+F+A.seek.Goals as goal
+
+pub invariant_of-self : goal.invariant_of-self
+invariant_of-self g c = record { there = c.args.self.now.there; is_open = λ told. (c.seek.ensures.goes_on (record { told = told; suits = c.args.self.now.is_open told })).is_open.suits }
+
+pub returns-clause-runs : goal.returns-clause-runs
+returns-clause-runs g c = λ told. c.seek.ensures.runs (record { told = told; suits = c.args.self.now.is_open told })
+
+pub returns-clause-refused : goal.returns-clause-refused
+returns-clause-refused g c = λ told. refused_as _ _ c.seek.result (c.seek.ensures.refused (record { told = told; suits = c.args.self.now.is_open told })) (λ e why. why.rules)

@@ -1,0 +1,20 @@
+use Rattle.std.proofs.Common.{refl}
+use Rattle.cfb_compound_file.proofs.StoredStreams.{nothing_changes}
+use Rattle.cfb_compound_file.proofs.StreamCalls.{goes_on_by, refused_with}
+use Rattle.cfb_compound_file.proofs.stream.Stream+F+A.read.Goals as goal
+
+pub invariant_of-self : goal.invariant_of-self
+invariant_of-self g c = record { there = c.read.ensures.there; is_open = λ told. (c.read.ensures.goes_on (record { told = told; suits = c.args.self.now.is_open told })).is_open.suits }
+
+pub returns-clause-runs : goal.returns-clause-runs
+returns-clause-runs g c = λ told. c.read.ensures.runs (record { told = told; suits = c.args.self.now.is_open told })
+
+pub returns-clause-refused : goal.returns-clause-refused
+returns-clause-refused g c = λ told. refused_with _ _ _ _ _ c.read.result (c.read.ensures.refused (record { told = told; suits = c.args.self.now.is_open told })) (c.read.ensures.around told).counts
+    (λ e why counts. record { rules = why.rules; stops = why.stops; untouched = why.untouched; counts = counts })
+
+pub returns-clause-goes_on : goal.returns-clause-goes_on
+returns-clause-goes_on g c = goes_on_by _ _ _ refl c.read.ensures.bound (λ told. (c.read.ensures.around told).others _ (nothing_changes _ _))
+
+pub returns-clause-calm : goal.returns-clause-calm
+returns-clause-calm g c = λ told calm. (c.read.ensures.calm told calm).kept

@@ -1,0 +1,52 @@
+-- The count of failures, and that a change was begun, are none of what the calls of a stream keep.
+use Rattle.std.specs.Prelude.{ℕ, ◌≡◌, ◌≢◌, Bool, true, false, Contains}
+use Rattle.std.proofs.Common.{sym, subst}
+use Rattle.cfb_format.specs.Reading.{IsOutline, Outline, stream_numbers}
+use Rattle.cfb_mini_sectors.specs.State.{cases_of, entries_of}
+use Rattle.cfb_content.specs.Contents.{KeepsOthers, MovesContent}
+use Rattle.cfb_agreement.specs.Changes.{ChangesOneContent}
+use Rattle.cfb_agreement.specs.Files.{FileState, SameSetting, failures_of, is_failed}
+use Rattle.cfb_agreement.specs.Laws.{with_flags}
+use Rattle.cfb_agreement.proofs.Flags.{made-flagged}
+use Rattle.cfb_compound_file.specs.Stored.{ChangesStream, kept_of}
+
+-- what was changed in a file was changed in it whatever its flags, but a file that failed stays failed
+module _ (first old : FileState) (i failures : ℕ) (begun : Bool) (unfailed : begun ≡ false → is_failed old ≡ false) (stays : is_failed first ≡ true → begun ≡ true)
+    (k : ChangesStream i first old) where
+  abbrev now : FileState
+  now = with_flags old failures begun
+
+  setting : SameSetting first now
+  setting = let s = k.content.setting in record {
+    limits = record { version = s.limits.version; cases = s.limits.cases; max_sectors = s.limits.max_sectors; max_mini_sectors = s.limits.max_mini_sectors };
+    is_sound = s.is_sound;
+    buffer_limit = s.buffer_limit;
+  }
+
+  entries : MovesContent first.base now.base i
+  entries = let m = k.content.entries in record { same_length = m.same_length; own = m.own; root = m.root; root_len = m.root_len; others = m.others }
+
+  others : KeepsOthers i first.base now.base
+  others = λ (o : Outline) (is : IsOutline (cases_of first.base) (entries_of first.base) o) (n : ℕ) (c : Contains (stream_numbers o) n) (ne : n ≢ i).
+      let e = k.content.others o is n c ne in record { chain = e.chain; sectors = e.sectors; places = e.places; mini_sectors = e.mini_sectors }
+
+  content : ChangesOneContent i first now
+  content = record {
+    setting = setting;
+    entries = entries;
+    others = others;
+    made = λ calm made. made-flagged old.base failures begun (k.content.made (unfailed calm) made);
+    grows = λ calm. k.content.grows (unfailed calm);
+  }
+
+  pub flags_change_nothing : ChangesStream i first now
+  flags_change_nothing = record { content = content; unsound = λ unsound calm. k.unsound unsound (unfailed calm); failed = stays }
+
+-- nor by the count of failures alone
+pub counts_change_nothing : (i : ℕ) (first old : FileState) (failures : ℕ) → ChangesStream i first old → ChangesStream i first (with_flags old failures (is_failed old))
+counts_change_nothing i first old failures k = flags_change_nothing first old i failures (is_failed old) (λ calm. calm) k.failed k
+
+pub reads_keep : (i : ℕ) (first old new : FileState) → kept_of new ≡ kept_of old → ChangesStream i first old → ChangesStream i first new
+reads_keep i first old new same k =
+    counts_change_nothing i first (kept_of new) (failures_of new)
+    (subst (λ (z : FileState). ChangesStream i first z) (sym same) (counts_change_nothing i first old 0 k))

@@ -1,0 +1,11 @@
+pub mod Answers
+pub mod Opening
+pub mod Stored
+pub mod Flags
+pub mod Finding
+pub mod StreamAnswers
+pub mod Streams
+pub mod ReadStreams
+pub mod OpenedStreams
+pub mod Adding
+pub mod Place

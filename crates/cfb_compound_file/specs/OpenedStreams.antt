@@ -1,0 +1,51 @@
+-- What opening a stream answers.
+use Rattle.std.specs.Prelude.{ℕ, ◌≡◌, ◌≢◌, ◌⊎◌, List, true, false, Some, None}
+use Rattle.cfb_format.specs.declared.error.Error.{Error}
+use Rattle.cfb_format.specs.declared.objtype.ObjType.TheVariants.{Stream}
+use Rattle.cfb_format.specs.Path.{names_of_path}
+use Rattle.cfb_format.specs.Reading.{IsOutline, Outline}
+use Rattle.cfb_format.specs.Refused.{HasReason, no_error}
+use Rattle.cfb_format.specs.Siblings.{entry_at}
+use Rattle.cfb_siblings.specs.Paths.{number_at_path}
+use Rattle.cfb_mini_sectors.specs.State.{cases_of, entries_of}
+use Rattle.cfb_content.specs.Contents.{IsStreamOf, len_of}
+use Rattle.cfb_agreement.specs.Files.{FileState, is_failed}
+use Rattle.cfb_stream_window.specs.Windows.{window_opened}
+use Rattle.cfb_compound_file.specs.Stored.{KeepsRest}
+use Rattle.cfb_compound_file.specs.StreamAnswers.{OpenStream, StandsAt}
+
+-- no entry stands at this path
+abbrev pub StandsNowhere : FileState → List ℕ → Type 0
+StandsNowhere file path = (o : Outline) → IsOutline (cases_of file.base) (entries_of file.base) o → number_at_path (cases_of file.base) (entries_of file.base) o path ≡ None
+
+-- an entry stands there, and is not a stream's
+pub record IsNoStreamAt (file : FileState) (path : List ℕ) : Type 0 where
+  pub number : ℕ
+  pub stands : StandsAt file number path
+  pub kind : (entry_at (entries_of file.base) number).obj_type ≢ Stream
+
+-- the file has not failed, and a stream's entry stands there
+pub record IsStreamAt (file : FileState) (path : List ℕ) (number : ℕ) : Type 0 where
+  pub unfailed : is_failed file ≡ false
+  pub stands : StandsAt file number path
+  pub kind : (entry_at (entries_of file.base) number).obj_type ≡ Stream
+  pub stream : IsStreamOf file.base number
+
+-- why a stream is not found: the file failed earlier; or the path leaves the root, or leads to a storage; or nothing stands there
+abbrev pub IsNotFound : FileState → List ℕ → Error → Type 0
+IsNotFound file path = HasReason (record no_error {
+  failed = is_failed file ≡ true;
+  invalid_input = (is_failed file ≡ false) × ((names_of_path path ≡ None) ⊎ IsNoStreamAt file path);
+  not_found = (is_failed file ≡ false) × ((names : List (List ℕ)) × (names_of_path path ≡ Some names)) × StandsNowhere file path;
+})
+
+-- nothing stands at this path: it leaves the root, or has names that lead to nothing
+abbrev pub IsNowhere : List ℕ → Error → Type 0
+IsNowhere path = HasReason (record no_error { invalid_input = names_of_path path ≡ None; not_found = (names : List (List ℕ)) × (names_of_path path ≡ Some names) })
+
+-- a stream was opened at this path: the file is as before, and the window stands at the start of the stream
+pub record IsOpenedAt (old : FileState) (path : List ℕ) (s : OpenStream) : Type 0 where
+  pub file : s.file ≡ old
+  pub window : s.window ≡ window_opened (len_of old.base s.entry) old.buffer_limit
+  pub stands : StandsAt old s.entry path
+  pub rest : KeepsRest s.entry old s.file

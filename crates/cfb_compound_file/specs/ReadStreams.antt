@@ -1,0 +1,51 @@
+-- What a contract sees of an open stream that is only read.
+use Rattle.std.specs.Prelude.{ℕ, ◌≡◌, List, [], Result, IfErr, IsTrue, MatchResult}
+use Rattle.std.specs.Borrow.{RattleType, MutBor, Bor, Fml, RestsIfErr}
+use Rattle.std.specs.Io.BufRead.{Rests}
+use mir.Syntax.{named}
+use Rattle.std.specs.declared.alloc.Allocator as heap
+use Rattle.cfb_format.specs.declared.error.Error.{Error}
+use Rattle.cfb_format.specs.declared.medium.ReadMedium as reading
+use Rattle.cfb_stream_window.specs.Windows.{Window}
+use Rattle.cfb_agreement.specs.Files.{FileState}
+use Rattle.cfb_compound_file.specs.declared.held.Held as held
+use Rattle.cfb_compound_file.specs.declared.read_stream.ReadStream.{ReadStream}
+use Rattle.cfb_compound_file.specs.contracts.compound_file.CompoundFile.{the_row}
+use Rattle.cfb_compound_file.specs.contracts.read_stream.ReadStream as stream
+use Rattle.cfb_stream_window.specs.contracts.read_window.ReadWindow as window
+use Rattle.cfb_rules.specs.StreamCalls.{fill_buf, got}
+use Rattle.cfb_compound_file.specs.Stored.{kept_of}
+use Rattle.cfb_compound_file.specs.StreamAnswers.{GoesOn, IsStreamRefused, OpenStream, StreamRunsBy, causes_of_reading, open_stream_of}
+
+module _ {F A : Type 0} {r : reading.Ghosts F} {b : held.Ghosts Window} where
+  -- the file that it borrows
+  abbrev pub file_of : ReadStream F A Window r b → MutBor FileState
+  file_of s = s.file
+
+  -- the number of the stream's entry
+  abbrev pub entry_of : ReadStream F A Window r b → ℕ
+  entry_of s = s.entry
+
+  -- the window in memory
+  abbrev pub window_of : ReadStream F A Window r b → Window
+  window_of s = s.window
+
+  -- all of it
+  abbrev pub open_of : ReadStream F A Window r b → OpenStream
+  open_of s = open_stream_of s.file.now s.entry s.window
+
+module _ (F A : RattleType) (r : reading.Ghosts F.Denot) (h : heap.Ghosts A.Denot) {b : held.Ghosts Window} where
+  -- where no stream was opened, so much holds of the file and of the error
+  abbrev pub file_rests : (FileState → FileState → Error → Type 0) → MutBor FileState → Result (ReadStream F.Denot A.Denot Window r b) Error → Fml
+  file_rests holds f result = RestsIfErr (the_row F A r h) f (λ s. (file_of s).ghost_name) result (λ last. IfErr result (holds f.now last))
+
+  -- bytes were lent, or this was refused; and once they are given back, this is the stream
+  pub record IsFilled (result : Result (Bor (List ℕ)) Error) (old new : ReadStream F.Denot A.Denot Window r b) : Type 0 where
+    pub same_file : (file_of new).ghost_name ≡ (file_of old).ghost_name
+    pub runs : IsTrue r.tells → MatchResult result (λ bytes. StreamRunsBy (causes_of_reading (file_of old).now (file_of new).now) (open_of old) fill_buf (got bytes.now) (open_of new))
+        (IsStreamRefused (causes_of_reading (file_of old).now (file_of new).now) r.read_faults (open_of old) fill_buf (open_of new))
+    pub goes_on : GoesOn r.tells (open_of old) (open_of new)
+    pub kept : IsTrue r.tells → kept_of (file_of new).now ≡ kept_of (file_of old).now
+
+  abbrev pub stream_rests : MutBor (ReadStream F.Denot A.Denot Window r b) → Result (Bor (List ℕ)) Error → Fml
+  stream_rests s result = Rests (stream.the_row (record { mir = named 1; lft = [] }) F A (window.the_row A h) r b h) s (λ new. IsFilled result s.now new)

@@ -1,0 +1,42 @@
+-- The streams of a file as lists of bytes, and how one of them changes.
+use Rattle.std.specs.Prelude.{ℕ, ◌≡◌, [], true, false, if◌then◌else◌}
+use Rattle.cfb_format.specs.Bytes.{max_stream_len}
+use Rattle.cfb_format.specs.Siblings.{entry_at}
+use Rattle.cfb_mini_sectors.specs.State.{bytes_of, content_of, entries_of, version_of}
+use Rattle.cfb_content.specs.Contents.{IsStreamOf, KeepsOthers, MovesContent, len_of}
+use Rattle.cfb_agreement.specs.Changes.{ChangesOneContent}
+use Rattle.cfb_agreement.specs.Files.{FileState, SameSetting, is_failed}
+use Rattle.cfb_agreement.specs.Laws.{with_flags}
+use Rattle.cfb_stream_buffer.specs.Contents.{Stored}
+
+-- what is stored of the stream of that entry. Of a file that has failed nothing counts as readable
+abbrev pub stored_of : FileState → ℕ → Stored
+stored_of file entry = record {
+  size = len_of file.base entry;
+  content = if is_failed file then [] else content_of file.base (entry_at (entries_of file.base) entry);
+  limit = max_stream_len (version_of file.base);
+  sound = file.is_sound;
+  failed = is_failed file;
+}
+
+-- the file but for the count of failures
+abbrev pub kept_of : FileState → FileState
+kept_of file = with_flags file 0 (is_failed file)
+
+-- ---- what changes
+
+-- by any number of calls on one stream: of the file its content may have changed, and nothing else; in a file that is not sound nothing has,
+-- and a file that failed stays failed
+pub record KeepsRest (entry : ℕ) (first now : FileState) : Type 0 where
+  pub stream : IsStreamOf first.base entry
+  pub setting : SameSetting first now
+  pub entries : MovesContent first.base now.base entry
+  pub others : KeepsOthers entry first.base now.base
+  pub unsound : first.is_sound ≡ false → is_failed now ≡ false → bytes_of now.base ≡ bytes_of first.base
+  pub failed : is_failed first ≡ true → is_failed now ≡ true
+
+-- by one of them, which leaves a file as made as it was made, and where it appended a sector none free
+pub record ChangesStream (entry : ℕ) (old new : FileState) : Type 0 where
+  pub content : ChangesOneContent entry old new
+  pub unsound : old.is_sound ≡ false → is_failed new ≡ false → bytes_of new.base ≡ bytes_of old.base
+  pub failed : is_failed old ≡ true → is_failed new ≡ true

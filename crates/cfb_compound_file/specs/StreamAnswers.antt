@@ -1,0 +1,107 @@
+-- What the calls on an open stream answer, and what they leave.
+use Rattle.std.specs.Prelude.{ℕ, ◌≡◌, Bool, IsTrue, List, Option, Some, None, Result, Ok, Err, if◌then◌else◌}
+use Rattle.cfb_format.specs.declared.error.Error.{Error}
+use Rattle.cfb_format.specs.declared.medium.MediumFault.{MediumFault}
+use Rattle.cfb_format.specs.Reading.{IsOutline, Outline}
+use Rattle.cfb_format.specs.Refused.{CountsError}
+use Rattle.cfb_format.specs.Tree.{Tree}
+use Rattle.cfb_rules.specs.Refusal.{IsRefusal, Refusal, failed_earlier}
+use Rattle.cfb_rules.specs.Runs.{Causes, Closes, StreamRun, tree_with_stream}
+use Rattle.cfb_rules.specs.StreamCalls.{StreamCall, StreamReply, StreamState}
+use Rattle.cfb_siblings.specs.Paths.{number_at_path}
+use Rattle.cfb_mini_sectors.specs.State.{cases_of, entries_of}
+use Rattle.cfb_content.specs.Contents.{IsTooLongFor}
+use Rattle.cfb_agreement.specs.Files.{Agrees, FileState, failures_of, is_failed}
+use Rattle.cfb_stream_buffer.specs.Contents.{KeptOrFailed, Stored}
+use Rattle.cfb_stream_window.specs.Answers.{AtRefusal}
+use Rattle.cfb_stream_window.specs.Windows.{IsRefused, Runs, Window, run_of, state_of}
+use Rattle.cfb_compound_file.specs.Answers.{MeansTree, causes_of}
+use Rattle.cfb_compound_file.specs.Stored.{ChangesStream, KeepsRest, kept_of, stored_of}
+
+-- the file that is borrowed, the number of the stream's entry, and the window in memory
+pub record OpenStream : Type 0 where
+  pub file : FileState
+  pub entry : ℕ
+  pub window : Window
+
+abbrev pub open_stream_of : FileState → ℕ → Window → OpenStream
+open_stream_of file entry window = record { file = file; entry = entry; window = window }
+
+-- what is stored of it
+abbrev pub stored_in : OpenStream → Stored
+stored_in s = stored_of s.file s.entry
+
+-- the stream as the rules of calls see it: what is stored, with the window laid over it
+abbrev pub stream_in : OpenStream → StreamState
+stream_in s = state_of (stored_in s) s.window
+
+abbrev pub run_in : OpenStream → StreamRun
+run_in s = run_of (stored_in s) s.window
+
+-- ---- what calls answer
+
+-- by the rules of calls on streams
+abbrev pub StreamRunsBy : Causes → OpenStream → StreamCall → StreamReply → OpenStream → Type 0
+StreamRunsBy causes old call reply new = Runs causes (stored_in old) old.window call reply (stored_in new) new.window
+
+-- where the medium is blamed the count of its failures rose, and where the numbers are, they lack in the file as it was left
+abbrev pub StreamRunsOn : OpenStream → StreamCall → StreamReply → OpenStream → Type 0
+StreamRunsOn old call reply new = StreamRunsBy (causes_of old.file new.file) old call reply new
+
+-- of a stream that is only read, no number is blamed
+abbrev pub causes_of_reading : FileState → FileState → Causes
+causes_of_reading old new = record (causes_of old new) { full = ⊥ }
+
+-- of a length they are blamed where it is too long for them
+abbrev pub causes_of_len : ℕ → ℕ → FileState → FileState → Causes
+causes_of_len entry len old new = record (causes_of old new) { full = IsTooLongFor new.base entry len }
+
+-- it was refused by the rules, and nothing more is said of what it leaves
+abbrev pub IsStreamRefusedBy : Causes → OpenStream → StreamCall → OpenStream → Error → Type 0
+IsStreamRefusedBy causes old call new e = IsRefused causes (stored_in old) old.window call (stored_in new) new.window e
+
+-- It was refused by the rules, and what is stored is as before or the file has failed. After a refusal of the input, of a file that is not
+-- sound or of one that failed earlier, nothing at all has changed; and where bytes can't be read, nothing but the count of failures.
+pub record IsStreamRefused (causes : Causes) (can_give : MediumFault → Bool) (old : OpenStream) (call : StreamCall) (new : OpenStream) (e : Error) : Type 0 where
+  pub rules : IsStreamRefusedBy causes old call new e
+  pub stops : KeptOrFailed (stored_in old) (stored_in new)
+  pub untouched : AtRefusal ((new.file ≡ old.file) × (new.window ≡ old.window)) (kept_of new.file ≡ kept_of old.file) e
+  pub counts : CountsError can_give (failures_of old.file) (failures_of new.file) e
+
+-- ---- what calls leave
+
+-- the same stream, whose buffer can have as much room as before; and where the medium tells its bytes, of the file only this stream's
+-- content has changed, by this call and since any earlier state
+pub record GoesOn (tells : Bool) (old new : OpenStream) : Type 0 where
+  pub entry : new.entry ≡ old.entry
+  pub bound : new.window.bound ≡ old.window.bound
+  pub changes : IsTrue tells → ChangesStream old.entry old.file new.file
+  pub rest : IsTrue tells → (first : FileState) → KeepsRest old.entry first old.file → KeepsRest old.entry first new.file
+
+-- ---- from opening to closing
+
+-- the entry stands at this path
+abbrev pub StandsAt : FileState → ℕ → List ℕ → Type 0
+StandsAt file entry path = (o : Outline) → IsOutline (cases_of file.base) (entries_of file.base) o → number_at_path (cases_of file.base) (entries_of file.base) o path ≡ Some entry
+
+-- the tree once the stream was closed: with its bytes, or as it was in a file that is not sound
+abbrev pub closed_tree : FileState → Tree → List ℕ → List ℕ → Tree
+closed_tree first tree path content = if first.is_sound then tree_with_stream (cases_of first.base) tree path content else tree
+
+-- where the stream was opened at this path in a file as it was first, its bytes mean the tree with the stream's bytes now
+abbrev pub ClosesTree : FileState → ℕ → List ℕ → FileState → Type 0
+ClosesTree first entry content new = (path : List ℕ) → Agrees first → KeepsRest entry first new → StandsAt first entry path
+    → (tree : Tree) → MeansTree first tree → MeansTree new (closed_tree first tree path content)
+
+-- what closing a stream that is only read answers by the rules: it is refused on a failed file alone
+abbrev pub closing_of : {T : Type 0} → Result T Error → Option Refusal
+closing_of (Ok x) = None
+closing_of (Err e) = Some failed_earlier
+
+-- closing was refused, since pending bytes could not be written out, or since the file failed earlier, which touches nothing
+pub record IsClosingRefused (can_give : MediumFault → Bool) (old : OpenStream) (new : FileState) (e : Error) : Type 0 where
+  pub refusal : Refusal
+  pub is : IsRefusal refusal e
+  pub closes : Closes (causes_of old.file new) (run_in old) (Some refusal) (is_failed new)
+  pub untouched : AtRefusal (new ≡ old.file) (Unit {0}) e
+  pub counts : CountsError can_give (failures_of old.file) (failures_of new) e

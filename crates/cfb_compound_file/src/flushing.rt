@@ -1,0 +1,31 @@
+//! What a file's medium keeps back is handed on.
+ghost use Rattle.std.specs.Prelude.{◌≡◌, false, true, IsTrue, IfErr, OnOk};
+ghost use Rattle.cfb_format.specs.Refused.{HasReason, no_error};
+ghost use Rattle.cfb_rules.specs.Calls.{done, flush};
+ghost use Rattle.cfb_agreement.specs.Files.{is_failed};
+ghost use Rattle.cfb_compound_file.specs.Answers.{IsDoneBy, IsRefusedBy};
+
+use crate::compound_file::CompoundFile;
+use cfb_format::error::Error;
+use cfb_format::medium::Medium;
+use std::alloc::Allocator as Heap;
+
+impl<F: Medium, A: Heap> CompoundFile<F, A> {
+    /// Hands on what the medium keeps back; what was changed stands in the medium's bytes already. `Failed` on a failed file, and nothing
+    /// is asked of the medium then; `Medium` where the medium fails, and the file has failed from then on.
+    pub fn flush(&mut self) -> Result<(), Error>
+        ensures ok { IsTrue F.tells → OnOk result (IsDoneBy self.old flush done self.new) }
+        ensures same { IsTrue F.tells → OnOk result (self.new ≡ self.old) }
+        ensures unfailed { OnOk result (is_failed self.old ≡ false) }
+        ensures refused { IsTrue F.tells → IfErr result (IsRefusedBy F.write_faults self.old flush self.new) }
+        ensures err { IfErr result (HasReason (record no_error {
+          failed = (is_failed self.old ≡ true) × (self.new ≡ self.old);
+          medium = λ f. (is_failed self.old ≡ false) × (is_failed self.new ≡ true);
+        })) }
+    {
+        if self.volume.is_failed() {
+            return Err(Error::Failed);
+        }
+        self.volume.flush()
+    }
+}

@@ -1,0 +1,13 @@
+//! Compound files: opened and made, looked at, and their streams made, read and written.
+#![tactic(auto)]
+
+pub mod adding;
+pub mod compound_file;
+pub mod contents;
+pub mod flushing;
+pub mod held;
+pub mod opening_streams;
+pub mod options;
+pub mod queries;
+pub mod read_stream;
+pub mod stream;

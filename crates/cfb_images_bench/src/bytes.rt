@@ -1,0 +1,140 @@
+//! Each byte of a file set to 0 and to 255 in turn: nothing hangs or breaks, and what is opened means the same when it is opened again.
+use cfb_bench::support::{File, content, long_difat, number, opened, read_all, with_stream};
+use cfb_bench::{CompoundFile, Entry, Error};
+use std::alloc::Global;
+use std::test::Fail;
+
+/// Appends all that is told of an object.
+fn tell(entry: &Entry, told: &mut Vec<u8>) -> Result<(), Error> {
+    told.extend_from_slice(entry.path().as_bytes())?;
+    told.extend_from_slice(entry.name().as_bytes())?;
+    told.extend_from_slice(entry.clsid().as_bytes())?;
+    told.push(u8::from(entry.is_stream()))?;
+    told.extend_from_slice(&entry.len().to_le_bytes())?;
+    told.extend_from_slice(&entry.state_bits().to_le_bytes())?;
+    told.extend_from_slice(&entry.created().value().to_le_bytes())?;
+    told.extend_from_slice(&entry.modified().value().to_le_bytes())?;
+    Ok(())
+}
+
+/// Appends what a file says of its objects, one behind the other, and the paths of its streams.
+fn tell_all(
+    alloc: Global,
+    file: &File,
+    paths: &mut Vec<String>,
+    told: &mut Vec<u8>,
+) -> Result<(), Error> {
+    for entry in file.walk()? {
+        tell(&entry, told)?;
+        if entry.is_stream() {
+            paths.push(String::from_str(alloc, entry.path())?)?;
+        }
+    }
+    Ok(())
+}
+
+/// All that a file says of its objects, with what can be read of its streams.
+fn told_of(alloc: Global, file: &mut File) -> Result<Vec<u8>, Error> {
+    let mut told = Vec::new(alloc);
+    let mut paths = Vec::new(alloc);
+    tell_all(alloc, file, &mut paths, &mut told)?;
+    for path in &paths {
+        let read = number(read_all(file, path, &mut told));
+        told.push(read)?;
+    }
+    told.push(u8::from(file.is_sound()))?;
+    Ok(told)
+}
+
+/// Whether the bytes of a file mean the same when they are opened again.
+fn means_the_same(alloc: Global, mut file: File) -> Result<bool, Error> {
+    let told = told_of(alloc, &mut file)?;
+    let mut again = CompoundFile::open(alloc, file.into_inner())?;
+    Ok(told_of(alloc, &mut again)? == told)
+}
+
+/// In how many modes these bytes are opened, and then mean the same when they are opened again. None: in one they do not.
+fn modes_of(alloc: Global, bytes: &[u8]) -> Result<Option<usize>, Error> {
+    let mut count = 0usize;
+    for strict in [false, true] {
+        let is_right = match opened(alloc, bytes, strict) {
+            Ok(file) => means_the_same(alloc, file)?,
+            Err(Error::InvalidData(_)) => continue,
+            Err(_) => false,
+        };
+        if !is_right {
+            return Ok(None);
+        }
+        count = count.saturating_add(1);
+    }
+    Ok(Some(count))
+}
+
+/// In how many modes files are opened in which each byte from `start` up to `end` is changed in turn. None: one means something else then.
+fn opened_in_turn(
+    alloc: Global,
+    bytes: &mut [u8],
+    start: usize,
+    end: usize,
+) -> Result<Option<usize>, Error> {
+    let mut count = 0usize;
+    for at in start..end.min(bytes.len()) {
+        for value in [0u8, 255] {
+            let kept = bytes[at];
+            bytes[at] = value;
+            let modes = modes_of(alloc, bytes);
+            bytes[at] = kept;
+            let Some(modes) = modes? else {
+                return Ok(None);
+            };
+            count = count.saturating_add(modes);
+        }
+    }
+    Ok(Some(count))
+}
+
+/// In how many modes files with a stream of 4095 bytes are opened in which each byte from `start` up to `end` is changed in turn, up to 2112: all
+/// but the content of the stream behind its first 64 bytes.
+fn opened_with_stream(alloc: Global, start: usize, end: usize) -> Result<Option<usize>, Error> {
+    let mut bytes = with_stream(alloc, &content(alloc, 4095)?)?;
+    opened_in_turn(alloc, &mut bytes, start, end)
+}
+
+#[test]
+fn bytes_of_the_header_and_the_fat(rt: HostRuntime) -> Result<(), Fail> {
+    assert!(rt; opened_with_stream(rt.alloc(), 0, 704)?.is_some_and(|count| count > 1000));
+    Ok(())
+}
+
+#[test]
+fn bytes_of_the_fat_and_entries(rt: HostRuntime) -> Result<(), Fail> {
+    assert!(rt; opened_with_stream(rt.alloc(), 704, 1408)?.is_some_and(|count| count > 1000));
+    Ok(())
+}
+
+#[test]
+fn bytes_of_entries_and_the_minifat(rt: HostRuntime) -> Result<(), Fail> {
+    assert!(rt; opened_with_stream(rt.alloc(), 1408, 2112)?.is_some_and(|count| count > 1000));
+    Ok(())
+}
+
+/// Places of a file with a long DIFAT: the header's fields, its first and its last FAT sectors; the first words of the FAT, those around the
+/// last used one, and parts of its padding; and the last words of the DIFAT sector with the directory's used entry.
+const LONG_PLACES: [(usize, usize); 6] = [
+    (0, 120),
+    (500, 530),
+    (940, 964),
+    (1020, 1032),
+    (28672, 28680),
+    (57328, 57600),
+];
+
+#[test]
+fn bytes_of_a_long_difat(rt: HostRuntime) -> Result<(), Fail> {
+    let mut bytes = long_difat(rt.alloc())?;
+    for (start, end) in LONG_PLACES {
+        let count = opened_in_turn(rt.alloc(), &mut bytes, start, end)?;
+        assert!(rt; count.is_some_and(|count| count > 0), "{start}");
+    }
+    Ok(())
+}

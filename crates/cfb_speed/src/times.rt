@@ -1,0 +1,95 @@
+//! What is timed.
+
+use crate::pieces::{fill, overwrite, read_through};
+use anyhow::Result;
+use cfb::{CompoundFile, MemoryMedium, Version};
+use std::alloc::Global;
+use std::rt::Clock;
+use std::time::Instant;
+
+/// How many streams the file has whose entries are told.
+const STREAMS: usize = 10_000;
+/// How many bytes a long piece has.
+const LONG: usize = 65_536;
+/// How many bytes a short piece has.
+const SHORT: usize = 100;
+
+/// What each time is of.
+pub const ROWS: [&str; 8] = [
+    "make 10,000 streams",
+    "open the file with them",
+    "walk its entries",
+    "write 64 MiB by 64 KiB",
+    "read 64 MiB by 64 KiB",
+    "write 100 bytes over 64 MiB, 10,000 times",
+    "write 2 MB by 100 bytes",
+    "write 100 bytes over 2 MB, 10,000 times",
+];
+
+/// The least times of three runs, in microseconds.
+pub fn least_times<R: Clock + AllocGlobal>(rt: &R, version: Version) -> Result<[u64; 8]> {
+    let mut least = [u64::MAX; 8];
+    for _turn in 0..3 {
+        let [make, open, walk] = times_of_many(rt, version)?;
+        let [write, read, over] = times_of_long(rt, version)?;
+        let [short, over_short] = times_of_short(rt, version)?;
+        let times = [make, open, walk, write, read, over, short, over_short];
+        for (best, time) in least.iter_mut().zip(times.iter()) {
+            *best = (*best).min(*time);
+        }
+    }
+    Ok(least)
+}
+
+/// The microseconds since then, and the time now.
+fn lap<R: Clock>(clock: &R, start: &mut Instant) -> Result<u64> {
+    let micros = start.elapsed(clock)?.as_micros();
+    *start = Instant::now(clock)?;
+    Ok(micros.min(u64::MAX as u128) as u64)
+}
+
+fn new_file(alloc: Global, version: Version) -> Result<CompoundFile<MemoryMedium>> {
+    Ok(CompoundFile::create_with_version(alloc, version, MemoryMedium::new(alloc))?)
+}
+
+/// Streams are made, the file is opened anew, and its entries are walked.
+fn times_of_many<R: Clock + AllocGlobal>(rt: &R, version: Version) -> Result<[u64; 3]> {
+    let alloc = rt.alloc();
+    let mut file = new_file(alloc, version)?;
+    let mut clock = Instant::now(rt)?;
+    for number in 0..STREAMS {
+        let path = format!(in alloc; "/{number}")?;
+        file.create_new_stream(path.as_str())?.close()?;
+    }
+    let made = lap(rt, &mut clock)?;
+    let medium = file.into_inner();
+    let _bytes_are_taken = lap(rt, &mut clock)?;
+    let file = CompoundFile::open(alloc, medium)?;
+    let opened = lap(rt, &mut clock)?;
+    let _count = file.walk()?.count();
+    Ok([made, opened, lap(rt, &mut clock)?])
+}
+
+/// A long stream is written, read, and written over.
+fn times_of_long<R: Clock + AllocGlobal>(rt: &R, version: Version) -> Result<[u64; 3]> {
+    let alloc = rt.alloc();
+    let mut piece = vec![in alloc; 7u8; LONG]?;
+    let mut file = new_file(alloc, version)?;
+    let mut clock = Instant::now(rt)?;
+    fill(&mut file, "/long", &piece, 1024)?;
+    let written = lap(rt, &mut clock)?;
+    read_through(&mut file, "/long", &mut piece)?;
+    let read = lap(rt, &mut clock)?;
+    overwrite(&mut file, "/long", &[8; SHORT], 10_000)?;
+    Ok([written, read, lap(rt, &mut clock)?])
+}
+
+/// A stream is written in short pieces, and written over.
+fn times_of_short<R: Clock + AllocGlobal>(rt: &R, version: Version) -> Result<[u64; 2]> {
+    let mut file = new_file(rt.alloc(), version)?;
+    let mut clock = Instant::now(rt)?;
+    fill(&mut file, "/short", &[7; SHORT], 20_000)?;
+    let written = lap(rt, &mut clock)?;
+    overwrite(&mut file, "/short", &[8; SHORT], 10_000)?;
+    Ok([written, lap(rt, &mut clock)?])
+}

@@ -1,0 +1,261 @@
+-- A file in memory: how the stream is made in it and closed.
+use Rattle.std.proofs.Common.{◌≡◌, ◌∙◌, ◌+◌, ℕ, List, [], ◌∷◌, Bool, true, false, Option, Some, None, refl, sym, ap, subst, arith, length, inl, inr}
+use Rattle.std.specs.Prelude.{Result, Ok, Err, IfErr, IfOk, OnErr, OnOk, MatchBool, MatchOption, MatchResult, IsTrue, ⊤, ◌⊎◌, if◌then◌else◌}
+use Rattle.std.specs.Str.{chars}
+use Rattle.cfb_format.specs.declared.error.Error.{Error}
+use Rattle.cfb_format.specs.declared.version.Version.{Version}
+use Rattle.cfb_format.specs.Bytes.{max_stream_len}
+use Rattle.cfb_format.specs.Created.{empty_tree}
+use Rattle.cfb_format.specs.Laws.{CreatedMeansRoot}
+use Rattle.cfb_format.specs.Meaning.{Means}
+use Rattle.cfb_format.specs.Memory.{is_refused_growth}
+use Rattle.cfb_format.specs.Names.{Cases, default_cases}
+use Rattle.cfb_format.specs.Path.{names_of_path}
+use Rattle.cfb_format.specs.Tree.{Tree}
+use Rattle.cfb_rules.specs.Calls.{Reply, create_new_stream, done, refused}
+use Rattle.cfb_rules.specs.CallChanges.{tree_after}
+use Rattle.cfb_rules.specs.Refusal.{Refusal}
+use Rattle.cfb_rules.specs.Runs.{BlamesOneOf, CallRuns, Causes, Closes, FollowsRules, IsBroken, OnFailed, TreeState, tree_with_stream}
+use Rattle.cfb_rules.specs.Steps.{kind_of, outcome}
+use Rattle.cfb_mini_sectors.specs.State.{bytes_of, cases_of, version_of}
+use Rattle.cfb_agreement.specs.Files.{Agrees, FileState, IsFullFile, failures_of, is_failed}
+use Rattle.cfb_stream_buffer.specs.Contents.{laid}
+use Rattle.cfb_stream_buffer.proofs.Lists.{laid-nothing}
+use Rattle.cfb_stream_window.specs.Windows.{Window}
+use Rattle.cfb_compound_file.specs.Adding.{IsCreatedBy}
+use Rattle.cfb_compound_file.specs.Answers.{IsDoneBy, IsRefusedBy, MeansTree, RunsOn, causes_of, setting_of, state_with}
+use Rattle.cfb_compound_file.specs.Opening.{IsCreatedWith, permissive_options}
+use Rattle.cfb_compound_file.specs.Stored.{ChangesStream, KeepsRest}
+use Rattle.cfb_compound_file.specs.StreamAnswers.{ClosesTree, IsClosingRefused, OpenStream, StandsAt, closed_tree, run_in, stored_in, stream_in}
+use Rattle.cfb_whole_bench.specs.Changes.{ListAt, empty_list, some_too_long}
+use Rattle.cfb_whole_bench.specs.OneStream.{AreChangesRefused, IsChangedTo, IsDataRefused, IsFullForChanges, IsFullForStream, IsFullSince, IsMadeWith, IsWantOfMemory, LacksForOne, data_path, data_tree}
+use Rattle.cfb_whole_bench.specs.declared.whole.Change.{Change}
+use Rattle.cfb_whole_bench.proofs.Refusals.{by_break, stopped_so}
+
+-- ---- the path
+
+path_is : chars data_path ≡ data_path
+unfolding chars
+path_is = refl
+
+-- what holds of the path as the text in the code says it holds of its characters
+pub by_text : (P : List ℕ → Type 0) → P (chars data_path) → P data_path
+by_text P h = subst P path_is h
+
+-- ---- the tree
+
+new_outcome : (cases : Cases) → outcome cases true empty_tree (create_new_stream data_path) ≡ None
+unfolding names_of_path
+new_outcome cases = refl
+
+new_tree : (cases : Cases) → tree_after cases (create_new_stream data_path) empty_tree ≡ data_tree []
+unfolding names_of_path
+new_tree cases = refl
+
+never_refused : (X : Type 0) (Y : Refusal → Type 0) (o : Option Refusal) (r : Refusal) → o ≡ None
+    → MatchOption o ((refused r ≡ done) × X) (λ other. (refused r ≡ refused other) × Y other) → ⊥
+never_refused X Y None r e h = let bad : refused r ≡ done = h.0 in cc
+never_refused X Y (Some other) r e h = cc
+
+with_list : (list : List ℕ) → tree_with_stream default_cases (data_tree []) data_path list ≡ data_tree list
+unfolding names_of_path
+with_list list = refl
+
+means_of : (file : FileState) (tree : Tree) → cases_of file.base ≡ default_cases → Means default_cases (bytes_of file.base) tree → MeansTree file tree
+means_of file tree letters means = λ _. subst (λ (cases : Cases). Means cases (bytes_of file.base) tree) (sym letters) means
+
+-- ---- the file with nothing in it
+
+pub created_if : (version : Version) (failures : ℕ) → CreatedMeansRoot → (P : Error → Type 0) (result : Result FileState Error)
+    → MatchResult result (IsCreatedWith version permissive_options failures) P → IfOk result (IsMadeWith version empty_tree)
+created_if version failures root P (Ok file) is = record {
+  in_version = is.in_version;
+  sound = is.sound;
+  unfailed = is.unfailed;
+  made = is.made;
+  letters = is.letters;
+  limit = is.limit;
+  means = subst (λ (bytes : List ℕ). Means default_cases bytes empty_tree) (sym is.bytes) (root default_cases version);
+}
+created_if version failures root P (Err e) is = tt
+
+-- ---- the stream is made
+
+module _ (version : Version) (old : FileState) (is : IsMadeWith version empty_tree old) where
+  ran : (causes : Causes) (reply : Reply) (after : TreeState) → CallRuns causes (setting_of old) (state_with old empty_tree) (create_new_stream data_path) reply after
+      → FollowsRules (setting_of old) (state_with old empty_tree) (create_new_stream data_path) reply after
+      ⊎ IsBroken causes (state_with old empty_tree) (create_new_stream data_path) reply after
+  ran causes reply after = go (is_failed old) is.unfailed
+    where
+      go : (b : Bool) → b ≡ false → MatchBool b (OnFailed causes (kind_of (create_new_stream data_path)) reply after)
+          (FollowsRules (setting_of old) (state_with old empty_tree) (create_new_stream data_path) reply after
+          ⊎ IsBroken causes (state_with old empty_tree) (create_new_stream data_path) reply after)
+          → FollowsRules (setting_of old) (state_with old empty_tree) (create_new_stream data_path) reply after
+          ⊎ IsBroken causes (state_with old empty_tree) (create_new_stream data_path) reply after
+      go true e h = absurd (cc)
+      go false e h = h
+
+  module _ (s : OpenStream) (made : IsCreatedBy true old (create_new_stream data_path) data_path s) where
+    does : IsDoneBy old (create_new_stream data_path) done s.file
+    does = made.does refl
+
+    follows : (after : Tree) × MeansTree s.file after × FollowsRules (setting_of old) (state_with old empty_tree) (create_new_stream data_path) done (state_with s.file after)
+    unfolding RunsOn
+    follows =
+        let w = does.runs empty_tree (means_of old empty_tree is.letters is.means) in
+        elim (ran (causes_of old s.file) done (state_with s.file w.0) w.2) [
+          | inl f ↦ (w.0, w.1, f)
+          | inr b ↦ absurd (let bad : done ≡ refused b.0.0 = b.0.2 in cc)
+        ]
+
+    tree_is : follows.0 ≡ data_tree []
+    tree_is = go _ _ (outcome (cases_of old.base) old.is_sound empty_tree (create_new_stream data_path)) follows.2.step ∙ new_tree (cases_of old.base)
+      where
+        go : (X : Type 0) (Y : Refusal → Type 0) {t u : Tree} (o : Option Refusal) → MatchOption o (X × (t ≡ u)) (λ r. (done ≡ refused r) × Y r) → t ≡ u
+        go X Y None h = h.1
+        go X Y (Some r) h = absurd (let bad : done ≡ refused r = h.0 in cc)
+
+    pub stream_made : IsMadeWith version (data_tree []) s.file
+    stream_made =
+        let setting = does.order.setting in
+        let calm : is_failed s.file ≡ false = follows.2.unfailed in
+        let letters : cases_of s.file.base ≡ default_cases = setting.limits.cases ∙ is.letters in
+        record {
+          in_version = setting.limits.version ∙ is.in_version;
+          sound = setting.is_sound ∙ is.sound;
+          unfailed = calm;
+          made = does.order.made calm is.made;
+          letters = letters;
+          limit = setting.limits.max_sectors ∙ is.limit;
+          means = subst (λ (tree : Tree). Means default_cases (bytes_of s.file.base) tree) tree_is
+              (subst (λ (cases : Cases). Means cases (bytes_of s.file.base) follows.0) letters (follows.1 calm));
+        }
+
+    nothing_stored : (content : List ℕ) → length content ≡ 0 → content ≡ []
+    nothing_stored [] none = refl
+    nothing_stored (x ∷ content) none = absurd (omega (arith, none))
+
+    pub stream_starts : IsChangedTo s.file s.entry empty_list s
+    stream_starts =
+        let fits = made.suits refl stream_made.unfailed in
+        let size : s.window.size ≡ 0 = ap (λ (w : Window). w.size) made.window in
+        let none : length (stored_in s).content ≡ 0 = omega (arith, size, fits.total, fits.readable) in
+        record {
+          same_entry = refl;
+          sound = stream_made.sound;
+          unfailed = stream_made.unfailed;
+          made = stream_made.made;
+          rest = made.rest;
+          stands = record {
+            len = size;
+            content = ap (λ (w : Window). laid w.base w.filled (stored_in s).content) made.window ∙ laid-nothing 0 (stored_in s).content ∙ nothing_stored (stored_in s).content none;
+            position = ap (λ (w : Window). w.base + w.cursor) made.window;
+            within = omega arith;
+          };
+        }
+
+  -- or it was not
+  pub stream_refused : (last : FileState) (changes : List Change) (e : Error) → IsRefusedBy is_refused_growth old (create_new_stream data_path) last e → IsDataRefused version changes e
+  unfolding RunsOn
+  stream_refused last changes e by =
+      let r = by.refusal in
+      let w = by.runs empty_tree (means_of old empty_tree is.letters is.means) in
+      elim (ran (causes_of old last) (refused r) (state_with last w.0) w.2) [
+        | inl f ↦ absurd (never_refused _ _ (outcome (cases_of old.base) old.is_sound empty_tree (create_new_stream data_path)) r
+            (ap (λ (b : Bool). outcome (cases_of old.base) b empty_tree (create_new_stream data_path)) is.sound ∙ new_outcome (cases_of old.base)) f.step)
+        | inr b ↦ (
+            let same : r ≡ b.0.0 = (let k : refused r ≡ refused b.0.0 = b.0.2 in cc) in
+            by_break (IsFullForStream version ⊎ IsFullForChanges version changes) (IsTrue (some_too_long (max_stream_len version) empty_list changes))
+            (causes_of old last).medium (IsFullFile last)
+            (λ lacks. inl (record { before = old; is_made = is; full = last; setting = by.order.setting; lacks_now = lacks }))
+            (failures_of old) (failures_of last) e r by.counts by.is
+            (subst (λ (x : Refusal). BlamesOneOf (causes_of old last).medium ⊤ (IsFullFile last) x) (sym same) b.0.1)
+            )
+      ]
+
+pub at_error : {T : Type 0} (P : Error → Type 0) (result : Result T Error) (e : Error) → result ≡ Err e → OnErr result (IfErr result P) → P e
+at_error P result e is h = subst (λ r. OnErr r (IfErr r P)) is h
+
+-- ---- the stream is closed
+
+module _ (version : Version) (first : FileState) (entry : ℕ) (is : IsMadeWith version (data_tree []) first) where
+  pub changes_refused : (changes : List Change) (e : Error) → AreChangesRefused first entry empty_list changes e → IsDataRefused version changes e
+  changes_refused changes e =
+      stopped_so (IsFullSince first entry (λ file. LacksForOne file entry changes)) (IsFullForStream version ⊎ IsFullForChanges version changes)
+      (IsTrue (some_too_long (max_stream_len (version_of first.base)) empty_list changes)) (IsTrue (some_too_long (max_stream_len version) empty_list changes))
+      (λ full. inr (record { first = first; entry = entry; is_made = is; since = record { full = full.full; rest = full.rest; lacks_now = inr full.lacks_now } }))
+      (λ long. subst (λ (v : Version). IsTrue (some_too_long (max_stream_len v) empty_list changes)) is.in_version long) e
+
+  module _ (s : ListAt) (now : OpenStream) (changed : IsChangedTo first entry s now) (new : FileState)
+      (keeps : (start : FileState) → KeepsRest now.entry start now.file → KeepsRest now.entry start new) where
+    rest : KeepsRest now.entry first new
+    rest = keeps first (subst (λ (k : ℕ). KeepsRest k first now.file) (sym changed.same_entry) changed.rest)
+
+    closing_refused : (changes : List Change) (e : Error) → IsClosingRefused is_refused_growth now new e → IsDataRefused version changes e
+    closing_refused changes e by =
+        by_break (IsFullForStream version ⊎ IsFullForChanges version changes) (IsTrue (some_too_long (max_stream_len version) empty_list changes))
+        (causes_of now.file new).medium (IsFullFile new)
+        (λ lacks. inr (record {
+          first = first;
+          entry = entry;
+          is_made = is;
+          since = record { full = new; rest = subst (λ (k : ℕ). KeepsRest k first new) changed.same_entry rest; lacks_now = inl lacks };
+        }))
+        (failures_of now.file) (failures_of new) e by.refusal by.counts by.is (go (is_failed now.file) changed.unfailed by.closes)
+      where
+        go : (b : Bool) → b ≡ false → Closes (causes_of now.file new) (record (run_in now) { failed = b }) (Some by.refusal) (is_failed new)
+            → BlamesOneOf (causes_of now.file new).medium ⊤ (IsFullFile new) by.refusal
+        go true e h = absurd (cc)
+        go false e h = h.1
+
+    pub closing_refused_if : {T : Type 0} (changes : List Change) (result : Result T Error) → IfErr result (IsClosingRefused is_refused_growth now new) → IfErr result (IsDataRefused version changes)
+    closing_refused_if changes (Ok x) by = by
+    closing_refused_if changes (Err e) by = closing_refused changes e by
+
+    module _ (agrees : Agrees first) (stands : StandsAt first entry data_path) where
+      stream_closed : (causes : Causes) → Closes causes (run_in now) None (is_failed new) → ((start : FileState) → ClosesTree start now.entry (stream_in now).content new)
+          → ChangesStream now.entry now.file new → IsMadeWith version (data_tree s.list) new
+      stream_closed causes closes tree changes =
+          let calm : is_failed new ≡ false = go causes (is_failed now.file) changed.unfailed closes in
+          let letters : cases_of new.base ≡ default_cases = rest.setting.limits.cases ∙ is.letters in
+          let content = (stream_in now).content in
+          let closed : closed_tree first (data_tree []) data_path content ≡ data_tree s.list =
+          ap (λ (b : Bool). if b then tree_with_stream (cases_of first.base) (data_tree []) data_path content else data_tree []) is.sound
+          ∙ ap (λ (cases : Cases). tree_with_stream cases (data_tree []) data_path content) is.letters ∙ with_list content ∙ ap data_tree changed.stands.content in
+          let means : Means (cases_of new.base) (bytes_of new.base) (closed_tree first (data_tree []) data_path content) =
+          tree first data_path agrees rest (subst (λ (k : ℕ). StandsAt first k data_path) (sym changed.same_entry) stands) (data_tree [])
+          (means_of first (data_tree []) is.letters is.means) calm in
+          record {
+            in_version = rest.setting.limits.version ∙ is.in_version;
+            sound = rest.setting.is_sound ∙ is.sound;
+            unfailed = calm;
+            made = changes.content.made calm changed.made;
+            letters = letters;
+            limit = rest.setting.limits.max_sectors ∙ is.limit;
+            means = subst (λ (t : Tree). Means default_cases (bytes_of new.base) t) closed
+                (subst (λ (cases : Cases). Means cases (bytes_of new.base) (closed_tree first (data_tree []) data_path content)) letters means);
+          }
+        where
+          go : (causes : Causes) (b : Bool) → b ≡ false → Closes causes (record (run_in now) { failed = b }) None (is_failed new) → is_failed new ≡ false
+          go causes true e h = absurd (cc)
+          go causes false e h = h
+
+      pub stream_closed_if : {T : Type 0} (causes : Causes) (result : Result T Error) → OnOk result (Closes causes (run_in now) None (is_failed new))
+          → ((start : FileState) → ClosesTree start now.entry (stream_in now).content new) → ChangesStream now.entry now.file new
+          → OnOk result (IsMadeWith version (data_tree s.list) new)
+      stream_closed_if causes (Ok x) closes tree changes = stream_closed causes closes tree changes
+      stream_closed_if causes (Err e) closes tree changes = closes
+
+-- ---- memory alone
+
+pub want_is_refusal : (version : Version) (changes : List Change) (e : Error) → IsWantOfMemory e → IsDataRefused version changes e
+want_is_refusal version changes =
+    stopped_so ⊥ (IsFullForStream version ⊎ IsFullForChanges version changes) ⊥ (IsTrue (some_too_long (max_stream_len version) empty_list changes))
+    (λ h. absurd h) (λ h. absurd h)
+
+pub want_is_refusal_if : {T : Type 0} (version : Version) (changes : List Change) (result : Result T Error) → IfErr result IsWantOfMemory → IfErr result (IsDataRefused version changes)
+want_is_refusal_if version changes (Ok x) h = h
+want_is_refusal_if version changes (Err e) h = want_is_refusal version changes e h
+
+pub same_file : (P : FileState → Type 0) (a b : FileState) → a ≡ b → P b → P a
+same_file P a b is h = subst P (sym is) h

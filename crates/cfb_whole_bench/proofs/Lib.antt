@@ -1,0 +1,5 @@
+mod Changing
+mod Refusals
+mod OpenData
+mod DataFile
+mod Reopened

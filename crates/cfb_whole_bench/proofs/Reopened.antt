@@ -1,0 +1,84 @@
+-- A file in memory: what opening makes of its bytes.
+use Rattle.std.proofs.Common.{◌≡◌, ◌∙◌, ℕ, List, false, sym, ap, subst}
+use Rattle.std.specs.Prelude.{Result, Ok, Err, IfErr, IfOk, MatchResult}
+use Rattle.cfb_format.specs.declared.error.Error.{Error}
+use Rattle.cfb_format.specs.declared.error.Error.TheVariants.{NotFound, AlreadyExists, InvalidInput, InvalidData, Medium, Memory, Full, Unsound, Failed, Unsupported}
+use Rattle.cfb_format.specs.declared.validate.Validation.TheVariants.{Permissive}
+use Rattle.cfb_format.specs.declared.version.Version.{Version}
+use Rattle.cfb_format.specs.Full.{HasExactTablesFile}
+use Rattle.cfb_format.specs.Meaning.{Means}
+use Rattle.cfb_format.specs.Names.{Cases, default_cases}
+use Rattle.cfb_format.specs.Reading.{IsStrictFile, Reading, Reads}
+use Rattle.cfb_format.specs.Soundness.{IsOwnedFile, IsSoundFile}
+use Rattle.cfb_format.specs.Tree.{Tree}
+use Rattle.cfb_format.proofs.Unique.{Reads-unique}
+use Rattle.cfb_mini_sectors.specs.State.{bytes_of, cases_of, reading_of}
+use Rattle.cfb_agreement.specs.Files.{Agrees, FileState, Holds}
+use Rattle.cfb_agreement.specs.Laws.{AsMadeIsInOrder, IsInOrder, SoundIsExact}
+use Rattle.cfb_opening.specs.Acceptable.{IsAcceptable}
+use Rattle.cfb_compound_file.specs.Opening.{CanBeReopened, IsOpenedWith, OpeningWithRefused, permissive_options}
+use Rattle.cfb_whole_bench.specs.OneStream.{IsMadeWith, IsReopenedWith, IsWantOfMemory}
+
+module _ (version : Version) (tree : Tree) (file : FileState) (is : IsMadeWith version tree file) (bytes : List ℕ) (same : bytes ≡ bytes_of file.base) where
+  module _ (agrees : Agrees file) (exact : SoundIsExact) (in_order : AsMadeIsInOrder) (failures : ℕ) (new : FileState)
+      (opened : IsOpenedWith permissive_options bytes failures new) where
+    held : Holds file
+    held = agrees is.unfailed
+
+    held_new : Holds new
+    held_new = opened.opened.holds new.buffer_limit
+
+    bytes_is : bytes_of new.base ≡ bytes_of file.base
+    bytes_is = opened.opened.same_bytes ∙ same
+
+    cases_is : cases_of new.base ≡ cases_of file.base
+    cases_is = opened.opened.letters ∙ sym is.letters
+
+    version_is : held_new.header.version ≡ held.header.version
+    version_is =
+        ap (λ (r : Reading). r.header.version)
+        (Reads-unique (cases_of file.base) (bytes_of file.base) (reading_of held_new.header new.base held_new.outline) (reading_of held.header file.base held.outline)
+        (subst (λ (b : List ℕ). Reads (cases_of file.base) b (reading_of held_new.header new.base held_new.outline)) bytes_is
+        (subst (λ (cases : Cases). Reads cases (bytes_of new.base) (reading_of held_new.header new.base held_new.outline)) cases_is held_new.reads)) held.reads)
+
+    of_new : (P : Cases → List ℕ → Type 0) → P (cases_of file.base) (bytes_of file.base) → P (cases_of new.base) (bytes_of new.base)
+    of_new P h = subst (λ (cases : Cases). P cases (bytes_of new.base)) (sym cases_is) (subst (λ (b : List ℕ). P (cases_of file.base) b) (sym bytes_is) h)
+
+    pub is_reopened : IsReopenedWith version tree new
+    is_reopened =
+        let order : IsInOrder file = in_order file held is.made in
+        record {
+          in_version = sym held_new.version ∙ version_is ∙ held.version ∙ is.in_version;
+          sound = opened.sound.1 (subst (λ (b : List ℕ). IsSoundFile default_cases b) (sym same)
+              (subst (λ (cases : Cases). IsSoundFile cases (bytes_of file.base)) is.letters ((exact file held).0 is.sound)));
+          unfailed = opened.opened.unfailed;
+          means = subst (λ (b : List ℕ). Means default_cases b tree) (sym bytes_is) is.means;
+          in_order = record { strict = of_new IsStrictFile order.strict; owned = of_new IsOwnedFile order.owned; exact = of_new HasExactTablesFile order.exact };
+        }
+
+  -- such bytes are acceptable, so that nothing but memory can be refused
+  not_opened : CanBeReopened file → (e : Error) → OpeningWithRefused (λ _. false) permissive_options bytes e → IsWantOfMemory e
+  not_opened again (NotFound d) h = absurd h
+  not_opened again (AlreadyExists d) h = absurd h
+  not_opened again (InvalidInput d) h = absurd h
+  not_opened again (InvalidData d) h =
+      absurd (h again.permissive.reading
+      (subst (λ (b : List ℕ). IsAcceptable Permissive default_cases b again.permissive.reading) (sym same)
+      (subst (λ (cases : Cases). IsAcceptable Permissive cases (bytes_of file.base) again.permissive.reading) is.letters again.permissive.accepted)))
+  not_opened again (Medium f) h = absurd (cc)
+  not_opened again Memory h = tt
+  not_opened again Full h = absurd h
+  not_opened again Unsound h = absurd h
+  not_opened again Failed h = absurd h
+  not_opened again Unsupported h = absurd h
+
+  module _ (failures : ℕ) where
+    pub opened_if : Agrees file → SoundIsExact → AsMadeIsInOrder → (result : Result FileState Error)
+        → MatchResult result (IsOpenedWith permissive_options bytes failures) (OpeningWithRefused (λ _. false) permissive_options bytes) → IfOk result (IsReopenedWith version tree)
+    opened_if agrees exact in_order (Ok new) opened = is_reopened agrees exact in_order failures new opened
+    opened_if agrees exact in_order (Err e) refused = tt
+
+    pub refused_if : CanBeReopened file → (result : Result FileState Error)
+        → MatchResult result (IsOpenedWith permissive_options bytes failures) (OpeningWithRefused (λ _. false) permissive_options bytes) → IfErr result IsWantOfMemory
+    refused_if again (Ok new) opened = tt
+    refused_if again (Err e) refused = not_opened again e refused

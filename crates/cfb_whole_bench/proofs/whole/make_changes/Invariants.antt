@@ -1,0 +1,12 @@
+use Rattle.std.proofs.Common.{◌≡◌, ℕ}
+use Rattle.cfb_agreement.specs.Files.{FileState}
+use Rattle.cfb_compound_file.specs.Streams.{file_of, open_of}
+use Rattle.cfb_whole_bench.specs.Changes.{ListAt, after_all}
+use Rattle.cfb_whole_bench.specs.OneStream.{IsChangedTo}
+use Rattle.cfb_whole_bench.proofs.whole.make_changes.Given as goal
+
+abbrev pub invariant-loop-change : goal.invariant-loop-change
+invariant-loop-change g l =
+    ((file_of l.stream).ghost_name ≡ (file_of l.fn.stream).ghost_name)
+    × ((first : FileState) (entry : ℕ) (s : ListAt) → IsChangedTo first entry s (open_of l.fn.stream)
+    → IsChangedTo first entry (after_all s l.yielded) (open_of l.stream))

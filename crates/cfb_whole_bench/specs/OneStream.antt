@@ -1,0 +1,119 @@
+-- A file in memory that has one stream, and the changes of it.
+use Rattle.std.specs.Prelude.{ℕ, ◌≡◌, ◌⊎◌, List, [], ◌∷◌, true, false, length, IsTrue, ⊤}
+use Rattle.cfb_format.specs.declared.error.Error.{Error}
+use Rattle.cfb_format.specs.declared.version.Version.{Version}
+use Rattle.cfb_format.specs.Bytes.{max_regular_sector, max_stream_len}
+use Rattle.cfb_format.specs.Created.{empty_tree}
+use Rattle.cfb_format.specs.Memory.{is_refused_growth}
+use Rattle.cfb_format.specs.Meaning.{Means}
+use Rattle.cfb_format.specs.Names.{default_cases}
+use Rattle.cfb_format.specs.Refused.{HasReason, no_error}
+use Rattle.cfb_format.specs.Tree.{Tree, nothing, stream}
+use Rattle.cfb_mini_sectors.specs.State.{bytes_of, cases_of, tables_in, version_of}
+use Rattle.cfb_content.specs.Contents.{IsTooLongFor}
+use Rattle.cfb_agreement.specs.Files.{FileState, IsAsMade, IsFullFile, SameSetting, is_failed}
+use Rattle.cfb_agreement.specs.Laws.{IsInOrder}
+use Rattle.cfb_compound_file.specs.Stored.{KeepsRest}
+use Rattle.cfb_compound_file.specs.StreamAnswers.{OpenStream, stream_in}
+use Rattle.cfb_whole_bench.specs.Changes.{ListAt, Stands, empty_list, is_too_long, some_too_long}
+use Rattle.cfb_whole_bench.specs.declared.whole.Change.{Change}
+use Rattle.cfb_whole_bench.specs.declared.whole.Change.TheVariants.{Write, SetLen}
+
+-- the stream's name, `data`, and its path
+abbrev pub data_name : List ℕ
+data_name = 0x64 ∷ 0x61 ∷ 0x74 ∷ 0x61 ∷ []
+
+abbrev pub data_path : List ℕ
+data_path = 0x2F ∷ data_name
+
+-- the tree that has this stream alone, with this list of bytes
+abbrev pub data_tree : List ℕ → Tree
+data_tree list = record empty_tree { objects = stream data_name (record { state_bits = 0; len = length list; content = list }) nothing }
+
+-- ---- the file
+
+-- a file that was made here in this version, and holds its bytes in order: it is sound and has not failed, its letters and limits are those
+-- that it has where nothing is said, and its bytes mean this tree
+pub record IsMadeWith (version : Version) (tree : Tree) (file : FileState) : Type 0 where
+  pub in_version : version_of file.base ≡ version
+  pub sound : file.is_sound ≡ true
+  pub unfailed : is_failed file ≡ false
+  pub made : IsAsMade file.base
+  pub letters : cases_of file.base ≡ default_cases
+  pub limit : (tables_in file.base).max_sectors ≡ max_regular_sector
+  pub means : Means default_cases (bytes_of file.base) tree
+
+-- a file that was opened from such bytes
+pub record IsReopenedWith (version : Version) (tree : Tree) (file : FileState) : Type 0 where
+  pub in_version : version_of file.base ≡ version
+  pub sound : file.is_sound ≡ true
+  pub unfailed : is_failed file ≡ false
+  pub means : Means default_cases (bytes_of file.base) tree
+  pub in_order : IsInOrder file
+
+-- ---- the stream
+
+-- the open stream of that entry is this list at this place, in a sound file in which nothing but it has changed since the first state
+pub record IsChangedTo (first : FileState) (entry : ℕ) (s : ListAt) (now : OpenStream) : Type 0 where
+  pub same_entry : now.entry ≡ entry
+  pub sound : now.file.is_sound ≡ true
+  pub unfailed : is_failed now.file ≡ false
+  pub made : IsAsMade now.file.base
+  pub rest : KeepsRest entry first now.file
+  pub stands : Stands s (stream_in now)
+
+-- ---- refusals
+
+-- what lacks in a file that is full for this change of that entry's stream: anything for a write, and what the length needs
+abbrev pub LacksFor : FileState → ℕ → Change → Type 0
+LacksFor file entry (Write bytes) = IsFullFile file
+LacksFor file entry (SetLen len) = IsTooLongFor file.base entry len
+
+-- for one of them
+abbrev pub LacksForOne : FileState → ℕ → List Change → Type 0
+LacksForOne file entry [] = ⊥
+LacksForOne file entry (change ∷ changes) = LacksFor file entry change ⊎ LacksForOne file entry changes
+
+-- nothing but the stream of that entry has changed since the first state, and so much lacks now
+pub record IsFullSince (first : FileState) (entry : ℕ) (lacks : FileState → Type 0) : Type 0 where
+  pub full : FileState
+  pub rest : KeepsRest entry first full
+  pub lacks_now : lacks full
+
+-- a growth of memory was refused to the medium, or memory to the call; or the file is so full; or the input is wrong
+abbrev pub IsStopped : (full wrong : Type 0) → Error → Type 0
+IsStopped full wrong = HasReason (record no_error { medium = λ fault. IsTrue (is_refused_growth fault); memory = ⊤; full = full; invalid_input = wrong })
+
+-- this change was refused: as a wrong input only where the stream would become longer than the version has them
+abbrev pub IsChangeRefused : FileState → ℕ → ListAt → Change → Error → Type 0
+IsChangeRefused first entry s change =
+    IsStopped (IsFullSince first entry (λ file. LacksFor file entry change)) (IsTrue (is_too_long (max_stream_len (version_of first.base)) s change))
+
+-- one of them was
+abbrev pub AreChangesRefused : FileState → ℕ → ListAt → List Change → Error → Type 0
+AreChangesRefused first entry s changes =
+    IsStopped (IsFullSince first entry (λ file. LacksForOne file entry changes)) (IsTrue (some_too_long (max_stream_len (version_of first.base)) s changes))
+
+-- only a growth of memory was refused to the medium, or memory to the call
+abbrev pub IsWantOfMemory : Error → Type 0
+IsWantOfMemory = IsStopped ⊥ ⊥
+
+-- the file with nothing in it is so full that the stream was not made
+pub record IsFullForStream (version : Version) : Type 0 where
+  pub before : FileState
+  pub is_made : IsMadeWith version empty_tree before
+  pub full : FileState
+  pub setting : SameSetting before full
+  pub lacks_now : IsFullFile full
+
+-- or it has the stream, and is so full as changes of the stream have left it that a next one was not made, or what is kept back not written out
+pub record IsFullForChanges (version : Version) (changes : List Change) : Type 0 where
+  pub first : FileState
+  pub entry : ℕ
+  pub is_made : IsMadeWith version (data_tree []) first
+  pub since : IsFullSince first entry (λ file. IsFullFile file ⊎ LacksForOne file entry changes)
+
+-- the stream with these changes was refused
+abbrev pub IsDataRefused : Version → List Change → Error → Type 0
+IsDataRefused version changes =
+    IsStopped (IsFullForStream version ⊎ IsFullForChanges version changes) (IsTrue (some_too_long (max_stream_len version) empty_list changes))
