@@ -93,8 +93,7 @@ fn opened_in_turn(
     Ok(Some(count))
 }
 
-/// In how many modes files with a stream of 4095 bytes are opened in which each byte from `start` up to `end` is changed in turn, up to 2112: all
-/// but the content of the stream behind its first 64 bytes.
+/// In how many modes files with a stream of 4095 bytes are opened in which each byte from `start` up to `end` is changed in turn.
 fn opened_with_stream(alloc: Global, start: usize, end: usize) -> Result<Option<usize>, Error> {
     let mut bytes = with_stream(alloc, &content(alloc, 4095)?)?;
     opened_in_turn(alloc, &mut bytes, start, end)
@@ -113,21 +112,13 @@ fn bytes_of_the_fat_and_entries(rt: HostRuntime) -> Result<(), Fail> {
 }
 
 #[test]
-fn bytes_of_entries_and_the_minifat(rt: HostRuntime) -> Result<(), Fail> {
-    assert!(rt; opened_with_stream(rt.alloc(), 1408, 2112)?.is_some_and(|count| count > 1000));
+fn bytes_of_entries_the_minifat_and_the_stream(rt: HostRuntime) -> Result<(), Fail> {
+    assert!(rt; opened_with_stream(rt.alloc(), 1408, 6144)?.is_some_and(|count| count > 1000));
     Ok(())
 }
 
-/// Places of a file with a long DIFAT: the header's fields, its first and its last FAT sectors; the first words of the FAT, those around the
-/// last used one, and parts of its padding; and the last words of the DIFAT sector with the directory's used entry.
-const LONG_PLACES: [(usize, usize); 6] = [
-    (0, 120),
-    (500, 530),
-    (940, 964),
-    (1020, 1032),
-    (28672, 28680),
-    (57328, 57600),
-];
+/// Places of a file with a long DIFAT: the header and the first two FAT sectors; words of padding; and the DIFAT sector with the directory.
+const LONG_PLACES: [(usize, usize); 3] = [(0, 1536), (28672, 28680), (56832, 57856)];
 
 #[test]
 fn bytes_of_a_long_difat(rt: HostRuntime) -> Result<(), Fail> {
