@@ -56,9 +56,6 @@ stream_stays old new k entries cases there = ∥∥₁_map there (λ at. same_st
 
 -- ---- what is readable
 
-pub failed_content : (file : FileState) (i : ℕ) → is_failed file ≡ true → (stored_of file i).content ≡ []
-failed_content file i failed = ap (λ (b : Bool). if b then [] else content_at file i) failed
-
 pub unfailed_content : (file : FileState) (i : ℕ) → is_failed file ≡ false → (stored_of file i).content ≡ content_at file i
 unfailed_content file i unfailed = ap (λ (b : Bool). if b then [] else content_at file i) unfailed
 
@@ -74,41 +71,8 @@ agrees_with_flags old new failures begun is calm agrees = λ unfailed.
 pub agrees_as_before : (old new : FileState) → IsAsBefore old new → Agrees old → Agrees new
 agrees_as_before old new before agrees = agrees_with_flags old new (failures_of new) (is_failed old) (as-before-same old new before) (λ calm. calm) agrees
 
-pub kept_as_before : (old new : FileState) → IsAsBefore old new → kept_of new ≡ kept_of old
-kept_as_before old new before = ap kept_of (as-before-same old new before)
-
 pub stored_as_before : (old new : FileState) (i : ℕ) → IsAsBefore old new → stored_of new i ≡ stored_of old i
 stored_as_before old new i before = ap (λ (z : FileState). stored_of z i) (as-before-same old new before)
-
--- ---- reading
-
-module _ (file : FileState) (i at : ℕ) (unfailed : is_failed file ≡ false) where
-  pub read_done : (wanted : ℕ) (into : List ℕ) (r : Result ℕ Error) → at < len_of file.base i → 0 < wanted → IfOk r (λ n. 0 < min wanted (len_of file.base i - at) → 0 < n)
-      → IfOk r (λ n. take n into ≡ part (content_at file i) at n) → IfOk r (λ n. 0 < n → at + n ≤ length (content_at file i))
-      → IfOk r (ReadsPart (stored_of file i).content at into)
-  read_done wanted into (Ok n) before some counted gives within =
-      let same = unfailed_content file i unfailed in
-      let more : 0 < n = counted (omega (arith, before, some)) in
-      record {
-        some = more;
-        inside = omega (arith, within more, ap (λ (xs : List ℕ). length xs) same);
-        gives = gives ∙ ap (λ (xs : List ℕ). take n (drop at xs)) (sym same);
-      }
-  read_done wanted into (Err e) before some counted gives within = tt
-
-  pub read_refused : (wanted : ℕ) (r : Result ℕ Error) → IfErr r (ChangeRefused ((length (content_at file i) ≤ at) × (0 < min wanted (len_of file.base i - at))) (Unit {0}) ⊥ (Unit {0}))
-      → IfErr r (IsRefusedRead (stored_of file i) at)
-  read_refused wanted (Ok n) why = tt
-  read_refused wanted (Err (NotFound d)) why = absurd why
-  read_refused wanted (Err (AlreadyExists d)) why = absurd why
-  read_refused wanted (Err (InvalidInput d)) why = absurd why
-  read_refused wanted (Err (InvalidData d)) why = inr (refl, omega (arith, why.0, ap (λ (xs : List ℕ). length xs) (unfailed_content file i unfailed)))
-  read_refused wanted (Err (Medium f)) why = inl tt
-  read_refused wanted (Err Memory) why = inl tt
-  read_refused wanted (Err Full) why = absurd why
-  read_refused wanted (Err Unsound) why = absurd why
-  read_refused wanted (Err Failed) why = absurd why
-  read_refused wanted (Err Unsupported) why = absurd why
 
 -- ---- changing
 

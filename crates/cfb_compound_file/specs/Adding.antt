@@ -15,7 +15,7 @@ use Rattle.cfb_siblings.specs.Children.{HasChildren, IsAbsent}
 use Rattle.cfb_objects.specs.Objects.{tree_from}
 use Rattle.cfb_mini_sectors.specs.State.{cases_of, content_of, entries_of}
 use Rattle.cfb_content.specs.Contents.{IsStreamOf}
-use Rattle.cfb_agreement.specs.Files.{Agrees, FileState}
+use Rattle.cfb_agreement.specs.Files.{Agrees, FileState, is_failed}
 use Rattle.cfb_stream_window.specs.Windows.{Suits, window_opened}
 use Rattle.cfb_compound_file.specs.Answers.{IsDoneBy}
 use Rattle.cfb_compound_file.specs.Finding.{LeadTo}
@@ -73,6 +73,7 @@ RulesRefuse file empties names e = (refusal : Refusal) × IsRefusal refusal e ×
 pub record IsCreatedBy (tells : Bool) (old : FileState) (call : Call) (path : List ℕ) (s : OpenStream) : Type 0 where
   pub does : IsTrue tells → IsDoneBy old call done s.file
   pub agrees : IsTrue tells → Agrees s.file
+  pub unfailed : is_failed s.file ≡ false
   pub window : s.window ≡ window_opened 0 old.buffer_limit
   pub suits : IsTrue tells → Suits (stored_in s) s.window
   pub stands : StandsAt s.file s.entry path

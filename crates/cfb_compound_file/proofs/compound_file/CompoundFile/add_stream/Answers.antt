@@ -24,6 +24,7 @@ returns-clause-created g c =
     record {
       does = λ told. c.in_ok-entry.ensures.runs told c.args.empties (chars c.args.path.now) place;
       agrees = agrees;
+      unfailed = filled.unfailed;
       window = c.over-window.ensures.value ∙ ap (λ (b : Buffered). window_over (len_of new.base entry) b) c.in_ok-buffer.ensures.ok
           ∙ ap (λ (n : ℕ). window_over n (record { filled = []; cursor = 0; room = 1024; bound = max 1024 c.args.self.now.buffer_limit })) filled.empty;
       suits = λ told. (c.over-window.ensures.is_open told (fitting new entry filled.unfailed (agrees told filled.unfailed) filled.stream)).suits;
