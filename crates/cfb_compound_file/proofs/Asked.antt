@@ -1,5 +1,5 @@
 -- What is asked of a file is answered by the rules of calls.
-use Rattle.std.proofs.Common.{◌≡◌, ◌≢◌, ◌⊎◌, inl, inr, ℕ, List, [], ◌∷◌, Bool, true, false, refl, ap, sym, ◌∙◌, subst}
+use Rattle.std.proofs.Common.{◌≡◌, ◌⊎◌, inl, inr, ℕ, List, Bool, true, false, refl, ap, sym, ◌∙◌, subst}
 use Rattle.std.specs.Prelude.{MatchBool, MatchOption, Option, Some, None, option_map}
 use Rattle.std.specs.Option.{option_map_or}
 use Rattle.cfb_format.specs.declared.error.Error.{Error}
@@ -27,7 +27,7 @@ use Rattle.cfb_mini_sectors.specs.State.{bytes_of, cases_of, content_of, entries
 use Rattle.cfb_agreement.specs.Files.{Agrees, FileState, is_failed}
 use Rattle.cfb_agreement.proofs.HeldBytes.{held-means-its-tree}
 use Rattle.cfb_compound_file.specs.Answers.{Answers, AnswersNot, RunsOn, causes_of, setting_of, state_with}
-use Rattle.cfb_compound_file.specs.Finding.{FindingRefused, LeadTo}
+use Rattle.cfb_compound_file.specs.Finding.{FindingRefused}
 
 -- ---- questions
 

@@ -1,17 +1,16 @@
 -- What the rules refuse of a new object, by the entries.
-use Rattle.std.proofs.Common.{◌≡◌, ◌≢◌, ℕ, List, [], ◌∷◌, ◌++◌, Bool, true, false, refl, ap, sym, ◌∙◌, subst, length, arith}
+use Rattle.std.proofs.Common.{◌≡◌, ◌≢◌, ℕ, List, [], ◌∷◌, ◌++◌, Bool, true, false, refl, ap, ◌∙◌, length, arith}
 use Rattle.std.specs.Prelude.{Option, Some, None, not, option_map, if◌then◌else◌}
 use Rattle.cfb_format.specs.declared.objtype.ObjType.TheVariants.{Stream}
-use Rattle.cfb_format.specs.Meaning.{objects_from, storage_info, stream_info}
 use Rattle.cfb_format.specs.Names.{is_valid_name}
 use Rattle.cfb_format.specs.Reading.{IsOutline, Outline}
 use Rattle.cfb_format.specs.Siblings.{entry_at}
 use Rattle.cfb_format.specs.Tree.{Object, Tree}
-use Rattle.cfb_rules.specs.CallRefusals.{creation_refusal, is_a_storage, is_a_stream, place_refusal, unless}
+use Rattle.cfb_rules.specs.CallRefusals.{creation_refusal, is_a_storage, place_refusal, unless}
 use Rattle.cfb_rules.specs.Finding.{last_name, object_at, parent_names}
-use Rattle.cfb_rules.specs.Refusal.{Refusal, already_exists, invalid_input, not_found}
+use Rattle.cfb_rules.specs.Refusal.{already_exists, invalid_input, not_found}
 use Rattle.cfb_siblings.specs.Paths.{number_from}
-use Rattle.cfb_objects.specs.Objects.{inside_of, object_of, tree_from}
+use Rattle.cfb_objects.specs.Objects.{object_of, tree_from}
 use Rattle.cfb_objects.proofs.Found.{object-is-at-its-entry, storage-by-kind, stream-by-kind}
 use Rattle.cfb_mini_sectors.specs.State.{MiniState, cases_of, content_of, entries_of}
 use Rattle.cfb_compound_file.specs.Adding.{may_stay}

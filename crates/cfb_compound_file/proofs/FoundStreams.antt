@@ -1,19 +1,17 @@
 -- A stream that was found at a path, by the rules of calls.
-use Rattle.std.proofs.Common.{◌≡◌, ◌≢◌, ◌≤◌, ◌<◌, ℕ, zero, suc, Bool, true, false, List, [], ◌∷◌, refl, sym, ◌∙◌, ap, subst, length, arith}
-use Rattle.std.specs.Prelude.{Contains, Option, Some, None, is_some, option_and_then, option_map, unwrap_or}
+use Rattle.std.proofs.Common.{◌≡◌, ◌≢◌, ℕ, zero, suc, Bool, true, false, List, refl, sym, ◌∙◌, ap, arith}
+use Rattle.std.specs.Prelude.{Contains, Option, Some, None, is_some, option_and_then, option_map}
 use Rattle.std.specs.Option.{option_map_or}
-use Rattle.cfb_format.specs.declared.objtype.ObjType.{ObjType}
 use Rattle.cfb_format.specs.declared.objtype.ObjType.TheVariants.{Root, Stream}
 use Rattle.cfb_format.specs.Meaning.{Means, stream_info}
 use Rattle.cfb_format.specs.Path.{names_of_path}
-use Rattle.cfb_format.specs.Reading.{IsOutline, Outline, numbers, stream_numbers}
+use Rattle.cfb_format.specs.Reading.{Outline, numbers, stream_numbers}
 use Rattle.cfb_format.specs.Siblings.{entry_at}
-use Rattle.cfb_format.specs.Tree.{Object, Tree, a_storage, a_stream}
+use Rattle.cfb_format.specs.Tree.{Object, Tree, a_stream}
 use Rattle.cfb_format.proofs.Unique.{Means-unique}
 use Rattle.cfb_rules.specs.CallRefusals.{is_a_stream, object_refusal, unless}
-use Rattle.cfb_rules.specs.Calls.{Call, open_read_stream, open_stream}
 use Rattle.cfb_rules.specs.Finding.{object_at}
-use Rattle.cfb_rules.specs.Refusal.{Refusal, invalid_input, not_found}
+use Rattle.cfb_rules.specs.Refusal.{invalid_input, not_found}
 use Rattle.cfb_siblings.specs.Paths.{number_at_path}
 use Rattle.cfb_siblings.proofs.Tallies.{counted, present}
 use Rattle.cfb_trees.specs.Reached.{IsReached}

@@ -1,5 +1,5 @@
 -- Files that were opened or made with options.
-use Rattle.std.proofs.Common.{◌≡◌, ◌↔◌, ℕ, List, Bool, true, Option, subst}
+use Rattle.std.proofs.Common.{◌≡◌, ◌↔◌, ℕ, List, true, Option, subst}
 use Rattle.std.specs.Option.{unwrap_or}
 use Rattle.cfb_format.specs.declared.validate.Validation.{Validation}
 use Rattle.cfb_format.specs.Names.{Cases, default_cases}

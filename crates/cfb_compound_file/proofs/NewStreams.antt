@@ -1,6 +1,6 @@
 -- New streams, by the rules of calls.
-use Rattle.std.proofs.Common.{◌≡◌, ◌≢◌, ◌<◌, ◌⊎◌, inl, inr, ℕ, List, [], ◌∷◌, ◌++◌, ◌-◌, Bool, true, false, refl, sym, ◌∙◌, ap, subst, length, take, replicate, arith}
-use Rattle.std.specs.Prelude.{Option, Some, None, IsTrue, Result, Ok, Err, IfErr, OnErr, ⊤, not, is_some, option_and_then, option_map, if◌then◌else◌}
+use Rattle.std.proofs.Common.{◌≡◌, ◌≢◌, ◌⊎◌, inl, inr, ℕ, List, [], ◌++◌, ◌-◌, Bool, true, false, refl, sym, ◌∙◌, ap, subst, length, take, replicate, arith}
+use Rattle.std.specs.Prelude.{Option, Some, None, not, is_some, option_and_then, option_map, if◌then◌else◌}
 use Rattle.std.specs.Option.{option_map_or}
 use Rattle.cfb_format.specs.declared.error.Error.{Error}
 use Rattle.cfb_format.specs.declared.error.Error.TheVariants.{NotFound, AlreadyExists, InvalidInput, InvalidData, Medium, Memory, Full, Unsound, Failed, Unsupported}
@@ -12,27 +12,25 @@ use Rattle.cfb_format.specs.Names.{Cases}
 use Rattle.cfb_format.specs.Path.{names_of_path}
 use Rattle.cfb_format.specs.Reading.{IsOutline, Outline}
 use Rattle.cfb_format.specs.Refused.{CountsError, HasReason, IsMemory, RefusesInput, at_every_error}
-use Rattle.cfb_format.specs.Siblings.{entry_at}
 use Rattle.cfb_format.specs.Tree.{Object, Tree}
 use Rattle.cfb_format.proofs.Unique.{IsOutline-unique}
 use Rattle.cfb_rules.specs.CallChanges.{content_changed_at, stream_added_at, stream_created_at, tree_after}
 use Rattle.cfb_rules.specs.CallRefusals.{creation_refusal, refusal_of}
 use Rattle.cfb_rules.specs.CallReplies.{reply_of}
-use Rattle.cfb_rules.specs.Calls.{Call, Reply, create_new_stream, create_stream, done, refused}
+use Rattle.cfb_rules.specs.Calls.{Call, done, refused}
 use Rattle.cfb_rules.specs.Finding.{last_name, object_at, parent_names}
 use Rattle.cfb_rules.specs.Refusal.{IsRefusal, Refusal, already_exists, failed_earlier, file_full, invalid_data, invalid_input, is_of_rules, medium_failed, not_found, not_sound, out_of_memory}
 use Rattle.cfb_rules.specs.StreamCalls.{resized}
 use Rattle.cfb_rules.specs.Steps.{changing, kind_of}
-use Rattle.cfb_siblings.specs.Paths.{number_at_path, number_from}
+use Rattle.cfb_siblings.specs.Paths.{number_from}
 use Rattle.cfb_trees.proofs.PathNames.{same-from}
 use Rattle.cfb_objects.specs.Objects.{object_of, tree_from}
 use Rattle.cfb_objects.specs.Laws.{BecomesTree}
-use Rattle.cfb_mini_sectors.specs.State.{bytes_of, cases_of, content_of, entries_of, root_len_of, tables_in}
-use Rattle.cfb_content.specs.Contents.{IsStreamOf, IsTooLongFor, MovesContent, len_of}
+use Rattle.cfb_mini_sectors.specs.State.{bytes_of, cases_of, content_of, entries_of, root_len_of}
+use Rattle.cfb_content.specs.Contents.{IsStreamOf, MovesContent}
 use Rattle.cfb_content.proofs.Outlines.{moved-at, moved-is-outline}
 use Rattle.cfb_agreement.specs.Changes.{ChangesOneContent, StaysOrFails, object_added_at}
-use Rattle.cfb_agreement.specs.Files.{Agrees, FileState, Holds, IsAsBefore, IsAsMade, IsFullFile, LeavesNoneFree, SameSetting, failures_of, is_failed}
-use Rattle.cfb_agreement.specs.Laws.{with_flags}
+use Rattle.cfb_agreement.specs.Files.{FileState, Holds, IsAsBefore, IsAsMade, IsFullFile, LeavesNoneFree, SameSetting, failures_of, is_failed}
 use Rattle.cfb_agreement.proofs.ContentChanges.{content-becomes-tree}
 use Rattle.cfb_agreement.proofs.Flags.{as-before-same, made-flagged}
 use Rattle.cfb_agreement.proofs.HeldBytes.{held-means-its-tree}

@@ -1,20 +1,17 @@
 -- Opening a stream, by the rules of calls.
-use Rattle.std.proofs.Common.{◌≡◌, ◌≤◌, ◌<◌, inl, inr, ℕ, zero, suc, Bool, true, false, List, [], ◌∷◌, refl, sym, ◌∙◌, ap, subst, length, arith}
+use Rattle.std.proofs.Common.{◌≡◌, inl, inr, ℕ, Bool, true, false, List, refl, sym, subst}
 use Rattle.std.specs.Prelude.{IsTrue, Option, Some, None, MatchOption}
-use Rattle.std.specs.List.{AllZip}
 use Rattle.std.specs.Option.{option_map_or}
 use Rattle.cfb_format.specs.declared.error.Error.{Error}
 use Rattle.cfb_format.specs.declared.error.Error.TheVariants.{NotFound, AlreadyExists, InvalidInput, InvalidData, Medium, Memory, Full, Unsound, Failed, Unsupported}
-use Rattle.cfb_format.specs.declared.objtype.ObjType.TheVariants.{Stream}
 use Rattle.cfb_format.specs.Meaning.{Means}
 use Rattle.cfb_format.specs.Names.{Cases}
-use Rattle.cfb_format.specs.Siblings.{entry_at}
 use Rattle.cfb_format.specs.Tree.{Tree}
 use Rattle.cfb_rules.specs.Calls.{Call, Reply, done, open_stream, refused}
-use Rattle.cfb_rules.specs.Refusal.{Refusal, IsRefusal, failed_earlier, invalid_input, not_found, out_of_memory}
+use Rattle.cfb_rules.specs.Refusal.{Refusal, failed_earlier, invalid_input, not_found, out_of_memory}
 use Rattle.cfb_rules.specs.Runs.{Causes, MayBreak, OnFailed, TreeState, may_stay}
 use Rattle.cfb_rules.specs.Steps.{Step, kind_of}
-use Rattle.cfb_mini_sectors.specs.State.{bytes_of, cases_of, entries_of, root_len_of}
+use Rattle.cfb_mini_sectors.specs.State.{bytes_of, cases_of, root_len_of}
 use Rattle.cfb_agreement.specs.Files.{Agrees, FileState, is_failed}
 use Rattle.cfb_compound_file.specs.Answers.{Answers, AnswersNot, MeansTree, RunsOn, causes_of, setting_of, state_with}
 use Rattle.cfb_compound_file.specs.OpenedStreams.{IsNotFound, IsStreamAt}

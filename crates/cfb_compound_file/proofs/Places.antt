@@ -8,16 +8,14 @@ use Rattle.cfb_format.specs.Names.{is_valid_name}
 use Rattle.cfb_format.specs.Reading.{IsOutline, Outline}
 use Rattle.cfb_format.specs.Refused.{IsMemory, RefusesInput}
 use Rattle.cfb_format.specs.Siblings.{entry_at}
-use Rattle.cfb_format.specs.Tree.{Object}
-use Rattle.cfb_rules.specs.CallRefusals.{creation_refusal, is_a_storage, is_a_stream, unless}
+use Rattle.cfb_rules.specs.CallRefusals.{is_a_storage, unless}
 use Rattle.cfb_rules.specs.Finding.{last_name, parent_names}
 use Rattle.cfb_rules.specs.Refusal.{Refusal, already_exists, invalid_input, not_found}
-use Rattle.cfb_siblings.specs.Children.{HasChildren, IsAbsent}
-use Rattle.cfb_siblings.specs.Paths.{LeadsOn, number_from}
+use Rattle.cfb_siblings.specs.Children.{IsAbsent}
+use Rattle.cfb_siblings.specs.Paths.{LeadsOn}
 use Rattle.cfb_trees.specs.Reached.{IsReached}
 use Rattle.cfb_entries.specs.EntryList.{AreInOrder}
-use Rattle.cfb_objects.specs.Objects.{object_of, tree_from}
-use Rattle.cfb_objects.proofs.Found.{stream-by-kind}
+use Rattle.cfb_objects.specs.Objects.{object_of}
 use Rattle.cfb_objects.proofs.Leading.{last-name-leads-on}
 use Rattle.cfb_mini_sectors.specs.State.{cases_of, content_of, entries_of}
 use Rattle.cfb_agreement.specs.Files.{FileState}
@@ -26,7 +24,7 @@ use Rattle.cfb_compound_file.specs.Finding.{LeadTo}
 use Rattle.cfb_compound_file.specs.Place.{IsPlace}
 use Rattle.cfb_compound_file.specs.declared.adding.Place.{Place}
 use Rattle.cfb_compound_file.specs.declared.adding.Place.TheVariants.{Missing, There}
-use Rattle.cfb_compound_file.proofs.Creation.{last_is, name_is_wrong, nothing_stays, parent_is_missing, parent_is_there, parents_are, something_is_there, storage_is, storage_never_stays, stream_is}
+use Rattle.cfb_compound_file.proofs.Creation.{last_is, name_is_wrong, parent_is_missing, parent_is_there, parents_are, something_is_there, storage_is, storage_never_stays, stream_is}
 use Rattle.cfb_compound_file.proofs.FoundStreams.{reached_stream}
 
 -- ---- the last name

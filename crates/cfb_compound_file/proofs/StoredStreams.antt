@@ -1,25 +1,23 @@
 -- What reading and changing one stream of a file comes to for the layer of buffered streams.
-use Rattle.std.proofs.Common.{◌≡◌, ◌<◌, ◌≤◌, ◌+◌, ◌-◌, ◌++◌, ◌⊎◌, inl, inr, ℕ, Bool, true, false, List, [], refl, sym, ◌∙◌, ap, subst, length, take, drop, min, max, replicate, arith, length-take, append-nil}
+use Rattle.std.proofs.Common.{◌≡◌, ◌<◌, ◌≤◌, ◌+◌, ◌-◌, ◌++◌, inl, inr, ℕ, Bool, true, false, List, [], refl, sym, ◌∙◌, ap, subst, length, take, drop, max, replicate, arith, length-take, append-nil}
 use Rattle.std.proofs.Math.Logic.{∥∥₁_elim, ∥∥₁_map}
 use Rattle.std.proofs.Math.Bridge.{le_prop}
-use Rattle.std.specs.Prelude.{IsTrue, Result, Ok, Err, IfOk, IfErr, OnOk, OnErr, if◌then◌else◌}
+use Rattle.std.specs.Prelude.{Result, Ok, Err, IfOk, IfErr, OnOk, OnErr, if◌then◌else◌}
 use Rattle.cfb_format.specs.declared.error.Error.{Error}
 use Rattle.cfb_format.specs.declared.error.Error.TheVariants.{NotFound, AlreadyExists, InvalidInput, InvalidData, Medium, Memory, Full, Unsound, Failed, Unsupported}
 use Rattle.cfb_format.specs.declared.validate.Validation.TheVariants.{Permissive}
 use Rattle.cfb_format.specs.Bytes.{max_stream_len}
-use Rattle.cfb_format.specs.Medium.{part, written}
+use Rattle.cfb_format.specs.Medium.{written}
 use Rattle.cfb_format.specs.DirectoryEntry.{Entry}
 use Rattle.cfb_format.specs.Names.{Cases}
 use Rattle.cfb_format.specs.Reading.{IsOutline, stream_numbers}
-use Rattle.cfb_format.specs.Siblings.{entry_at}
 use Rattle.cfb_tables.specs.Changes.{NoneFree}
 use Rattle.cfb_tables.specs.Owners.{tally}
 use Rattle.cfb_tables.proofs.Counts.{in-tally, tally-in}
-use Rattle.cfb_tables.specs.Refused.{ChangeRefused}
 use Rattle.cfb_rules.specs.StreamCalls.{resized}
 use Rattle.cfb_entries.specs.EntryList.{AreInOrder}
-use Rattle.cfb_mini_sectors.specs.State.{MiniState, bytes_of, cases_of, content_of, entries_of, tables_in, version_of}
-use Rattle.cfb_content.specs.Contents.{IsStreamOf, IsTooLongFor, len_of}
+use Rattle.cfb_mini_sectors.specs.State.{MiniState, cases_of, entries_of, tables_in}
+use Rattle.cfb_content.specs.Contents.{IsStreamOf, len_of}
 use Rattle.cfb_content.proofs.Apart.{same-reached}
 use Rattle.cfb_content.proofs.Readable.{whole-of}
 use Rattle.cfb_content.proofs.StreamEntry.{stream-inside as entry-inside}
@@ -29,9 +27,9 @@ use Rattle.cfb_agreement.specs.Laws.{with_flags}
 use Rattle.cfb_agreement.proofs.Flags.{as-before-same, flags-not-read}
 use Rattle.cfb_agreement.proofs.InTurn.{contents-in-turn, same-content-is-none}
 use Rattle.cfb_volume.specs.Answers.{IsBreak as IsVolumeBreak, content_at}
-use Rattle.cfb_stream_buffer.specs.Contents.{Fails, IsBreak, IsRefusedRead, KeptOrFailed, ReadsPart, Stored, WritesPart, laid, stored_after_resize, stored_after_write}
+use Rattle.cfb_stream_buffer.specs.Contents.{Fails, IsBreak, KeptOrFailed, WritesPart, laid, stored_after_resize, stored_after_write}
 use Rattle.cfb_compound_file.specs.Flags.{flags_change_nothing}
-use Rattle.cfb_compound_file.specs.Stored.{ChangesStream, kept_of, stored_of}
+use Rattle.cfb_compound_file.specs.Stored.{ChangesStream, stored_of}
 
 -- ---- entries
 

@@ -1,5 +1,5 @@
 -- What the window answers, said of an open stream.
-use Rattle.std.proofs.Common.{◌≡◌, ℕ, Bool, true, false, List, refl, sym, ◌∙◌, ap}
+use Rattle.std.proofs.Common.{◌≡◌, ℕ, Bool, true, false, refl, sym, ◌∙◌, ap}
 use Rattle.std.specs.Prelude.{IsTrue, Some, Result, Ok, Err, IfErr, OnErr, OnOk, MatchBool}
 use Rattle.cfb_format.specs.declared.error.Error.{Error}
 use Rattle.cfb_format.specs.declared.medium.MediumFault.{MediumFault}

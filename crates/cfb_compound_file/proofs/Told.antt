@@ -1,18 +1,17 @@
 -- What is told of an object, and of what is in it, is what the rules tell.
-use Rattle.std.proofs.Common.{◌≡◌, ◌≢◌, ◌⊎◌, inl, inr, ℕ, List, [], ◌∷◌, ◌++◌, Bool, true, false, refl, ap, sym, ◌∙◌, subst}
-use Rattle.std.specs.Prelude.{Option, Some, None, MatchOption, is_some, option_and_then, option_map, unwrap_or, Contains}
+use Rattle.std.proofs.Common.{◌≡◌, ◌≢◌, inl, inr, ℕ, List, [], ◌∷◌, ◌++◌, Bool, true, false, refl, ap, sym, ◌∙◌, subst}
+use Rattle.std.specs.Prelude.{Option, Some, None, is_some, option_and_then, option_map, unwrap_or}
 use Rattle.std.specs.Option.{option_map_or}
 use Rattle.cfb_format.specs.declared.error.Error.{Error}
 use Rattle.cfb_format.specs.declared.objtype.ObjType.{ObjType}
 use Rattle.cfb_format.specs.declared.objtype.ObjType.TheVariants.{Unallocated, Storage, Stream, Root}
 use Rattle.cfb_format.specs.DirectoryEntry.{Entry, unless_stream}
-use Rattle.cfb_format.specs.Meaning.{objects_from, storage_info, stream_info}
 use Rattle.cfb_format.specs.Names.{Cases}
 use Rattle.cfb_format.specs.Path.{child_path, names_of_path, path_of_names}
-use Rattle.cfb_format.specs.Reading.{IsOutline, Outline, numbers}
+use Rattle.cfb_format.specs.Reading.{IsOutline, Outline}
 use Rattle.cfb_format.specs.Refused.{number_of}
 use Rattle.cfb_format.specs.Siblings.{entry_at}
-use Rattle.cfb_format.specs.Tree.{Found, Object, Tree, a_storage, a_stream}
+use Rattle.cfb_format.specs.Tree.{Found, Object}
 use Rattle.cfb_outline.specs.Outlines.{HasInside}
 use Rattle.cfb_siblings.specs.Paths.{LeadsOn, number_at_path, number_from}
 use Rattle.cfb_trees.specs.Reached.{IsObject}
@@ -21,20 +20,20 @@ use Rattle.cfb_trees.proofs.PathReached.{found-is-reached}
 use Rattle.cfb_trees.proofs.Standing.{reached-is-parent}
 use Rattle.cfb_rules.specs.Calls.{EntryInfo, Reply, entries, entry, exists, flag, is_storage, is_stream, one_entry, read_root_storage, read_storage, refused, root_entry, walk, walk_storage}
 use Rattle.cfb_rules.specs.CallRefusals.{always, is_a_storage, is_a_stream, object_refusal, unless}
-use Rattle.cfb_rules.specs.CallReplies.{entry_reply, has_object, listed, listed_object, object_entry, read_reply, walk_reply, walked_object}
+use Rattle.cfb_rules.specs.CallReplies.{entry_reply, has_object, listed_object, object_entry, read_reply, walk_reply, walked_object}
 use Rattle.cfb_rules.specs.Finding.{found_at, last_name, object_at, parent_names}
-use Rattle.cfb_rules.specs.Refusal.{Refusal, invalid_input, not_found}
+use Rattle.cfb_rules.specs.Refusal.{invalid_input, not_found}
 use Rattle.cfb_listing.specs.Listings.{ListsChildren, Walks}
 use Rattle.cfb_listing.specs.Told.{entry_info, is_stream_kind}
 use Rattle.cfb_listing.proofs.Telling.{root-told, storage-told, stream-told}
-use Rattle.cfb_objects.specs.Objects.{found_of, inside_of, object_of, tree_from}
+use Rattle.cfb_objects.specs.Objects.{found_of, inside_of, object_of}
 use Rattle.cfb_objects.proofs.Found.{found-is-at-its-entry, inside-is-below, object-is-at-its-entry, object-is-at-its-path, storage-by-kind, stream-by-kind}
 use Rattle.cfb_objects.proofs.Leading.{found-has-parent, last-name-leads-on}
 use Rattle.cfb_mini_sectors.specs.State.{cases_of, content_of, entries_of, root_len_of}
 use Rattle.cfb_agreement.specs.Files.{Agrees, FileState}
-use Rattle.cfb_compound_file.specs.Answers.{Answers, AnswersNot, RunsOn, causes_of}
+use Rattle.cfb_compound_file.specs.Answers.{Answers, AnswersNot}
 use Rattle.cfb_compound_file.specs.Finding.{LeadTo, is_storage_or_root, kind_found}
-use Rattle.cfb_compound_file.proofs.Asked.{IsQuestion, LooksAtPath, RootIsNamed, asks-entry, asks-exists, asks-is-storage, asks-is-stream, asks-read, asks-read-root, asks-root-entry, asks-walk, asks-walk-storage, is-answered, refused-by-rule, refused-for-memory, served, tree_in}
+use Rattle.cfb_compound_file.proofs.Asked.{RootIsNamed, asks-entry, asks-exists, asks-is-storage, asks-is-stream, asks-read, asks-read-root, asks-root-entry, asks-walk, asks-walk-storage, is-answered, refused-by-rule, served, tree_in}
 
 -- ---- what stands below the root
 

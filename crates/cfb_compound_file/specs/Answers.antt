@@ -1,5 +1,5 @@
 -- What calls on a file answer, by the rules of calls.
-use Rattle.std.specs.Prelude.{ℕ, ◌≡◌, Bool, true, false, ⊤}
+use Rattle.std.specs.Prelude.{◌≡◌, Bool, false}
 use Rattle.cfb_format.specs.declared.error.Error.{Error}
 use Rattle.cfb_format.specs.declared.medium.MediumFault.{MediumFault}
 use Rattle.cfb_format.specs.Bytes.{max_stream_len}

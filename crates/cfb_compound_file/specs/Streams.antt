@@ -1,5 +1,5 @@
 -- What a contract sees of an open stream.
-use Rattle.std.specs.Prelude.{ℕ, ◌≡◌, ◌||◌, List, [], Result, Ok, Err, IfErr, IsTrue, MatchResult, false}
+use Rattle.std.specs.Prelude.{ℕ, ◌≡◌, ◌||◌, List, [], Result, IfErr, IsTrue, MatchResult, false}
 use Rattle.std.specs.Borrow.{RattleType, MutBor, Bor, Fml, RestsIfErr}
 use Rattle.std.specs.Io.BufRead.{Rests}
 use mir.Syntax.{named}

@@ -1,4 +1,4 @@
-use Rattle.std.proofs.Common.{◌≡◌, ◌∙◌, sym, chars, subst, ap, refl, true, false, Bool, ℕ, List, [], max}
+use Rattle.std.proofs.Common.{◌∙◌, chars, ap, ℕ, [], max}
 use Rattle.std.proofs.lemmas.Result.{err_from_is_err_and}
 use Rattle.cfb_content.specs.Contents.{len_of}
 use Rattle.cfb_stream_buffer.specs.Buffers.{Buffered}

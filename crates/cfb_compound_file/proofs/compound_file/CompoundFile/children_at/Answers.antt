@@ -1,10 +1,5 @@
 use Rattle.std.proofs.Common.{List, ℕ, ap}
-use Rattle.std.specs.Prelude.{chars, string_bytes, map}
-use Rattle.cfb_format.specs.Path.{path_of_names}
-use Rattle.cfb_format.specs.DirectoryEntry.{Entry}
-use Rattle.cfb_rules.specs.Calls.{EntryInfo}
-use Rattle.cfb_mini_sectors.specs.State.{entries_of}
-use Rattle.cfb_listing.specs.Listings.{ListsChildren}
+use Rattle.std.specs.Prelude.{chars}
 use Rattle.cfb_compound_file.proofs.Numbers.{lists-by, storage-in-list}
 use Rattle.cfb_compound_file.proofs.compound_file.CompoundFile.children_at.Goals as goal
 

@@ -1,8 +1,7 @@
-use Rattle.std.proofs.Common.{◌≡◌, ◌∙◌, sym, chars, subst, ap, refl, true, false, Bool, Bor, ℕ, List}
-use Rattle.std.specs.Prelude.{◌||◌}
+use Rattle.std.proofs.Common.{◌≡◌, sym, subst, refl, false}
 use Rattle.std.proofs.lemmas.Result.{err_from_is_err_and}
-use Rattle.cfb_agreement.specs.Files.{FileState, Holds, is_failed}
-use Rattle.cfb_compound_file.specs.Place.{IsPlace, IsPlaceOf, IsSomePlace}
+use Rattle.cfb_agreement.specs.Files.{FileState, is_failed}
+use Rattle.cfb_compound_file.specs.Place.{IsSomePlace}
 use Rattle.cfb_compound_file.specs.declared.adding.Place.{Place}
 use Rattle.cfb_compound_file.proofs.FilledPlaces.{missing_done, missing_filled, missing_refused, there_done, there_filled, there_refused}
 use Rattle.cfb_compound_file.proofs.compound_file.CompoundFile.fill_place.Goals as goal

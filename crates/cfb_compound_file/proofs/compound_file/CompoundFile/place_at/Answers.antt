@@ -1,7 +1,7 @@
-use Rattle.std.proofs.Common.{◌≡◌, ◌∙◌, sym, map, chars, subst, ap, refl, true, false, Bool, Bor, ℕ, List, ◌⊎◌}
+use Rattle.std.proofs.Common.{◌∙◌, sym, map, chars, subst, refl, Bor, ℕ, List, ◌⊎◌}
 use Rattle.std.proofs.lemmas.Result.{err_from_is_err_and}
 use Rattle.cfb_format.specs.Refused.{IsMemory}
-use Rattle.cfb_agreement.specs.Files.{Agrees, FileState, is_failed}
+use Rattle.cfb_agreement.specs.Files.{FileState}
 use Rattle.cfb_compound_file.specs.Adding.{RulesRefuse}
 use Rattle.cfb_compound_file.specs.Place.{IsPlace}
 use Rattle.cfb_compound_file.proofs.NewStreams.{refused_as_failed, refused_as_unsound, refused_for_memory, refused_for_path, refused_for_place}

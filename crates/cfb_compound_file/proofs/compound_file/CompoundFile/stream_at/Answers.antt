@@ -1,4 +1,4 @@
-use Rattle.std.proofs.Common.{◌≡◌, ◌∙◌, inr, sym, ap, List}
+use Rattle.std.proofs.Common.{◌∙◌, inr, sym, ap, List}
 use Rattle.cfb_format.specs.DirectoryEntry.{Entry}
 use Rattle.cfb_format.specs.Siblings.{entry_at}
 use Rattle.cfb_compound_file.proofs.FoundStreams.{reached_stream}
