@@ -3,3 +3,4 @@ mod Refusals
 mod OpenData
 mod DataFile
 mod Reopened
+pub mod MadeBytes

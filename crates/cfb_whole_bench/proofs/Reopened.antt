@@ -52,6 +52,7 @@ module _ (version : Version) (tree : Tree) (file : FileState) (is : IsMadeWith v
           sound = opened.sound.1 (subst (λ (b : List ℕ). IsSoundFile default_cases b) (sym same)
               (subst (λ (cases : Cases). IsSoundFile cases (bytes_of file.base)) is.letters ((exact file held).0 is.sound)));
           unfailed = opened.opened.unfailed;
+          letters = opened.opened.letters;
           means = subst (λ (b : List ℕ). Means default_cases b tree) (sym bytes_is) is.means;
           in_order = record { strict = of_new IsStrictFile order.strict; owned = of_new IsOwnedFile order.owned; exact = of_new HasExactTablesFile order.exact };
         }

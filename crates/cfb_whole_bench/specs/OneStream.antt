@@ -48,6 +48,7 @@ pub record IsReopenedWith (version : Version) (tree : Tree) (file : FileState) :
   pub in_version : version_of file.base ≡ version
   pub sound : file.is_sound ≡ true
   pub unfailed : is_failed file ≡ false
+  pub letters : cases_of file.base ≡ default_cases
   pub means : Means default_cases (bytes_of file.base) tree
   pub in_order : IsInOrder file
 

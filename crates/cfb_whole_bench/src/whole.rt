@@ -1,7 +1,7 @@
 //! Files in memory with one stream, which is made by a list of changes: what contracts say of a medium that tells its bytes is said here
 //! with no premise.
 ghost use Rattle.std.specs.Prelude.{◌≡◌, ℕ, IfErr, IfOk, OnOk, ⊤};
-ghost use Rattle.cfb_format.specs.Created.{empty_tree};
+ghost use Rattle.cfb_format.specs.Created.{created_bytes, empty_tree};
 ghost use Rattle.cfb_format.specs.Names.{default_cases};
 ghost use Rattle.cfb_format.specs.Refused.{HasReason, no_error};
 ghost use Rattle.cfb_format.specs.declared.validate.Validation.TheVariants.{Permissive};
@@ -106,6 +106,7 @@ fn made<A: Allocator + Clone>(
     version: Version,
 ) -> Result<CompoundFile<MemoryMedium<A>, A>, Error>
     ensures ok { IfOk result (IsMadeWith version empty_tree) }
+    ensures bytes { IfOk result (λ file. bytes_of file.base ≡ created_bytes version) }
     ensures refused { IfErr result IsWantOfMemory }
 {
     laws::bytes::created_file_is_right();
@@ -119,6 +120,7 @@ fn reopened<A: Allocator + Clone>(
     file: CompoundFile<MemoryMedium<A>, A>,
 ) -> Result<CompoundFile<MemoryMedium<A>, A>, Error>
     ensures ok { (version : VersionOf) (tree : Tree) → IsMadeWith version tree file → IfOk result (IsReopenedWith version tree) }
+    ensures bytes { IfOk result (λ new. bytes_of new.base ≡ bytes_of file.base) }
     ensures refused { (version : VersionOf) (tree : Tree) → IsMadeWith version tree file → IfErr result IsWantOfMemory }
 {
     laws::files::bytes_are_what_is_held();
@@ -137,13 +139,14 @@ pub fn open_bytes<A: Allocator + Clone>(
     CompoundFile::open(alloc, MemoryMedium::from_bytes(bytes))
 }
 
-/// Makes a compound file in memory, and opens its bytes again: it has the version that it was made in, it is sound and in order, and nothing
-/// is in it. Only memory can be refused.
+/// Makes a compound file in memory, and opens its bytes again: it has the version that it was made in and exactly the
+/// bytes of a created file, it is sound and in order, and nothing is in it. Only memory can be refused.
 pub fn made_and_opened<A: Allocator + Clone>(
     alloc: A,
     version: Version,
 ) -> Result<CompoundFile<MemoryMedium<A>, A>, Error>
     ensures ok { IfOk result (IsReopenedWith version empty_tree) }
+    ensures bytes { IfOk result (λ file. bytes_of file.base ≡ created_bytes version) }
     ensures refused { IfErr result IsWantOfMemory }
 {
     let file = made(alloc.clone()?, version)?;

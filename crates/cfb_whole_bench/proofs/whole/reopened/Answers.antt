@@ -1,5 +1,6 @@
 use Rattle.std.proofs.Common.{refl}
 use Rattle.cfb_whole_bench.proofs.Reopened.{opened_if, refused_if}
+use Rattle.cfb_whole_bench.proofs.MadeBytes.{kept_bytes}
 use Rattle.cfb_whole_bench.proofs.whole.reopened.Goals as goal
 
 pub returns-clause-ok : goal.returns-clause-ok
@@ -11,3 +12,7 @@ pub returns-clause-refused : goal.returns-clause-refused
 returns-clause-refused g c version tree is =
     refused_if version tree c.args.file is c.into_inner.result.bytes c.into_inner.ensures.bytes c.into_inner.result.failures
     (c.into_inner.ensures.reopens refl is.unfailed is.sound) c.open.result (c.open.ensures.answers refl)
+
+pub returns-clause-bytes : goal.returns-clause-bytes
+returns-clause-bytes g c =
+    kept_bytes c.into_inner.result.bytes _ c.into_inner.result.failures _ c.open.result c.into_inner.ensures.bytes (c.open.ensures.answers refl)
