@@ -113,5 +113,5 @@ module _ (old new : FileState) (place : Place) (parent : ℕ) (name : Bor (List 
       → CountsError writes (failures_of old) (failures_of new) e
       → (empties : Bool) (path : List ℕ) → IsPlaceOf old empties path place → IsRefusedBy (λ f. reads f || writes f) old (creation empties path) new e
   missing_refused reads writes e setting stays why counts empties path at =
-      refused_by_break (λ f. reads f || writes f) old new empties path at.unfailed setting stays (IsFullFile new × (new ≡ old)) (λ full. full.0) e why
+      refused_by_break (λ f. reads f || writes f) old new empties path at.unfailed setting stays (IsFullFile new × (new ≡ old)) (λ full. full) e why
       (counts_either reads writes (failures_of old) (failures_of new) e counts)

@@ -99,7 +99,7 @@ untouched can_give file call (Medium f) refusal is calm runs = absurd (calm (by_
     by_number not_sound e = absurd (omega (arith, e))
     by_number failed_earlier e = absurd (omega (arith, e))
 untouched can_give file call Memory refusal is calm runs = record { refusal = refusal; is = is; runs = runs; stays = inl (unchanged file); order = stays_in_order file; counts = refl }
-untouched can_give file call Full refusal is calm runs = record { refusal = refusal; is = is; runs = runs; stays = inl (unchanged file); order = stays_in_order file; counts = refl }
+untouched can_give file call Full refusal is calm runs = record { refusal = refusal; is = is; runs = runs; stays = refl; order = stays_in_order file; counts = refl }
 untouched can_give file call Unsound refusal is calm runs = record { refusal = refusal; is = is; runs = runs; stays = refl; order = stays_in_order file; counts = refl }
 untouched can_give file call Failed refusal is calm runs = record { refusal = refusal; is = is; runs = runs; stays = refl; order = stays_in_order file; counts = refl }
 untouched can_give file call Unsupported refusal is calm runs = record { refusal = refusal; is = is; runs = runs; stays = refl; order = stays_in_order file; counts = refl }
@@ -176,18 +176,18 @@ module _ (can_give : MediumFault → Bool) (old new : FileState) (empties : Bool
   }
 
   broke : (e : Error) (refusal : Refusal) → IsRefusal refusal e → RunsOn (causes_of old new) old (creation empties path) (refused refusal) new
-      → HasReason (record (at_every_error (new ≡ old)) { medium = λ f. StaysOrFails old new; memory = StaysOrFails old new; full = StaysOrFails old new }) e
+      → HasReason (record (at_every_error (new ≡ old)) { medium = λ f. StaysOrFails old new; memory = StaysOrFails old new }) e
       → CountsError can_give (failures_of old) (failures_of new) e → IsRefusedBy can_give old (creation empties path) new e
   broke e refusal is runs left counts = record { refusal = refusal; is = is; runs = runs; stays = left; order = broken_order; counts = counts }
 
-  pub refused_by_break : (full : Type 0) → (full → IsFullFile new) → (e : Error) → IsBreak full e → CountsError can_give (failures_of old) (failures_of new) e
+  pub refused_by_break : (full : Type 0) → (full → IsFullFile new × (new ≡ old)) → (e : Error) → IsBreak full e → CountsError can_give (failures_of old) (failures_of new) e
       → IsRefusedBy can_give old (creation empties path) new e
   refused_by_break full why (Medium f) is counts = broke (Medium f) medium_failed refl
       (broken_off (creation empties path) (creation_changes empties path) old calm (causes_of old new) new medium_failed counts.rises stays) stays counts
   refused_by_break full why Memory is counts = broke Memory out_of_memory refl
       (broken_off (creation empties path) (creation_changes empties path) old calm (causes_of old new) new out_of_memory tt stays) stays counts
   refused_by_break full why Full is counts = broke Full file_full refl
-      (broken_off (creation empties path) (creation_changes empties path) old calm (causes_of old new) new file_full (why is) stays) stays counts
+      (broken_off (creation empties path) (creation_changes empties path) old calm (causes_of old new) new file_full (why is).0 stays) (why is).1 counts
   refused_by_break full why (NotFound d) is counts = absurd is
   refused_by_break full why (AlreadyExists d) is counts = absurd is
   refused_by_break full why (InvalidInput d) is counts = absurd is

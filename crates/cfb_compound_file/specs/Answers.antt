@@ -56,12 +56,12 @@ pub record IsDoneBy (old : FileState) (call : Call) (reply : Reply) (new : FileS
   pub runs : RunsOn (causes_of old new) old call reply new
   pub order : StaysInOrder old new
 
--- it was refused: by the rules, and then nothing has changed; or by the medium, for memory or since numbers lack, and then all is as before
+-- it was refused: by the rules or since numbers lack, and then nothing has changed; or by the medium or for memory, and then all is as before
 -- but the count of failures, or the file has failed
 pub record IsRefusedBy (can_give : MediumFault → Bool) (old : FileState) (call : Call) (new : FileState) (e : Error) : Type 0 where
   pub refusal : Refusal
   pub is : IsRefusal refusal e
   pub runs : RunsOn (causes_of old new) old call (refused refusal) new
-  pub stays : HasReason (record (at_every_error (new ≡ old)) { medium = λ f. StaysOrFails old new; memory = StaysOrFails old new; full = StaysOrFails old new }) e
+  pub stays : HasReason (record (at_every_error (new ≡ old)) { medium = λ f. StaysOrFails old new; memory = StaysOrFails old new }) e
   pub order : StaysInOrder old new
   pub counts : CountsError can_give (failures_of old) (failures_of new) e

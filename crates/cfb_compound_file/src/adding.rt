@@ -89,8 +89,8 @@ impl<F: Medium, A: Heap + Clone> CompoundFile<F, A> {
 
     /// Makes an empty stream in its place, or empties the one that is there, and answers the number of its entry.
     ///
-    /// `Full` where no entry can be had, `Memory`, and `Medium` where the medium fails: all but the count of failures is as before, or the
-    /// file has failed.
+    /// `Full` where no entry can be had: nothing has changed then. `Memory`, and `Medium` where the medium fails: all but the count of failures
+    /// is as before, or the file has failed.
     fn fill_place(&mut self, place: Place<'_>) -> Result<u32, Error>
         requires { IsSomePlace self.old place }
         ensures filled { IfOk result (HasNewStream self.old place.entry self.new) }
@@ -137,7 +137,7 @@ impl<F: Medium, A: Heap + Clone> CompoundFile<F, A> {
     ///
     /// `Failed` on a failed file. By the rules of calls: `InvalidInput` where the path leaves the root, its last name is not valid or the
     /// parent is a stream; `AlreadyExists` for the root and for a storage; `NotFound` where there is no parent; and then `Unsound` in a file
-    /// that is not sound. Nothing has changed then. `Full` where no entry can be had, `Memory`, and `Medium` where the medium fails: all but
+    /// that is not sound; `Full` where no entry can be had. Nothing has changed then. `Memory`, and `Medium` where the medium fails: all but
     /// the count of failures is as before, or the file has failed.
     pub fn create_stream(&mut self, path: &str) -> Result<Stream<'_, F, A>, Error>
         ensures lent { IfOk result (λ s. (file_of s).ghost_name ≡ self.entry.ghost_name) }

@@ -9,6 +9,7 @@ pub mod Changing
 pub mod Sound
 pub mod Fullness
 pub mod StreamEntry
+mod KnownSectors
 pub mod Refusals
 pub mod PlacedOnce
 pub mod WholeStreams

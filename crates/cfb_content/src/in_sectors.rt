@@ -13,6 +13,7 @@ ghost use Rattle.cfb_alloc.specs.Frame.{Spares, table_sectors};
 ghost use Rattle.cfb_chains.specs.ChainPlaces.{place_along};
 ghost use Rattle.cfb_content.specs.Parts.{ChangesOnlyPlaces, HasFirst, IsThereInSectors, IsWholeChain, StandAlong};
 
+use crate::listed::take_whole_chain;
 use cfb_alloc::alloc::Allocator;
 use cfb_format::error::{Detail, Error};
 use cfb_format::medium::{Medium, ReadMedium};
@@ -29,8 +30,27 @@ pub(crate) fn cut_short(len: u64, there: u64) -> Error
     ))
 }
 
-/// How many of the first `len` bytes of these sectors, one after the other, the file has, up to the first that it has not.
+/// How many of the first `len` bytes of these sectors of the FAT, one after the other, the file has, up to the first that it has not. They
+/// are looked at one by one only where the last sector of the FAT is cut short.
 pub(crate) fn there_in_sectors<F: ReadMedium, A: Heap>(
+    allocator: &Allocator<F, A>,
+    ids: &[u32],
+    len: u64,
+) -> u64
+    requires known { (i : ℕ) → i < length ids.now → slice_index ids.now i < length allocator.now.tables.fat }
+    ensures { HasFirst (IsThereInSectors allocator.now.tables.version ids.now allocator.now.file.len) len result }
+{
+    let sector_len = allocator.sector_len() as u64;
+    let whole = allocator.file_len() / sector_len;
+    // The header is as long as a sector.
+    if allocator.fat().len() as u64 >= whole {
+        return counted_in_sectors(allocator, ids, len);
+    }
+    (ids.len() as u64).saturating_mul(sector_len).min(len)
+}
+
+/// The same of any sectors, one by one.
+fn counted_in_sectors<F: ReadMedium, A: Heap>(
     allocator: &Allocator<F, A>,
     ids: &[u32],
     len: u64,
@@ -62,12 +82,7 @@ pub fn whole_chain<F: ReadMedium, A: Heap + Clone>(
     ensures err { IfErr result (ChangeRefused ((list : List ℕ)
         → IsWholeChain allocator.now.tables.version allocator.now.tables.fat allocator.now.file.len start len list → ⊥) Unit ⊥ ⊥) }
 {
-    let ids = allocator.chain(start)?;
-    let there = there_in_sectors(allocator, &ids, len);
-    if there < len {
-        return Err(cut_short(len, there));
-    }
-    Ok(ids)
+    take_whole_chain(&mut None, allocator, start, len)
 }
 
 /// Reads what is there of the listed sector with that index, from `offset` on.

@@ -5,6 +5,6 @@
 pub mod in_minis;
 pub mod in_sectors;
 pub mod laws;
-mod listed;
+pub mod listed;
 pub mod reading;
 pub mod writing;

@@ -114,7 +114,7 @@ fn resize<F: Medium, A: Heap + Clone>(
     if size > mini.version().stream_len_mask() {
         return Err(Error::InvalidInput(Detail::number("too long", size)));
     }
-    resize_content(mini, entry, size)
+    resize_content(mini, &mut None, entry, size)
 }
 
 /// Lets a stream grow to at most so many bytes, and to just so many. `Failed` where it has another length then.
@@ -129,7 +129,7 @@ fn grow<F: Medium, A: Heap + Clone>(
     if wanted > mini.version().stream_len_mask() || wanted <= len {
         return Err(Error::InvalidInput(Detail::number("no such growth", wanted)));
     }
-    if grow_content(mini, entry, wanted)? != size {
+    if grow_content(mini, &mut None, entry, wanted)? != size {
         return Err(Error::Failed);
     }
     Ok(())
@@ -147,7 +147,7 @@ fn write<F: Medium, A: Heap + Clone>(
     if at > len || bytes.len() as u64 > len - at {
         return Err(Error::InvalidInput(Detail::number("past the end", at)));
     }
-    write_content(mini, entry, at, bytes)
+    write_content(mini, &mut None, entry, at, bytes)
 }
 
 /// Adds mini sectors. `Failed` where they are not those from this number on.
@@ -250,7 +250,7 @@ fn read<F: Medium, A: Heap + Clone>(
     into: &mut [u8],
 ) -> Result<usize, Error> {
     let entry = stream_named(mini, name)?;
-    read_content(mini, entry, at, into)
+    read_content(mini, &mut None, entry, at, into)
 }
 
 /// What can be read of a stream from a place on.

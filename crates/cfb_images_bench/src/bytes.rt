@@ -1,5 +1,7 @@
 //! Each byte of a file set to 0 and to 255 in turn: nothing hangs or breaks, and what is opened means the same when it is opened again.
-use cfb_bench::support::{File, content, long_difat, number, opened, read_all, with_stream};
+use cfb_bench::support::{
+    File, content, long_difat, number, on_stream, opened, read_all, with_stream,
+};
 use cfb_bench::{CompoundFile, Entry, Error};
 use std::alloc::Global;
 use std::test::Fail;
@@ -99,6 +101,20 @@ fn opened_with_stream(alloc: Global, start: usize, end: usize) -> Result<Option<
     opened_in_turn(alloc, &mut bytes, start, end)
 }
 
+/// The bytes of a file once this call was made on its stream `/a`.
+fn after(alloc: Global, bytes: &[u8], call: u8, given: &[u8]) -> Result<Vec<u8>, Error> {
+    let mut file = opened(alloc, bytes, false)?;
+    on_stream(&mut file, call, "/a", given)?;
+    Ok(file.into_inner().into_bytes())
+}
+
+/// The same of files whose stream of 4095 bytes has got one more, and lies in sectors now.
+fn opened_with_longer(alloc: Global, start: usize, end: usize) -> Result<Option<usize>, Error> {
+    let short = with_stream(alloc, &content(alloc, 4095)?)?;
+    let mut bytes = after(alloc, &short, b'a', &[1])?;
+    opened_in_turn(alloc, &mut bytes, start, end)
+}
+
 #[test]
 fn bytes_of_the_header_and_the_fat(rt: HostRuntime) -> Result<(), Fail> {
     assert!(rt; opened_with_stream(rt.alloc(), 0, 704)?.is_some_and(|count| count > 1000));
@@ -117,9 +133,27 @@ fn bytes_of_entries_the_minifat_and_the_stream(rt: HostRuntime) -> Result<(), Fa
     Ok(())
 }
 
+#[test]
+fn bytes_of_the_tables_of_a_longer_stream(rt: HostRuntime) -> Result<(), Fail> {
+    assert!(rt; opened_with_longer(rt.alloc(), 0, 2048)?.is_some_and(|count| count > 1000));
+    Ok(())
+}
+
+#[test]
+fn bytes_of_a_longer_stream(rt: HostRuntime) -> Result<(), Fail> {
+    assert!(rt; opened_with_longer(rt.alloc(), 2048, 10240)?.is_some_and(|count| count > 1000));
+    Ok(())
+}
+
 /// Whether files with a long DIFAT mean something else where a byte from `start` up to `end` is changed, or are opened in no mode.
 fn is_long_difat_wrong(alloc: Global, start: usize, end: usize) -> Result<bool, Error> {
     let mut bytes = long_difat(alloc)?;
+    Ok(opened_in_turn(alloc, &mut bytes, start, end)?.is_none_or(|count| count == 0))
+}
+
+/// The same once they have a stream of 10240 bytes.
+fn is_longer_difat_wrong(alloc: Global, start: usize, end: usize) -> Result<bool, Error> {
+    let mut bytes = after(alloc, &long_difat(alloc)?, b'c', &content(alloc, 10240)?)?;
     Ok(opened_in_turn(alloc, &mut bytes, start, end)?.is_none_or(|count| count == 0))
 }
 
@@ -138,5 +172,12 @@ fn bytes_of_its_padding(rt: HostRuntime) -> Result<(), Fail> {
 #[test]
 fn bytes_of_its_end(rt: HostRuntime) -> Result<(), Fail> {
     assert!(rt; !is_long_difat_wrong(rt.alloc(), 40000, 57856)?);
+    Ok(())
+}
+
+#[test]
+fn bytes_of_a_long_difat_with_a_stream(rt: HostRuntime) -> Result<(), Fail> {
+    assert!(rt; !is_longer_difat_wrong(rt.alloc(), 0, 1024)?);
+    assert!(rt; !is_longer_difat_wrong(rt.alloc(), 56832, 68096)?);
     Ok(())
 }

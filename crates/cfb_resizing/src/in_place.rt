@@ -18,6 +18,7 @@ ghost use Rattle.cfb_mini_sectors.specs.State.{HoldsMini, IsChangeable, bytes_of
 ghost use Rattle.cfb_mini_sectors.specs.Steps.{GrowsFor, IsNotHeld, IsTooFewFor, KeepsMini, KeepsSystem, SparesMini, system_sectors};
 ghost use Rattle.cfb_mini.specs.MiniSectors.{HasMiniSector};
 ghost use Rattle.cfb_content.specs.Contents.{IsNotChangeable, IsStreamOf, KeepsOthers, len_of, mini_place_along};
+ghost use Rattle.cfb_content.specs.KeptChain.{IsKeptChain};
 ghost use Rattle.cfb_content.specs.Laws.{LacksNumbersFor};
 ghost use Rattle.cfb_content.specs.Parts.{IsThereInMinis, IsThereInSectors};
 ghost use Rattle.cfb_resizing.specs.Turning.{IsPaddedAlong, KeepsAround, KeepsTablesTight, StopsOrBegun, Turns};
@@ -25,6 +26,7 @@ ghost use Rattle.cfb_resizing.specs.Turning.{IsPaddedAlong, KeepsAround, KeepsTa
 use cfb_alloc::alloc::Allocator;
 use cfb_content::in_minis::{whole_mini_chain, zero_in_minis};
 use cfb_content::in_sectors::{whole_chain, zero_in_sectors};
+use cfb_content::listed::{ListedChain, take_whole_chain};
 use cfb_content::reading::content_in;
 use cfb_format::consts::{END_OF_CHAIN, MINI_SECTOR_LEN};
 use cfb_format::error::{Detail, Error};
@@ -85,9 +87,11 @@ fn lengthen_in_sectors<F: Medium, A: Heap + Clone>(
     zeroed
 }
 
-/// Makes a stream longer that lies in sectors, and answers where it starts: the sectors that come are zeros, and so is the old tail.
+/// Makes a stream longer that lies in sectors, and answers where it starts: the sectors that come are zeros, and so is the old tail. Its
+/// chain is kept.
 pub(crate) fn grow_in_sectors<F: Medium, A: Heap + Clone>(
     mini: &mut MiniAllocator<F, A>,
+    kept: &mut Option<ListedChain<A>>,
     entry: u32,
     size: u64,
 ) -> Result<u32, Error>
@@ -95,6 +99,8 @@ pub(crate) fn grow_in_sectors<F: Medium, A: Heap + Clone>(
     requires limit { size ≤ max_stream_len (version_of mini.old) }
     requires large { mini_stream_cutoff ≤ len_of mini.old entry }
     requires longer { len_of mini.old entry < size }
+    requires kept_chain { IsKeptChain (tables_in mini.old).fat kept.old }
+    ensures kept_chain { IsKeptChain (tables_in mini.new).fat kept.new }
     ensures turned { IsTrue F.tells → (validation : Validation) → IsChangeable validation mini.old → IfOk result (λ start. Turns mini.old mini.new entry size start) }
     ensures holds { IsTrue F.tells → (validation : Validation) → IsChangeable validation mini.old → OnOk result (HoldsMini validation mini.new) }
     ensures others { IsTrue F.tells → (validation : Validation) → IsChangeable validation mini.old → KeepsOthers entry mini.old mini.new }
@@ -108,8 +114,12 @@ pub(crate) fn grow_in_sectors<F: Medium, A: Heap + Clone>(
         → CountsFailure (λ f. F.read_faults f || F.write_faults f) result (table_of mini.old).file.failures (table_of mini.new).file.failures }
 {
     let (start, len) = content_in(mini, entry);
-    let mut ids = whole_chain(mini.allocator(), start, len)?;
+    let mut ids = take_whole_chain(kept, mini.allocator(), start, len)?;
     lengthen_in_sectors(mini.allocator_mut(), &mut ids, len, size)?;
+    *kept = Some(ListedChain {
+        start,
+        sectors: ids,
+    });
     Ok(start)
 }
 

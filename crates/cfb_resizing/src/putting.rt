@@ -3,7 +3,7 @@ ghost use Rattle.std.specs.Prelude.{◌≡◌, ◌+◌, ◌<◌, ◌≤◌, ◌�
 ghost use Rattle.cfb_format.specs.declared.validate.Validation.{Validation};
 ghost use Rattle.cfb_format.specs.Bytes.{max_stream_len};
 ghost use Rattle.cfb_format.specs.Medium.{written};
-ghost use Rattle.cfb_format.specs.Refused.{CountsFailure};
+ghost use Rattle.cfb_format.specs.Refused.{CountsFailure, IsMemory};
 ghost use Rattle.cfb_format.specs.Siblings.{entry_at};
 ghost use Rattle.cfb_tables.specs.Changes.{NoneFree};
 ghost use Rattle.cfb_tables.specs.Refused.{ChangeRefused};
@@ -11,11 +11,11 @@ ghost use Rattle.cfb_mini_sectors.specs.State.{HoldsMini, IsChangeable, bytes_of
 ghost use Rattle.cfb_mini_sectors.specs.Steps.{KeepsLimits};
 ghost use Rattle.cfb_mini.specs.MiniSectors.{IsStill};
 ghost use Rattle.cfb_content.specs.Contents.{AreAllUsed, IsNotChangeable, IsStreamOf, KeepsOthers, MovesContent, len_of};
+ghost use Rattle.cfb_content.specs.KeptChain.{IsKeptChain};
 ghost use Rattle.cfb_resizing.specs.Turning.{KeepsTablesTight, StopsOrIsFull};
 
 use crate::growing::grow_content;
-use cfb_content::in_minis::whole_mini_chain;
-use cfb_content::in_sectors::whole_chain;
+use cfb_content::listed::ListedChain;
 use cfb_content::reading::content_in;
 use cfb_content::writing::{write_content, write_listed};
 use cfb_format::consts::{MINI_SECTOR_LEN, MINI_STREAM_CUTOFF};
@@ -24,34 +24,22 @@ use cfb_format::medium::{Medium, ReadMedium};
 use cfb_mini::mini_allocator::MiniAllocator;
 use std::alloc::Allocator as Heap;
 
-/// The sectors of a stream, or its mini sectors. `InvalidData` where its chain is none or the file ends before it, and `Memory`.
-fn listed<F: ReadMedium, A: Heap + Clone>(
-    mini: &MiniAllocator<F, A>,
-    entry: u32,
-) -> Result<Vec<u32, A>, Error>
-    requires stream { IsStreamOf mini.now entry }
-    ensures err { IfErr result (ChangeRefused (IsNotChangeable mini.now) Unit ⊥ ⊥) }
-{
-    let (start, len) = content_in(mini, entry);
-    if len >= MINI_STREAM_CUTOFF as u64 {
-        return whole_chain(mini.allocator(), start, len);
-    }
-    whole_mini_chain(mini, start, len)
-}
-
-/// A list with room for the chain of a stream once it is so long. `InvalidData` and `Memory` as in `listed`.
+/// A list with room for the chain of a stream once it is so long, if that is not kept: the chain of a stream that grows in sectors is.
+/// `Memory`.
 fn list_for<F: ReadMedium, A: Heap + Clone>(
     mini: &MiniAllocator<F, A>,
     entry: u32,
     wanted: u64,
 ) -> Result<Vec<u32, A>, Error>
     requires stream { IsStreamOf mini.now entry }
-    ensures err { IfErr result (ChangeRefused (IsNotChangeable mini.now) Unit ⊥ ⊥) }
+    ensures err { IfErr result IsMemory }
 {
-    let mut list = listed(mini, entry)?;
-    let sectors = wanted.div_ceil(mini.sector_len() as u64) as usize;
-    let most = sectors.max(MINI_STREAM_CUTOFF as usize / MINI_SECTOR_LEN);
-    list.reserve(most.saturating_sub(list.len()))?;
+    let (_, len) = content_in(mini, entry);
+    let mut list = Vec::new(mini.heap().clone()?);
+    if len < MINI_STREAM_CUTOFF as u64 {
+        let sectors = wanted.div_ceil(mini.sector_len() as u64) as usize;
+        list.reserve(sectors.max(MINI_STREAM_CUTOFF as usize / MINI_SECTOR_LEN))?;
+    }
     Ok(list)
 }
 
@@ -59,12 +47,15 @@ fn list_for<F: ReadMedium, A: Heap + Clone>(
 /// that is: at least one. The refusals are those of `put_content`.
 fn append_content<F: Medium, A: Heap + Clone>(
     mini: &mut MiniAllocator<F, A>,
+    kept: &mut Option<ListedChain<A>>,
     entry: u32,
     bytes: &[u8],
 ) -> Result<usize, Error>
     requires stream { IsStreamOf mini.old entry }
     requires some { 0 < length bytes.now }
     requires limit { len_of mini.old entry + length bytes.now ≤ max_stream_len (version_of mini.old) }
+    requires kept_chain { IsKeptChain (tables_in mini.old).fat kept.old }
+    ensures kept_chain { IsKeptChain (tables_in mini.new).fat kept.new }
     ensures count { IfOk result (λ n. (0 < n) × (n ≤ length bytes.now)) }
     ensures len { IfOk result (λ n. len_of mini.new entry ≡ len_of mini.old entry + n) }
     ensures entries { MovesContent mini.old mini.new entry }
@@ -88,9 +79,9 @@ fn append_content<F: Medium, A: Heap + Clone>(
     let wanted = len + bytes.len() as u64;
     // Once the stream has grown memory is not to be wanted: it could not go back.
     let list = list_for(mini, entry, wanted)?;
-    let grown = grow_content(mini, entry, wanted)?;
+    let grown = grow_content(mini, kept, entry, wanted)?;
     let count = (grown - len) as usize;
-    write_listed(mini, list, entry, len, &bytes[..count])?;
+    write_listed(mini, list, kept, entry, len, &bytes[..count])?;
     Ok(count)
 }
 
@@ -99,9 +90,11 @@ fn append_content<F: Medium, A: Heap + Clone>(
 ///
 /// `Full` only at the end, where not one byte more can be had, and then with full tables, or with all mini sectors that there may be in use;
 /// `InvalidData` where the stream's chain is none or the file ends before it; `Memory`. After `Medium`, where the medium fails, no byte of
-/// another stream has changed. All memory is asked for before the first write.
+/// another stream has changed. All memory is asked for before the first write. A chain of sectors that was written to is kept, so that it
+/// need not be walked again.
 pub fn put_content<F: Medium, A: Heap + Clone>(
     mini: &mut MiniAllocator<F, A>,
+    kept: &mut Option<ListedChain<A>>,
     entry: u32,
     at: u64,
     bytes: &[u8],
@@ -109,6 +102,8 @@ pub fn put_content<F: Medium, A: Heap + Clone>(
     requires stream { IsStreamOf mini.old entry }
     requires inside { at ≤ len_of mini.old entry }
     requires limit { at + length bytes.now ≤ max_stream_len (version_of mini.old) }
+    requires kept_chain { IsKeptChain (tables_in mini.old).fat kept.old }
+    ensures kept_chain { IsKeptChain (tables_in mini.new).fat kept.new }
     ensures count { IfOk result (λ n. n ≤ length bytes.now) }
     ensures some { 0 < length bytes.now → IfOk result (λ n. 0 < n) }
     ensures len { IfOk result (λ n. len_of mini.new entry ≡ max (len_of mini.old entry) (at + n)) }
@@ -134,9 +129,9 @@ pub fn put_content<F: Medium, A: Heap + Clone>(
     }
     let (_, len) = content_in(mini, entry);
     if at >= len {
-        return append_content(mini, entry, bytes);
+        return append_content(mini, kept, entry, bytes);
     }
     let count = (bytes.len() as u64).min(len - at) as usize;
-    write_content(mini, entry, at, &bytes[..count])?;
+    write_content(mini, kept, entry, at, &bytes[..count])?;
     Ok(count)
 }

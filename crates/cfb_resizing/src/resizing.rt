@@ -18,11 +18,13 @@ ghost use Rattle.cfb_mini_sectors.specs.State.{HoldsMini, IsChangeable, bytes_of
 ghost use Rattle.cfb_mini_sectors.specs.Steps.{KeepsLimits, KeepsMini, KeepsSystem};
 ghost use Rattle.cfb_mini.specs.MiniSectors.{IsStill};
 ghost use Rattle.cfb_content.specs.Contents.{AreAllUsed, IsNotChangeable, IsStreamOf, IsTooLongFor, KeepsOthers, MovesContent, len_of};
+ghost use Rattle.cfb_content.specs.KeptChain.{IsKeptChain};
 ghost use Rattle.cfb_content.specs.Laws.{LacksNumbersFor};
 ghost use Rattle.cfb_resizing.specs.Turning.{KeepsAround, KeepsTablesTight, StopsOrBegun, Turns};
 
 use crate::in_place::{cut_in_minis, cut_in_sectors, grow_in_minis, grow_in_sectors};
 use crate::moving::{move_to_minis, move_to_sectors};
+use cfb_content::listed::ListedChain;
 use cfb_content::reading::content_in;
 use cfb_entries::fields::Fields;
 use cfb_format::consts::MINI_STREAM_CUTOFF;
@@ -46,14 +48,17 @@ pub(crate) fn unplaced(entry: u32) -> Error
 /// `Full` exactly where the sectors of the stream, of the MiniFAT and of the mini stream that it needs are more than are free or left once
 /// the chain that it moves away from is free, or the mini sectors more than there may be; `InvalidData` where the stream's chain is none
 /// or the file ends before it; `Memory`: nothing has changed then. After `Medium`, where the medium fails, no byte of another stream has
-/// changed.
+/// changed. The chain of a stream that gets longer in sectors is kept.
 pub fn resize_content<F: Medium, A: Heap + Clone>(
     mini: &mut MiniAllocator<F, A>,
+    kept: &mut Option<ListedChain<A>>,
     entry: u32,
     size: u64,
 ) -> Result<(), Error>
     requires stream { IsStreamOf mini.old entry }
     requires limit { size ≤ max_stream_len (version_of mini.old) }
+    requires kept_chain { IsKeptChain (tables_in mini.old).fat kept.old }
+    ensures kept_chain { IsKeptChain (tables_in mini.new).fat kept.new }
     ensures len { OnOk result (len_of mini.new entry ≡ size) }
     ensures none { size ≡ len_of mini.old entry → OnErr result ⊥ × (mini.new ≡ mini.old) }
     ensures entries { MovesContent mini.old mini.new entry }
@@ -93,19 +98,22 @@ pub fn resize_content<F: Medium, A: Heap + Clone>(
     }
     // Neither table is longer than it may be: else `Full` would come for a length that is not too long.
     let _ = (mini.allocator().max_sectors(), mini.minifat_len());
-    let start = turn(mini, entry, size)?;
+    let start = turn(mini, kept, entry, size)?;
     name_content(mini, entry, start, size)
 }
 
 /// Gives a stream another length than it has where its content lies, and answers where that starts then; the entry does not say so yet.
 fn turn<F: Medium, A: Heap + Clone>(
     mini: &mut MiniAllocator<F, A>,
+    kept: &mut Option<ListedChain<A>>,
     entry: u32,
     size: u64,
 ) -> Result<u32, Error>
     requires stream { IsStreamOf mini.old entry }
     requires limit { size ≤ max_stream_len (version_of mini.old) }
     requires differs { size ≢ len_of mini.old entry }
+    requires kept_chain { IsKeptChain (tables_in mini.old).fat kept.old }
+    ensures kept_chain { IsKeptChain (tables_in mini.new).fat kept.new }
     ensures turned { IsTrue F.tells → (validation : Validation) → IsChangeable validation mini.old → IfOk result (λ start. Turns mini.old mini.new entry size start) }
     ensures holds { IsTrue F.tells → (validation : Validation) → IsChangeable validation mini.old → OnOk result (HoldsMini validation mini.new) }
     ensures others { IsTrue F.tells → (validation : Validation) → IsChangeable validation mini.old → KeepsOthers entry mini.old mini.new }
@@ -126,14 +134,16 @@ fn turn<F: Medium, A: Heap + Clone>(
 {
     let (_, len) = content_in(mini, entry);
     let cutoff = MINI_STREAM_CUTOFF as u64;
+    if len >= cutoff && size > len {
+        return grow_in_sectors(mini, kept, entry, size);
+    }
+    // Sectors of other chains change their use now.
+    *kept = None;
     if len >= cutoff {
         if size < cutoff {
             return move_to_minis(mini, entry, size);
         }
-        if size < len {
-            return cut_in_sectors(mini, entry, size);
-        }
-        return grow_in_sectors(mini, entry, size);
+        return cut_in_sectors(mini, entry, size);
     }
     if size >= cutoff {
         return move_to_sectors(mini, entry, size);

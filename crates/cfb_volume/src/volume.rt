@@ -30,6 +30,7 @@ ghost use Rattle.cfb_volume.specs.Answers.{IsBreak, content_at};
 use cfb_codecs::direntry::DirEntry;
 use cfb_codecs::path::CaseMapper;
 use cfb_codecs::timestamp::Timestamp;
+use cfb_content::listed::ListedChain;
 use cfb_content::reading::{read_content, readable_len};
 use cfb_format::error::Error;
 use cfb_format::medium::{Medium, ReadMedium};
@@ -46,16 +47,22 @@ use std::marker::Model;
 #[derive(Drop)]
 pub struct Volume<F: ReadMedium, A: Heap = Global> {
     pub(crate) mini: MiniAllocator<F, A>,
+    // The chain that was walked last.
+    pub(crate) kept: Option<ListedChain<A>>,
     is_sound: bool,
     buffer_limit: usize,
 }
 
 impl<F: ReadMedium, A: Heap> Model for Volume<F, A> {
+    ghost use Rattle.cfb_mini_sectors.specs.State.{tables_in};
+    ghost use Rattle.cfb_content.specs.KeptChain.{IsKeptChain};
     ghost use Rattle.cfb_agreement.specs.Files.{FileState};
 
     ghost Value = { FileState };
 
     ghost view = { λ v. record { base = v.mini; is_sound = v.is_sound; buffer_limit = v.buffer_limit } };
+
+    ghost invariant = { λ v. IsKeptChain (tables_in v.mini).fat v.kept };
 }
 
 impl<F: ReadMedium, A: Heap> Volume<F, A> {
@@ -65,6 +72,7 @@ impl<F: ReadMedium, A: Heap> Volume<F, A> {
     {
         Volume {
             mini,
+            kept: None,
             is_sound,
             buffer_limit,
         }
@@ -119,6 +127,7 @@ impl<F: ReadMedium, A: Heap> Volume<F, A> {
     {
         let Volume {
             mini,
+            kept: _,
             is_sound: _,
             buffer_limit: _,
         } = self;
@@ -201,7 +210,7 @@ impl<F: ReadMedium, A: Heap + Clone> Volume<F, A> {
             → IsErrAnd result (λ e. IsInvalidData e ⊎ IsMemory e) }
         ensures counts { IsTrue F.tells → CountsFailure F.read_faults result (failures_of self.old) (failures_of self.new) }
     {
-        read_content(&mut self.mini, entry, at, into)
+        read_content(&mut self.mini, &mut self.kept, entry, at, into)
     }
 }
 
@@ -259,7 +268,7 @@ impl<F: Medium, A: Heap + Clone> Volume<F, A> {
         ensures err { IsTrue F.tells → Holds self.old → IfErr result (IsBreak ((len_of self.old.base entry ≤ at) × IsFullFile self.new)) }
         ensures counts { IsTrue F.tells → CountsFailure (λ f. F.read_faults f || F.write_faults f) result (failures_of self.old) (failures_of self.new) }
     {
-        let count = put_content(&mut self.mini, entry, at, bytes)?;
+        let count = put_content(&mut self.mini, &mut self.kept, entry, at, bytes)?;
         self.mini.end_change();
         Ok(count)
     }
@@ -291,7 +300,7 @@ impl<F: Medium, A: Heap + Clone> Volume<F, A> {
     {
         // The MiniFAT is no longer than it may be: else there were lengths too long that take nothing.
         let _ = self.mini.minifat_len();
-        resize_content(&mut self.mini, entry, len)?;
+        resize_content(&mut self.mini, &mut self.kept, entry, len)?;
         self.mini.end_change();
         Ok(())
     }

@@ -1,8 +1,13 @@
 use Rattle.std.proofs.Common.{List, ℕ, sym, subst, arith}
 use Rattle.cfb_format.specs.Chain.{IsChain}
+use Rattle.cfb_content.proofs.KnownSectors.{chain-is-known}
 use Rattle.cfb_content.proofs.ReadablePlaces.{first-along}
 use Rattle.cfb_content.proofs.Refusals.{invalid-refused}
 use Rattle.cfb_content.proofs.reading.read_along.Goals as goal
+
+pub there_in_sectors-there-requires : goal.there_in_sectors-there-requires
+there_in_sectors-there-requires g c =
+    record { known = chain-is-known c.args.allocator.now.tables.fat c.args.start c.in_ok-ids.ids.items c.deref.result.now c.in_ok-ids.ensures.ok c.deref.ensures.value }
 
 pub returns-then-at-there-clause-err : goal.returns-then-at-there-clause-err
 returns-then-at-there-clause-err g c =

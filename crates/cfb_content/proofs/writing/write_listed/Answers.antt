@@ -1,4 +1,4 @@
-use Rattle.std.proofs.Common.{◌≡◌, ◌<◌, ◌≤◌, ◌+◌, ◌/◌, ℕ, List, sym, ◌∙◌, subst, length, arith}
+use Rattle.std.proofs.Common.{◌<◌, ◌≤◌, ◌+◌, ◌/◌, ℕ, List, sym, subst, length, arith}
 use Rattle.std.specs.Prelude.{IsTrue, OnOk, nat_eq, slice_index}
 use Rattle.std.specs.List.{IsDistinct}
 use Rattle.std.proofs.lemmas.Result.{err_from_is_err_and, on_ok_weaker}
@@ -10,7 +10,7 @@ use Rattle.cfb_alloc.specs.Alloc.{AllocatorState, HoldsTables}
 use Rattle.cfb_alloc.specs.Frame.{table_sectors}
 use Rattle.cfb_alloc.proofs.Answering.{on_both}
 use Rattle.cfb_chains.specs.ChainPlaces.{place_along}
-use Rattle.cfb_mini_sectors.specs.State.{IsChangeable, bytes_of, content_of, entries_of, table_of, tables_in, version_of}
+use Rattle.cfb_mini_sectors.specs.State.{IsChangeable, bytes_of, entries_of, table_of, tables_in, version_of}
 use Rattle.cfb_mini_sectors.proofs.HeldMini.{no-tables}
 use Rattle.cfb_content.specs.Contents.{len_of, mini_place_along}
 use Rattle.cfb_content.specs.Parts.{StandAlong}
@@ -56,8 +56,8 @@ returns-in_err-ids-2-clause-err g c =
 
 -- ---- in sectors
 
-pub put_in_sectors-requires : goal.put_in_sectors-requires
-put_in_sectors-requires g c =
+pub put_in_sectors-put-requires : goal.put_in_sectors-put-requires
+put_in_sectors-put-requires g c =
     let s = c.args.mini.now in
     let i = c.args.entry in
     let whole = whole-as s i c.allocator.result.now c.content_in-start.result.0 c.content_in-start.result.1 c.in_ok-ids.ids.items c.allocator.ensures c.content_in-start.ensures.start
@@ -72,8 +72,8 @@ put_in_sectors-requires g c =
           (sym c.deref.ensures.value) (listed k lt));
     }
 
-sector-write : (g : _) (c : goal.After-drop-ids g)
-    → LentWrite c.args.mini.now c.allocator_mut.result.now c.put_in_sectors.new.allocator c.args.entry c.args.at c.args.bytes.now c.in_ok-ids.ids.items c.deref.result.now
+sector-write : (g : _) (c : goal.Joined-kept g)
+    → LentWrite c.args.mini.now c.allocator_mut.result.now c.put_in_sectors-put.new.allocator c.args.entry c.args.at c.args.bytes.now c.in_ok-ids.ids.items c.deref.result.now
 sector-write g c =
     let s = c.args.mini.now in
     let i = c.args.entry in
@@ -86,42 +86,42 @@ sector-write g c =
       whole = whole-as s i c.allocator.result.now c.content_in-start.result.0 c.content_in-start.result.1 c.in_ok-ids.ids.items c.allocator.ensures c.content_in-start.ensures.start
           c.content_in-start.ensures.len c.in_ok-ids.ensures.whole;
       value = c.allocator_mut.ensures.value;
-      tables = c.put_in_sectors.ensures.tables;
+      tables = c.put_in_sectors-put.ensures.tables;
       listed = c.deref.ensures.value;
     }
 
-sector-held : (g : _) (c : goal.After-drop-ids g) → IsTrue g.F.ReadMedium.tells → (validation : Validation) → IsChangeable validation c.args.mini.now
-    → OnOk c.put_in_sectors.result (HoldsTables validation c.put_in_sectors.new.allocator)
+sector-held : (g : _) (c : goal.Joined-kept g) → IsTrue g.F.ReadMedium.tells → (validation : Validation) → IsChangeable validation c.args.mini.now
+    → OnOk c.put_in_sectors-put.result (HoldsTables validation c.put_in_sectors-put.new.allocator)
 sector-held g c told validation change =
     let w = sector-write g c in
     let held = change.held.directory.tables in
-    c.put_in_sectors.ensures.holds told validation (subst (λ (a : AllocatorState). HoldsTables validation a) (sym w.value) held)
+    c.put_in_sectors-put.ensures.holds told validation (subst (λ (a : AllocatorState). HoldsTables validation a) (sym w.value) held)
     (subst (λ (a : AllocatorState). AreDisjoint c.deref.result.now (table_sectors a.tables)) (sym w.value)
     (subst (λ (l : List ℕ). AreDisjoint l (table_sectors (tables_in c.args.mini.now))) (sym w.listed)
     (no-tables validation (table_of c.args.mini.now) (entry_at (entries_of c.args.mini.now) c.args.entry).start_sector c.in_ok-ids.ids.items held w.whole.chain)))
 
-sector-put : (g : _) (c : goal.After-drop-ids g) → IsTrue g.F.ReadMedium.tells
-    → OnOk c.put_in_sectors.result (StandAlong (place_along c.allocator_mut.result.now.tables.version c.deref.result.now) c.args.at c.args.bytes.now c.put_in_sectors.new.allocator.file.bytes)
+sector-put : (g : _) (c : goal.Joined-kept g) → IsTrue g.F.ReadMedium.tells
+    → OnOk c.put_in_sectors-put.result (StandAlong (place_along c.allocator_mut.result.now.tables.version c.deref.result.now) c.args.at c.args.bytes.now c.put_in_sectors-put.new.allocator.file.bytes)
 sector-put g c told =
     let w = sector-write g c in
-    c.put_in_sectors.ensures.put told (subst (λ (l : List ℕ). IsDistinct nat_eq l) (sym w.listed) w.whole.chain.distinct)
+    c.put_in_sectors-put.ensures.put told (subst (λ (l : List ℕ). IsDistinct nat_eq l) (sym w.listed) w.whole.chain.distinct)
 
 pub returns-then-len-clause-content : goal.returns-then-len-clause-content
 returns-then-len-clause-content g c told validation change =
-    on_ok_weaker c.put_in_sectors.result (λ put. large-write-content _ _ _ _ _ _ _ _ (sector-write g c) validation change (c.put_in_sectors.ensures.others told) put) (sector-put g c told)
+    on_ok_weaker c.put_in_sectors-put.result (λ put. large-write-content _ _ _ _ _ _ _ _ (sector-write g c) validation change (c.put_in_sectors-put.ensures.others told) put) (sector-put g c told)
 
 pub returns-then-len-clause-others : goal.returns-then-len-clause-others
-returns-then-len-clause-others g c told validation change = large-write-others _ _ _ _ _ _ _ _ (sector-write g c) validation change (c.put_in_sectors.ensures.spares told)
+returns-then-len-clause-others g c told validation change = large-write-others _ _ _ _ _ _ _ _ (sector-write g c) validation change (c.put_in_sectors-put.ensures.spares told)
 
 pub returns-then-len-clause-holds : goal.returns-then-len-clause-holds
 returns-then-len-clause-holds g c told validation change =
-    on_both _ _ _ c.put_in_sectors.result
-    (λ held put. large-write-changeable _ _ _ _ _ _ _ _ (sector-write g c) validation change (c.put_in_sectors.ensures.others told) put (c.put_in_sectors.ensures.spares told) held)
+    on_both _ _ _ c.put_in_sectors-put.result
+    (λ held put. large-write-changeable _ _ _ _ _ _ _ _ (sector-write g c) validation change (c.put_in_sectors-put.ensures.others told) put (c.put_in_sectors-put.ensures.spares told) held)
     (sector-held g c told validation change) (sector-put g c told)
 
 -- ---- in mini sectors
 
-mini-write : (g : _) (c : goal.After-drop-ids-2 g)
+mini-write : (g : _) (c : goal.After-drop-ids g)
     → MiniWrite c.args.mini.now c.put_in_minis.new.mini c.args.entry c.args.at c.args.bytes.now c.in_ok-ids-2.ids.items c.deref-2.result.now
 mini-write g c =
     let s = c.args.mini.now in
@@ -139,7 +139,7 @@ mini-write g c =
       listed = c.deref-2.ensures.value;
     }
 
-mini-put : (g : _) (c : goal.After-drop-ids-2 g) → IsTrue g.F.ReadMedium.tells → (validation : Validation) → IsChangeable validation c.args.mini.now
+mini-put : (g : _) (c : goal.After-drop-ids g) → IsTrue g.F.ReadMedium.tells → (validation : Validation) → IsChangeable validation c.args.mini.now
     → OnOk c.put_in_minis.result (StandAlong (mini_place_along c.args.mini.now c.deref-2.result.now) c.args.at c.args.bytes.now (bytes_of c.put_in_minis.new.mini))
 mini-put g c told validation change =
     let w = mini-write g c in

@@ -1,4 +1,4 @@
-use Rattle.std.proofs.Common.{◌-◌, length, subst, sym}
+use Rattle.std.proofs.Common.{◌-◌, length, subst, sym, arith}
 use Rattle.std.proofs.lemmas.Result.{err_from_is_err_and}
 use Rattle.cfb_format.specs.Bytes.{sector_len}
 use Rattle.cfb_format.specs.Full.{rounded_up}
@@ -8,7 +8,7 @@ use Rattle.cfb_content.proofs.Kept.{nothing-is-moved}
 use Rattle.cfb_content.proofs.Refusals.{refused-as}
 use Rattle.cfb_content.proofs.WholeStreams.{not-whole}
 use Rattle.cfb_resizing.proofs.Tightness.{lengthened-tight}
-use Rattle.cfb_resizing.proofs.TurnedInSectors.{grow-held, grow-lacks, grow-spares-others, grow-there, grow-turned, not-usable}
+use Rattle.cfb_resizing.proofs.TurnedInSectors.{grow-held, grow-lacks, grow-spares-others, grow-there, grow-turned, grown-is-kept, not-usable}
 use Rattle.cfb_resizing.proofs.in_place.grow_in_sectors.Goals as goal
 
 pub returns-in_err-ids-clause-others : goal.returns-in_err-ids-clause-others
@@ -81,3 +81,12 @@ returns-clause-enough g c =
     c.lengthen_in_sectors.new.allocator c.in_ok-ids.ids.items c.lengthen_in_sectors.new.ids.items c.requires.stream c.requires.large c.requires.longer c.allocator.ensures
     c.allocator_mut.ensures.value c.content_in-start.ensures.start c.content_in-start.ensures.len c.in_ok-ids.ensures.whole in
     lacks.1 c.in_ok-lengthen_in_sectors.ensures.enough
+
+pub returns-clause-kept_chain : goal.returns-clause-kept_chain
+returns-clause-kept_chain g c =
+    let a = c.allocator.result.now in
+    let lent = c.allocator_mut.result.now in
+    let count = rounded_up c.args.size (sector_len lent.tables.version) - length c.in_ok-ids.ids.items in
+    grown-is-kept a.tables.version a.tables.fat a.file.len c.content_in-start.result.0 c.content_in-start.result.1 count c.in_ok-ids.ids.items c.lengthen_in_sectors.new.ids.items
+    lent.tables c.lengthen_in_sectors.new.allocator.tables (omega (arith, c.requires.large, c.content_in-start.ensures.len)) c.in_ok-ids.ensures.whole
+    c.in_ok-lengthen_in_sectors.ensures.lengthened c.lengthen_in_sectors.ensures.chain

@@ -1,8 +1,13 @@
 use Rattle.std.proofs.Common.{ℕ, List, sym, ◌∙◌, subst}
 use Rattle.cfb_format.proofs.Unique.{IsChain-unique}
 use Rattle.cfb_content.specs.Parts.{IsThereInSectors}
+use Rattle.cfb_content.proofs.KnownSectors.{chain-is-known}
 use Rattle.cfb_content.proofs.Refusals.{invalid-refused}
-use Rattle.cfb_content.proofs.in_sectors.whole_chain.Goals as goal
+use Rattle.cfb_content.proofs.listed.take_whole_chain_in.Goals as goal
+
+pub there_in_sectors-there-requires : goal.there_in_sectors-there-requires
+there_in_sectors-there-requires g c =
+    record { known = chain-is-known c.args.allocator.now.tables.fat c.args.start c.in_ok-ids.ids.items c.deref.result.now c.in_ok-ids.ensures.ok c.deref.ensures.value }
 
 pub returns-then-there-len-clause-err : goal.returns-then-there-len-clause-err
 returns-then-there-len-clause-err g c =

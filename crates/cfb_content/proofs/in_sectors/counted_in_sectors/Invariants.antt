@@ -1,6 +1,6 @@
 use Rattle.std.proofs.Common.{◌≡◌, ℕ, ◌+◌, ◌*◌, ◌<◌, ◌≤◌, ◌-◌, ◌^◌, min, slice_index}
 use Rattle.cfb_format.specs.Bytes.{sector_len, sector_start}
-use Rattle.cfb_content.proofs.in_sectors.there_in_sectors.Given as goal
+use Rattle.cfb_content.proofs.in_sectors.counted_in_sectors.Given as goal
 
 abbrev pub invariant-loop-sector : goal.invariant-loop-sector
 invariant-loop-sector g l = record {
