@@ -9,3 +9,4 @@ pub mod ReadStreams
 pub mod OpenedStreams
 pub mod Adding
 pub mod Place
+pub mod Printed

@@ -136,6 +136,12 @@ impl<'a, F: ReadMedium, A: Heap + Clone> ReadStream<'a, F, A> {
 }
 
 impl<'a, F: ReadMedium, A: Heap> fmt::Debug for ReadStream<'a, F, A> {
+    ghost use Rattle.std.specs.Prelude.{Some, codes};
+    ghost use Rattle.cfb_compound_file.specs.Printed.{stream_text};
+    ghost use Rattle.cfb_compound_file.specs.ReadStreams.{window_of};
+
+    ghost debug_output = { λ s. Some (stream_text (codes "ReadStream") (window_of s)) };
+
     fn fmt<W: fmt::Write>(&self, f: &mut fmt::Formatter<W>) -> fmt::Result {
         let len = self.window.len();
         let position = self.window.position();

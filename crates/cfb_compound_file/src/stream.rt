@@ -184,6 +184,12 @@ impl<'a, F: Medium, A: Heap + Clone> Stream<'a, F, A> {
 }
 
 impl<'a, F: Medium, A: Heap> fmt::Debug for Stream<'a, F, A> {
+    ghost use Rattle.std.specs.Prelude.{Some, codes};
+    ghost use Rattle.cfb_compound_file.specs.Printed.{stream_text};
+    ghost use Rattle.cfb_compound_file.specs.Streams.{window_of};
+
+    ghost debug_output = { λ s. Some (stream_text (codes "Stream") (window_of s)) };
+
     fn fmt<W: fmt::Write>(&self, f: &mut fmt::Formatter<W>) -> fmt::Result {
         let len = self.window.len();
         let position = self.window.position();
