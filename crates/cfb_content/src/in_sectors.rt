@@ -13,7 +13,6 @@ ghost use Rattle.cfb_alloc.specs.Frame.{Spares, table_sectors};
 ghost use Rattle.cfb_chains.specs.ChainPlaces.{place_along};
 ghost use Rattle.cfb_content.specs.Parts.{ChangesOnlyPlaces, HasFirst, IsThereInSectors, IsWholeChain, StandAlong};
 
-use crate::listed::take_whole_chain;
 use cfb_alloc::alloc::Allocator;
 use cfb_format::error::{Detail, Error};
 use cfb_format::medium::{Medium, ReadMedium};
@@ -69,20 +68,6 @@ fn counted_in_sectors<F: ReadMedium, A: Heap>(
         }
     }
     there.min(len)
-}
-
-/// The sectors of the chain from `start`, which has so many bytes. `InvalidData` where there is no such chain or the file has not
-/// all of these bytes, and `Memory`.
-pub fn whole_chain<F: ReadMedium, A: Heap + Clone>(
-    allocator: &Allocator<F, A>,
-    start: u32,
-    len: u64,
-) -> Result<Vec<u32, A>, Error>
-    ensures whole { IfOk result (λ list. IsWholeChain allocator.now.tables.version allocator.now.tables.fat allocator.now.file.len start len list.items) }
-    ensures err { IfErr result (ChangeRefused ((list : List ℕ)
-        → IsWholeChain allocator.now.tables.version allocator.now.tables.fat allocator.now.file.len start len list → ⊥) Unit ⊥ ⊥) }
-{
-    take_whole_chain(&mut None, allocator, start, len)
 }
 
 /// Reads what is there of the listed sector with that index, from `offset` on.

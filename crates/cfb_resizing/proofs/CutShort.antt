@@ -23,14 +23,27 @@ left-is list list' wanted listed enough =
     let taken = length-take wanted list in
     omega (arith, count, taken, enough)
 
+-- what is left begins where the chain began
+still-begins : (version : Version) (fat : List ℕ) (file_len start len size wanted l : ℕ) (list list' : List ℕ) → 0 < size
+    → IsWholeChain version fat file_len start len list → l ≡ sector_len version → wanted ≡ size / l + min 1 (size % l) → list' ≡ take wanted list → first_or_end list' ≡ start
+still-begins version fat file_len start len size wanted l list list' some whole l-is wanted-by listed =
+    let is : wanted ≡ rounded_up size (sector_len version) = wanted_is version size wanted l l-is wanted-by in
+    let more = rounded-up-some version size some in
+    ap first_or_end listed ∙ taken-first list wanted (omega (arith, more, is)) ∙ sym (begins fat start list whole.chain.follows)
+
+pub cut-is-kept : (version : Version) (fat fat' : List ℕ) (file_len start len size wanted l : ℕ) (list list' : List ℕ) → 0 < size
+    → IsWholeChain version fat file_len start len list → l ≡ sector_len version → wanted ≡ size / l + min 1 (size % l) → list' ≡ take wanted list
+    → IsChain fat' (first_or_end list') list' → IsChain fat' start list'
+cut-is-kept version fat fat' file_len start len size wanted l list list' some whole l-is wanted-by listed chain' =
+    subst (λ n. IsChain fat' n list') (still-begins version fat file_len start len size wanted l list list' some whole l-is wanted-by listed) chain'
+
 pub cut-takes-few : (version : Version) (fat fat' : List ℕ) (file_len start len size wanted l : ℕ) (list list' other : List ℕ) → 0 < size → size < len
     → IsWholeChain version fat file_len start len list → l ≡ sector_len version → wanted ≡ size / l + min 1 (size % l) → list' ≡ take wanted list
     → IsChain fat' (first_or_end list') list' → IsChain fat' start other → length other ≡ rounded_up size (sector_len version)
 cut-takes-few version fat fat' file_len start len size wanted l list list' other some shorter whole l-is wanted-by listed chain' chain =
     let is : wanted ≡ rounded_up size (sector_len version) = wanted_is version size wanted l l-is wanted-by in
-    let more = rounded-up-some version size some in
-    let first : first_or_end list' ≡ start = ap first_or_end listed ∙ taken-first list wanted (omega (arith, more, is)) ∙ sym (begins fat start list whole.chain.follows) in
-    let same = ap (λ (m : List ℕ). length m) (IsChain-unique fat' start other list' chain (subst (λ n. IsChain fat' n list') first chain')) in
+    let kept = cut-is-kept version fat fat' file_len start len size wanted l list list' some whole l-is wanted-by listed chain' in
+    let same = ap (λ (m : List ℕ). length m) (IsChain-unique fat' start other list' chain kept) in
     let room = has-room version size (length list) (whole.there size shorter).listed in
     let left = left-is list list' wanted listed (omega (arith, room, is)) in
     omega (arith, same, left, is)

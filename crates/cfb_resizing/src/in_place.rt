@@ -25,7 +25,7 @@ ghost use Rattle.cfb_resizing.specs.Turning.{IsPaddedAlong, KeepsAround, KeepsTa
 
 use cfb_alloc::alloc::Allocator;
 use cfb_content::in_minis::{whole_mini_chain, zero_in_minis};
-use cfb_content::in_sectors::{whole_chain, zero_in_sectors};
+use cfb_content::in_sectors::zero_in_sectors;
 use cfb_content::listed::{ListedChain, take_whole_chain};
 use cfb_content::reading::content_in;
 use cfb_format::consts::{END_OF_CHAIN, MINI_SECTOR_LEN};
@@ -123,9 +123,11 @@ pub(crate) fn grow_in_sectors<F: Medium, A: Heap + Clone>(
     Ok(start)
 }
 
-/// Makes a stream shorter that lies in sectors and stays there, and answers where it starts. It keeps no more sectors than it needs.
+/// Makes a stream shorter that lies in sectors and stays there, and answers where it starts. It keeps no more sectors than it needs, and
+/// they are kept as its chain.
 pub(crate) fn cut_in_sectors<F: Medium, A: Heap + Clone>(
     mini: &mut MiniAllocator<F, A>,
+    kept: &mut Option<ListedChain<A>>,
     entry: u32,
     size: u64,
 ) -> Result<u32, Error>
@@ -133,6 +135,8 @@ pub(crate) fn cut_in_sectors<F: Medium, A: Heap + Clone>(
     requires limit { size ≤ max_stream_len (version_of mini.old) }
     requires large { mini_stream_cutoff ≤ size }
     requires shorter { size < len_of mini.old entry }
+    requires kept_chain { IsKeptChain (tables_in mini.old).fat kept.old }
+    ensures kept_chain { IsKeptChain (tables_in mini.new).fat kept.new }
     ensures turned { IsTrue F.tells → (validation : Validation) → IsChangeable validation mini.old → IfOk result (λ start. Turns mini.old mini.new entry size start) }
     ensures holds { IsTrue F.tells → (validation : Validation) → IsChangeable validation mini.old → OnOk result (HoldsMini validation mini.new) }
     ensures others { IsTrue F.tells → (validation : Validation) → IsChangeable validation mini.old → KeepsOthers entry mini.old mini.new }
@@ -147,9 +151,13 @@ pub(crate) fn cut_in_sectors<F: Medium, A: Heap + Clone>(
         → CountsFailure (λ f. F.read_faults f || F.write_faults f) result (table_of mini.old).file.failures (table_of mini.new).file.failures }
 {
     let (start, len) = content_in(mini, entry);
-    let mut ids = whole_chain(mini.allocator(), start, len)?;
+    let mut ids = take_whole_chain(kept, mini.allocator(), start, len)?;
     let wanted = size.div_ceil(mini.sector_len() as u64) as usize;
     mini.allocator_mut().cut_listed(&mut ids, wanted)?;
+    *kept = Some(ListedChain {
+        start,
+        sectors: ids,
+    });
     Ok(start)
 }
 

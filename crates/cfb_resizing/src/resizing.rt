@@ -48,7 +48,7 @@ pub(crate) fn unplaced(entry: u32) -> Error
 /// `Full` exactly where the sectors of the stream, of the MiniFAT and of the mini stream that it needs are more than are free or left once
 /// the chain that it moves away from is free, or the mini sectors more than there may be; `InvalidData` where the stream's chain is none
 /// or the file ends before it; `Memory`: nothing has changed then. After `Medium`, where the medium fails, no byte of another stream has
-/// changed. The chain of a stream that gets longer in sectors is kept.
+/// changed. The chain of a stream that stays in sectors is kept.
 pub fn resize_content<F: Medium, A: Heap + Clone>(
     mini: &mut MiniAllocator<F, A>,
     kept: &mut Option<ListedChain<A>>,
@@ -134,17 +134,17 @@ fn turn<F: Medium, A: Heap + Clone>(
 {
     let (_, len) = content_in(mini, entry);
     let cutoff = MINI_STREAM_CUTOFF as u64;
-    if len >= cutoff && size > len {
-        return grow_in_sectors(mini, kept, entry, size);
+    if len >= cutoff {
+        if size > len {
+            return grow_in_sectors(mini, kept, entry, size);
+        }
+        if size >= cutoff {
+            return cut_in_sectors(mini, kept, entry, size);
+        }
+        return move_to_minis(mini, kept, entry, size);
     }
     // Sectors of other chains change their use now.
     *kept = None;
-    if len >= cutoff {
-        if size < cutoff {
-            return move_to_minis(mini, entry, size);
-        }
-        return cut_in_sectors(mini, entry, size);
-    }
     if size >= cutoff {
         return move_to_sectors(mini, entry, size);
     }

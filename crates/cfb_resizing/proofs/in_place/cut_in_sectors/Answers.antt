@@ -7,7 +7,7 @@ use Rattle.cfb_alloc.specs.ListedChain.{Shortens}
 use Rattle.cfb_content.proofs.Kept.{nothing-is-moved}
 use Rattle.cfb_content.proofs.Refusals.{refused-as}
 use Rattle.cfb_content.proofs.WholeStreams.{not-whole, whole-as}
-use Rattle.cfb_resizing.proofs.CutShort.{cut-takes-few}
+use Rattle.cfb_resizing.proofs.CutShort.{cut-is-kept, cut-takes-few}
 use Rattle.cfb_resizing.proofs.Tightness.{shortened-tight}
 use Rattle.cfb_resizing.proofs.TurnedInSectors.{cut-has-all, cut-held, cut-keeps-tables, cut-spares-others, cut-turned, not-usable}
 use Rattle.cfb_resizing.proofs.in_place.cut_in_sectors.Goals as goal
@@ -88,3 +88,11 @@ returns-clause-few g c list chain =
     (omega (arith, large)) (omega (arith, c.requires.shorter, c.content_in-start.ensures.len)) c.in_ok-ids.ensures.whole (c.sector_len.ensures ∙ sym same) c.div_ceil-wanted.ensures
     c.in_ok-cut_listed.ensures.shortened.listed c.cut_listed.ensures.chain chain in
     few ∙ ap (rounded_up c.args.size) same
+
+pub returns-clause-kept_chain : goal.returns-clause-kept_chain
+returns-clause-kept_chain g c =
+    let large = c.requires.large in
+    let same = ap (λ (a : AllocatorState). sector_len a.tables.version) c.allocator.ensures in
+    cut-is-kept c.allocator.result.now.tables.version c.allocator.result.now.tables.fat c.cut_listed.new.self.tables.fat c.allocator.result.now.file.len
+    c.content_in-start.result.0 c.content_in-start.result.1 c.args.size c.div_ceil-wanted.result c.sector_len.result c.in_ok-ids.ids.items c.cut_listed.new.ids.items
+    (omega (arith, large)) c.in_ok-ids.ensures.whole (c.sector_len.ensures ∙ sym same) c.div_ceil-wanted.ensures c.in_ok-cut_listed.ensures.shortened.listed c.cut_listed.ensures.chain
