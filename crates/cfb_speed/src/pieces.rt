@@ -3,13 +3,16 @@
 use cfb::{CompoundFile, Error, MediumFault, MemoryMedium, ReadStream, Stream};
 use std::io::SeekFrom;
 
+/// A compound file in memory.
+pub type File = CompoundFile<MemoryMedium>;
+
+/// Makes an empty stream.
+pub fn add(file: &mut File, path: &str) -> Result<(), Error> {
+    file.create_new_stream(path)?.close()
+}
+
 /// Fills a new stream with this piece, so many times.
-pub fn fill(
-    file: &mut CompoundFile<MemoryMedium>,
-    path: &str,
-    piece: &[u8],
-    count: usize,
-) -> Result<(), Error> {
+pub fn fill(file: &mut File, path: &str, piece: &[u8], count: usize) -> Result<(), Error> {
     let mut stream = file.create_new_stream(path)?;
     let written = write_pieces(&mut stream, piece, count);
     let closed = stream.close();
@@ -41,11 +44,7 @@ fn write_all(stream: &mut Stream<'_, MemoryMedium>, bytes: &[u8]) -> Result<(), 
 }
 
 /// Reads a stream from its start to its end, as much at once as there is room for.
-pub fn read_through(
-    file: &mut CompoundFile<MemoryMedium>,
-    path: &str,
-    into: &mut [u8],
-) -> Result<(), Error> {
+pub fn read_through(file: &mut File, path: &str, into: &mut [u8]) -> Result<(), Error> {
     let mut stream = file.open_read_stream(path)?;
     let read = read_pieces(&mut stream, into);
     let closed = stream.close();
@@ -62,12 +61,7 @@ fn read_pieces(stream: &mut ReadStream<'_, MemoryMedium>, into: &mut [u8]) -> Re
 }
 
 /// Writes this piece over a stream, so many times, at places that look random.
-pub fn overwrite(
-    file: &mut CompoundFile<MemoryMedium>,
-    path: &str,
-    piece: &[u8],
-    count: usize,
-) -> Result<(), Error> {
+pub fn overwrite(file: &mut File, path: &str, piece: &[u8], count: usize) -> Result<(), Error> {
     let mut stream = file.open_stream(path)?;
     let written = write_about(&mut stream, piece, count);
     let closed = stream.close();

@@ -1,6 +1,6 @@
 //! What is timed.
 
-use crate::pieces::{fill, overwrite, read_through};
+use crate::pieces::{File, add, fill, overwrite, read_through};
 use anyhow::Result;
 use cfb::{CompoundFile, MemoryMedium, Version};
 use std::alloc::Global;
@@ -48,48 +48,68 @@ fn lap<R: Clock>(clock: &R, start: &mut Instant) -> Result<u64> {
     Ok(micros.min(u64::MAX as u128) as u64)
 }
 
-fn new_file(alloc: Global, version: Version) -> Result<CompoundFile<MemoryMedium>> {
+fn new_file(alloc: Global, version: Version) -> Result<File> {
     Ok(CompoundFile::create_with_version(alloc, version, MemoryMedium::new(alloc))?)
 }
 
+// What owns a file only makes it and lends it: each way out of a function that owns one costs the proof of letting it go.
+
 /// Streams are made, the file is opened anew, and its entries are walked.
 fn times_of_many<R: Clock + AllocGlobal>(rt: &R, version: Version) -> Result<[u64; 3]> {
-    let alloc = rt.alloc();
-    let mut file = new_file(alloc, version)?;
+    let mut file = new_file(rt.alloc(), version)?;
+    let made = time_to_make(rt, &mut file)?;
+    let [opened, walked] = times_to_open(rt, file.into_inner())?;
+    Ok([made, opened, walked])
+}
+
+fn time_to_make<R: Clock + AllocGlobal>(rt: &R, file: &mut File) -> Result<u64> {
     let mut clock = Instant::now(rt)?;
     for number in 0..STREAMS {
-        let path = format!(in alloc; "/{number}")?;
-        file.create_new_stream(path.as_str())?.close()?;
+        let path = format!(in rt.alloc(); "/{number}")?;
+        add(file, path.as_str())?;
     }
-    let made = lap(rt, &mut clock)?;
-    let medium = file.into_inner();
-    let _bytes_are_taken = lap(rt, &mut clock)?;
-    let file = CompoundFile::open(alloc, medium)?;
-    let opened = lap(rt, &mut clock)?;
+    lap(rt, &mut clock)
+}
+
+fn times_to_open<R: Clock + AllocGlobal>(rt: &R, medium: MemoryMedium) -> Result<[u64; 2]> {
+    let mut clock = Instant::now(rt)?;
+    let file = CompoundFile::open(rt.alloc(), medium)?;
+    times_to_walk(rt, &file, &mut clock)
+}
+
+fn times_to_walk<R: Clock>(rt: &R, file: &File, clock: &mut Instant) -> Result<[u64; 2]> {
+    let opened = lap(rt, clock)?;
     let _count = file.walk()?.count();
-    Ok([made, opened, lap(rt, &mut clock)?])
+    Ok([opened, lap(rt, clock)?])
 }
 
 /// A long stream is written, read, and written over.
 fn times_of_long<R: Clock + AllocGlobal>(rt: &R, version: Version) -> Result<[u64; 3]> {
-    let alloc = rt.alloc();
-    let mut piece = vec![in alloc; 7u8; LONG]?;
-    let mut file = new_file(alloc, version)?;
+    let mut piece = vec![in rt.alloc(); 7u8; LONG]?;
+    let mut file = new_file(rt.alloc(), version)?;
+    long_times(rt, &mut file, &mut piece)
+}
+
+fn long_times<R: Clock>(rt: &R, file: &mut File, piece: &mut [u8]) -> Result<[u64; 3]> {
     let mut clock = Instant::now(rt)?;
-    fill(&mut file, "/long", &piece, 1024)?;
+    fill(file, "/long", piece, 1024)?;
     let written = lap(rt, &mut clock)?;
-    read_through(&mut file, "/long", &mut piece)?;
+    read_through(file, "/long", piece)?;
     let read = lap(rt, &mut clock)?;
-    overwrite(&mut file, "/long", &[8; SHORT], 10_000)?;
+    overwrite(file, "/long", &[8; SHORT], 10_000)?;
     Ok([written, read, lap(rt, &mut clock)?])
 }
 
 /// A stream is written in short pieces, and written over.
 fn times_of_short<R: Clock + AllocGlobal>(rt: &R, version: Version) -> Result<[u64; 2]> {
     let mut file = new_file(rt.alloc(), version)?;
+    short_times(rt, &mut file)
+}
+
+fn short_times<R: Clock>(rt: &R, file: &mut File) -> Result<[u64; 2]> {
     let mut clock = Instant::now(rt)?;
-    fill(&mut file, "/short", &[7; SHORT], 20_000)?;
+    fill(file, "/short", &[7; SHORT], 20_000)?;
     let written = lap(rt, &mut clock)?;
-    overwrite(&mut file, "/short", &[8; SHORT], 10_000)?;
+    overwrite(file, "/short", &[8; SHORT], 10_000)?;
     Ok([written, lap(rt, &mut clock)?])
 }
