@@ -14,6 +14,18 @@ use cfb_mini::mini_allocator::MiniAllocator;
 use std::alloc::Global;
 use std::test::Fail;
 
+/// Whether the stream is so many bytes that count up and then so many zeros.
+fn has_content(
+    alloc: Global,
+    mini: &mut MiniAllocator<MemoryMedium>,
+    name: &str,
+    filled: usize,
+    zeros: usize,
+) -> Result<bool, Error> {
+    let content = content_of(alloc, mini, name, 0)?;
+    Ok(is_made_of(&content, &[(FILLED, filled), (0, zeros)]))
+}
+
 /// Whether the file is sound, strict opening reads what memory has, and the stream is so many bytes that count up and then so many zeros.
 fn is_well(
     alloc: Global,
@@ -22,9 +34,8 @@ fn is_well(
     filled: usize,
     zeros: usize,
 ) -> Result<bool, Error> {
-    let content = content_of(alloc, mini, name, 0)?;
     Ok(
-        is_made_of(&content, &[(FILLED, filled), (0, zeros)])
+        has_content(alloc, mini, name, filled, zeros)?
             && is_sound(alloc, mini)?
             && is_read_back(alloc, mini)?,
     )
@@ -63,13 +74,22 @@ fn wrong_over_foreign_bytes(
     behind: u32,
 ) -> Result<Option<usize>, Error> {
     let mut mini = made(alloc, version, &BEHIND_FREE)?;
-    asked_all(alloc, &mut mini, &[Foreign(0, 16), Foreign(18, behind)])?;
+    wrong_len(alloc, &mut mini, behind)
+}
+
+/// The same, in the file with these streams.
+fn wrong_len(
+    alloc: Global,
+    mini: &mut MiniAllocator<MemoryMedium>,
+    behind: u32,
+) -> Result<Option<usize>, Error> {
+    asked_all(alloc, mini, &[Foreign(0, 16), Foreign(18, behind)])?;
     let foreign = foreign_in(mini.inner().bytes());
-    if foreign / 64 != 16 + behind as usize || !is_well(alloc, &mut mini, "b", 100, 0)? {
+    if foreign / 64 != 16 + behind as usize || !is_well(alloc, mini, "b", 100, 0)? {
         return Ok(Some(0));
     }
     for size in [100usize, 1000, 4095] {
-        if !is_zeroed_at(alloc, &mut mini, size)? {
+        if !is_zeroed_at(alloc, mini, size)? {
             return Ok(Some(size));
         }
     }
@@ -132,8 +152,17 @@ fn wrong_in_cut_file(alloc: Global, len: usize, lengths: &Lengths) -> Result<Opt
     if !is_well(alloc, &mut mini, "a", 100, 0)? {
         return Ok(Some(len));
     }
+    wrong_after(alloc, &mut mini, lengths)
+}
+
+/// The same, in a file that is right as it was cut.
+fn wrong_after(
+    alloc: Global,
+    mini: &mut MiniAllocator<MemoryMedium>,
+    lengths: &Lengths,
+) -> Result<Option<usize>, Error> {
     for size in lengths.lens {
-        if !is_cut_to(alloc, &mut mini, *size, lengths.filled.min(*size))? {
+        if !is_cut_to(alloc, mini, *size, lengths.filled.min(*size))? {
             return Ok(Some(*size));
         }
     }
@@ -145,11 +174,16 @@ fn wrong_in_cut_file(alloc: Global, len: usize, lengths: &Lengths) -> Result<Opt
     })
 }
 
+/// Whether the file is sound that is cut to this length.
+fn is_sound_when_cut(alloc: Global, len: usize) -> Result<bool, Error> {
+    let cut = cut_file(alloc, len)?;
+    is_sound(alloc, &cut)
+}
+
 /// A file that is cut short behind the stream's bytes, or behind its mini sectors, is sound, and stays so; one byte less, and it is not.
 #[test]
 fn a_cut_mini_stream_changes(rt: HostRuntime) -> Result<(), Fail> {
-    let cut = cut_file(rt.alloc(), 2048 + 99)?;
-    assert!(rt; !is_sound(rt.alloc(), &cut)?);
+    assert!(rt; !is_sound_when_cut(rt.alloc(), 2048 + 99)?);
     for len in [2048 + 100, 2048 + 110, 2048 + 128] {
         for lengths in &LENGTHS {
             assert_eq!(rt; wrong_in_cut_file(rt.alloc(), len, lengths)?, None);
@@ -200,13 +234,19 @@ const ODD: [Odd; 10] = [
     Odd { asks: &[Make("a"), Resize("a", 5120), Put("a", 4608, 0xff, 512)], words: &[(60, 11), (64, 1)], refused: &[Resize("a", 100)] },
 ];
 
-/// The bytes of a file with other words at these places.
-fn with_words(alloc: Global, asks: &[Ask], words: &[(u64, u32)]) -> Result<MemoryMedium, Error> {
-    let mut file = made(alloc, V3, asks)?.into_inner();
+/// Writes these words at these places.
+fn put_words(file: &mut MemoryMedium, words: &[(u64, u32)]) -> Result<(), Error> {
     for (place, word) in words {
         let count = file.write_at(*place, &word.to_le_bytes());
         let _ = count.map_err(Error::Medium)?;
     }
+    Ok(())
+}
+
+/// The bytes of a file with other words at these places.
+fn with_words(alloc: Global, asks: &[Ask], words: &[(u64, u32)]) -> Result<MemoryMedium, Error> {
+    let mut file = made(alloc, V3, asks)?.into_inner();
+    put_words(&mut file, words)?;
     Ok(file)
 }
 
@@ -215,13 +255,23 @@ fn wrong_call(alloc: Global, odd: &Odd) -> Result<Option<usize>, Error> {
     let file = with_words(alloc, odd.asks, odd.words)?;
     let before = copied(alloc, file.bytes())?;
     let mut mini = opened(alloc, file, V3, Permissive)?;
-    for at in 0..odd.refused.len() {
-        let answer = number_of_error(&asked(alloc, &mut mini, odd.refused[at]));
-        if answer != 4 || mini.begun() || mini.inner().bytes() != before.as_slice() {
-            return Ok(Some(at));
+    Ok(wrong_ask(alloc, &mut mini, odd.refused, &before))
+}
+
+/// The same of these calls, in the file with these bytes.
+fn wrong_ask(
+    alloc: Global,
+    mini: &mut MiniAllocator<MemoryMedium>,
+    asks: &[Ask],
+    before: &[u8],
+) -> Option<usize> {
+    for at in 0..asks.len() {
+        let answer = number_of_error(&asked(alloc, mini, asks[at]));
+        if answer != 4 || mini.begun() || mini.inner().bytes() != before {
+            return Some(at);
         }
     }
-    Ok(None)
+    None
 }
 
 #[test]
