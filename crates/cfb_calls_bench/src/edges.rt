@@ -1,6 +1,6 @@
 //! The least and the greatest limits, no bytes, other letters, and printed texts.
 use cfb_bench::support::{File, content, number, on_stream, opened, with_stream, write_all};
-use cfb_bench::{CaseMapper, Error, MemoryMedium, OpenOptions, ReadStream, Stream};
+use cfb_bench::{CaseMapper, Entry, Error, MemoryMedium, OpenOptions, ReadStream, Stream};
 use std::alloc::Global;
 use std::io::SeekFrom;
 use std::test::Fail;
@@ -55,23 +55,28 @@ fn serves_in(file: &mut File, all: &[u8], into: &mut Vec<u8>) -> Result<bool, Er
     serves
 }
 
+/// Whether a file serves so, with all bytes but the first read at last.
+fn serves_all(alloc: Global, file: &mut File, all: &[u8]) -> Result<bool, Error> {
+    let mut found = Vec::new(alloc);
+    let serves = serves_in(file, all, &mut found)?;
+    Ok(serves && Some(found.as_slice()) == all.get(1..) && !file.is_failed())
+}
+
 /// Whether a stream serves so through a buffer of this limit.
 fn serves_through(alloc: Global, limit: usize, all: &[u8]) -> Result<bool, Error> {
     let options = OpenOptions::default().max_buffer_size(limit);
     let mut file = options.create_with(alloc, MemoryMedium::new(alloc))?;
-    let mut found = Vec::new(alloc);
-    let serves = serves_in(&mut file, all, &mut found)?;
-    Ok(serves && Some(found.as_slice()) == all.get(1..) && !file.is_failed())
+    serves_all(alloc, &mut file, all)
 }
 
 /// Buffers of every limit serve the same.
 #[test]
 fn limits_and_no_bytes(rt: HostRuntime) -> Result<(), Fail> {
+    assert_eq!(rt; number(opened(rt.alloc(), &[], false)), 4);
     let all = content(rt.alloc(), 5000)?;
     for limit in [0, 1, 1024, usize::MAX] {
         assert!(rt; serves_through(rt.alloc(), limit, &all)?, "{limit}");
     }
-    assert_eq!(rt; number(opened(rt.alloc(), &[], false)), 4);
     Ok(())
 }
 
@@ -101,51 +106,78 @@ fn lends(file: &mut File, all: &[u8]) -> Result<bool, Error> {
     Ok((lent?, back, before, is_empty) == (3000, 0, 3, false))
 }
 
+/// Whether these bytes are lent by a file that has them in its stream.
+fn is_lent(alloc: Global, all: &[u8]) -> Result<bool, Error> {
+    let bytes = with_stream(alloc, all)?;
+    let mut file = opened(alloc, &bytes, true)?;
+    lends(&mut file, all)
+}
+
 /// A stream that is only read lends its bytes, too.
 #[test]
 fn lent_bytes(rt: HostRuntime) -> Result<(), Fail> {
     let all = content(rt.alloc(), 3000)?;
-    let mut file = opened(rt.alloc(), &with_stream(rt.alloc(), &all)?, true)?;
-    assert!(rt; lends(&mut file, &all)?);
+    assert!(rt; is_lent(rt.alloc(), &all)?);
     Ok(())
 }
 
-/// A file with other letters, and a stream in it.
+/// A file with other letters.
 fn with_letters(alloc: Global) -> Result<File, Error> {
     let letters = CaseMapper::from_pairs(alloc, &[('\u{e9}', 'X')])?;
     let options = OpenOptions::new().case_mapper(letters);
-    let mut file = options.create_with(alloc, MemoryMedium::new(alloc))?;
-    on_stream(&mut file, b'c', "/\u{e9}", &[7; 10])?;
-    Ok(file)
+    options.create_with(alloc, MemoryMedium::new(alloc))
+}
+
+/// Whether a new stream is found by the letters of the file, and none is made beside it.
+fn are_letters(file: &mut File) -> Result<bool, Error> {
+    on_stream(file, b'c', "/\u{e9}", &[7; 10])?;
+    let are = file.is_stream("/x") && file.is_stream("/X") && !file.exists("/\u{c9}");
+    Ok(are && number(on_stream(file, b'n', "/x", &[])) == 2)
+}
+
+/// Whether the letters are the given ones, and the default ones again when the file is opened without them.
+fn are_let_go(alloc: Global) -> Result<bool, Error> {
+    let mut file = with_letters(alloc)?;
+    let are = are_letters(&mut file)?;
+    let options = OpenOptions::new().strict();
+    let again = options.open_with(alloc, file.into_inner())?;
+    Ok(are && !again.exists("/x") && again.is_stream("/\u{c9}"))
 }
 
 /// Letters that were given stand for the default ones, and are not kept in the file.
 #[test]
 fn other_letters(rt: HostRuntime) -> Result<(), Fail> {
-    let mut file = with_letters(rt.alloc())?;
-    assert!(rt; file.is_stream("/x") && file.is_stream("/X") && !file.exists("/\u{c9}"));
-    assert_eq!(rt; number(on_stream(&mut file, b'n', "/x", &[])), 2);
-    let options = OpenOptions::new().strict();
-    let file = options.open_with(rt.alloc(), file.into_inner())?;
-    assert!(rt; !file.exists("/x") && file.is_stream("/\u{c9}"));
+    assert!(rt; are_let_go(rt.alloc())?);
     Ok(())
 }
 
-/// The printed texts of all entries, one behind the other.
-fn entry_texts(alloc: Global, file: &File) -> Result<String, Error> {
-    let mut all = String::new(alloc);
+/// Appends the printed text of an entry.
+fn print_entry(alloc: Global, entry: &Entry, into: &mut String) -> Result<(), Error> {
+    let text = format!(in alloc; "{entry:?};")?;
+    into.push_str(&text)?;
+    Ok(())
+}
+
+/// Makes two streams, and appends the printed texts of all entries.
+fn print_entries(alloc: Global, file: &mut File, into: &mut String) -> Result<(), Error> {
+    on_stream(file, b'c', "/\u{e9}", &[7; 10])?;
+    on_stream(file, b'c', "/a", &[7; 5000])?;
     for entry in file.walk()? {
-        let text = format!(in alloc; "{entry:?};")?;
-        all.push_str(&text)?;
+        print_entry(alloc, &entry, into)?;
     }
-    Ok(all)
+    Ok(())
+}
+
+/// Appends these texts for a file with other letters.
+fn print_file(alloc: Global, into: &mut String) -> Result<(), Error> {
+    let mut file = with_letters(alloc)?;
+    print_entries(alloc, &mut file, into)
 }
 
 #[test]
 fn printed(rt: HostRuntime) -> Result<(), Fail> {
-    let mut file = with_letters(rt.alloc())?;
-    on_stream(&mut file, b'c', "/a", &[7; 5000])?;
-    let text = entry_texts(rt.alloc(), &file)?;
+    let mut text = String::new(rt.alloc());
+    print_file(rt.alloc(), &mut text)?;
     assert!(rt;
         text.as_str() == "/ (64 bytes);/a (5000 bytes);/\u{e9} (10 bytes);",
         "{text}"

@@ -30,41 +30,84 @@ fn asked(file: &mut File, call: u8, path: &str) -> Result<u64, Error> {
     on_stream(file, call, path, &[])
 }
 
-/// The paths of a walk, one behind the other.
-fn walked(alloc: Global, file: &File) -> Result<String, Error> {
-    let mut all = String::new(alloc);
+/// Appends the paths of a walk, one behind the other.
+fn walk_into(file: &File, paths: &mut String) -> Result<(), Error> {
     for entry in file.walk()? {
-        all.push_str(entry.path())?;
+        paths.push_str(entry.path())?;
     }
-    Ok(all)
+    Ok(())
+}
+
+/// The first call that is not answered as it is to be, if there is one.
+fn wrong_answer(file: &mut File) -> Option<usize> {
+    for i in 0..ASKED.len() {
+        let (call, path, answer) = &ASKED[i];
+        if number(asked(file, *call, path)) != *answer {
+            return Some(i);
+        }
+    }
+    None
+}
+
+/// The first wrong answer of a file, whether that is sound and has not failed then, and what paths it has.
+fn ask_all(file: &mut File, paths: &mut String) -> Result<(Option<usize>, bool), Error> {
+    let wrong = wrong_answer(file);
+    walk_into(file, paths)?;
+    Ok((wrong, !file.is_failed() && file.is_sound()))
+}
+
+/// The same of a new file.
+fn ask_new(alloc: Global, paths: &mut String) -> Result<(Option<usize>, bool), Error> {
+    let medium = MemoryMedium::new(alloc);
+    let mut file = CompoundFile::create_with_version(alloc, V3, medium)?;
+    ask_all(&mut file, paths)
 }
 
 #[test]
 fn answers_by_the_rules(rt: HostRuntime) -> Result<(), Fail> {
-    let medium = MemoryMedium::new(rt.alloc());
-    let mut file = CompoundFile::create_with_version(rt.alloc(), V3, medium)?;
-    for (call, path, answer) in &ASKED {
-        assert!(rt; number(asked(&mut file, *call, path)) == *answer, "{path}");
-    }
-    assert!(rt; !file.is_failed() && file.is_sound());
+    let mut paths = String::new(rt.alloc());
+    let (wrong, is_whole) = ask_new(rt.alloc(), &mut paths)?;
+    assert_eq!(rt; wrong, None);
+    assert!(rt; is_whole);
     assert_eq!(rt;
-        walked(rt.alloc(), &file)?.as_str(),
+        paths.as_str(),
         "//a/\u{e9}/abcdefghijklmnopqrstuvwxyzabcde"
     );
     Ok(())
 }
 
+/// Whether a stream is made once under a name, and then made again.
+fn makes_twice(file: &mut File) -> Result<bool, Error> {
+    let first = on_stream(file, b'n', "/Name", &[7; 5000])?;
+    let refused = number(on_stream(file, b'n', "/nAME", &[8; 100]));
+    let again = on_stream(file, b'c', "/NAME", &[9; 100])?;
+    Ok((first, refused, again) == (5000, 2, 100))
+}
+
+/// Whether the stream has its first name and its second length.
+fn keeps_name(file: &File) -> Result<bool, Error> {
+    let entry = file.entry("/name")?;
+    Ok(entry.name() == "Name" && entry.len() == 100 && !entry.is_empty())
+}
+
+/// Whether both hold of a file. Appends what is in the stream then.
+fn makes_again(file: &mut File, found: &mut Vec<u8>) -> Result<bool, Error> {
+    let is_made = makes_twice(file)? && keeps_name(file)?;
+    read_all(file, "/name", found)?;
+    Ok(is_made)
+}
+
+/// The same of a new file.
+fn makes_in_new(alloc: Global, found: &mut Vec<u8>) -> Result<bool, Error> {
+    let mut file = CompoundFile::create(alloc, MemoryMedium::new(alloc))?;
+    makes_again(&mut file, found)
+}
+
 /// A stream that is made again is empty, and keeps its name.
 #[test]
 fn made_again(rt: HostRuntime) -> Result<(), Fail> {
-    let mut file = CompoundFile::create(rt.alloc(), MemoryMedium::new(rt.alloc()))?;
-    assert_eq!(rt; on_stream(&mut file, b'n', "/Name", &[7; 5000])?, 5000);
-    assert_eq!(rt; number(on_stream(&mut file, b'n', "/nAME", &[8; 100])), 2);
-    assert_eq!(rt; on_stream(&mut file, b'c', "/NAME", &[9; 100])?, 100);
-    let entry = file.entry("/name")?;
-    assert!(rt; entry.name() == "Name" && entry.len() == 100 && !entry.is_empty());
     let mut found = Vec::new(rt.alloc());
-    read_all(&mut file, "/name", &mut found)?;
+    assert!(rt; makes_in_new(rt.alloc(), &mut found)?);
     assert!(rt; found.as_slice() == [9; 100].as_slice());
     Ok(())
 }
