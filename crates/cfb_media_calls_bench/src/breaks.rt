@@ -61,56 +61,101 @@ const FAULTS: [Fault; 8] = [
     Fault { kind: Kind::Read, stays: true, sticks: false }, Fault { kind: Kind::Read, stays: false, sticks: true },
 ];
 
-/// The outcome where the `nth` call goes wrong, and the bytes then. No bytes: opening was refused by the medium.
-fn broken(
+/// What a row is asked over: the bytes of a file without objects, those that are written, and those of the file where nothing goes wrong.
+#[derive(Clone, Copy)]
+struct Given<'a> {
+    row: &'a Row,
+    empty: &'a [u8],
+    all: &'a [u8],
+    whole: &'a [u8],
+}
+
+/// These bytes as a medium whose `nth` call goes wrong.
+fn faulty(
     alloc: Global,
     fault: &Fault,
     nth: u64,
-    row: &Row,
-    empty: &[u8],
-    all: &[u8],
-) -> Result<(Outcome, Vec<u8>), Error> {
-    let medium = MemoryMedium::from_bytes(Vec::from_slice(alloc, empty)?);
+    bytes: &[u8],
+) -> Result<Stuck<Failing<MemoryMedium>>, Error> {
+    let medium = MemoryMedium::from_bytes(Vec::from_slice(alloc, bytes)?);
+    let (fails_at, sticks_at) = if fault.sticks { (0, nth) } else { (nth, 0) };
     let failing = match fault.stays {
         true => Failing::onwards(medium, fault.kind, nth),
-        false => Failing::once(medium, fault.kind, if fault.sticks { 0 } else { nth }),
+        false => Failing::once(medium, fault.kind, fails_at),
     };
-    let stuck = Stuck::once(failing, fault.kind, if fault.sticks { nth } else { 0 });
-    match worked(alloc, stuck, row, all) {
-        Err(Error::Medium(_)) if fault.kind == Kind::Read => Ok((
-            Outcome::Refused,
-            Vec::new(alloc),
+    Ok(Stuck::once(failing, fault.kind, sticks_at))
+}
+
+/// The outcome by what was answered over a medium, and by the bytes in it, which are to be whole where no more than one call was refused.
+fn outcome_over(
+    kind: Kind,
+    answers: Answers,
+    is_failed: bool,
+    stuck: Stuck<Failing<MemoryMedium>>,
+    whole: &[u8],
+) -> Outcome {
+    let sticks = stuck.failures();
+    let failing = stuck.into_inner();
+    let failures = sticks.saturating_add(failing.failures());
+    let is_whole = failing.into_inner().bytes() == whole;
+    if !is_whole && !is_failed && answers.refused < 2 {
+        return Outcome::Wrong;
+    }
+    outcome_of(kind, answers, is_failed, failures)
+}
+
+/// The outcome where the `nth` call goes wrong. The medium may refuse opening where a read does.
+fn broken(alloc: Global, fault: &Fault, nth: u64, given: &Given<'_>) -> Result<Outcome, Error> {
+    let stuck = faulty(alloc, fault, nth, given.empty)?;
+    match worked(alloc, stuck, given.row, given.all) {
+        Ok((answers, is_failed, stuck)) => Ok(outcome_over(
+            fault.kind,
+            answers,
+            is_failed,
+            stuck,
+            given.whole,
         )),
+        Err(Error::Medium(_)) if fault.kind == Kind::Read => Ok(Outcome::Refused),
         Err(e) => Err(e),
-        Ok((answers, is_failed, stuck)) => {
-            let sticks = stuck.failures();
-            let failing = stuck.into_inner();
-            let failures = sticks.saturating_add(failing.failures());
-            let outcome = outcome_of(fault.kind, answers, is_failed, failures);
-            let bytes = failing.into_inner().into_bytes();
-            if is_failed || answers.refused > 1 {
-                return Ok((outcome, Vec::new(alloc)));
-            }
-            Ok((outcome, bytes))
-        }
     }
 }
 
+/// The bytes after the calls of a row where none goes wrong.
+fn unbroken(
+    alloc: Global,
+    fault: &Fault,
+    row: &Row,
+    empty: &[u8],
+    all: &[u8],
+) -> Result<Vec<u8>, Error> {
+    let (_, _, stuck) = worked(alloc, faulty(alloc, fault, 0, empty)?, row, all)?;
+    Ok(stuck.into_inner().into_inner().into_bytes())
+}
+
 /// The first call of the medium that goes wrong and is answered as it may not be, if there is one.
-fn wrong_in_turn(alloc: Global, fault: &Fault, row: &Row) -> Result<Option<u64>, Error> {
-    let all = content(alloc, 4096)?;
-    let empty = empty_bytes(alloc, row.version)?;
-    let (_, whole) = broken(alloc, fault, 0, row, &empty, &all)?;
+fn first_wrong(alloc: Global, fault: &Fault, given: &Given<'_>) -> Result<Option<u64>, Error> {
     for nth in 1..5000u64 {
-        let (outcome, bytes) = broken(alloc, fault, nth, row, &empty, &all)?;
-        if outcome == Outcome::Wrong || !bytes.is_empty() && bytes != whole {
-            return Ok(Some(nth));
-        }
-        if outcome == Outcome::Made {
-            return Ok(if nth > 1 { None } else { Some(0) });
+        match broken(alloc, fault, nth, given)? {
+            Outcome::Wrong => return Ok(Some(nth)),
+            Outcome::Made => return Ok(if nth > 1 { None } else { Some(0) }),
+            Outcome::Refused => {}
         }
     }
     Ok(Some(u64::MAX))
+}
+
+/// The same of a row.
+fn wrong_in_turn(alloc: Global, fault: &Fault, row: &Row) -> Result<Option<u64>, Error> {
+    let all = content(alloc, 4096)?;
+    let empty = empty_bytes(alloc, row.version)?;
+    let whole = unbroken(alloc, fault, row, &empty, &all)?;
+    let given = Given {
+        row,
+        empty: &empty,
+        all: &all,
+        whole: &whole,
+    };
+    first_wrong(alloc, fault, &given)
 }
 
 /// The first row, and the call of the medium in it, that goes wrong and is answered as it may not be, if there is one.

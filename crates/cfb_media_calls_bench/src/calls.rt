@@ -96,6 +96,26 @@ pub const ROWS: [Row; 3] = [
     Row { version: V4, limit: 1, ask: Ask::Patch },
 ];
 
+/// What is done with the stream of a file.
+#[derive(Clone, Copy, Drop)]
+enum Step {
+    /// It is made, and so many bytes are written.
+    Make(u64),
+    /// It is opened, and written at its end up to a place.
+    Append(u64),
+    /// It is opened, and given a length.
+    SetLen(u64),
+    /// It is made, so many bytes are written, and one over that at place 10, behind which the rest is read.
+    Patch(u64),
+}
+
+impl Step {
+    /// Whether the stream is made for it.
+    fn makes(self) -> bool {
+        matches!(self, Step::Make(_) | Step::Patch(_))
+    }
+}
+
 /// How often a call is asked that is refused.
 const TRIES: usize = 2;
 
@@ -195,21 +215,7 @@ impl<'a> Calls<'a> {
         file: &mut CompoundFile<F, A>,
         count: u64,
     ) {
-        for _turn in 0..TRIES {
-            match file.create_stream("/a") {
-                Ok(mut stream) => {
-                    self.write(&mut stream, count);
-                    self.finish(alloc, &mut stream);
-                    self.answers.is_refused(stream.close());
-                    break;
-                }
-                Err(e) => {
-                    if !self.answers.is_refused_calmly::<()>(Err(e)) {
-                        break;
-                    }
-                }
-            }
-        }
+        self.take(alloc, file, Step::Make(count));
     }
 
     /// Writes at the end of the stream, up to a place.
@@ -219,22 +225,7 @@ impl<'a> Calls<'a> {
         file: &mut CompoundFile<F, A>,
         end: u64,
     ) {
-        for _turn in 0..TRIES {
-            match file.open_stream("/a") {
-                Ok(mut stream) => {
-                    self.answers.is_refused(stream.seek(SeekFrom::End(0)));
-                    self.write(&mut stream, end);
-                    self.finish(alloc, &mut stream);
-                    self.answers.is_refused(stream.close());
-                    break;
-                }
-                Err(e) => {
-                    if !self.answers.is_refused_calmly::<()>(Err(e)) {
-                        break;
-                    }
-                }
-            }
-        }
+        self.take(alloc, file, Step::Append(end));
     }
 
     /// Sets the length of the stream.
@@ -244,23 +235,7 @@ impl<'a> Calls<'a> {
         file: &mut CompoundFile<F, A>,
         len: u64,
     ) {
-        for _turn in 0..TRIES {
-            match file.open_stream("/a") {
-                Ok(mut stream) => {
-                    if self.answers.is_refused_calmly(stream.set_len(len)) {
-                        self.answers.is_refused(stream.set_len(len));
-                    }
-                    self.finish(alloc, &mut stream);
-                    self.answers.is_refused(stream.close());
-                    break;
-                }
-                Err(e) => {
-                    if !self.answers.is_refused_calmly::<()>(Err(e)) {
-                        break;
-                    }
-                }
-            }
-        }
+        self.take(alloc, file, Step::SetLen(len));
     }
 
     /// Makes the stream, writes so many bytes, and one over the byte at place 10, behind which it reads the rest.
@@ -270,23 +245,70 @@ impl<'a> Calls<'a> {
         file: &mut CompoundFile<F, A>,
         count: u64,
     ) {
+        self.take(alloc, file, Step::Patch(count));
+    }
+
+    /// Takes a step, once more where the stream is refused and need not stay so.
+    fn take<F: Medium, A: Allocator + Clone>(
+        &mut self,
+        alloc: Global,
+        file: &mut CompoundFile<F, A>,
+        step: Step,
+    ) {
         for _turn in 0..TRIES {
-            match file.create_stream("/a") {
-                Ok(mut stream) => {
-                    self.write(&mut stream, count);
-                    self.write_over(&mut stream);
-                    self.read_rest(alloc, &mut stream);
-                    self.finish(alloc, &mut stream);
-                    self.answers.is_refused(stream.close());
-                    break;
-                }
-                Err(e) => {
-                    if !self.answers.is_refused_calmly::<()>(Err(e)) {
-                        break;
-                    }
-                }
+            if !self.is_refused_stream(alloc, file, step) {
+                break;
             }
         }
+    }
+
+    /// Gets the stream for a step, takes it and closes the stream, and says whether the stream was refused and need not stay so.
+    fn is_refused_stream<F: Medium, A: Allocator + Clone>(
+        &mut self,
+        alloc: Global,
+        file: &mut CompoundFile<F, A>,
+        step: Step,
+    ) -> bool {
+        let got = if step.makes() {
+            file.create_stream("/a")
+        } else {
+            file.open_stream("/a")
+        };
+        match got {
+            Ok(mut stream) => {
+                self.take_on(alloc, &mut stream, step);
+                self.answers.is_refused(stream.close());
+                false
+            }
+            Err(e) => self.answers.is_refused_calmly::<()>(Err(e)),
+        }
+    }
+
+    /// Takes a step on the open stream, and writes out what is kept back.
+    fn take_on<F: Medium, A: Allocator + Clone>(
+        &mut self,
+        alloc: Global,
+        stream: &mut Stream<'_, F, A>,
+        step: Step,
+    ) {
+        match step {
+            Step::Make(count) => self.write(stream, count),
+            Step::Append(end) => {
+                self.answers.is_refused(stream.seek(SeekFrom::End(0)));
+                self.write(stream, end);
+            }
+            Step::SetLen(len) => {
+                if self.answers.is_refused_calmly(stream.set_len(len)) {
+                    self.answers.is_refused(stream.set_len(len));
+                }
+            }
+            Step::Patch(count) => {
+                self.write(stream, count);
+                self.write_over(stream);
+                self.read_rest(stream, &mut Vec::new(alloc));
+            }
+        }
+        self.finish(alloc, stream);
     }
 
     /// Writes a byte over that at place 10.
@@ -299,21 +321,18 @@ impl<'a> Calls<'a> {
         }
     }
 
-    /// Reads the bytes from the position on, which are to be the bytes that were written there.
+    /// Reads the bytes from the position on, which are to be the bytes that were written there, into these that are none yet.
     fn read_rest<F: Medium, A: Allocator + Clone>(
         &mut self,
-        alloc: Global,
         stream: &mut Stream<'_, F, A>,
+        rest: &mut Vec<u8>,
     ) {
         let from = stream.position();
-        let mut rest = Vec::new(alloc);
-        let mut answer = stream.read_to_end(&mut rest);
-        if self.answers.is_refused(answer) {
+        if self.answers.is_refused(stream.read_to_end(rest)) {
             self.answers.in_order = self.answers.in_order
                 && rest.is_empty()
                 && stream.position() == from;
-            answer = stream.read_to_end(&mut rest);
-            self.answers.is_refused(answer);
+            self.answers.is_refused(stream.read_to_end(rest));
         }
         let want = self.all.get(from as usize..stream.len() as usize);
         if self.answers.refused < 2 && self.answers.failed == 0 {
@@ -329,19 +348,29 @@ impl<'a> Calls<'a> {
         if self.answers.failed == 0 {
             return;
         }
-        match file.open_stream("/a") {
-            Ok(stream) => self.is_opened(stream.close()),
-            Err(e) => self.is_not_opened(e),
+        for call in *b"orcn" {
+            self.ask_for_stream(file, call);
         }
-        match file.open_read_stream("/a") {
-            Ok(stream) => self.is_opened(stream.close()),
-            Err(e) => self.is_not_opened(e),
+    }
+
+    /// Asks a failed file for a stream: `o` opens it, `r` opens it to be read, `c` makes it, and `n` makes another one.
+    fn ask_for_stream<F: Medium, A: Allocator + Clone>(
+        &mut self,
+        file: &mut CompoundFile<F, A>,
+        call: u8,
+    ) {
+        if call == b'r' {
+            return match file.open_read_stream("/a") {
+                Ok(stream) => self.is_opened(stream.close()),
+                Err(e) => self.is_not_opened(e),
+            };
         }
-        match file.create_stream("/a") {
-            Ok(stream) => self.is_opened(stream.close()),
-            Err(e) => self.is_not_opened(e),
-        }
-        match file.create_new_stream("/b") {
+        let got = match call {
+            b'o' => file.open_stream("/a"),
+            b'c' => file.create_stream("/a"),
+            _ => file.create_new_stream("/b"),
+        };
+        match got {
             Ok(stream) => self.is_opened(stream.close()),
             Err(e) => self.is_not_opened(e),
         }
