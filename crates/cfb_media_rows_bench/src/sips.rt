@@ -20,42 +20,51 @@ fn worked<F: Medium>(alloc: Global, medium: F, row: &Row, all: &[u8]) -> Result<
 }
 
 /// Whether single bytes make the same of a file of this length.
-fn is_same(alloc: Global, row: &Row, len: usize) -> Result<bool, Error> {
-    let all = content(alloc, 4096)?;
-    let empty = empty_bytes(alloc, row.version)?;
-    let medium = MemoryMedium::from_bytes(Vec::from_slice(alloc, &empty)?);
-    let whole = worked(alloc, medium, row, &all)?;
-    let sipped = worked(alloc, Sip::new(MemoryMedium::from_bytes(empty)), row, &all)?;
+fn is_same(alloc: Global, row: &Row, all: &[u8], len: usize) -> Result<bool, Error> {
+    let empty = MemoryMedium::from_bytes(empty_bytes(alloc, row.version)?);
+    let whole = worked(alloc, empty, row, all)?;
+    let empty = MemoryMedium::from_bytes(empty_bytes(alloc, row.version)?);
+    let sipped = worked(alloc, Sip::new(empty), row, all)?;
     Ok(whole.bytes().len() == len && sipped.into_inner().bytes() == whole.bytes())
 }
 
 #[test]
 fn single_bytes(rt: HostRuntime) -> Result<(), Fail> {
+    let all = content(rt.alloc(), 4096)?;
     for (row, len) in ROWS.iter().zip([10240, 10240, 20480]) {
-        assert!(rt; is_same(rt.alloc(), row, len)?, "{len}");
+        assert!(rt; is_same(rt.alloc(), row, &all, len)?, "{len}");
     }
     Ok(())
 }
 
-/// The medium after a stream was made, given these zeros by its length, and one byte more.
+/// Makes a stream, gives it these zeros by its length, and writes one byte more.
+fn grow<F: Medium>(file: &mut CompoundFile<F>, zeros: &[u8]) -> Result<(), Error> {
+    on_stream(file, b'c', "/a", &[])?;
+    on_stream(file, b's', "/a", zeros)?;
+    on_stream(file, b'a', "/a", &[7])?;
+    Ok(())
+}
+
+/// The medium after that.
 fn grown<F: Medium>(alloc: Global, medium: F, zeros: &[u8]) -> Result<F, Error> {
     let mut file = CompoundFile::open(alloc, medium)?;
-    on_stream(&mut file, b'c', "/a", &[])?;
-    on_stream(&mut file, b's', "/a", zeros)?;
-    on_stream(&mut file, b'a', "/a", &[7])?;
+    grow(&mut file, zeros)?;
     Ok(file.into_inner())
+}
+
+/// Whether single bytes make the same of a file of this length.
+fn is_grown_alike(alloc: Global, zeros: &[u8], len: usize) -> Result<bool, Error> {
+    let empty = MemoryMedium::from_bytes(empty_bytes(alloc, V3)?);
+    let whole = grown(alloc, empty, zeros)?;
+    let empty = MemoryMedium::from_bytes(empty_bytes(alloc, V3)?);
+    let sipped = grown(alloc, Sip::new(empty), zeros)?;
+    Ok(whole.bytes().len() == len && sipped.into_inner().bytes() == whole.bytes())
 }
 
 /// Growth up to the last sector that the header's FAT sectors have a word for, and past it.
 #[test]
 fn single_bytes_of_a_long_stream(rt: HostRuntime) -> Result<(), Fail> {
     let zeros = vec![in rt.alloc(); 0u8; 7087104]?;
-    let empty = empty_bytes(rt.alloc(), V3)?;
-    let medium = MemoryMedium::from_bytes(Vec::from_slice(rt.alloc(), &empty)?);
-    let whole = grown(rt.alloc(), medium, &zeros)?;
-    let sips = Sip::new(MemoryMedium::from_bytes(empty));
-    let sipped = grown(rt.alloc(), sips, &zeros)?;
-    assert_eq!(rt; whole.bytes().len(), 7145472);
-    assert!(rt; sipped.into_inner().bytes() == whole.bytes());
+    assert!(rt; is_grown_alike(rt.alloc(), &zeros, 7145472)?);
     Ok(())
 }

@@ -7,12 +7,18 @@ use cfb_media_calls_bench::{CompoundFile, Error, Medium, MemoryMedium};
 use std::alloc::Global;
 use std::test::Fail;
 
-/// The bytes of a file with the streams `/o` and `/p`, and an empty `/a`.
+/// Makes the streams `/o` and `/p`, and an empty `/a`.
+fn add_others(file: &mut CompoundFile<MemoryMedium>) -> Result<(), Error> {
+    on_stream(file, b'c', "/o", &[0x6f; 300])?;
+    on_stream(file, b'c', "/p", &[0x70; 5000])?;
+    on_stream(file, b'c', "/a", &[])?;
+    Ok(())
+}
+
+/// The bytes of a file with them.
 fn with_others(alloc: Global) -> Result<Vec<u8>, Error> {
     let mut file = CompoundFile::open(alloc, MemoryMedium::from_bytes(empty_bytes(alloc, V3)?))?;
-    on_stream(&mut file, b'c', "/o", &[0x6f; 300])?;
-    on_stream(&mut file, b'c', "/p", &[0x70; 5000])?;
-    on_stream(&mut file, b'c', "/a", &[])?;
+    add_others(&mut file)?;
     Ok(file.into_inner().into_bytes())
 }
 
@@ -52,22 +58,30 @@ fn stay(before: &[u8], after: &[u8], places: &[(usize, usize)]) -> bool {
     })
 }
 
-/// How many writes broke off and left these places as they were, if all did.
-fn spared_in_turn(alloc: Global) -> Result<Option<u64>, Error> {
-    let before = with_others(alloc)?;
-    let all = content(alloc, 4096)?;
-    let Some(places) = staying(&before) else {
+/// How many writes failed, one at most, where the `nth` is to, if these places stay as they were.
+fn spared(
+    alloc: Global,
+    before: &[u8],
+    all: &[u8],
+    places: &[(usize, usize)],
+    nth: u64,
+) -> Result<Option<u64>, Error> {
+    let medium = MemoryMedium::from_bytes(Vec::from_slice(alloc, before)?);
+    let failing = changed(alloc, Failing::once(medium, Kind::Write, nth), all)?;
+    let failures = failing.failures();
+    Ok(stay(before, failing.into_inner().bytes(), places).then_some(failures))
+}
+
+/// How many writes broke off and left the other streams as they were, if all did.
+fn spared_in_turn(alloc: Global, before: &[u8], all: &[u8]) -> Result<Option<u64>, Error> {
+    let Some(places) = staying(before) else {
         return Ok(None);
     };
     for nth in 1..5000u64 {
-        let medium = MemoryMedium::from_bytes(Vec::from_slice(alloc, &before)?);
-        let failing = changed(alloc, Failing::once(medium, Kind::Write, nth), &all)?;
-        let failures = failing.failures();
-        if !stay(&before, failing.into_inner().bytes(), &places) {
-            return Ok(None);
-        }
-        if failures == 0 {
-            return Ok(Some(nth));
+        match spared(alloc, before, all, &places, nth)? {
+            None => return Ok(None),
+            Some(0) => return Ok(Some(nth)),
+            Some(_) => {}
         }
     }
     Ok(None)
@@ -75,7 +89,10 @@ fn spared_in_turn(alloc: Global) -> Result<Option<u64>, Error> {
 
 #[test]
 fn other_streams_stay(rt: HostRuntime) -> Result<(), Fail> {
-    assert!(rt; spared_in_turn(rt.alloc())?.is_some_and(|writes| writes > 20));
+    let before = with_others(rt.alloc())?;
+    let all = content(rt.alloc(), 4096)?;
+    let writes = spared_in_turn(rt.alloc(), &before, &all)?;
+    assert!(rt; writes.is_some_and(|writes| writes > 20));
     Ok(())
 }
 
@@ -106,13 +123,18 @@ fn flushed<F: Medium>(file: &mut CompoundFile<F>) -> Result<(), Error> {
     behind
 }
 
+/// How many flushes reach the medium of a file that is flushed, and so is a stream of it, twice.
+fn flushes(alloc: Global) -> Result<u64, Error> {
+    let medium = MemoryMedium::from_bytes(empty_bytes(alloc, V3)?);
+    let mut file = CompoundFile::open(alloc, Counting::within(medium, 0, u64::MAX))?;
+    let done = file.flush().and(flushed(&mut file));
+    let flushes = file.into_inner().flushes();
+    done.map(|_| flushes)
+}
+
 /// Each flush reaches the medium.
 #[test]
 fn flushes_are_handed_on(rt: HostRuntime) -> Result<(), Fail> {
-    let medium = MemoryMedium::from_bytes(empty_bytes(rt.alloc(), V3)?);
-    let mut file = CompoundFile::open(rt.alloc(), Counting::within(medium, 0, u64::MAX))?;
-    file.flush()?;
-    flushed(&mut file)?;
-    assert_eq!(rt; file.into_inner().flushes(), 3);
+    assert_eq!(rt; flushes(rt.alloc())?, 3);
     Ok(())
 }
