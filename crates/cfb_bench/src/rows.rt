@@ -67,56 +67,52 @@ fn sectors_of(version: Version, bytes: &[u8]) -> Option<(usize, usize)> {
     Some((free, chain))
 }
 
-/// The file after a step, and how long its stream is then.
-fn stepped(
-    alloc: Global,
-    before: &[u8],
-    step: &Step,
-    all: &[u8],
-    len: usize,
-) -> Result<(File, usize), Error> {
-    let version = match step.0 {
-        b'3' => V3,
-        b'4' => V4,
-        call => {
-            let mut file = opened(alloc, before, true)?;
-            let start = if call == b'a' { len } else { 0 };
-            let end = start.saturating_add(step.1);
-            on_stream(&mut file, call, "/a", all.get(start..end).unwrap_or(&[]))?;
-            return Ok((file, end));
-        }
-    };
-    let medium = MemoryMedium::new(alloc);
-    Ok((
-        CompoundFile::create_with_version(alloc, version, medium)?,
-        0,
-    ))
+/// The file of a step: a new one, or one with the bytes that stand before it.
+fn file_of(alloc: Global, before: &[u8], step: &Step) -> Result<File, Error> {
+    match step.0 {
+        b'3' => CompoundFile::create_with_version(alloc, V3, MemoryMedium::new(alloc)),
+        b'4' => CompoundFile::create_with_version(alloc, V4, MemoryMedium::new(alloc)),
+        _ => opened(alloc, before, true),
+    }
 }
 
-/// Appends the bytes from a place on, and answers the length of the stream.
-fn read_from(
+/// Whether a stream has these bytes: all are read of a short one, and of a long one the last.
+fn has(
     stream: &mut ReadStream<'_, MemoryMedium>,
-    from: usize,
-    into: &mut Vec<u8>,
-) -> Result<u64, Error> {
-    stream.seek(SeekFrom::Start(from as u64))?;
-    stream.read_to_end(into)?;
-    Ok(stream.len())
-}
-
-/// Whether the stream has these bytes: all are read of a short one, and of a long one the last.
-fn has_stream(alloc: Global, file: &mut File, want: &[u8]) -> Result<bool, Error> {
+    alloc: Global,
+    want: &[u8],
+) -> Result<bool, Error> {
     let from = want.len().saturating_sub(20000);
+    stream.seek(SeekFrom::Start(from as u64))?;
     let mut found = Vec::new(alloc);
-    let mut stream = file.open_read_stream("/A")?;
-    let len = read_from(&mut stream, from, &mut found);
-    stream.close()?;
-    Ok(len? == want.len() as u64 && want.ends_with(&found) && found.len() == want.len() - from)
+    stream.read_to_end(&mut found)?;
+    let len = stream.len();
+    Ok(len == want.len() as u64 && want.ends_with(&found) && found.len() == want.len() - from)
 }
 
-/// Whether the file says what it is to say after a step, with these bytes in its stream.
-fn is_right(alloc: Global, file: &mut File, step: &Step, want: &[u8]) -> Result<bool, Error> {
-    let is_there = !want.is_empty() || step.0 == b's';
+/// Asks it of the stream of a file, which is closed then.
+fn has_stream(alloc: Global, file: &mut File, want: &[u8]) -> Result<bool, Error> {
+    let mut stream = file.open_read_stream("/A")?;
+    let has = has(&mut stream, alloc, want);
+    stream.close()?;
+    has
+}
+
+/// Whether these bytes are a sound file, with the others in its stream.
+fn holds(alloc: Global, bytes: &[u8], strict: bool, want: &[u8]) -> Result<bool, Error> {
+    let mut file = opened(alloc, bytes, strict)?;
+    let has = has_stream(alloc, &mut file, want)?;
+    Ok(has && file.is_sound())
+}
+
+/// Does what a step does, and answers whether the file says what it is to say then, with these bytes in its stream.
+fn does(alloc: Global, file: &mut File, step: &Step, want: &[u8]) -> Result<bool, Error> {
+    let is_there = step.0 != b'3' && step.0 != b'4';
+    if is_there {
+        let count = if step.0 == b'a' { step.1 } else { want.len() };
+        let start = want.len().saturating_sub(count);
+        on_stream(file, step.0, "/a", want.get(start..).unwrap_or(&[]))?;
+    }
     if !file.is_sound() || file.is_failed() || file.exists("/a") != is_there {
         return Ok(false);
     }
@@ -136,26 +132,34 @@ fn are_right(alloc: Global, version: Version, bytes: &[u8], step: &Step) -> Resu
     Ok(stand && bytes.len() == *len && sectors_of(version, bytes) == *sectors)
 }
 
-/// The first step that does not go as it is to go, if there is one.
-fn wrong_step(alloc: Global) -> Result<Option<usize>, Error> {
-    let all = content(alloc, MOST)?;
-    let mut bytes = Vec::new(alloc);
+/// Whether a step goes as it is to go, with these bytes in the stream behind it. The file's bytes become those behind it.
+fn goes(alloc: Global, bytes: &mut Vec<u8>, step: &Step, want: &[u8]) -> Result<bool, Error> {
+    let mut file = file_of(alloc, bytes, step)?;
+    let is_right = does(alloc, &mut file, step, want)?;
+    let version = file.version();
+    *bytes = file.into_inner().into_bytes();
+    Ok(is_right && are_right(alloc, version, bytes, step)? && answers(alloc, bytes) == (0, 0))
+}
+
+/// The first step that does not go so, if there is one.
+fn wrong_of(alloc: Global, bytes: &mut Vec<u8>, all: &[u8]) -> Result<Option<usize>, Error> {
     let mut len = 0usize;
     for i in 0..STEPS.len() {
         let step = &STEPS[i];
-        let (mut file, end) = stepped(alloc, &bytes, step, &all, len)?;
-        len = end;
-        let is_right = is_right(alloc, &mut file, step, all.get(..len).unwrap_or(&[]))?;
-        let version = file.version();
-        bytes = file.into_inner().into_bytes();
-        if !is_right
-            || !are_right(alloc, version, &bytes, step)?
-            || answers(alloc, &bytes) != (0, 0)
-        {
+        let start = if step.0 == b'a' { len } else { 0 };
+        len = start.saturating_add(step.1);
+        if !goes(alloc, bytes, step, all.get(..len).unwrap_or(&[]))? {
             return Ok(Some(i));
         }
     }
     Ok(None)
+}
+
+/// The same of all steps, from no bytes on.
+fn wrong_step(alloc: Global) -> Result<Option<usize>, Error> {
+    let all = content(alloc, MOST)?;
+    let mut bytes = Vec::new(alloc);
+    wrong_of(alloc, &mut bytes, &all)
 }
 
 #[test]
@@ -164,30 +168,25 @@ fn worked_steps(rt: HostRuntime) -> Result<(), Fail> {
     Ok(())
 }
 
-/// The bytes of a file that only opening without strictness takes, and that is sound, with these bytes in a stream.
-fn with_another(alloc: Global, bytes: &[u8], all: &[u8]) -> Result<Vec<u8>, Error> {
+/// The bytes of a file that only opening without strictness takes, after a call on its stream.
+fn called(alloc: Global, bytes: &[u8], call: u8, all: &[u8]) -> Result<Vec<u8>, Error> {
     let mut file = opened(alloc, bytes, false)?;
-    if !file.is_sound() {
-        return Err(Error::Unsound);
-    }
-    on_stream(&mut file, b'c', "/a", all)?;
+    on_stream(&mut file, call, "/a", all)?;
     Ok(file.into_inner().into_bytes())
 }
 
-/// Whether a file that only opening without strictness takes has this length, and this word at a place, when a stream was made in it.
-fn is_padded(
-    alloc: Global,
-    bytes: &[u8],
-    count: usize,
-    len: usize,
-    at: usize,
-    value: u32,
-) -> Result<bool, Error> {
-    let all = content(alloc, count)?;
-    let bytes = with_another(alloc, bytes, &all)?;
-    let mut file = opened(alloc, &bytes, false)?;
-    let stands = bytes.len() == len && word(&bytes, at) == value;
-    Ok(stands && file.is_sound() && has_stream(alloc, &mut file, &all)?)
+/// How many bytes a stream has, how many the file has with it, a place there, and the word that stands at it.
+type Padded = (usize, usize, usize, u32);
+
+/// Whether a file that only opening without strictness takes, and that is sound, has that when a stream was made in it.
+fn is_padded(alloc: Global, bytes: &[u8], padded: &Padded) -> Result<bool, Error> {
+    if answers(alloc, bytes) != (0, 4) || !opened(alloc, bytes, false)?.is_sound() {
+        return Ok(false);
+    }
+    let all = content(alloc, padded.0)?;
+    let bytes = called(alloc, bytes, b'c', &all)?;
+    let stands = bytes.len() == padded.1 && word(&bytes, padded.2) == padded.3;
+    Ok(stands && holds(alloc, &bytes, false, &all)?)
 }
 
 /// Files as other programs leave them: their padding comes alive as they grow.
@@ -195,11 +194,9 @@ fn is_padded(
 fn foreign_padding(rt: HostRuntime) -> Result<(), Fail> {
     let mut zeros = empty_bytes(rt.alloc(), V3)?;
     put_bytes(&mut zeros, 520, &[0; 504]);
-    assert_eq!(rt; answers(rt.alloc(), &zeros), (0, 4));
-    assert!(rt; is_padded(rt.alloc(), &zeros, 5000, 6656, 44, 1)?);
+    assert!(rt; is_padded(rt.alloc(), &zeros, &(5000, 6656, 44, 1))?);
     let long = long_difat(rt.alloc())?;
-    assert_eq!(rt; answers(rt.alloc(), &long), (0, 4));
-    assert!(rt; is_padded(rt.alloc(), &long, 10240, 68096, 44, 110)?);
+    assert!(rt; is_padded(rt.alloc(), &long, &(10240, 68096, 44, 110))?);
     Ok(())
 }
 
@@ -208,9 +205,7 @@ fn foreign_padding(rt: HostRuntime) -> Result<(), Fail> {
 fn grown(alloc: Global, all: &[u8]) -> Result<Vec<u8>, Error> {
     let mut bytes = with_stream(alloc, all.get(..64512).unwrap_or(&[]))?;
     put_words(&mut bytes, 84, &[7]);
-    let mut file = opened(alloc, &bytes, false)?;
-    on_stream(&mut file, b'a', "/a", all.get(64512..).unwrap_or(&[]))?;
-    Ok(file.into_inner().into_bytes())
+    called(alloc, &bytes, b'a', all.get(64512..).unwrap_or(&[]))
 }
 
 /// Words behind the last FAT sector in the header do not come alive.
@@ -219,24 +214,25 @@ fn foreign_difat_words(rt: HostRuntime) -> Result<(), Fail> {
     let all = content(rt.alloc(), 64513)?;
     let bytes = grown(rt.alloc(), &all)?;
     let words = [word(&bytes, 44), word(&bytes, 80), word(&bytes, 84)];
-    assert!(rt; bytes.len() == 67072 && words == [2, 128, 0xffff_ffff]);
-    let mut file = opened(rt.alloc(), &bytes, true)?;
-    assert!(rt; has_stream(rt.alloc(), &mut file, &all)?);
+    let stand = bytes.len() == 67072 && words == [2, 128, 0xffff_ffff];
+    assert!(rt; stand && holds(rt.alloc(), &bytes, true, &all)?);
     Ok(())
 }
 
 /// Writes pieces of 7 bytes, then one byte over another, and reads what is behind it.
 fn write_pieces(
+    alloc: Global,
     stream: &mut Stream<'_, MemoryMedium>,
     all: &[u8],
-    rest: &mut Vec<u8>,
 ) -> Result<bool, Error> {
     for piece in all.chunks(7) {
         write_all(stream, piece)?;
     }
     let place = stream.seek(SeekFrom::Start(10))?;
     let count = stream.write(&[255])?;
-    Ok(place == 10 && count == 1 && stream.read_to_end(rest)? == 2989)
+    let mut rest = Vec::new(alloc);
+    let read = stream.read_to_end(&mut rest)?;
+    Ok((place, count, read, rest.len()) == (10, 1, 2989, 2989) && all.ends_with(&rest))
 }
 
 /// Whether places outside of the stream are refused, and the position stays.
@@ -247,33 +243,32 @@ fn refuses_places(stream: &mut Stream<'_, MemoryMedium>) -> Result<bool, Error> 
     Ok((behind, before) == (3, 3) && stream.position() == place)
 }
 
-/// Does both in a new stream.
-fn patches(file: &mut File, all: &[u8], rest: &mut Vec<u8>) -> Result<bool, Error> {
+/// Does both in a new stream, and fails where that does not go as it is to go.
+fn patch(alloc: Global, file: &mut File, all: &[u8]) -> Result<(), Error> {
     let mut stream = file.create_stream("/a")?;
-    let written = write_pieces(&mut stream, all, rest);
+    let written = write_pieces(alloc, &mut stream, all);
     let refused = refuses_places(&mut stream);
     stream.close()?;
-    Ok(written? && refused?)
+    if written? && refused? {
+        return Ok(());
+    }
+    Err(Error::Failed)
 }
 
-/// The bytes of a file through whose least buffer pieces were written. None: this did not go as it is to go.
-fn patched(alloc: Global, all: &[u8]) -> Result<Option<Vec<u8>>, Error> {
+/// The bytes of a file through whose least buffer pieces were written.
+fn patched(alloc: Global, all: &[u8]) -> Result<Vec<u8>, Error> {
     let options = OpenOptions::new().max_buffer_size(1);
     let mut file = options.create_with(alloc, MemoryMedium::new(alloc))?;
-    let mut rest = Vec::new(alloc);
-    if !patches(&mut file, all, &mut rest)? || rest.len() != 2989 || !all.ends_with(&rest) {
-        return Ok(None);
-    }
-    Ok(Some(file.into_inner().into_bytes()))
+    patch(alloc, &mut file, all)?;
+    Ok(file.into_inner().into_bytes())
 }
 
 #[test]
 fn small_pieces(rt: HostRuntime) -> Result<(), Fail> {
-    let all = content(rt.alloc(), 3000)?;
-    let bytes = patched(rt.alloc(), &all)?.ok_or(Error::Failed)?;
-    let mut file = opened(rt.alloc(), &bytes, true)?;
-    let other = changed(rt.alloc(), &all, &[(10, 255)])?;
-    assert!(rt; has_stream(rt.alloc(), &mut file, &other)?);
+    let mut all = content(rt.alloc(), 3000)?;
+    let bytes = patched(rt.alloc(), &all)?;
+    put_bytes(&mut all, 10, &[255]);
+    assert!(rt; holds(rt.alloc(), &bytes, true, &all)?);
     Ok(())
 }
 
@@ -296,16 +291,22 @@ fn sets_lengths(file: &mut File) -> Result<bool, Error> {
 
 /// Whether the stream has what was not cut then, and zeros.
 fn is_cut_and_padded(alloc: Global, file: &mut File) -> Result<bool, Error> {
+    let is_set = sets_lengths(file)?;
     let mut want = vec![in alloc; 0u8; 100]?;
     put_bytes(&mut want, 0, b"xxxxxxxxxx");
-    Ok(sets_lengths(file)? && has_stream(alloc, file, &want)?)
+    Ok(has_stream(alloc, file, &want)? && is_set)
+}
+
+/// Asks it of the file that these bytes are.
+fn cuts_and_pads(alloc: Global, bytes: &[u8]) -> Result<bool, Error> {
+    let mut file = opened(alloc, bytes, true)?;
+    is_cut_and_padded(alloc, &mut file)
 }
 
 #[test]
 fn set_lengths(rt: HostRuntime) -> Result<(), Fail> {
     let bytes = with_stream(rt.alloc(), &[])?;
-    let mut file = opened(rt.alloc(), &bytes, true)?;
-    assert!(rt; is_cut_and_padded(rt.alloc(), &mut file)?);
+    assert!(rt; cuts_and_pads(rt.alloc(), &bytes)?);
     Ok(())
 }
 
@@ -334,12 +335,12 @@ fn with_limit(alloc: Global, bytes: &[u8], most: u32) -> Result<File, Error> {
         .open_with(alloc, medium)
 }
 
-/// Whether setting a length is answered so, and changes nothing where it is refused.
-fn is_limited(alloc: Global, before: &[u8], limit: &Limit) -> Result<bool, Error> {
-    let mut file = with_limit(alloc, before, limit.0)?;
+/// Whether setting a length is answered so where the stream has the first of these bytes, and changes nothing where it is refused.
+fn is_limited(alloc: Global, all: &[u8], limit: &Limit) -> Result<bool, Error> {
+    let before = with_stream(alloc, all.get(..limit.1).unwrap_or(&[]))?;
+    let mut file = with_limit(alloc, &before, limit.0)?;
     let found = with_len(&mut file, limit.2)?;
-    let after = file.into_inner().into_bytes();
-    let is_same = after.as_slice() == before;
+    let is_same = file.into_inner().bytes() == before.as_slice();
     let len = if is_same { limit.1 as u64 } else { limit.2 };
     Ok(is_same == (limit.3 != 0) && found == (limit.3, len, false))
 }
@@ -348,32 +349,33 @@ fn is_limited(alloc: Global, before: &[u8], limit: &Limit) -> Result<bool, Error
 fn limits(rt: HostRuntime) -> Result<(), Fail> {
     let all = content(rt.alloc(), MOST)?;
     for limit in &LIMITS {
-        let before = with_stream(rt.alloc(), all.get(..limit.1).unwrap_or(&[]))?;
-        assert!(rt; is_limited(rt.alloc(), &before, limit)?, "{}", limit.0);
+        assert!(rt; is_limited(rt.alloc(), &all, limit)?, "{}", limit.0);
     }
     Ok(())
 }
 
-/// Whether a byte at the end is taken, and then refused at closing.
+/// Whether a byte at the end is taken, and then refused at closing; and the file has failed.
 fn is_full_at_closing(file: &mut File) -> Result<bool, Error> {
     let mut stream = file.open_stream("/a")?;
     let sought = number(stream.seek(SeekFrom::End(0)));
     let written = number(stream.write(&[1]));
     let closed = number(stream.close());
-    Ok((sought, written, closed) == (0, 0, 7))
+    let is_failed = file.is_failed();
+    let after = number(on_stream(file, b'o', "/a", &[]));
+    Ok(is_failed && (sought, written, closed, after) == (0, 0, 7, 9))
 }
 
-/// A file with a stream that takes all sectors that it may have.
-fn with_all_sectors(alloc: Global) -> Result<File, Error> {
-    with_limit(alloc, &with_stream(alloc, &content(alloc, 5120)?)?, 12)
+/// Asks it of a file whose stream has these bytes, and takes all sectors that it may have.
+fn is_full(alloc: Global, all: &[u8]) -> Result<bool, Error> {
+    let mut file = with_limit(alloc, &with_stream(alloc, all)?, 12)?;
+    is_full_at_closing(&mut file)
 }
 
 /// A byte past what the numbers allow: closing is refused, and the file has failed.
 #[test]
 fn full_at_closing(rt: HostRuntime) -> Result<(), Fail> {
-    let mut file = with_all_sectors(rt.alloc())?;
-    assert!(rt; is_full_at_closing(&mut file)? && file.is_failed());
-    assert_eq!(rt; number(on_stream(&mut file, b'o', "/a", &[])), 9);
+    let all = content(rt.alloc(), 5120)?;
+    assert!(rt; is_full(rt.alloc(), &all)?);
     Ok(())
 }
 
@@ -415,21 +417,22 @@ fn read_up(file: &mut File, into: &mut Vec<u8>) -> Result<(u8, u8), Error> {
     Ok((end, rest))
 }
 
-/// Whether a file is read as far as it is to be, and then no further, and is sound only where all can be read.
+/// Whether a file is read as far as it is to be, and then no further, and is sound only where all can be read; and the stream can be emptied
+/// only where it is.
 fn is_read(alloc: Global, file: &mut File, want: &[u8], is_sound: bool) -> Result<bool, Error> {
     let mut found = Vec::new(alloc);
-    let end = read_up(file, &mut found)?;
-    let is_end = end == if is_sound { (0, 0) } else { (4, 4) };
-    Ok(is_end && found.as_slice() == want && file.is_sound() == is_sound)
+    let (end, rest) = read_up(file, &mut found)?;
+    let is_read = found.as_slice() == want && file.is_sound() == is_sound;
+    let refused = number(on_stream(file, b's', "/a", &[]));
+    Ok(is_read && (end, rest, refused) == if is_sound { (0, 0, 0) } else { (4, 4, 8) })
 }
 
 /// Whether these bytes are opened, and read so; and stay where they are not sound, as the stream is to be emptied.
 fn is_opened(alloc: Global, bytes: &[u8], want: &[u8], is_sound: bool) -> Result<bool, Error> {
     let mut file = opened(alloc, bytes, false)?;
     let is_read = is_read(alloc, &mut file, want, is_sound)?;
-    let refused = number(on_stream(&mut file, b's', "/a", &[]));
     let is_same = file.into_inner().bytes() == bytes;
-    Ok(is_read && is_same != is_sound && refused == if is_sound { 0 } else { 8 })
+    Ok(is_read && is_same != is_sound)
 }
 
 /// Whether a cut file is opened or not, and read as far as it is to be.
@@ -451,13 +454,13 @@ fn is_refused(alloc: Global, len: usize) -> Result<bool, Error> {
 
 #[test]
 fn cut_streams(rt: HostRuntime) -> Result<(), Fail> {
+    for len in [1535usize, 511, 0] {
+        assert!(rt; is_refused(rt.alloc(), len)?);
+    }
     let all = content(rt.alloc(), 5000)?;
     let whole = with_stream(rt.alloc(), &all)?;
     for cut in &CUTS {
         assert!(rt; is_cut(rt.alloc(), &whole, &all, cut)?);
-    }
-    for len in [1535usize, 511, 0] {
-        assert!(rt; is_refused(rt.alloc(), len)?);
     }
     Ok(())
 }

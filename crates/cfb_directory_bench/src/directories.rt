@@ -3,7 +3,7 @@ ghost use Rattle.std.specs.Prelude.{◌≡◌, ◌<◌, false, length, IfOk};
 ghost use Rattle.cfb_format.specs.Siblings.{entry_at};
 ghost use Rattle.cfb_outline.specs.Outlines.{IsReachedStorage};
 
-use crate::files::{allocator_of, entries_of};
+use crate::files::{allocator_of, created, entries_of};
 use cfb_codecs::direntry::DirEntry;
 use cfb_codecs::path::{CaseMapper, validate_name};
 use cfb_codecs::timestamp::Timestamp;
@@ -25,10 +25,16 @@ pub fn opened<F: Medium, A: Heap + Clone>(
     version: Version,
     validation: Validation,
 ) -> Result<Directory<F, A>, Error> {
-    let (mut allocator, start) = allocator_of(heap.clone()?, medium, version)?;
-    let entries = entries_of(heap.clone()?, &mut allocator, start, validation)?;
     let letters = CaseMapper::new(heap.clone()?)?;
+    let (mut allocator, start) = allocator_of(&heap, medium, version)?;
+    let entries = entries_of(&heap, &mut allocator, start, validation)?;
     Directory::new(heap, allocator, letters, entries, start, validation)
+}
+
+/// The directory of a file that was just made.
+pub fn fresh(alloc: Global, version: Version) -> Result<Directory<MemoryMedium>, Error> {
+    let file = MemoryMedium::from_bytes(created(alloc, version)?);
+    opened(alloc, file, version, Validation::Strict)
 }
 
 /// The storage at these names. `NotFound` where there is none.
@@ -124,6 +130,16 @@ fn are_same<A: Heap, B: Heap>(ours: &[DirEntry<A>], theirs: &[DirEntry<B>]) -> b
     true
 }
 
+/// Whether two directories, their sectors and the tables are the same.
+fn is_like<F: Medium, A: Heap>(
+    directory: &Directory<F, A>,
+    other: &Directory<MemoryMedium>,
+) -> bool {
+    are_same(directory.entries(), other.entries())
+        && directory.sectors() == other.sectors()
+        && directory.allocator().fat() == other.allocator().fat()
+}
+
 /// Whether the directory, its sectors and the tables are what strict opening reads from these bytes.
 pub fn agrees<F: Medium, A: Heap>(
     alloc: Global,
@@ -132,9 +148,5 @@ pub fn agrees<F: Medium, A: Heap>(
 ) -> Result<bool, Error> {
     let file = MemoryMedium::from_bytes(bytes.to_vec(alloc)?);
     let other = opened(alloc, file, directory.version(), Validation::Strict)?;
-    Ok(
-        are_same(directory.entries(), other.entries())
-            && directory.sectors() == other.sectors()
-            && directory.allocator().fat() == other.allocator().fat(),
-    )
+    Ok(is_like(directory, &other))
 }

@@ -34,36 +34,53 @@ fn sectors_of<F: Medium>(mut medium: F, version: Version) -> Result<Sectors<F>, 
     }
 }
 
-/// The allocator of a file whose FAT sectors are all listed in the header, and the first sector of its directory.
-pub fn allocator_of<F: Medium, A: Heap + Clone>(
-    heap: A,
-    medium: F,
-    version: Version,
-) -> Result<(Allocator<F, A>, u32), Error> {
-    let mut sectors = sectors_of(medium, version)?;
-    let mut head = [0; HEADER_LEN];
-    sectors.seek_within_header(0).read(&mut head)?;
-    let header = Header::read_from(&head, Validation::Permissive)?;
-    let mut fat_sectors = Vec::new(heap.clone()?);
-    let mut words = Vec::new(heap.clone()?);
+/// Reads the sectors of the FAT that the header lists, and their words.
+fn read_fat<F: Medium, A: Heap + Clone>(
+    heap: &A,
+    sectors: &mut Sectors<F>,
+    header: &Header,
+    fat_sectors: &mut Vec<u32, A>,
+    words: &mut Vec<u32, A>,
+) -> Result<(), Error> {
     for number in header.initial_difat_entries {
         if number == FREE_SECTOR {
             break;
         }
+        fat_sectors.push(number)?;
         let mut sector = vec![in heap.clone()?; 0; sectors.sector_len() / 4]?;
         sectors.read_words(number, &mut sector)?;
         words.extend_from_slice(&sector)?;
-        fat_sectors.push(number)?;
     }
+    Ok(())
+}
+
+/// The header of a file.
+fn header_of<F: Medium>(sectors: &mut Sectors<F>) -> Result<Header, Error> {
+    let mut head = [0; HEADER_LEN];
+    sectors.seek_within_header(0).read(&mut head)?;
+    Header::read_from(&head, Validation::Permissive)
+}
+
+/// The allocator of a file whose FAT sectors are all listed in the header, and the first sector of its directory.
+pub fn allocator_of<F: Medium, A: Heap + Clone>(
+    heap: &A,
+    medium: F,
+    version: Version,
+) -> Result<(Allocator<F, A>, u32), Error> {
+    let mut sectors = sectors_of(medium, version)?;
+    let header = header_of(&mut sectors)?;
     let none = Vec::new(heap.clone()?);
+    let mut fat_sectors = Vec::new(heap.clone()?);
+    let mut words = Vec::new(heap.clone()?);
+    read_fat(heap, &mut sectors, &header, &mut fat_sectors, &mut words)?;
     let mode = Validation::Permissive;
-    let allocator = Allocator::new(heap, sectors, none, fat_sectors, words, mode)?;
+    let allocator = Allocator::new(heap.clone()?, sectors, none, fat_sectors, words, mode)?;
     Ok((allocator, header.first_dir_sector))
 }
 
 /// The entry in a slot of a sector.
 fn entry_in<F: Medium, A: Heap + Clone>(
-    heap: A,
+    heap: &A,
     allocator: &mut Allocator<F, A>,
     sector: u32,
     index: usize,
@@ -75,23 +92,35 @@ fn entry_in<F: Medium, A: Heap + Clone>(
     }
     let mut slot = [0; DIR_ENTRY_LEN];
     allocator.read_contiguous(sector, offset, &mut slot)?;
-    DirEntry::read_from(heap, &slot, allocator.version(), validation)
+    DirEntry::read_from(heap.clone()?, &slot, allocator.version(), validation)
+}
+
+/// Reads the entries in the slots of these sectors.
+fn read_entries<F: Medium, A: Heap + Clone>(
+    heap: &A,
+    allocator: &mut Allocator<F, A>,
+    sectors: &[u32],
+    validation: Validation,
+    entries: &mut Vec<DirEntry<A>, A>,
+) -> Result<(), Error> {
+    let count = allocator.version().dir_entries_per_sector();
+    for sector in sectors {
+        for index in 0..count {
+            entries.push(entry_in(heap, allocator, *sector, index, validation)?)?;
+        }
+    }
+    Ok(())
 }
 
 /// The entries in the slots of a directory.
 pub fn entries_of<F: Medium, A: Heap + Clone>(
-    heap: A,
+    heap: &A,
     allocator: &mut Allocator<F, A>,
     start: u32,
     validation: Validation,
 ) -> Result<Vec<DirEntry<A>, A>, Error> {
-    let count = allocator.version().dir_entries_per_sector();
+    let chain = allocator.chain(start)?;
     let mut entries = Vec::new(heap.clone()?);
-    for sector in &allocator.chain(start)? {
-        for index in 0..count {
-            let entry = entry_in(heap.clone()?, allocator, *sector, index, validation)?;
-            entries.push(entry)?;
-        }
-    }
+    read_entries(heap, allocator, &chain, validation, &mut entries)?;
     Ok(entries)
 }

@@ -1,5 +1,5 @@
 //! The worked changes of directories, in memory and over a medium that serves single bytes.
-use crate::directories::{agrees, opened, put, take};
+use crate::directories::{agrees, fresh, opened, put, take};
 use crate::files::created;
 use cfb_codecs::timestamp::Timestamp;
 use cfb_directory::directory::Directory;
@@ -139,19 +139,49 @@ fn is_as_wanted<F: Medium>(directory: &Directory<F>, row: &Row) -> bool {
     directory.allocator().fat().len() == row.sectors
 }
 
-/// The medium after all that a row asks for, where each answer is as it should be and the directory is as wanted.
-fn worked<F: Medium>(alloc: Global, medium: F, row: &Row) -> Result<Option<F>, Error> {
-    let mut directory = opened(alloc, medium, row.version, Strict)?;
+/// Asks for all of a row: whether each answer is as it should be and the directory then is as wanted.
+fn works<F: Medium>(alloc: Global, directory: &mut Directory<F>, row: &Row) -> Result<bool, Error> {
     let mut is_right = true;
     for turn in 0..row.asks.len().min(row.numbers.len()) {
-        let number = asked(alloc, &mut directory, row.asks[turn])?;
+        let number = asked(alloc, directory, row.asks[turn])?;
         is_right = is_right && number == row.numbers[turn];
         directory.end_change();
     }
-    if is_right && is_as_wanted(&directory, row) {
-        return Ok(Some(directory.into_inner()));
-    }
-    Ok(None)
+    Ok(is_right && is_as_wanted(directory, row))
+}
+
+/// Whether a row is worked where each call serves one byte, and the file has these bytes then.
+fn works_in_sips(alloc: Global, after: &[u8], row: &Row) -> Result<bool, Error> {
+    let sip = Sip::new(MemoryMedium::from_bytes(created(alloc, row.version)?));
+    let mut directory = opened(alloc, sip, row.version, Strict)?;
+    let is_right = works(alloc, &mut directory, row)?;
+    let sipped = directory.into_inner().into_inner();
+    Ok(is_right && sipped.bytes() == after)
+}
+
+/// Whether what stands in these bytes is as wanted when it is opened.
+fn opens_as_wanted(alloc: Global, bytes: &[u8], row: &Row) -> Result<bool, Error> {
+    let file = MemoryMedium::from_bytes(bytes.to_vec(alloc)?);
+    let again = opened(alloc, file, row.version, Strict)?;
+    Ok(is_as_wanted(&again, row))
+}
+
+/// Whether a row is worked in memory, in sips with the same bytes, and is as wanted when it is opened again.
+fn works_thrice(
+    alloc: Global,
+    directory: &mut Directory<MemoryMedium>,
+    row: &Row,
+) -> Result<[bool; 3], Error> {
+    let is_right = works(alloc, directory, row)?;
+    let after = directory.inner().bytes();
+    let same = works_in_sips(alloc, after, row)?;
+    Ok([is_right, same, opens_as_wanted(alloc, after, row)?])
+}
+
+/// The same, of the directory of a file that was just made.
+fn row_works(alloc: Global, row: &Row) -> Result<[bool; 3], Error> {
+    let mut directory = fresh(alloc, row.version)?;
+    works_thrice(alloc, &mut directory, row)
 }
 
 /// Also: what is in memory stands in the file, and where each call serves one byte the file is the same.
@@ -159,59 +189,63 @@ fn worked<F: Medium>(alloc: Global, medium: F, row: &Row) -> Result<Option<F>, E
 fn rows_are_worked(rt: HostRuntime) -> Result<(), Fail> {
     let mut at = 0usize;
     for row in &ROWS {
-        let before = created(rt.alloc(), row.version)?;
-        let file = MemoryMedium::from_bytes(before.to_vec(rt.alloc())?);
-        let Some(after) = worked(rt.alloc(), file, row)? else {
-            assert!(rt; false, "row {at}");
-            return Ok(());
-        };
-        let sip = Sip::new(MemoryMedium::from_bytes(before));
-        let sipped = worked(rt.alloc(), sip, row)?;
-        let same = match sipped {
-            Some(sip) => sip.into_inner().bytes() == after.bytes(),
-            None => false,
-        };
+        let [is_right, same, again] = row_works(rt.alloc(), row)?;
+        assert!(rt; is_right, "row {at}");
         assert!(rt; same, "row {at}, byte by byte");
-        let again = opened(
-            rt.alloc(),
-            MemoryMedium::from_bytes(after.bytes().to_vec(rt.alloc())?),
-            row.version,
-            Strict,
-        )?;
-        assert!(rt; is_as_wanted(&again, row), "row {at}, opened again");
+        assert!(rt; again, "row {at}, opened again");
         at = at.saturating_add(1);
     }
     Ok(())
 }
 
+/// Whether a slot that was freed by the second row holds zeros, but for the three links.
+fn frees_a_slot(alloc: Global) -> Result<bool, Error> {
+    let mut slot = [0u8; 128];
+    slot[68..80].fill(0xff);
+    let mut directory = fresh(alloc, V3)?;
+    let is_right = works(alloc, &mut directory, &ROWS[1])?;
+    Ok(is_right && directory.inner().bytes().get(1152..1280) == Some(slot.as_slice()))
+}
+
 /// A freed slot: zeros, but for the three links.
 #[test]
 fn a_freed_slot_is_unallocated(rt: HostRuntime) -> Result<(), Fail> {
-    let file = MemoryMedium::from_bytes(created(rt.alloc(), V3)?);
-    let Some(after) = worked(rt.alloc(), file, &ROWS[1])? else {
-        assert!(rt; false);
-        return Ok(());
-    };
-    let mut slot = [0u8; 128];
-    slot[68..80].fill(0xff);
-    assert_eq!(rt; after.bytes().get(1152..1280), Some(slot.as_slice()));
+    assert!(rt; frees_a_slot(rt.alloc())?);
     Ok(())
+}
+
+/// Puts 32 streams. Gives whether their numbers follow each other, the length of the file, whether the header counts two sectors, and
+/// whether the directory agrees with the file.
+fn put_one_too_many(
+    alloc: Global,
+    directory: &mut Directory<MemoryMedium>,
+) -> Result<(bool, usize, bool, bool), Error> {
+    let mut is_right = true;
+    for number in 0..32u32 {
+        let name = format!(in alloc; "stream{number}")?;
+        let found = put(alloc, directory, &[], &name, true)?;
+        is_right = is_right && found == number.saturating_add(1);
+    }
+    let bytes = directory.inner().bytes();
+    let counted = bytes.get(40..44) == Some([2u8, 0, 0, 0].as_slice());
+    let agreed = agrees(alloc, directory, bytes)?;
+    Ok((is_right, bytes.len(), counted, agreed))
+}
+
+/// The same, of the directory of a file of version 4 that was just made.
+fn one_too_many(alloc: Global) -> Result<(bool, usize, bool, bool), Error> {
+    let mut directory = fresh(alloc, V4)?;
+    put_one_too_many(alloc, &mut directory)
 }
 
 /// Version 4 counts the directory's sectors in the header: 32 streams are one more than a sector has slots for.
 #[test]
 fn directory_sectors_are_counted(rt: HostRuntime) -> Result<(), Fail> {
-    let file = MemoryMedium::from_bytes(created(rt.alloc(), V4)?);
-    let mut directory = opened(rt.alloc(), file, V4, Strict)?;
-    for number in 0..32u32 {
-        let name = format!(in rt.alloc(); "stream{number}")?;
-        let found = put(rt.alloc(), &mut directory, &[], &name, true)?;
-        assert_eq!(rt; found, number.saturating_add(1));
-    }
-    let bytes = directory.inner().bytes();
-    assert_eq!(rt; bytes.len(), 16384);
-    assert_eq!(rt; bytes.get(40..44), Some([2u8, 0, 0, 0].as_slice()));
-    assert!(rt; agrees(rt.alloc(), &directory, bytes)?);
+    let (numbered, len, counted, agreed) = one_too_many(rt.alloc())?;
+    assert!(rt; numbered);
+    assert_eq!(rt; len, 16384);
+    assert!(rt; counted);
+    assert!(rt; agreed);
     Ok(())
 }
 
@@ -224,47 +258,88 @@ const WRITES: [(u64, u64, u64); 4] = [
     (1280, 1536, 0),
 ];
 
+/// How many writes touch the bytes from `start` to `end` as the first storage is put.
+fn writes_within(alloc: Global, start: u64, end: u64) -> Result<u64, Error> {
+    let file = MemoryMedium::from_bytes(created(alloc, V3)?);
+    let mut directory = opened(alloc, Counting::within(file, start, end), V3, Strict)?;
+    put(alloc, &mut directory, &[], "a", false)?;
+    Ok(directory.inner().writes())
+}
+
 #[test]
 fn each_slot_is_written_alone(rt: HostRuntime) -> Result<(), Fail> {
     for (start, end, writes) in WRITES {
-        let file = MemoryMedium::from_bytes(created(rt.alloc(), V3)?);
-        let counting = Counting::within(file, start, end);
-        let mut directory = opened(rt.alloc(), counting, V3, Strict)?;
-        put(rt.alloc(), &mut directory, &[], "a", false)?;
-        assert_eq!(rt; directory.inner().writes(), writes, "from {start}");
+        let found = writes_within(rt.alloc(), start, end)?;
+        assert_eq!(rt; found, writes, "from {start}");
     }
     Ok(())
+}
+
+/// Puts 2046 streams: whether their numbers follow each other.
+fn puts_many(alloc: Global, directory: &mut Directory<MemoryMedium>) -> Result<bool, Error> {
+    let mut is_right = true;
+    for number in 1..2047u32 {
+        let name = format!(in alloc; "n{number:04}")?;
+        is_right = put(alloc, directory, &[], &name, true)? == number && is_right;
+    }
+    Ok(is_right)
+}
+
+/// How many entries are reached, and the one at place 500.
+fn reached(
+    alloc: Global,
+    directory: &Directory<MemoryMedium>,
+) -> Result<(usize, Option<u32>), Error> {
+    let order = reached_entries(alloc, directory.letters(), directory.entries(), Strict)?;
+    Ok((order.len(), order.get(500).copied()))
+}
+
+/// Takes each other stream out again: whether what is left is reached.
+fn takes_half(alloc: Global, directory: &mut Directory<MemoryMedium>) -> Result<bool, Error> {
+    for number in 1..1024u32 {
+        let name = format!(in alloc; "n{:04}", number.saturating_mul(2))?;
+        take(directory, &[], &name)?;
+        if number % 16 == 0 && reached(alloc, directory)?.0 != 2046 - number as usize {
+            return Ok(false);
+        }
+    }
+    Ok(true)
+}
+
+/// Puts a name back: whether it is at its place, and the directory agrees with the file.
+fn puts_again(alloc: Global, directory: &mut Directory<MemoryMedium>) -> Result<bool, Error> {
+    put(alloc, directory, &[], "n1000", true)?;
+    let (_, place) = reached(alloc, directory)?;
+    let found = directory.stream_id_for_name_chain(&["N1000"]);
+    Ok(place == found && agrees(alloc, directory, directory.inner().bytes())?)
+}
+
+/// Whether many streams are put, how many sectors the directory has then, whether half of them are taken, and one is put again.
+fn many_in(
+    alloc: Global,
+    directory: &mut Directory<MemoryMedium>,
+) -> Result<(bool, usize, bool, bool), Error> {
+    let put = puts_many(alloc, directory)?;
+    let sectors = directory.sectors().len();
+    let taken = takes_half(alloc, directory)?;
+    Ok((put, sectors, taken, puts_again(alloc, directory)?))
+}
+
+/// The same, of the directory of a file that was just made.
+fn many(alloc: Global) -> Result<(bool, usize, bool, bool), Error> {
+    let mut directory = fresh(alloc, V3)?;
+    many_in(alloc, &mut directory)
 }
 
 /// So many streams of one storage, of which each other one is taken out again: what is left has an outline that strict opening
 /// takes after each, and a new name finds its place.
 #[test]
 fn many_are_put_and_taken(rt: HostRuntime) -> Result<(), Fail> {
-    let file = MemoryMedium::from_bytes(created(rt.alloc(), V3)?);
-    let mut directory = opened(rt.alloc(), file, V3, Strict)?;
-    for number in 1..2047u32 {
-        let name = format!(in rt.alloc(); "n{number:04}")?;
-        assert_eq!(rt; put(rt.alloc(), &mut directory, &[], &name, true)?, number);
-    }
-    assert_eq!(rt; directory.sectors().len(), 512);
-    for number in 1..1024u32 {
-        let name = format!(in rt.alloc(); "n{:04}", number.saturating_mul(2))?;
-        take(&mut directory, &[], &name)?;
-        if number % 16 == 0 {
-            let order = reached_entries(
-                rt.alloc(),
-                directory.letters(),
-                directory.entries(),
-                Strict,
-            )?;
-            assert_eq!(rt; order.len(), 2046 - number as usize);
-        }
-    }
-    put(rt.alloc(), &mut directory, &[], "n1000", true)?;
-    let order = reached_entries(rt.alloc(), directory.letters(), directory.entries(), Strict)?;
-    let place = order.get(500).copied();
-    assert_eq!(rt; place, directory.stream_id_for_name_chain(&["N1000"]));
-    assert!(rt; agrees(rt.alloc(), &directory, directory.inner().bytes())?);
+    let (put, sectors, taken, again) = many(rt.alloc())?;
+    assert!(rt; put);
+    assert_eq!(rt; sectors, 512);
+    assert!(rt; taken);
+    assert!(rt; again);
     Ok(())
 }
 
@@ -279,28 +354,57 @@ const LIMITS: [(u32, usize, u32, u8, usize); 5] = [
     (2, 0, 2, 0, 2),
 ];
 
+/// Puts so many streams, and so many sectors into another chain.
+fn fill(
+    alloc: Global,
+    directory: &mut Directory<MemoryMedium>,
+    entries: u32,
+    others: usize,
+) -> Result<(), Error> {
+    for number in 0..entries {
+        let name = format!(in alloc; "n{number}")?;
+        put(alloc, directory, &[], &name, true)?;
+    }
+    directory
+        .allocator_mut()
+        .extend_chain_by(END_OF_CHAIN, others, SectorInit::Zero)?;
+    directory.end_change();
+    Ok(())
+}
+
+/// What one stream more answers, how many sectors the file has then, and whether nothing has changed.
+fn one_more(
+    alloc: Global,
+    directory: &mut Directory<MemoryMedium>,
+) -> Result<(u8, usize, bool), Error> {
+    let before = directory.inner().bytes().to_vec(alloc)?;
+    let answer = number_of_error(&put(alloc, directory, &[], "x", true));
+    let same = !directory.begun()
+        && directory.inner().bytes() == before.as_slice()
+        && agrees(alloc, directory, &before)?;
+    Ok((answer, directory.allocator().fat().len(), same))
+}
+
+/// The same, of a file with so many entries and sectors in another chain, which may have so many sectors.
+fn one_more_in(
+    alloc: Global,
+    entries: u32,
+    others: usize,
+    limit: u32,
+) -> Result<(u8, usize, bool), Error> {
+    let mut directory = fresh(alloc, V3)?;
+    fill(alloc, &mut directory, entries, others)?;
+    directory.set_max_sectors(limit);
+    one_more(alloc, &mut directory)
+}
+
 #[test]
 fn fullness_is_exact(rt: HostRuntime) -> Result<(), Fail> {
     for (entries, others, limit, answer, after) in LIMITS {
-        let file = MemoryMedium::from_bytes(created(rt.alloc(), V3)?);
-        let mut directory = opened(rt.alloc(), file, V3, Strict)?;
-        for number in 0..entries {
-            let name = format!(in rt.alloc(); "n{number}")?;
-            put(rt.alloc(), &mut directory, &[], &name, true)?;
-        }
-        directory
-            .allocator_mut()
-            .extend_chain_by(END_OF_CHAIN, others, SectorInit::Zero)?;
-        directory.end_change();
-        directory.set_max_sectors(limit);
-        let before = directory.inner().bytes().to_vec(rt.alloc())?;
-        let put = put(rt.alloc(), &mut directory, &[], "x", true);
-        assert_eq!(rt; number_of_error(&put), answer);
-        assert_eq!(rt; directory.allocator().fat().len(), after);
-        if answer != 0 {
-            assert!(rt; !directory.begun() && agrees(rt.alloc(), &directory, &before)?);
-            assert!(rt; directory.inner().bytes() == before.as_slice());
-        }
+        let (found, sectors, same) = one_more_in(rt.alloc(), entries, others, limit)?;
+        assert_eq!(rt; found, answer);
+        assert_eq!(rt; sectors, after);
+        assert!(rt; answer == 0 || same);
     }
     Ok(())
 }
@@ -313,14 +417,17 @@ pub fn number_of_error<T>(answer: &Result<T, Error>) -> u8 {
     }
 }
 
-/// Bits, class id and moments are set in one slot, and nothing else changes.
-#[test]
-fn fields_are_set_alone(rt: HostRuntime) -> Result<(), Fail> {
-    let file = MemoryMedium::from_bytes(created(rt.alloc(), V3)?);
-    let mut directory = opened(rt.alloc(), file, V3, Strict)?;
-    put(rt.alloc(), &mut directory, &[], "a", false)?;
-    let before = directory.inner().bytes().to_vec(rt.alloc())?;
-    assert!(rt; directory.entries().len() >= 2);
+/// What the fields are in the slot then.
+const SET: [u8; 36] = [
+    4, 3, 2, 1, 6, 5, 8, 7, 9, 10, 11, 12, 13, 14, 15, 16, 0x44, 0x33, 0x22, 0x11, 8, 7, 6, 5, 4,
+    3, 2, 1, 0x18, 0x17, 0x16, 0x15, 0x14, 0x13, 0x12, 0x11,
+];
+
+/// Sets the fields of an entry. Nothing is set where there is only the root.
+fn set_fields(directory: &mut Directory<MemoryMedium>) -> Result<(), Error> {
+    if directory.entries().len() < 2 {
+        return Ok(());
+    }
     directory.with_dir_entry_mut(
         1,
         |fields| Fields {
@@ -330,15 +437,30 @@ fn fields_are_set_alone(rt: HostRuntime) -> Result<(), Fail> {
             modified_time: Timestamp::read_from(&[0x18, 0x17, 0x16, 0x15, 0x14, 0x13, 0x12, 0x11]),
             ..fields
         },
-    )?;
-    let mut wanted = before;
-    let set: [u8; 36] = [
-        4, 3, 2, 1, 6, 5, 8, 7, 9, 10, 11, 12, 13, 14, 15, 16, 0x44, 0x33, 0x22, 0x11, 8, 7, 6, 5,
-        4, 3, 2, 1, 0x18, 0x17, 0x16, 0x15, 0x14, 0x13, 0x12, 0x11,
-    ];
-    assert!(rt; wanted.len() >= 1152 + 128);
-    put_bytes(&mut wanted, 1152 + 80, &set);
-    assert!(rt; directory.inner().bytes() == wanted.as_slice());
-    assert!(rt; agrees(rt.alloc(), &directory, &wanted)?);
+    )
+}
+
+/// Whether the fields of a new entry are set, and nothing else changes.
+fn sets_alone(alloc: Global, directory: &mut Directory<MemoryMedium>) -> Result<bool, Error> {
+    put(alloc, directory, &[], "a", false)?;
+    let mut wanted = directory.inner().bytes().to_vec(alloc)?;
+    if wanted.len() < 1152 + 128 {
+        return Ok(false);
+    }
+    put_bytes(&mut wanted, 1152 + 80, &SET);
+    set_fields(directory)?;
+    Ok(directory.inner().bytes() == wanted.as_slice() && agrees(alloc, directory, &wanted)?)
+}
+
+/// The same, of the directory of a file that was just made.
+fn sets_fields_alone(alloc: Global) -> Result<bool, Error> {
+    let mut directory = fresh(alloc, V3)?;
+    sets_alone(alloc, &mut directory)
+}
+
+/// Bits, class id and moments are set in one slot, and nothing else changes.
+#[test]
+fn fields_are_set_alone(rt: HostRuntime) -> Result<(), Fail> {
+    assert!(rt; sets_fields_alone(rt.alloc())?);
     Ok(())
 }
