@@ -1,8 +1,8 @@
 //! Each byte of a file set to 0 and to 255 in turn: nothing hangs or breaks, and what is opened means the same when it is opened again.
 use cfb_bench::support::{
-    File, content, long_difat, number, on_stream, opened, read_all, with_stream,
+    File, content, long_difat, number, on_stream, opened, put_bytes, read_all, with_stream,
 };
-use cfb_bench::{CompoundFile, Entry, Error};
+use cfb_bench::{CompoundFile, Entry, Error, MemoryMedium};
 use std::alloc::Global;
 use std::test::Fail;
 
@@ -19,6 +19,20 @@ fn tell(entry: &Entry, told: &mut Vec<u8>) -> Result<(), Error> {
     Ok(())
 }
 
+/// Appends what is told of an object, and its path to those of the streams where it is one.
+fn tell_entry(
+    alloc: Global,
+    entry: &Entry,
+    paths: &mut Vec<String>,
+    told: &mut Vec<u8>,
+) -> Result<(), Error> {
+    tell(entry, told)?;
+    if entry.is_stream() {
+        paths.push(String::from_str(alloc, entry.path())?)?;
+    }
+    Ok(())
+}
+
 /// Appends what a file says of its objects, one behind the other, and the paths of its streams.
 fn tell_all(
     alloc: Global,
@@ -27,49 +41,81 @@ fn tell_all(
     told: &mut Vec<u8>,
 ) -> Result<(), Error> {
     for entry in file.walk()? {
-        tell(&entry, told)?;
-        if entry.is_stream() {
-            paths.push(String::from_str(alloc, entry.path())?)?;
-        }
+        tell_entry(alloc, &entry, paths, told)?;
     }
     Ok(())
 }
 
-/// All that a file says of its objects, with what can be read of its streams.
-fn told_of(alloc: Global, file: &mut File) -> Result<Vec<u8>, Error> {
-    let mut told = Vec::new(alloc);
-    let mut paths = Vec::new(alloc);
-    tell_all(alloc, file, &mut paths, &mut told)?;
-    for path in &paths {
-        let read = number(read_all(file, path, &mut told));
+/// Appends what can be read of the streams at these paths, and whether the file is sound.
+fn tell_streams(file: &mut File, paths: &[String], told: &mut Vec<u8>) -> Result<(), Error> {
+    for path in paths {
+        let read = number(read_all(file, path, told));
         told.push(read)?;
     }
     told.push(u8::from(file.is_sound()))?;
-    Ok(told)
+    Ok(())
 }
 
-/// Whether the bytes of a file mean the same when they are opened again.
-fn means_the_same(alloc: Global, mut file: File) -> Result<bool, Error> {
-    let told = told_of(alloc, &mut file)?;
-    let mut again = CompoundFile::open(alloc, file.into_inner())?;
-    Ok(told_of(alloc, &mut again)? == told)
+/// Appends all that a file says of its objects, with what can be read of its streams.
+fn tell_file(alloc: Global, file: &mut File, told: &mut Vec<u8>) -> Result<(), Error> {
+    let mut paths = Vec::new(alloc);
+    tell_all(alloc, file, &mut paths, told)?;
+    tell_streams(file, &paths, told)
+}
+
+/// Whether a file says this of its objects.
+fn is_told(alloc: Global, file: &mut File, told: &[u8]) -> Result<bool, Error> {
+    let mut again = Vec::new(alloc);
+    tell_file(alloc, file, &mut again)?;
+    Ok(again.as_slice() == told)
+}
+
+/// Whether the bytes of a medium are opened, and say this of their objects.
+fn is_told_again(alloc: Global, medium: MemoryMedium, told: &[u8]) -> Result<bool, Error> {
+    let mut file = CompoundFile::open(alloc, medium)?;
+    is_told(alloc, &mut file, told)
+}
+
+/// Whether the bytes of a file mean the same when they are opened again. What it says is appended to what is told, which is nothing yet.
+fn means_the_same(alloc: Global, mut file: File, told: &mut Vec<u8>) -> Result<bool, Error> {
+    tell_file(alloc, &mut file, told)?;
+    is_told_again(alloc, file.into_inner(), told)
+}
+
+/// Whether bytes that are opened in a mode mean the same when they are opened again. None: they are refused as they may be.
+fn meaning(alloc: Global, bytes: &[u8], strict: bool) -> Result<Option<bool>, Error> {
+    match opened(alloc, bytes, strict) {
+        Ok(file) => Ok(Some(means_the_same(alloc, file, &mut Vec::new(alloc))?)),
+        Err(Error::InvalidData(_)) => Ok(None),
+        Err(_) => Ok(Some(false)),
+    }
 }
 
 /// In how many modes these bytes are opened, and then mean the same when they are opened again. None: in one they do not.
 fn modes_of(alloc: Global, bytes: &[u8]) -> Result<Option<usize>, Error> {
     let mut count = 0usize;
     for strict in [false, true] {
-        let is_right = match opened(alloc, bytes, strict) {
-            Ok(file) => means_the_same(alloc, file)?,
-            Err(Error::InvalidData(_)) => continue,
-            Err(_) => false,
-        };
-        if !is_right {
-            return Ok(None);
+        match meaning(alloc, bytes, strict)? {
+            Some(true) => count = count.saturating_add(1),
+            Some(false) => return Ok(None),
+            None => {}
         }
-        count = count.saturating_add(1);
     }
     Ok(Some(count))
+}
+
+/// The same of bytes of which the one at this place is changed to a value for as long.
+fn modes_with(
+    alloc: Global,
+    bytes: &mut [u8],
+    at: usize,
+    value: u8,
+) -> Result<Option<usize>, Error> {
+    let kept = bytes.get(at).copied().unwrap_or(0);
+    put_bytes(bytes, at, &[value]);
+    let modes = modes_of(alloc, bytes);
+    put_bytes(bytes, at, &[kept]);
+    modes
 }
 
 /// In how many modes files are opened in which each byte from `start` up to `end` is changed in turn. None: one means something else then.
@@ -82,11 +128,7 @@ fn opened_in_turn(
     let mut count = 0usize;
     for at in start..end.min(bytes.len()) {
         for value in [0u8, 255] {
-            let kept = bytes[at];
-            bytes[at] = value;
-            let modes = modes_of(alloc, bytes);
-            bytes[at] = kept;
-            let Some(modes) = modes? else {
+            let Some(modes) = modes_with(alloc, bytes, at, value)? else {
                 return Ok(None);
             };
             count = count.saturating_add(modes);
@@ -97,7 +139,8 @@ fn opened_in_turn(
 
 /// In how many modes files with a stream of 4095 bytes are opened in which each byte from `start` up to `end` is changed in turn.
 fn opened_with_stream(alloc: Global, start: usize, end: usize) -> Result<Option<usize>, Error> {
-    let mut bytes = with_stream(alloc, &content(alloc, 4095)?)?;
+    let all = content(alloc, 4095)?;
+    let mut bytes = with_stream(alloc, &all)?;
     opened_in_turn(alloc, &mut bytes, start, end)
 }
 
@@ -108,10 +151,16 @@ fn after(alloc: Global, bytes: &[u8], call: u8, given: &[u8]) -> Result<Vec<u8>,
     Ok(file.into_inner().into_bytes())
 }
 
-/// The same of files whose stream of 4095 bytes has got one more, and lies in sectors now.
+/// The bytes of a file whose stream of 4095 bytes has got one more, and lies in sectors now.
+fn with_longer(alloc: Global) -> Result<Vec<u8>, Error> {
+    let all = content(alloc, 4095)?;
+    let short = with_stream(alloc, &all)?;
+    after(alloc, &short, b'a', &[1])
+}
+
+/// In how many modes such files are opened in which each byte from `start` up to `end` is changed in turn.
 fn opened_with_longer(alloc: Global, start: usize, end: usize) -> Result<Option<usize>, Error> {
-    let short = with_stream(alloc, &content(alloc, 4095)?)?;
-    let mut bytes = after(alloc, &short, b'a', &[1])?;
+    let mut bytes = with_longer(alloc)?;
     opened_in_turn(alloc, &mut bytes, start, end)
 }
 
@@ -145,6 +194,13 @@ fn bytes_of_a_longer_stream(rt: HostRuntime) -> Result<(), Fail> {
     Ok(())
 }
 
+/// The bytes of a file with a long DIFAT and a stream of 10240 bytes.
+fn longer_difat(alloc: Global) -> Result<Vec<u8>, Error> {
+    let all = content(alloc, 10240)?;
+    let empty = long_difat(alloc)?;
+    after(alloc, &empty, b'c', &all)
+}
+
 /// Whether files with a long DIFAT mean something else where a byte from `start` up to `end` is changed, or are opened in no mode.
 fn is_long_difat_wrong(alloc: Global, start: usize, end: usize) -> Result<bool, Error> {
     let mut bytes = long_difat(alloc)?;
@@ -153,7 +209,7 @@ fn is_long_difat_wrong(alloc: Global, start: usize, end: usize) -> Result<bool, 
 
 /// The same once they have a stream of 10240 bytes.
 fn is_longer_difat_wrong(alloc: Global, start: usize, end: usize) -> Result<bool, Error> {
-    let mut bytes = after(alloc, &long_difat(alloc)?, b'c', &content(alloc, 10240)?)?;
+    let mut bytes = longer_difat(alloc)?;
     Ok(opened_in_turn(alloc, &mut bytes, start, end)?.is_none_or(|count| count == 0))
 }
 

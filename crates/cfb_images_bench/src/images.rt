@@ -28,21 +28,27 @@ fn put_slot(bytes: &mut [u8], start: usize, slot: &Slot) {
     }
 }
 
-/// A file with a directory of these entries behind the root's, at most 127, which has these siblings and this child.
-fn image(alloc: Global, root: (u32, u32, u32), slots: &[Slot]) -> Result<Vec<u8>, Error> {
+/// Puts the root's siblings and child and these entries over the bytes of a file without objects, and the chain that its directory has then.
+fn put_image(bytes: &mut [u8], root: (u32, u32, u32), slots: &[Slot]) {
     let sectors = (slots.len() / 4).min(31) + 1;
-    let mut bytes = vec![in alloc; 0u8; 1024 + 512 * sectors]?;
-    put_bytes(&mut bytes, 0, &empty_bytes(alloc, V3)?);
     for i in 1..sectors {
-        put_words(&mut bytes, 512 + 4 * i, &[i as u32 + 1, 0xffff_fffe]);
+        put_words(bytes, 512 + 4 * i, &[i as u32 + 1, 0xffff_fffe]);
     }
-    put_words(&mut bytes, 1092, &[root.0, root.1, root.2]);
+    put_words(bytes, 1092, &[root.0, root.1, root.2]);
     for i in 1..sectors * 4 {
-        put_words(&mut bytes, 1024 + 128 * i + 68, &[NONE, NONE, NONE]);
+        put_words(bytes, 1024 + 128 * i + 68, &[NONE, NONE, NONE]);
         if let Some(slot) = slots.get(i - 1) {
-            put_slot(&mut bytes, 1024 + 128 * i, slot);
+            put_slot(bytes, 1024 + 128 * i, slot);
         }
     }
+}
+
+/// A file with a directory of these entries behind the root's, at most 127, which has these siblings and this child.
+fn image(alloc: Global, root: (u32, u32, u32), slots: &[Slot]) -> Result<Vec<u8>, Error> {
+    let empty = empty_bytes(alloc, V3)?;
+    let mut bytes = vec![in alloc; 0u8; 1536 + 512 * (slots.len() / 4).min(31)]?;
+    put_bytes(&mut bytes, 0, &empty);
+    put_image(&mut bytes, root, slots);
     Ok(bytes)
 }
 
@@ -77,39 +83,53 @@ const IMAGES: [Image; 8] = [
     ((NONE, NONE, 1), &[(b"a", 2, 1, NONE, 2, NONE), (b"b", 2, 0, NONE, 3, NONE), (b"c", 2, 0, NONE, NONE, NONE)], (0, 4), true, &["/", "/a", "/b", "/c"]),
 ];
 
-/// Whether an entry of a walk is told as this path says, and found by it.
-fn is_told(file: &File, entry: &Entry, path: &str) -> Result<bool, Error> {
-    let found = file.entry(path)?;
-    if entry.path() != path || found.name() != entry.name() || !file.exists(path) {
+/// Whether an entry of a walk, and the one that is found by its path, are told as this path says.
+fn is_told_so(file: &File, entry: &Entry, found: &Entry, path: &str) -> bool {
+    entry.path() == path
+        && found.name() == entry.name()
+        && file.exists(path)
+        && file.is_stream(path) == entry.is_stream()
+        && file.is_storage(path) == entry.is_storage()
+}
+
+/// Whether an entry of a walk is told as this path says, and found by it. No path: there is to be no such entry.
+fn is_told(file: &File, entry: &Entry, path: Option<&&str>) -> Result<bool, Error> {
+    let Some(path) = path else {
         return Ok(false);
-    }
-    Ok(file.is_stream(path) == entry.is_stream() && file.is_storage(path) == entry.is_storage())
+    };
+    let found = file.entry(path)?;
+    Ok(is_told_so(file, entry, &found, path))
 }
 
 /// Whether the walk of a file has these paths.
 fn is_walked(file: &File, paths: &[&str]) -> Result<bool, Error> {
     let mut count = 0usize;
+    let mut are_told = true;
     for entry in file.walk()? {
-        let Some(path) = paths.get(count) else {
-            return Ok(false);
-        };
-        if !is_told(file, &entry, path)? {
-            return Ok(false);
-        }
+        are_told = is_told(file, &entry, paths.get(count))? && are_told;
         count = count.saturating_add(1);
     }
-    Ok(count == paths.len())
+    Ok(are_told && count == paths.len())
+}
+
+/// Whether bytes are opened or refused, and walked, as an image's are to be.
+fn is_opened_so(alloc: Global, bytes: &[u8], image_of: &Image) -> Result<bool, Error> {
+    let (_, _, answer, is_sound, paths) = image_of;
+    if answers(alloc, bytes) != *answer {
+        return Ok(false);
+    }
+    if answer.0 != 0 {
+        return Ok(true);
+    }
+    let file = opened(alloc, bytes, false)?;
+    Ok(is_walked(&file, paths)? && file.is_sound() == *is_sound)
 }
 
 /// Whether an image is opened or refused, and walked, as it is to be.
 fn is_laid_out(alloc: Global, image_of: &Image) -> Result<bool, Error> {
-    let (root, slots, answer, is_sound, paths) = image_of;
+    let (root, slots, ..) = image_of;
     let bytes = image(alloc, *root, slots)?;
-    if answers(alloc, &bytes) != *answer || answer.0 != 0 {
-        return Ok(answers(alloc, &bytes) == *answer);
-    }
-    let file = opened(alloc, &bytes, false)?;
-    Ok(file.is_sound() == *is_sound && is_walked(&file, paths)?)
+    is_opened_so(alloc, &bytes, image_of)
 }
 
 #[test]
@@ -133,50 +153,86 @@ const LISTED: [Listing; 13] = [
     (b'r', "", Ok("/a /b /aa ")),
 ];
 
-/// The paths that are listed, each with a space behind it.
-fn paths_of(alloc: Global, file: &File, call: u8, path: &str) -> Result<String, Error> {
+/// Appends the path of a listed entry, and a space.
+fn put_path(entry: &Entry, paths: &mut String) -> Result<(), Error> {
+    paths.push_str(entry.path())?;
+    paths.push_str(" ")?;
+    Ok(())
+}
+
+/// Appends the paths that are listed, each with a space behind it.
+fn put_paths(file: &File, call: u8, path: &str, paths: &mut String) -> Result<(), Error> {
     let list = match call {
         b's' => file.read_storage(path)?,
         b'r' => file.read_root_storage()?,
         _ => file.walk_storage(path)?,
     };
-    let mut paths = String::new(alloc);
     for entry in list {
-        paths.push_str(entry.path())?;
-        paths.push_str(" ")?;
+        put_path(&entry, paths)?;
     }
-    Ok(paths)
+    Ok(())
 }
 
 /// Whether a listing is answered so.
 fn is_listed(alloc: Global, file: &File, listing: &Listing) -> bool {
     let (call, path, want) = listing;
-    match paths_of(alloc, file, *call, path) {
-        Ok(paths) => *want == Ok(paths.as_str()),
+    let mut paths = String::new(alloc);
+    match put_paths(file, *call, path, &mut paths) {
+        Ok(()) => *want == Ok(paths.as_str()),
         Err(e) => *want == Err(e.number()),
     }
 }
 
-/// The first image, opened.
-fn first_image(alloc: Global) -> Result<File, Error> {
+/// The path that is asked by the first listing that is answered otherwise, if there is one.
+fn wrong_listing(alloc: Global, file: &File) -> Option<&'static str> {
+    for listing in &LISTED {
+        if !is_listed(alloc, file, listing) {
+            return Some(listing.1);
+        }
+    }
+    None
+}
+
+/// Whether the storage in `/aa` is told as it was asked for.
+fn is_inner_told(file: &File) -> Result<bool, Error> {
+    let entry = file.entry("/AA/IN")?;
+    let is_named = entry.name() == "in" && entry.path() == "/AA/IN";
+    Ok(is_named && entry.is_storage() && entry.len() == 0)
+}
+
+/// Whether the root is told.
+fn is_root_told(file: &File) -> Result<bool, Error> {
+    let root = file.root_entry()?;
+    Ok(root.path() == "/" && root.is_root() && root.name() == "Root Entry")
+}
+
+/// What a file says: a path whose listing is answered otherwise, if there is one, whether the storage in `/aa` and the root are told, and the
+/// numbers of two refusals.
+type Said = (Option<&'static str>, bool, bool, (u8, u8));
+
+/// What the file of the first image says.
+fn said(alloc: Global, file: &File) -> Result<Said, Error> {
+    Ok((
+        wrong_listing(alloc, file),
+        is_inner_told(file)?,
+        is_root_told(file)?,
+        (number(file.entry("/..")), number(file.entry("/c"))),
+    ))
+}
+
+/// The same once it is opened.
+fn said_by_first(alloc: Global) -> Result<Said, Error> {
     let (root, slots, ..) = &IMAGES[0];
-    opened(alloc, &image(alloc, *root, slots)?, true)
+    let bytes = image(alloc, *root, slots)?;
+    let file = opened(alloc, &bytes, true)?;
+    said(alloc, &file)
 }
 
 #[test]
 fn listed(rt: HostRuntime) -> Result<(), Fail> {
-    let file = first_image(rt.alloc())?;
-    for listing in &LISTED {
-        assert!(rt; is_listed(rt.alloc(), &file, listing), "{}", listing.1);
-    }
-    let entry = file.entry("/AA/IN")?;
-    assert!(rt; entry.name() == "in" && entry.path() == "/AA/IN");
-    assert!(rt; entry.is_storage() && entry.len() == 0);
-    let root = file.root_entry()?;
-    assert!(rt; root.path() == "/" && root.is_root() && root.name() == "Root Entry");
-    assert_eq!(rt;
-        (number(file.entry("/..")), number(file.entry("/c"))),
-        (3, 1)
-    );
+    let (wrong, is_inner_told, is_root_told, refused) = said_by_first(rt.alloc())?;
+    assert_eq!(rt; wrong, None);
+    assert!(rt; is_inner_told && is_root_told);
+    assert_eq!(rt; refused, (3, 1));
     Ok(())
 }
