@@ -1,8 +1,8 @@
 //! Calls at mini chains that break off: each write, each flush and each read failing in turn, each request for memory refused in turn, and
 //! one sector too few.
-use crate::files::{created, number_of, opened, source};
+use crate::files::{number_of, opened, source};
 use crate::scripts::Call::{self, Free, SetLen, Write, WriteWithin, ZeroTail};
-use crate::scripts::{BESIDE, HELD, Script, asked, holds, played};
+use crate::scripts::{BESIDE, HELD, Script, asked, holds, made};
 use cfb_format::consts::END_OF_CHAIN as END;
 use cfb_format::error::Error;
 use cfb_format::medium::Medium;
@@ -89,16 +89,6 @@ const CHANGES: [Change; 23] = [
 #[rattlefmt::skip]
 const NOTHING: Change = Change { made: BESIDE, start: 0, position: 0, limit: 4, call: ZeroTail(0), answer: 0, begins: false, asks: false, others: SECOND, own: FIRST };
 
-/// The bytes of the file that a script makes.
-fn made(alloc: Global, script: Script) -> Result<Vec<u8>, Error> {
-    let file = MemoryMedium::from_bytes(created(alloc)?);
-    let ((part, _), mini) = played(alloc, file, script)?;
-    if part != script.len() {
-        return Err(Error::Failed);
-    }
-    Ok(mini.into_inner().bytes().to_vec(alloc)?)
-}
-
 /// Makes a change, and where `again` is up asks for it once more. Once the mini chain is lent the heap refuses the request after so many
 /// others.
 fn changed<F: Medium, A: Heap + Clone>(
@@ -158,6 +148,21 @@ fn all_stay(old: &MiniAllocator<MemoryMedium>, after: &[u8], change: &Change) ->
 /// begun, and whether all stays that is to stay.
 type Broken = (u8, u64, bool, bool);
 
+/// Makes a change, and where it is made hands it on: the number of the refusal or 0, and whether a change is begun then.
+fn flushed<F: Medium>(
+    alloc: Global,
+    mini: &mut MiniAllocator<F>,
+    change: &Change,
+    from: &[u8],
+) -> Result<(u8, bool), Error> {
+    let heap = Refusing::new(alloc);
+    let mut answer = changed(mini, change, from, &heap, MANY, false)?;
+    if answer == 0 {
+        answer = number_of(&mini.flush());
+    }
+    Ok((answer, mini.begun()))
+}
+
 /// Has one call at the medium fail, and where the change is made hands it on.
 fn broken(
     alloc: Global,
@@ -170,12 +175,7 @@ fn broken(
     let file = MemoryMedium::from_bytes(old.inner().bytes().to_vec(alloc)?);
     let mut mini = opened(alloc, Failing::once(file, kind, nth))?;
     mini.set_max_sectors(change.limit);
-    let heap = Refusing::new(alloc);
-    let mut answer = changed(&mut mini, change, from, &heap, MANY, false)?;
-    if answer == 0 {
-        answer = number_of(&mini.flush());
-    }
-    let begun = mini.begun();
+    let (answer, begun) = flushed(alloc, &mut mini, change, from)?;
     let medium = mini.into_inner();
     let failures = medium.failures();
     let stay = all_stay(old, medium.into_inner().bytes(), change);
@@ -183,11 +183,15 @@ fn broken(
 }
 
 /// Whether a change makes calls of a kind, each of which has failed in turn then: `None` where one was wrong.
-fn broken_in_turn(alloc: Global, change: &Change, kind: Kind) -> Result<Option<bool>, Error> {
-    let old = opened(alloc, MemoryMedium::from_bytes(made(alloc, change.made)?))?;
-    let from = source(alloc)?;
+fn all_broken(
+    alloc: Global,
+    change: &Change,
+    old: &MiniAllocator<MemoryMedium>,
+    from: &[u8],
+    kind: Kind,
+) -> Result<Option<bool>, Error> {
     for nth in 1..MANY {
-        let answer = broken(alloc, change, &old, &from, kind, nth)?;
+        let answer = broken(alloc, change, old, from, kind, nth)?;
         if answer == (change.answer, 0, change.begins, true) {
             return Ok(Some(nth > 1));
         }
@@ -196,6 +200,14 @@ fn broken_in_turn(alloc: Global, change: &Change, kind: Kind) -> Result<Option<b
         }
     }
     Ok(None)
+}
+
+/// The same, of the file that the change's script makes.
+fn broken_in_turn(alloc: Global, change: &Change, kind: Kind) -> Result<Option<bool>, Error> {
+    let from = source(alloc)?;
+    let file = MemoryMedium::from_bytes(made(alloc, change.made)?);
+    let old = opened(alloc, file)?;
+    all_broken(alloc, change, &old, &from, kind)
 }
 
 /// What is refused is not handed on.
@@ -211,60 +223,96 @@ fn writes_and_flushes_fail_in_turn(rt: HostRuntime) -> Result<(), Fail> {
     Ok(())
 }
 
+/// Whether the file's mini sectors are those of another one of these bytes, and no change was begun.
+fn is_like<A: Heap>(
+    mini: &MiniAllocator<MemoryMedium, A>,
+    other: &MiniAllocator<MemoryMedium>,
+    bytes: &[u8],
+) -> bool {
+    mini.minifat() == other.minifat()
+        && mini.minifat_sectors() == other.minifat_sectors()
+        && mini.mini_stream() == other.mini_stream()
+        && mini.allocator().fat() == other.allocator().fat()
+        && mini.root_dir_entry().stream_len == other.root_dir_entry().stream_len
+        && mini.inner().bytes() == bytes
+        && !mini.begun()
+}
+
 /// Whether the file's mini sectors are those of these bytes, and no change was begun.
 fn is_as_in<A: Heap>(
     alloc: Global,
     mini: &MiniAllocator<MemoryMedium, A>,
     bytes: &[u8],
 ) -> Result<bool, Error> {
-    let other = opened(alloc, MemoryMedium::from_bytes(bytes.to_vec(alloc)?))?;
-    Ok(
-        mini.minifat() == other.minifat()
-            && mini.minifat_sectors() == other.minifat_sectors()
-            && mini.mini_stream() == other.mini_stream()
-            && mini.allocator().fat() == other.allocator().fat()
-            && mini.root_dir_entry().stream_len == other.root_dir_entry().stream_len
-            && mini.inner().bytes() == bytes
-            && !mini.begun(),
-    )
+    let file = MemoryMedium::from_bytes(bytes.to_vec(alloc)?);
+    let other = opened(alloc, file)?;
+    Ok(is_like(mini, &other, bytes))
 }
 
-/// What came of a change where one request for memory was refused: the number of the refusal or 0, whether all is as before, and the file.
-type Refused = (u8, bool, Vec<u8>);
+/// The bytes of the file after a change, with all memory.
+fn bytes_after(
+    alloc: Global,
+    change: &Change,
+    before: &[u8],
+    from: &[u8],
+) -> Result<Vec<u8>, Error> {
+    let heap = Refusing::new(alloc);
+    let file = MemoryMedium::from_bytes(before.to_vec(alloc)?);
+    let mut mini = opened(alloc, file)?;
+    mini.set_max_sectors(change.limit);
+    changed(&mut mini, change, from, &heap, MANY, false)?;
+    Ok(mini.into_inner().bytes().to_vec(alloc)?)
+}
 
-/// Has the heap refuse the request after so many others, and where `again` is up asks for the change once more.
+/// Has the heap refuse the request after so many others: the number of the refusal or 0, and whether all is as before. With bytes to come
+/// after it the change is asked for once more, and the file is to have them then.
 fn refused(
     alloc: Global,
     change: &Change,
     before: &[u8],
+    from: &[u8],
     served: u64,
-    again: bool,
-) -> Result<Refused, Error> {
+    after: Option<&[u8]>,
+) -> Result<(u8, bool), Error> {
     let heap = Refusing::new(alloc);
-    let from = source(alloc)?;
     let file = MemoryMedium::from_bytes(before.to_vec(alloc)?);
     let mut mini = opened(&heap, file)?;
     mini.set_max_sectors(change.limit);
-    let answer = changed(&mut mini, change, &from, &heap, served, again)?;
-    let same = is_as_in(alloc, &mini, before)?;
-    Ok((answer, same, mini.into_inner().bytes().to_vec(alloc)?))
+    let answer = changed(&mut mini, change, from, &heap, served, after.is_some())?;
+    let same = match after {
+        Some(after) => mini.inner().bytes() == after,
+        None => is_as_in(alloc, &mini, before)?,
+    };
+    Ok((answer, same))
 }
 
 /// Whether a change asks for memory, with each request refused in turn then: `None` where an answer was wrong.
-fn refused_in_turn(alloc: Global, change: &Change) -> Result<Option<bool>, Error> {
-    let before = made(alloc, change.made)?;
-    let (_, _, after) = refused(alloc, change, &before, MANY, false)?;
+fn all_refused(
+    alloc: Global,
+    change: &Change,
+    before: &[u8],
+    after: &[u8],
+    from: &[u8],
+) -> Result<Option<bool>, Error> {
     for served in 0..MANY {
-        let (answer, same, _) = refused(alloc, change, &before, served, false)?;
+        let (answer, same) = refused(alloc, change, before, from, served, None)?;
         if answer == change.answer {
             return Ok(Some(served > 0));
         }
-        let (last, _, bytes) = refused(alloc, change, &before, served, true)?;
-        if answer != MEMORY || !same || last != change.answer || bytes != after {
+        let (last, reached) = refused(alloc, change, before, from, served, Some(after))?;
+        if answer != MEMORY || !same || last != change.answer || !reached {
             return Ok(None);
         }
     }
     Ok(None)
+}
+
+/// The same, of the file that the change's script makes.
+fn refused_in_turn(alloc: Global, change: &Change) -> Result<Option<bool>, Error> {
+    let from = source(alloc)?;
+    let before = made(alloc, change.made)?;
+    let after = bytes_after(alloc, change, &before, &from)?;
+    all_refused(alloc, change, &before, &after, &from)
 }
 
 /// Nothing has changed where a request for memory is refused, and the same call then does what it does with all memory.
@@ -279,66 +327,105 @@ fn memory_is_refused_in_turn(rt: HostRuntime) -> Result<(), Fail> {
     Ok(())
 }
 
+/// How many requests for memory are refused in turn as a mini chain is lent, and whether each is rightly refused.
+fn all_lending_refused(
+    alloc: Global,
+    mini: &mut MiniAllocator<MemoryMedium, &Refusing<Global>>,
+    heap: &Refusing<Global>,
+    before: &[u8],
+) -> Result<(u64, bool), Error> {
+    for served in 0..MANY {
+        heap.refuse_after(served);
+        let answer = number_of(&changed(mini, &NOTHING, &[], heap, MANY, false));
+        let again = changed(mini, &NOTHING, &[], heap, MANY, false)?;
+        let lent = again == 0 && is_as_in(alloc, mini, before)?;
+        if answer != MEMORY || !lent {
+            return Ok((served, lent && answer == 0));
+        }
+    }
+    Ok((MANY, true))
+}
+
+/// The same, of a file with mini chains.
+fn lending_refused(alloc: Global) -> Result<(u64, bool), Error> {
+    let before = made(alloc, BESIDE)?;
+    let file = MemoryMedium::from_bytes(before.to_vec(alloc)?);
+    let heap = Refusing::new(alloc);
+    let mut mini = opened(&heap, file)?;
+    all_lending_refused(alloc, &mut mini, &heap, &before)
+}
+
 /// No mini chain is lent where a request for memory is refused, nothing has changed, and it is lent then.
 #[test]
 fn memory_is_refused_at_lending(rt: HostRuntime) -> Result<(), Fail> {
-    let before = made(rt.alloc(), BESIDE)?;
-    let heap = Refusing::new(rt.alloc());
-    let file = MemoryMedium::from_bytes(before.to_vec(rt.alloc())?);
-    let mut mini = opened(&heap, file)?;
-    let mut refused = 0u64;
-    for served in 0..MANY {
-        heap.refuse_after(served);
-        let answer = number_of(&changed(&mut mini, &NOTHING, &[], &heap, MANY, false));
-        let again = changed(&mut mini, &NOTHING, &[], &heap, MANY, false)?;
-        assert!(rt;
-            again == 0 && is_as_in(rt.alloc(), &mini, &before)?,
-            "at {served}"
-        );
-        if answer == 0 {
-            break;
-        }
-        assert_eq!(rt; answer, MEMORY, "at {served}");
-        refused = refused.saturating_add(1);
-    }
+    let (refused, is_right) = lending_refused(rt.alloc())?;
+    assert!(rt; is_right, "at {refused}");
     assert!(rt; 0 < refused && refused < MANY);
     Ok(())
 }
 
-/// Has one read fail, which may be one of opening: that is refused then. Gives the number of the refusal as the mini chain from 0 is read, or
-/// 0, how many calls failed, and whether it is read then and the file is as before.
-fn read_broken(alloc: Global, before: &[u8], nth: u64) -> Result<(u8, u64, bool), Error> {
-    let from = source(alloc)?;
-    let file = MemoryMedium::from_bytes(before.to_vec(alloc)?);
-    let mut mini = opened(alloc, Failing::once(file, Kind::Read, nth))?;
-    let mut chain = MiniChain::new(&mut mini, 0)?;
-    let first = number_of(&holds(alloc, &mut chain, &from, HELD));
-    let again = holds(alloc, &mut chain, &from, HELD);
+/// Reads the mini chain from 0 twice: the number of the first refusal or 0, and whether it is read then and no change is begun.
+fn read_twice<F: Medium>(
+    alloc: Global,
+    mini: &mut MiniAllocator<F>,
+    from: &[u8],
+) -> Result<(u8, bool), Error> {
+    let mut chain = MiniChain::new(mini, 0)?;
+    let first = number_of(&holds(alloc, &mut chain, from, HELD));
+    let again = holds(alloc, &mut chain, from, HELD);
     chain.end();
-    let begun = mini.begun();
-    let medium = mini.into_inner();
-    let failures = medium.failures();
-    let same = !begun && medium.into_inner().bytes() == before;
-    Ok((first, failures, again? && same))
+    Ok((first, again? && !mini.begun()))
 }
 
-/// A read that fails is refused, and what is read then is as without it.
-#[test]
-fn reads_fail_in_turn(rt: HostRuntime) -> Result<(), Fail> {
-    let before = made(rt.alloc(), BESIDE)?;
+/// Has one read fail, which may be one of opening: that is refused then. Gives the number of the refusal as the mini chain from 0 is read, or
+/// 0, how many calls failed, and whether it is read then and the file is as before.
+fn read_broken(
+    alloc: Global,
+    before: &[u8],
+    from: &[u8],
+    nth: u64,
+) -> Result<(u8, u64, bool), Error> {
+    let file = MemoryMedium::from_bytes(before.to_vec(alloc)?);
+    let mut mini = opened(alloc, Failing::once(file, Kind::Read, nth))?;
+    let (first, again) = read_twice(alloc, &mut mini, from)?;
+    let medium = mini.into_inner();
+    let failures = medium.failures();
+    let same = medium.into_inner().bytes() == before;
+    Ok((first, failures, again && same))
+}
+
+/// How many reads of a mini chain fail in turn, behind those of opening, and whether each answer is right.
+fn all_reads_broken(alloc: Global, before: &[u8], from: &[u8]) -> Result<(u64, bool), Error> {
     let mut failed = 0u64;
     for nth in 1..MANY {
-        let answer = read_broken(rt.alloc(), &before, nth);
+        let answer = read_broken(alloc, before, from, nth);
         if number_of(&answer) == MEDIUM {
             continue;
         }
         let answer = answer?;
         if answer == (0, 0, true) {
-            break;
+            return Ok((failed, true));
         }
-        assert!(rt; answer == (MEDIUM, 1, true), "at {nth}");
+        if answer != (MEDIUM, 1, true) {
+            return Ok((failed, false));
+        }
         failed = failed.saturating_add(1);
     }
+    Ok((failed, true))
+}
+
+/// The same, of a file with mini chains.
+fn reads_broken(alloc: Global) -> Result<(u64, bool), Error> {
+    let from = source(alloc)?;
+    let before = made(alloc, BESIDE)?;
+    all_reads_broken(alloc, &before, &from)
+}
+
+/// A read that fails is refused, and what is read then is as without it.
+#[test]
+fn reads_fail_in_turn(rt: HostRuntime) -> Result<(), Fail> {
+    let (failed, is_right) = reads_broken(rt.alloc())?;
+    assert!(rt; is_right, "after {failed}");
     assert!(rt; 0 < failed && failed < MANY - 1);
     Ok(())
 }

@@ -1,5 +1,5 @@
 //! Mini chains that are read and written as lists of bytes, in memory and over a medium that serves single bytes.
-use crate::files::{ZEROS, created, number_of, opened, source};
+use crate::files::{ZEROS, created, fresh, number_of, opened, source};
 use cfb_format::consts::END_OF_CHAIN as END;
 use cfb_format::error::Error;
 use cfb_format::medium::Medium;
@@ -141,6 +141,35 @@ pub fn asked<F: Medium, A: Heap>(
     Ok(0)
 }
 
+/// Reads all bytes of the mini chain. Its position stays.
+fn read_all<F: Medium, A: Heap>(
+    chain: &mut MiniChain<'_, F, A>,
+    read: &mut [u8],
+) -> Result<(), Error> {
+    let position = chain.position();
+    chain.seek(0)?;
+    let mut done = 0usize;
+    for _ in 0..20 {
+        if done < read.len() {
+            done = done.saturating_add(chain.read(&mut read[done..])?);
+        }
+    }
+    chain.seek(position)
+}
+
+/// Whether what was read are these pieces.
+fn are_pieces(read: &[u8], bytes: &[u8], pieces: &[(usize, usize)]) -> bool {
+    let mut at = 0usize;
+    for (len, from) in pieces {
+        let end = at.saturating_add(*len);
+        if read.get(at..end) != bytes.get(*from..from.saturating_add(*len)) {
+            return false;
+        }
+        at = end;
+    }
+    at == read.len()
+}
+
 /// Whether the mini chain holds these pieces. Its position stays.
 pub fn holds<F: Medium, A: Heap>(
     alloc: Global,
@@ -148,25 +177,9 @@ pub fn holds<F: Medium, A: Heap>(
     bytes: &[u8],
     pieces: &[(usize, usize)],
 ) -> Result<bool, Error> {
-    let position = chain.position();
-    chain.seek(0)?;
     let mut read = vec![in alloc; 0xff; chain.len() as usize]?;
-    let mut done = 0usize;
-    for _ in 0..20 {
-        if done < read.len() {
-            done = done.saturating_add(chain.read(&mut read[done..])?);
-        }
-    }
-    chain.seek(position)?;
-    let mut at = 0usize;
-    for (len, from) in pieces {
-        let end = at.saturating_add(*len);
-        if read.get(at..end) != bytes.get(*from..from.saturating_add(*len)) {
-            return Ok(false);
-        }
-        at = end;
-    }
-    Ok(at == read.len())
+    read_all(chain, &mut read)?;
+    Ok(are_pieces(&read, bytes, pieces))
 }
 
 /// How many steps are right before the first that is wrong.
@@ -174,12 +187,12 @@ fn right_steps<F: Medium, A: Heap>(
     alloc: Global,
     chain: &mut MiniChain<'_, F, A>,
     steps: &[Step],
+    bytes: &[u8],
 ) -> Result<usize, Error> {
-    let bytes = source(alloc)?;
     let mut right = 0usize;
     for step in steps {
         let (call, number, count, ids, position, pieces) = *step;
-        let answer = asked(chain, call, &bytes);
+        let answer = asked(chain, call, bytes);
         let is_right = number_of(&answer) == number
             && answer.unwrap_or(0) == count
             && chain.mini_sector_ids() == ids
@@ -187,7 +200,7 @@ fn right_steps<F: Medium, A: Heap>(
             && chain.len() == (ids.len() as u64).saturating_mul(64)
             && chain.start_sector_id() == ids.first().copied().unwrap_or(END)
             && chain.position() == position;
-        if !is_right || !holds(alloc, chain, &bytes, pieces)? {
+        if !is_right || !holds(alloc, chain, bytes, pieces)? {
             return Ok(right);
         }
         right = right.saturating_add(1);
@@ -201,9 +214,10 @@ fn taken<F: Medium, A: Heap + Clone>(
     mini: &mut MiniAllocator<F, A>,
     start: u32,
     steps: &[Step],
+    bytes: &[u8],
 ) -> Result<usize, Error> {
     let mut chain = MiniChain::new(mini, start)?;
-    let right = right_steps(alloc, &mut chain, steps);
+    let right = right_steps(alloc, &mut chain, steps, bytes);
     chain.end();
     right
 }
@@ -224,54 +238,128 @@ const TOGETHER: Script = &[
     (0, FIRST_READ),
 ];
 
-/// The number of the part of a script where something is wrong, and how many of its steps are right; and the file's mini sectors then.
-pub fn played<F: Medium>(
+/// The number of the part of a script where something is wrong, and how many of its steps are right, as these bytes are written.
+fn parts_played<F: Medium>(
     alloc: Global,
-    medium: F,
+    mini: &mut MiniAllocator<F>,
     script: Script,
-) -> Result<((usize, usize), MiniAllocator<F>), Error> {
-    let mut mini = opened(alloc, medium)?;
+    bytes: &[u8],
+) -> Result<(usize, usize), Error> {
     let mut part = 0usize;
     for (start, steps) in script {
-        let right = taken(alloc, &mut mini, *start, *steps)?;
+        let right = taken(alloc, mini, *start, *steps, bytes)?;
         if right != steps.len() {
-            return Ok(((part, right), mini));
+            return Ok((part, right));
         }
         mini.end_change();
         part = part.saturating_add(1);
     }
-    Ok(((part, 0), mini))
+    Ok((part, 0))
+}
+
+/// The number of the part of a script where something is wrong, and how many of its steps are right.
+fn played<F: Medium>(
+    alloc: Global,
+    mini: &mut MiniAllocator<F>,
+    script: Script,
+) -> Result<(usize, usize), Error> {
+    let bytes = source(alloc)?;
+    parts_played(alloc, mini, script, &bytes)
+}
+
+/// Plays a script, and gives the bytes of the file then.
+fn bytes_played(
+    alloc: Global,
+    mini: &mut MiniAllocator<MemoryMedium>,
+    script: Script,
+) -> Result<Vec<u8>, Error> {
+    let (part, _) = played(alloc, mini, script)?;
+    if part != script.len() {
+        return Err(Error::Failed);
+    }
+    Ok(mini.inner().bytes().to_vec(alloc)?)
+}
+
+/// The bytes of the file that a script makes.
+pub fn made(alloc: Global, script: Script) -> Result<Vec<u8>, Error> {
+    let mut mini = fresh(alloc)?;
+    bytes_played(alloc, &mut mini, script)
+}
+
+/// What a script leaves: where it ends, the length of the mini stream and of the file, whether the file is the same where each call serves
+/// one byte, and how many mini sectors the file has when it is opened again.
+type Left = ((usize, usize), u64, usize, bool, usize);
+
+/// Whether a script leaves these bytes where each call serves one byte.
+fn is_same_in_sips(alloc: Global, script: Script, whole: &[u8]) -> Result<bool, Error> {
+    let sip = Sip::new(MemoryMedium::from_bytes(created(alloc)?));
+    let mut mini = opened(alloc, sip)?;
+    let right = played(alloc, &mut mini, script)?;
+    let sipped = mini.into_inner().into_inner();
+    Ok(right == (script.len(), 0) && sipped.bytes() == whole)
+}
+
+/// How many mini sectors the file of these bytes has.
+fn minis_of(alloc: Global, bytes: &[u8]) -> Result<usize, Error> {
+    let file = MemoryMedium::from_bytes(bytes.to_vec(alloc)?);
+    let again = opened(alloc, file)?;
+    Ok(again.minifat().len())
+}
+
+/// What a script leaves.
+fn left_in(
+    alloc: Global,
+    mini: &mut MiniAllocator<MemoryMedium>,
+    script: Script,
+) -> Result<Left, Error> {
+    let right = played(alloc, mini, script)?;
+    let whole = mini.inner().bytes();
+    let same = is_same_in_sips(alloc, script, whole)?;
+    let minis = minis_of(alloc, whole)?;
+    let stream_len = mini.root_dir_entry().stream_len;
+    Ok((right, stream_len, whole.len(), same, minis))
+}
+
+/// The same, of a file that was just made.
+fn left(alloc: Global, script: Script) -> Result<Left, Error> {
+    let mut mini = fresh(alloc)?;
+    left_in(alloc, &mut mini, script)
 }
 
 /// In memory, and where each call serves one byte. Each file is opened again, strictly.
 #[test]
 fn steps_are_taken(rt: HostRuntime) -> Result<(), Fail> {
     for (script, minis) in [(ALONE, 2u64), (TOGETHER, 6u64)] {
-        let before = created(rt.alloc())?;
-        let whole = MemoryMedium::from_bytes(before.to_vec(rt.alloc())?);
-        let (right, mini) = played(rt.alloc(), whole, script)?;
+        let (right, stream_len, len, same, again) = left(rt.alloc(), script)?;
         assert_eq!(rt; right, (script.len(), 0));
-        assert_eq!(rt; mini.root_dir_entry().stream_len, minis.saturating_mul(64));
-        let whole = mini.into_inner();
-        let sip = Sip::new(MemoryMedium::from_bytes(before));
-        let (right, mini) = played(rt.alloc(), sip, script)?;
-        let sipped = mini.into_inner().into_inner();
-        assert!(rt; right == (script.len(), 0) && sipped.bytes() == whole.bytes());
+        assert_eq!(rt; stream_len, minis.saturating_mul(64));
+        assert!(rt; same);
         // The header, the FAT, the directory, the MiniFAT and the mini stream.
-        assert_eq!(rt; whole.bytes().len(), 5 * 512);
-        let again = opened(rt.alloc(), whole)?;
-        assert_eq!(rt; again.minifat().len() as u64, minis);
+        assert_eq!(rt; len, 5 * 512);
+        assert_eq!(rt; again as u64, minis);
     }
     Ok(())
+}
+
+/// How many steps are right as the mini chain from 0 is read in a file of these bytes, and whether a change is begun then.
+fn right_again(alloc: Global, file: Vec<u8>, bytes: &[u8]) -> Result<(usize, bool), Error> {
+    let mut again = opened(alloc, MemoryMedium::from_bytes(file))?;
+    let right = taken(alloc, &mut again, 0, READ, bytes)?;
+    Ok((right, again.begun()))
+}
+
+/// The same, of the file that a script makes.
+fn read_again(alloc: Global) -> Result<(usize, bool), Error> {
+    let bytes = source(alloc)?;
+    let file = made(alloc, BESIDE)?;
+    right_again(alloc, file, &bytes)
 }
 
 /// What was written is read from the file.
 #[test]
 fn a_mini_chain_is_read_again(rt: HostRuntime) -> Result<(), Fail> {
-    let file = MemoryMedium::from_bytes(created(rt.alloc())?);
-    let (_, mini) = played(rt.alloc(), file, BESIDE)?;
-    let mut again = opened(rt.alloc(), mini.into_inner())?;
-    assert_eq!(rt; taken(rt.alloc(), &mut again, 0, READ)?, READ.len());
-    assert!(rt; !again.begun());
+    let (right, begun) = read_again(rt.alloc())?;
+    assert_eq!(rt; right, READ.len());
+    assert!(rt; !begun);
     Ok(())
 }
