@@ -6,12 +6,12 @@ ghost use Rattle.cfb_outline.specs.Outlines.{IsReachedStorage};
 ghost use Rattle.cfb_mini_sectors.specs.State.{cases_of, entries_of};
 ghost use Rattle.cfb_content.specs.Contents.{IsStreamOf};
 
-use crate::files::{created, opened};
 use cfb_codecs::path::validate_name;
 use cfb_codecs::timestamp::Timestamp;
 use cfb_content::reading::{read_content, readable_len};
 use cfb_content::writing::write_content;
 use cfb_entries_bench::directories::is_stream;
+use cfb_files_bench::files::{created, opened};
 use cfb_format::error::{Detail, Error};
 use cfb_format::medium::{Medium, ReadMedium};
 use cfb_format::memory::MemoryMedium;
@@ -223,7 +223,7 @@ pub fn made(
     asks: &[Ask],
 ) -> Result<MiniAllocator<MemoryMedium>, Error> {
     let file = MemoryMedium::from_bytes(created(alloc, version)?);
-    let mut mini = opened(alloc, file, version, Strict)?;
+    let mut mini = opened(alloc, file, Strict)?;
     asked_all(alloc, &mut mini, asks)?;
     Ok(mini)
 }

@@ -1,8 +1,8 @@
 //! Changes of contents that break off: each read, each write and each flush failing in turn, each request for memory refused in turn.
 use cfb_content_bench::asks::Ask::{self, Fill, Foreign, Grow, Limit, Make, Put, Resize};
 use cfb_content_bench::asks::{asked, asked_all, made, number_of_error, stream_named};
-use cfb_content_bench::files::{copied, is_as_in, opened};
 use cfb_content_bench::rows::{MINI, ROWS, Row};
+use cfb_files_bench::files::{copied, is_as_in, opened};
 use cfb_format::error::Error;
 use cfb_format::medium::Medium;
 use cfb_format::memory::MemoryMedium;
@@ -87,8 +87,10 @@ fn limit_of(change: &Change) -> u32 {
 /// The bytes before a change.
 fn bytes_before(alloc: Global, change: &Change) -> Result<Vec<u8>, Error> {
     let mut mini = made(alloc, change.version, change.others)?;
-    asked_all(alloc, &mut mini, change.before)?;
-    Ok(mini.into_inner().into_bytes())
+    let answer = asked_all(alloc, &mut mini, change.before);
+    let bytes = mini.into_inner().into_bytes();
+    answer?;
+    Ok(bytes)
 }
 
 /// The file of these bytes before a change.
@@ -97,7 +99,7 @@ fn file_before<F: Medium, A: Heap + Clone>(
     medium: F,
     change: &Change,
 ) -> Result<MiniAllocator<F, A>, Error> {
-    let mut mini = opened(heap, medium, change.version, Permissive)?;
+    let mut mini = opened(heap, medium, Permissive)?;
     mini.set_max_sectors(limit_of(change));
     Ok(mini)
 }
@@ -185,10 +187,10 @@ fn others_stay(both: &Twice<'_>, change: &Change) -> Result<bool, Error> {
 }
 
 /// How many reads opening takes, with that of the length.
-fn reads_of_opening(alloc: Global, version: Version, bytes: &[u8]) -> Result<u64, Error> {
+fn reads_of_opening(alloc: Global, bytes: &[u8]) -> Result<u64, Error> {
     let file = MemoryMedium::from_bytes(copied(alloc, bytes)?);
     let counting = Counting::within(file, 0, bytes.len() as u64);
-    let opened = opened(alloc, counting, version, Permissive)?;
+    let opened = opened(alloc, counting, Permissive)?;
     Ok(opened.into_inner().reads().saturating_add(1))
 }
 
@@ -241,18 +243,22 @@ fn failed_once(
 }
 
 /// Whether the calls of a kind that a change of these bytes makes fail in turn as they may.
-fn fails_in_turn(alloc: Global, change: &Change, before: &[u8], kind: Kind) -> Result<bool, Error> {
-    let file = MemoryMedium::from_bytes(copied(alloc, before)?);
-    let old = opened(alloc, file, change.version, Strict)?;
+fn fails_in_turn(
+    alloc: Global,
+    change: &Change,
+    old: &MiniAllocator<MemoryMedium>,
+    kind: Kind,
+) -> Result<bool, Error> {
+    let before = old.inner().bytes();
     let opening = match kind {
-        Kind::Read => reads_of_opening(alloc, change.version, before)?,
+        Kind::Read => reads_of_opening(alloc, before)?,
         Kind::Write | Kind::Flush => 0,
     };
     let mut bytes = copied(alloc, before)?;
     for nth in 1..5000u64 {
         let file = MemoryMedium::from_bytes(bytes);
         let failing = Failing::once(file, kind, opening.saturating_add(nth));
-        let (outcome, after) = failed_once(alloc, change, &old, kind, failing)?;
+        let (outcome, after) = failed_once(alloc, change, old, kind, failing)?;
         match outcome {
             Outcome::Made => return Ok(true),
             Outcome::Wrong => return Ok(false),
@@ -279,14 +285,25 @@ fn changes_of(alloc: Global, rows: &[Row]) -> Result<Vec<Change>, Error> {
     Ok(changes)
 }
 
-/// Whether each call of each kind that a change of these bytes takes fails in turn as it may.
-fn fails_well(alloc: Global, change: &Change, before: &[u8]) -> Result<bool, Error> {
+/// Whether each call of each kind that a change of this file takes fails in turn as it may.
+fn fails_by_kinds(
+    alloc: Global,
+    change: &Change,
+    old: &MiniAllocator<MemoryMedium>,
+) -> Result<bool, Error> {
     for kind in [Kind::Read, Kind::Write, Kind::Flush] {
-        if !fails_in_turn(alloc, change, before, kind)? {
+        if !fails_in_turn(alloc, change, old, kind)? {
             return Ok(false);
         }
     }
     Ok(true)
+}
+
+/// The same, of the file of these bytes.
+fn fails_well(alloc: Global, change: &Change, before: &[u8]) -> Result<bool, Error> {
+    let file = MemoryMedium::from_bytes(copied(alloc, before)?);
+    let old = opened(alloc, file, Strict)?;
+    fails_by_kinds(alloc, change, &old)
 }
 
 /// The place of the first change that is wrong as calls fail, if there is one.
@@ -386,22 +403,33 @@ fn bytes_after(alloc: Global, change: &Change, before: &[u8]) -> Result<Vec<u8>,
     let file = MemoryMedium::from_bytes(copied(alloc, before)?);
     let mut mini = file_before(alloc, file, change)?;
     let answer = number_of_error(&asked(alloc, &mut mini, change.ask));
+    let bytes = mini.into_inner().into_bytes();
     if answer != change.answer {
         return Err(Error::Failed);
     }
-    Ok(mini.into_inner().into_bytes())
+    Ok(bytes)
+}
+
+/// The same in the file of the bytes before it, where the request after so many others is refused.
+fn refused_after(
+    alloc: Global,
+    change: &Change,
+    before: &[u8],
+    after: &[u8],
+    served: u64,
+) -> Result<Outcome, Error> {
+    let heap = Refusing::new(alloc);
+    let file = MemoryMedium::from_bytes(copied(alloc, before)?);
+    let mut mini = file_before(&heap, file, change)?;
+    heap.refuse_after(served);
+    refused_once(alloc, change, before, after, &mut mini)
 }
 
 /// Whether the requests for memory of a change are refused in turn as they may. One that is full before memory is asked for has none.
 fn is_refused_well(alloc: Global, change: &Change, before: &[u8]) -> Result<bool, Error> {
-    let heap = Refusing::new(alloc);
     let after = bytes_after(alloc, change, before)?;
     for served in 0..1000u64 {
-        heap.refuse_none();
-        let file = MemoryMedium::from_bytes(copied(alloc, before)?);
-        let mut mini = file_before(&heap, file, change)?;
-        heap.refuse_after(served);
-        match refused_once(alloc, change, before, &after, &mut mini)? {
+        match refused_after(alloc, change, before, &after, served)? {
             Outcome::Made => return Ok(served > 0 || change.answer == FULL),
             Outcome::Wrong => return Ok(false),
             Outcome::Refused => {}

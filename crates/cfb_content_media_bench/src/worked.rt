@@ -1,30 +1,20 @@
 //! The worked changes, in memory and over a medium that serves single bytes: the answers, the sizes, the contents; what a change leaves
 //! is sound, and a refused one changes nothing.
 use cfb_content_bench::asks::{Ask, asked_all, content_of, is_made_of, made, number_of_error};
-use cfb_content_bench::files::{copied, created, is_as_in, is_read_back, is_sound, opened};
 use cfb_content_bench::rows::{LONG, LONG_FROM, MINI, ROWS, Row, Sizes};
+use cfb_files_bench::files::{
+    copied, created, free_in, is_all_owned, is_as_in, is_read_back, is_sound, opened,
+};
 use cfb_format::consts::FREE_SECTOR;
 use cfb_format::error::Error;
 use cfb_format::medium::Medium;
 use cfb_format::memory::MemoryMedium;
-use cfb_format::objtype::ObjType;
 use cfb_format::validate::Validation::Strict;
 use cfb_format::version::Version;
 use cfb_media::media::Sip;
 use cfb_mini::mini_allocator::MiniAllocator;
 use std::alloc::Global;
 use std::test::Fail;
-
-/// How many numbers of a table are free.
-fn free_in(words: &[u32]) -> usize {
-    let mut free = 0usize;
-    for word in words {
-        if *word == FREE_SECTOR {
-            free = free.saturating_add(1);
-        }
-    }
-    free
-}
 
 fn sizes_of(mini: &MiniAllocator<MemoryMedium>) -> Sizes {
     [
@@ -74,42 +64,6 @@ fn has_clean_minis(mini: &MiniAllocator<MemoryMedium>) -> bool {
     true
 }
 
-/// How many sectors and mini sectors the streams have.
-fn used_by_streams(mini: &MiniAllocator<MemoryMedium>) -> (u64, u64) {
-    let sector_len = mini.version().sector_len() as u64;
-    let (mut sectors, mut mini_sectors) = (0u64, 0u64);
-    for entry in mini.entries() {
-        if entry.obj_type != ObjType::Stream {
-            continue;
-        }
-        if entry.stream_len < 4096 {
-            mini_sectors = mini_sectors.saturating_add(entry.stream_len.div_ceil(64));
-        } else {
-            sectors = sectors.saturating_add(entry.stream_len.div_ceil(sector_len));
-        }
-    }
-    (sectors, mini_sectors)
-}
-
-/// Whether as many sectors and mini sectors are in use as tables, directory, mini stream and streams have: each is free or owned then,
-/// since in a sound file none has two owners.
-fn is_all_owned(mini: &MiniAllocator<MemoryMedium>) -> bool {
-    let (sectors, mini_sectors) = used_by_streams(mini);
-    let fat = mini.allocator().fat();
-    let mut owned = sectors as usize;
-    for list in [
-        mini.allocator().fat_sectors(),
-        mini.allocator().difat_sectors(),
-        mini.directory().sectors(),
-        mini.minifat_sectors(),
-        mini.mini_stream().unwrap_or(&[]),
-    ] {
-        owned = owned.saturating_add(list.len());
-    }
-    fat.len().saturating_sub(free_in(fat)) == owned
-        && mini.minifat().len().saturating_sub(free_in(mini.minifat())) == mini_sectors as usize
-}
-
 /// Whether a row leaves what no stream owns: mini chains alone, or what a growth takes where there is no room for a byte.
 fn leaves_unowned(row: &Row) -> bool {
     for ask in row.asks {
@@ -139,7 +93,7 @@ fn fault_after(
     if !has_clean_minis(mini) {
         return Ok(Some("bytes in free mini sectors"));
     }
-    if !is_read_back(alloc, mini)? || !is_sound(alloc, mini)? {
+    if !is_read_back(alloc, mini)? || !is_sound(alloc, mini.inner().bytes())? {
         return Ok(Some("not as strict opening reads it, or not sound"));
     }
     if !leaves_unowned(row) && !is_all_owned(mini) {
@@ -168,11 +122,16 @@ fn fault_of(
     fault_after(alloc, mini, row, from)
 }
 
+/// The same, of a new file.
+fn fault_of_new(alloc: Global, row: &Row) -> Result<Option<&'static str>, Error> {
+    let mut mini = made(alloc, row.version, &[])?;
+    fault_of(alloc, &mut mini, row, 0)
+}
+
 /// The place of the first row that is wrong, with what is wrong, if there is one. Each has a new file.
 fn first_fault(alloc: Global, rows: &[Row]) -> Result<Option<(usize, &'static str)>, Error> {
     for at in 0..rows.len() {
-        let mut mini = made(alloc, rows[at].version, &[])?;
-        if let Some(fault) = fault_of(alloc, &mut mini, &rows[at], 0)? {
+        if let Some(fault) = fault_of_new(alloc, &rows[at])? {
             return Ok(Some((at, fault)));
         }
     }
@@ -186,27 +145,35 @@ fn rows_are_worked(rt: HostRuntime) -> Result<(), Fail> {
     Ok(())
 }
 
-/// The same with long rows, one behind the other in one file.
-fn first_long_fault(alloc: Global, rows: &[Row]) -> Result<Option<(usize, &'static str)>, Error> {
-    let mut mini = made(alloc, Version::V3, &[])?;
+/// The same with long rows, one behind the other in this file.
+fn first_long_fault(
+    alloc: Global,
+    mini: &mut MiniAllocator<MemoryMedium>,
+    rows: &[Row],
+) -> Result<Option<(usize, &'static str)>, Error> {
     for at in 0..rows.len() {
-        if let Some(fault) = fault_of(alloc, &mut mini, &rows[at], LONG_FROM)? {
+        if let Some(fault) = fault_of(alloc, mini, &rows[at], LONG_FROM)? {
             return Ok(Some((at, fault)));
         }
     }
     Ok(None)
 }
 
+fn long_fault(alloc: Global) -> Result<Option<(usize, &'static str)>, Error> {
+    let mut mini = made(alloc, Version::V3, &[])?;
+    first_long_fault(alloc, &mut mini, &LONG)
+}
+
 /// Up to the last sector that the header's FAT sectors have a word for, and past it.
 #[test]
 fn a_long_stream_is_worked(rt: HostRuntime) -> Result<(), Fail> {
-    assert_eq!(rt; first_long_fault(rt.alloc(), &LONG)?, None);
+    assert_eq!(rt; long_fault(rt.alloc())?, None);
     Ok(())
 }
 
 /// The medium after all that a row asks for, and the number of the last answer.
 fn worked<F: Medium>(alloc: Global, medium: F, row: &Row) -> Result<(F, u8), Error> {
-    let mut mini = opened(alloc, medium, row.version, Strict)?;
+    let mut mini = opened(alloc, medium, Strict)?;
     let answer = number_of_error(&asked_all(alloc, &mut mini, row.asks));
     Ok((mini.into_inner(), answer))
 }

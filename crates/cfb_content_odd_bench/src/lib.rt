@@ -1,5 +1,7 @@
-//! Tests of `cfb_mini` and `cfb_content` with files as other programs leave them.
+//! Tests of `cfb_mini` and `cfb_content`: files as other programs leave them, and which bytes a change writes.
 #![tactic(auto)]
 
+#[cfg(test)]
+mod counted;
 #[cfg(test)]
 mod odd;

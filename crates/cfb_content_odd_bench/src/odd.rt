@@ -3,7 +3,7 @@ use cfb_content_bench::asks::Ask::{self, Fill, Foreign, Grow, Make, Put, Resize}
 use cfb_content_bench::asks::{
     FILLED, FOREIGN, asked, asked_all, content_of, is_made_of, made, number_of_error,
 };
-use cfb_content_bench::files::{copied, is_read_back, is_sound, opened};
+use cfb_files_bench::files::{copied, is_read_back, is_sound, opened};
 use cfb_format::consts::END_OF_CHAIN as END;
 use cfb_format::error::Error;
 use cfb_format::medium::Medium;
@@ -36,7 +36,7 @@ fn is_well(
 ) -> Result<bool, Error> {
     Ok(
         has_content(alloc, mini, name, filled, zeros)?
-            && is_sound(alloc, mini)?
+            && is_sound(alloc, mini.inner().bytes())?
             && is_read_back(alloc, mini)?,
     )
 }
@@ -106,15 +106,15 @@ fn foreign_bytes_are_not_read(rt: HostRuntime) -> Result<(), Fail> {
     Ok(())
 }
 
-/// A file with 100 bytes in a stream, whose last sector, of the mini stream, is cut short.
-fn cut_file(alloc: Global, len: usize) -> Result<MiniAllocator<MemoryMedium>, Error> {
+/// The bytes of a file with 100 bytes in a stream, whose last sector, of the mini stream, is cut short.
+fn cut_bytes(alloc: Global, len: usize) -> Result<Vec<u8>, Error> {
     let mini = made(alloc, V3, &[Make("a"), Resize("a", 100), Fill("a")])?;
     let mut bytes = mini.into_inner().into_bytes();
     if bytes.len() != 2560 {
         return Err(Error::Failed);
     }
     bytes.truncate(len);
-    opened(alloc, MemoryMedium::from_bytes(bytes), V3, Strict)
+    Ok(bytes)
 }
 
 /// Lengths that the stream of a cut file gets in turn, how much of its content is left then, and how many sectors the file has.
@@ -148,7 +148,8 @@ fn is_cut_to(
 
 /// The first of the lengths at which the stream of a cut file is wrong, or the number of sectors that are wrong then, if there is one.
 fn wrong_in_cut_file(alloc: Global, len: usize, lengths: &Lengths) -> Result<Option<usize>, Error> {
-    let mut mini = cut_file(alloc, len)?;
+    let file = MemoryMedium::from_bytes(cut_bytes(alloc, len)?);
+    let mut mini = opened(alloc, file, Strict)?;
     if !is_well(alloc, &mut mini, "a", 100, 0)? {
         return Ok(Some(len));
     }
@@ -176,8 +177,7 @@ fn wrong_after(
 
 /// Whether the file is sound that is cut to this length.
 fn is_sound_when_cut(alloc: Global, len: usize) -> Result<bool, Error> {
-    let cut = cut_file(alloc, len)?;
-    is_sound(alloc, &cut)
+    is_sound(alloc, &cut_bytes(alloc, len)?)
 }
 
 /// A file that is cut short behind the stream's bytes, or behind its mini sectors, is sound, and stays so; one byte less, and it is not.
@@ -254,7 +254,7 @@ fn with_words(alloc: Global, asks: &[Ask], words: &[(u64, u32)]) -> Result<Memor
 fn wrong_call(alloc: Global, odd: &Odd) -> Result<Option<usize>, Error> {
     let file = with_words(alloc, odd.asks, odd.words)?;
     let before = copied(alloc, file.bytes())?;
-    let mut mini = opened(alloc, file, V3, Permissive)?;
+    let mut mini = opened(alloc, file, Permissive)?;
     Ok(wrong_ask(alloc, &mut mini, odd.refused, &before))
 }
 
@@ -304,7 +304,7 @@ const TABLES: [Table; 4] = [
 /// How many entries the MiniFAT has, or none where `InvalidData` comes.
 fn entries_read(alloc: Global, table: &Table, validation: Validation) -> Result<usize, Error> {
     let file = with_words(alloc, &SMALL, table.words)?;
-    match opened(alloc, file, V3, validation) {
+    match opened(alloc, file, validation) {
         Ok(mini) => Ok(mini.minifat().len()),
         Err(Error::InvalidData(_)) => Ok(0),
         Err(other) => Err(other),

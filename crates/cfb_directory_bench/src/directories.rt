@@ -4,11 +4,10 @@ ghost use Rattle.cfb_format.specs.Siblings.{entry_at};
 ghost use Rattle.cfb_outline.specs.Outlines.{IsReachedStorage};
 
 use crate::files::{allocator_of, created, entries_of};
-use cfb_codecs::direntry::DirEntry;
 use cfb_codecs::path::{CaseMapper, validate_name};
 use cfb_codecs::timestamp::Timestamp;
 use cfb_directory::directory::Directory;
-use cfb_entries_bench::directories::is_stream;
+use cfb_entries_bench::directories::{are_same_entries, is_stream};
 use cfb_format::consts::NO_STREAM;
 use cfb_format::error::{Detail, Error};
 use cfb_format::medium::Medium;
@@ -101,41 +100,12 @@ pub fn take<F: Medium, A: Heap + Clone>(
     directory.remove_dir_entry(parent, name)
 }
 
-/// Whether two entries are the same.
-fn is_same<A: Heap, B: Heap>(one: &DirEntry<A>, other: &DirEntry<B>) -> bool {
-    one.name.as_str() == other.name.as_str()
-        && one.obj_type == other.obj_type
-        && one.color == other.color
-        && one.left_sibling == other.left_sibling
-        && one.right_sibling == other.right_sibling
-        && one.child == other.child
-        && one.clsid == other.clsid
-        && one.state_bits == other.state_bits
-        && one.creation_time == other.creation_time
-        && one.modified_time == other.modified_time
-        && one.start_sector == other.start_sector
-        && one.stream_len == other.stream_len
-}
-
-/// Whether all entries are the same.
-fn are_same<A: Heap, B: Heap>(ours: &[DirEntry<A>], theirs: &[DirEntry<B>]) -> bool {
-    if ours.len() != theirs.len() {
-        return false;
-    }
-    for number in 0..ours.len() {
-        if !is_same(&ours[number], &theirs[number]) {
-            return false;
-        }
-    }
-    true
-}
-
 /// Whether two directories, their sectors and the tables are the same.
 fn is_like<F: Medium, A: Heap>(
     directory: &Directory<F, A>,
     other: &Directory<MemoryMedium>,
 ) -> bool {
-    are_same(directory.entries(), other.entries())
+    are_same_entries(directory.entries(), other.entries())
         && directory.sectors() == other.sectors()
         && directory.allocator().fat() == other.allocator().fat()
 }

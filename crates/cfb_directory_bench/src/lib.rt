@@ -1,11 +1,6 @@
-//! Tests of `cfb_directory`, in a crate beside it: a crate with tests of its own is proved twice.
+//! Files, directories and calls for the tests of `cfb_directory`, which stand in a crate beside.
 #![tactic(auto)]
 
-#[cfg(test)]
-mod breaks;
-#[cfg(test)]
-mod directories;
-#[cfg(test)]
-mod files;
-#[cfg(test)]
-mod rows;
+pub mod asks;
+pub mod directories;
+pub mod files;

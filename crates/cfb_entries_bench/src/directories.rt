@@ -55,6 +55,38 @@ pub fn is_stream<A: Allocator>(entries: &[DirEntry<A>], number: u32) -> bool
     }
 }
 
+/// Whether two entries are the same.
+fn is_same_entry<A: Allocator, B: Allocator>(one: &DirEntry<A>, other: &DirEntry<B>) -> bool {
+    one.name.as_str() == other.name.as_str()
+        && one.obj_type == other.obj_type
+        && one.color == other.color
+        && one.left_sibling == other.left_sibling
+        && one.right_sibling == other.right_sibling
+        && one.child == other.child
+        && one.clsid == other.clsid
+        && one.state_bits == other.state_bits
+        && one.creation_time == other.creation_time
+        && one.modified_time == other.modified_time
+        && one.start_sector == other.start_sector
+        && one.stream_len == other.stream_len
+}
+
+/// Whether all entries are the same.
+pub fn are_same_entries<A: Allocator, B: Allocator>(
+    ours: &[DirEntry<A>],
+    theirs: &[DirEntry<B>],
+) -> bool {
+    if ours.len() != theirs.len() {
+        return false;
+    }
+    for number in 0..ours.len() {
+        if !is_same_entry(&ours[number], &theirs[number]) {
+            return false;
+        }
+    }
+    true
+}
+
 /// All that is reached from the root, or with a place in that list, what is in the entry at it,
 /// which for a stream is nothing.
 pub fn listed<A: Allocator + Clone>(

@@ -1,9 +1,5 @@
-//! Tests of `cfb_mini_chains`: a crate beside it, because `rt ci` proves the tests of one crate in one job.
+//! Files, scripts and calls for the tests of `cfb_mini_chains`, which stand in a crate beside.
 #![tactic(auto)]
 
-#[cfg(test)]
-mod breaks;
-#[cfg(test)]
-mod files;
-#[cfg(test)]
-mod scripts;
+pub mod files;
+pub mod scripts;

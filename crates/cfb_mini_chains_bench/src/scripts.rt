@@ -1,14 +1,13 @@
 //! Mini chains that are read and written as lists of bytes, in memory and over a medium that serves single bytes.
-use crate::files::{ZEROS, created, fresh, number_of, opened, source};
+use crate::files::{ZEROS, fresh, number_of, source};
+use cfb_files_bench::files::copied;
 use cfb_format::consts::END_OF_CHAIN as END;
 use cfb_format::error::Error;
 use cfb_format::medium::Medium;
 use cfb_format::memory::MemoryMedium;
-use cfb_media::media::Sip;
 use cfb_mini::mini_allocator::MiniAllocator;
 use cfb_mini_chains::mini_chain::MiniChain;
 use std::alloc::{Allocator as Heap, Global};
-use std::test::Fail;
 
 /// What a mini chain is asked for.
 #[derive(Clone, Copy)]
@@ -61,7 +60,7 @@ const FILLED: &[Step] = &[
 
 /// The same mini chain, read again; the end may be gone to, and nothing past it.
 #[rattlefmt::skip]
-const READ: &[Step] = &[
+pub const READ: &[Step] = &[
     (Seek(0), 0, 0, &[0, 1, 2, 3], 0, &[(200, 0), (56, ZEROS)]),
     (Seek(257), 3, 0, &[0, 1, 2, 3], 0, &[(200, 0), (56, ZEROS)]),
     (Seek(256), 0, 0, &[0, 1, 2, 3], 256, &[(200, 0), (56, ZEROS)]),
@@ -209,7 +208,7 @@ fn right_steps<F: Medium, A: Heap>(
 }
 
 /// Takes these steps with the mini chain from `start`. Gives how many of them are right before the first that is wrong.
-fn taken<F: Medium, A: Heap + Clone>(
+pub fn taken<F: Medium, A: Heap + Clone>(
     alloc: Global,
     mini: &mut MiniAllocator<F, A>,
     start: u32,
@@ -228,9 +227,11 @@ pub type Script = &'static [(u32, &'static [Step])];
 /// Two mini chains, the second one of which leaves a mini sector in the mini stream's one sector.
 pub const BESIDE: Script = &[(END, WRITTEN), (END, FILLED)];
 
-const ALONE: Script = &[(END, WRITTEN), (0, READ), (0, CUT)];
+/// One that is written, read, cut, freed and written anew.
+pub const ALONE: Script = &[(END, WRITTEN), (0, READ), (0, CUT)];
 
-const TOGETHER: Script = &[
+/// Two, the first of which gives back what the second takes.
+pub const TOGETHER: Script = &[
     (END, FIRST),
     (END, SECOND),
     (0, FIRST_CUT),
@@ -258,7 +259,7 @@ fn parts_played<F: Medium>(
 }
 
 /// The number of the part of a script where something is wrong, and how many of its steps are right.
-fn played<F: Medium>(
+pub fn played<F: Medium>(
     alloc: Global,
     mini: &mut MiniAllocator<F>,
     script: Script,
@@ -277,89 +278,11 @@ fn bytes_played(
     if part != script.len() {
         return Err(Error::Failed);
     }
-    Ok(mini.inner().bytes().to_vec(alloc)?)
+    copied(alloc, mini.inner().bytes())
 }
 
 /// The bytes of the file that a script makes.
 pub fn made(alloc: Global, script: Script) -> Result<Vec<u8>, Error> {
     let mut mini = fresh(alloc)?;
     bytes_played(alloc, &mut mini, script)
-}
-
-/// What a script leaves: where it ends, the length of the mini stream and of the file, whether the file is the same where each call serves
-/// one byte, and how many mini sectors the file has when it is opened again.
-type Left = ((usize, usize), u64, usize, bool, usize);
-
-/// Whether a script leaves these bytes where each call serves one byte.
-fn is_same_in_sips(alloc: Global, script: Script, whole: &[u8]) -> Result<bool, Error> {
-    let sip = Sip::new(MemoryMedium::from_bytes(created(alloc)?));
-    let mut mini = opened(alloc, sip)?;
-    let right = played(alloc, &mut mini, script)?;
-    let sipped = mini.into_inner().into_inner();
-    Ok(right == (script.len(), 0) && sipped.bytes() == whole)
-}
-
-/// How many mini sectors the file of these bytes has.
-fn minis_of(alloc: Global, bytes: &[u8]) -> Result<usize, Error> {
-    let file = MemoryMedium::from_bytes(bytes.to_vec(alloc)?);
-    let again = opened(alloc, file)?;
-    Ok(again.minifat().len())
-}
-
-/// What a script leaves.
-fn left_in(
-    alloc: Global,
-    mini: &mut MiniAllocator<MemoryMedium>,
-    script: Script,
-) -> Result<Left, Error> {
-    let right = played(alloc, mini, script)?;
-    let whole = mini.inner().bytes();
-    let same = is_same_in_sips(alloc, script, whole)?;
-    let minis = minis_of(alloc, whole)?;
-    let stream_len = mini.root_dir_entry().stream_len;
-    Ok((right, stream_len, whole.len(), same, minis))
-}
-
-/// The same, of a file that was just made.
-fn left(alloc: Global, script: Script) -> Result<Left, Error> {
-    let mut mini = fresh(alloc)?;
-    left_in(alloc, &mut mini, script)
-}
-
-/// In memory, and where each call serves one byte. Each file is opened again, strictly.
-#[test]
-fn steps_are_taken(rt: HostRuntime) -> Result<(), Fail> {
-    for (script, minis) in [(ALONE, 2u64), (TOGETHER, 6u64)] {
-        let (right, stream_len, len, same, again) = left(rt.alloc(), script)?;
-        assert_eq!(rt; right, (script.len(), 0));
-        assert_eq!(rt; stream_len, minis.saturating_mul(64));
-        assert!(rt; same);
-        // The header, the FAT, the directory, the MiniFAT and the mini stream.
-        assert_eq!(rt; len, 5 * 512);
-        assert_eq!(rt; again as u64, minis);
-    }
-    Ok(())
-}
-
-/// How many steps are right as the mini chain from 0 is read in a file of these bytes, and whether a change is begun then.
-fn right_again(alloc: Global, file: Vec<u8>, bytes: &[u8]) -> Result<(usize, bool), Error> {
-    let mut again = opened(alloc, MemoryMedium::from_bytes(file))?;
-    let right = taken(alloc, &mut again, 0, READ, bytes)?;
-    Ok((right, again.begun()))
-}
-
-/// The same, of the file that a script makes.
-fn read_again(alloc: Global) -> Result<(usize, bool), Error> {
-    let bytes = source(alloc)?;
-    let file = made(alloc, BESIDE)?;
-    right_again(alloc, file, &bytes)
-}
-
-/// What was written is read from the file.
-#[test]
-fn a_mini_chain_is_read_again(rt: HostRuntime) -> Result<(), Fail> {
-    let (right, begun) = read_again(rt.alloc())?;
-    assert_eq!(rt; right, READ.len());
-    assert!(rt; !begun);
-    Ok(())
 }

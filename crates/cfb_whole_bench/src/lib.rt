@@ -3,5 +3,3 @@
 
 pub mod laws;
 pub mod whole;
-#[cfg(test)]
-mod worked;

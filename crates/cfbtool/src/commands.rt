@@ -107,6 +107,10 @@ fn check<H: Files + AllocGlobal, W: Write>(
     } else {
         CompoundFile::open(rt.alloc(), medium)?
     };
+    print_verdict(&file, out)
+}
+
+fn print_verdict<W: Write>(file: &CompoundFile<MemoryMedium>, out: &mut W) -> Result<bool, Error> {
     let number = file.version().number();
     let is_sound = file.is_sound();
     let verdict = if is_sound { "sound" } else { "not sound" };
@@ -171,13 +175,21 @@ fn cat<H: Files + AllocGlobal, W: Write>(
     stream: &str,
     out: &mut W,
 ) -> Result<(), Error> {
-    let medium = read_file(rt, path)?;
-    let mut file = CompoundFile::open(rt.alloc(), medium)?;
-    let content = read_stream(rt.alloc(), &mut file, stream)?;
+    let content = read_content(rt, path, stream)?;
     match out.write_all(content.as_slice()) {
         Ok(()) => Ok(()),
         Err(_) => Err(Error::Medium(MediumFault::Write)),
     }
+}
+
+fn read_content<H: Files + AllocGlobal>(
+    rt: &H,
+    path: &str,
+    stream: &str,
+) -> Result<Vec<u8>, Error> {
+    let medium = read_file(rt, path)?;
+    let mut file = CompoundFile::open(rt.alloc(), medium)?;
+    read_stream(rt.alloc(), &mut file, stream)
 }
 
 fn read_stream(

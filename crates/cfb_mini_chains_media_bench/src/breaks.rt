@@ -1,16 +1,18 @@
 //! Calls at mini chains that break off: each write, each flush and each read failing in turn, each request for memory refused in turn, and
 //! one sector too few.
-use crate::files::{number_of, opened, source};
-use crate::scripts::Call::{self, Free, SetLen, Write, WriteWithin, ZeroTail};
-use crate::scripts::{BESIDE, HELD, Script, asked, holds, made};
+use cfb_files_bench::files::{copied, is_as_in, opened};
 use cfb_format::consts::END_OF_CHAIN as END;
 use cfb_format::error::Error;
 use cfb_format::medium::Medium;
 use cfb_format::memory::MemoryMedium;
+use cfb_format::validate::Validation::Strict;
 use cfb_media::media::{Failing, Kind};
 use cfb_media::refusing::Refusing;
 use cfb_mini::mini_allocator::MiniAllocator;
 use cfb_mini_chains::mini_chain::MiniChain;
+use cfb_mini_chains_bench::files::{number_of, source};
+use cfb_mini_chains_bench::scripts::Call::{self, Free, SetLen, Write, WriteWithin, ZeroTail};
+use cfb_mini_chains_bench::scripts::{BESIDE, HELD, Script, asked, holds, made};
 use std::alloc::{Allocator as Heap, Global};
 use std::test::Fail;
 
@@ -172,11 +174,12 @@ fn broken(
     kind: Kind,
     nth: u64,
 ) -> Result<Broken, Error> {
-    let file = MemoryMedium::from_bytes(old.inner().bytes().to_vec(alloc)?);
-    let mut mini = opened(alloc, Failing::once(file, kind, nth))?;
+    let file = MemoryMedium::from_bytes(copied(alloc, old.inner().bytes())?);
+    let mut mini = opened(alloc, Failing::once(file, kind, nth), Strict)?;
     mini.set_max_sectors(change.limit);
-    let (answer, begun) = flushed(alloc, &mut mini, change, from)?;
+    let handed_on = flushed(alloc, &mut mini, change, from);
     let medium = mini.into_inner();
+    let (answer, begun) = handed_on?;
     let failures = medium.failures();
     let stay = all_stay(old, medium.into_inner().bytes(), change);
     Ok((answer, failures, begun, stay))
@@ -206,7 +209,7 @@ fn all_broken(
 fn broken_in_turn(alloc: Global, change: &Change, kind: Kind) -> Result<Option<bool>, Error> {
     let from = source(alloc)?;
     let file = MemoryMedium::from_bytes(made(alloc, change.made)?);
-    let old = opened(alloc, file)?;
+    let old = opened(alloc, file, Strict)?;
     all_broken(alloc, change, &old, &from, kind)
 }
 
@@ -223,30 +226,13 @@ fn writes_and_flushes_fail_in_turn(rt: HostRuntime) -> Result<(), Fail> {
     Ok(())
 }
 
-/// Whether the file's mini sectors are those of another one of these bytes, and no change was begun.
-fn is_like<A: Heap>(
-    mini: &MiniAllocator<MemoryMedium, A>,
-    other: &MiniAllocator<MemoryMedium>,
-    bytes: &[u8],
-) -> bool {
-    mini.minifat() == other.minifat()
-        && mini.minifat_sectors() == other.minifat_sectors()
-        && mini.mini_stream() == other.mini_stream()
-        && mini.allocator().fat() == other.allocator().fat()
-        && mini.root_dir_entry().stream_len == other.root_dir_entry().stream_len
-        && mini.inner().bytes() == bytes
-        && !mini.begun()
-}
-
-/// Whether the file's mini sectors are those of these bytes, and no change was begun.
-fn is_as_in<A: Heap>(
+/// Whether the file has just these bytes, memory is what they say, and no change was begun.
+fn is_untouched<A: Heap>(
     alloc: Global,
     mini: &MiniAllocator<MemoryMedium, A>,
     bytes: &[u8],
 ) -> Result<bool, Error> {
-    let file = MemoryMedium::from_bytes(bytes.to_vec(alloc)?);
-    let other = opened(alloc, file)?;
-    Ok(is_like(mini, &other, bytes))
+    Ok(!mini.begun() && is_as_in(alloc, mini, bytes)?)
 }
 
 /// The bytes of the file after a change, with all memory.
@@ -257,50 +243,67 @@ fn bytes_after(
     from: &[u8],
 ) -> Result<Vec<u8>, Error> {
     let heap = Refusing::new(alloc);
-    let file = MemoryMedium::from_bytes(before.to_vec(alloc)?);
-    let mut mini = opened(alloc, file)?;
+    let file = MemoryMedium::from_bytes(copied(alloc, before)?);
+    let mut mini = opened(alloc, file, Strict)?;
     mini.set_max_sectors(change.limit);
-    changed(&mut mini, change, from, &heap, MANY, false)?;
-    Ok(mini.into_inner().bytes().to_vec(alloc)?)
+    let answer = changed(&mut mini, change, from, &heap, MANY, false);
+    let bytes = mini.into_inner().into_bytes();
+    let _ = answer?;
+    Ok(bytes)
 }
 
-/// Has the heap refuse the request after so many others: the number of the refusal or 0, and whether all is as before. With bytes to come
-/// after it the change is asked for once more, and the file is to have them then.
-fn refused(
+/// A change in a file of the bytes before it, and those that it is to have after it.
+#[derive(Clone, Copy)]
+struct Refused<'a> {
+    change: &'a Change,
+    before: &'a [u8],
+    after: &'a [u8],
+    from: &'a [u8],
+}
+
+/// Has the heap refuse the request after so many others: the number of the refusal or 0, and whether all is as before. Where the change is
+/// asked for once more, `again`, the file is to have the bytes after it then.
+fn refused_in(
     alloc: Global,
-    change: &Change,
-    before: &[u8],
-    from: &[u8],
+    mini: &mut MiniAllocator<MemoryMedium, &Refusing<Global>>,
+    heap: &Refusing<Global>,
+    refused: &Refused<'_>,
     served: u64,
-    after: Option<&[u8]>,
+    again: bool,
 ) -> Result<(u8, bool), Error> {
-    let heap = Refusing::new(alloc);
-    let file = MemoryMedium::from_bytes(before.to_vec(alloc)?);
-    let mut mini = opened(&heap, file)?;
-    mini.set_max_sectors(change.limit);
-    let answer = changed(&mut mini, change, from, &heap, served, after.is_some())?;
-    let same = match after {
-        Some(after) => mini.inner().bytes() == after,
-        None => is_as_in(alloc, &mini, before)?,
+    let answer = changed(mini, refused.change, refused.from, heap, served, again)?;
+    let same = if again {
+        mini.inner().bytes() == refused.after
+    } else {
+        is_untouched(alloc, mini, refused.before)?
     };
     Ok((answer, same))
 }
 
-/// Whether a change asks for memory, with each request refused in turn then: `None` where an answer was wrong.
-fn all_refused(
+/// The same, of a new file.
+fn refused_once(
     alloc: Global,
-    change: &Change,
-    before: &[u8],
-    after: &[u8],
-    from: &[u8],
-) -> Result<Option<bool>, Error> {
+    refused: &Refused<'_>,
+    served: u64,
+    again: bool,
+) -> Result<(u8, bool), Error> {
+    let heap = Refusing::new(alloc);
+    let file = MemoryMedium::from_bytes(copied(alloc, refused.before)?);
+    let mut mini = opened(&heap, file, Strict)?;
+    mini.set_max_sectors(refused.change.limit);
+    refused_in(alloc, &mut mini, &heap, refused, served, again)
+}
+
+/// Whether a change asks for memory, with each request refused in turn then: `None` where an answer was wrong.
+fn all_refused(alloc: Global, refused: &Refused<'_>) -> Result<Option<bool>, Error> {
+    let wanted = refused.change.answer;
     for served in 0..MANY {
-        let (answer, same) = refused(alloc, change, before, from, served, None)?;
-        if answer == change.answer {
+        let (answer, same) = refused_once(alloc, refused, served, false)?;
+        if answer == wanted {
             return Ok(Some(served > 0));
         }
-        let (last, reached) = refused(alloc, change, before, from, served, Some(after))?;
-        if answer != MEMORY || !same || last != change.answer || !reached {
+        let (last, reached) = refused_once(alloc, refused, served, true)?;
+        if answer != MEMORY || !same || last != wanted || !reached {
             return Ok(None);
         }
     }
@@ -312,7 +315,13 @@ fn refused_in_turn(alloc: Global, change: &Change) -> Result<Option<bool>, Error
     let from = source(alloc)?;
     let before = made(alloc, change.made)?;
     let after = bytes_after(alloc, change, &before, &from)?;
-    all_refused(alloc, change, &before, &after, &from)
+    let refused = Refused {
+        change,
+        before: &before,
+        after: &after,
+        from: &from,
+    };
+    all_refused(alloc, &refused)
 }
 
 /// Nothing has changed where a request for memory is refused, and the same call then does what it does with all memory.
@@ -338,7 +347,7 @@ fn all_lending_refused(
         heap.refuse_after(served);
         let answer = number_of(&changed(mini, &NOTHING, &[], heap, MANY, false));
         let again = changed(mini, &NOTHING, &[], heap, MANY, false)?;
-        let lent = again == 0 && is_as_in(alloc, mini, before)?;
+        let lent = again == 0 && is_untouched(alloc, mini, before)?;
         if answer != MEMORY || !lent {
             return Ok((served, lent && answer == 0));
         }
@@ -349,9 +358,9 @@ fn all_lending_refused(
 /// The same, of a file with mini chains.
 fn lending_refused(alloc: Global) -> Result<(u64, bool), Error> {
     let before = made(alloc, BESIDE)?;
-    let file = MemoryMedium::from_bytes(before.to_vec(alloc)?);
+    let file = MemoryMedium::from_bytes(copied(alloc, &before)?);
     let heap = Refusing::new(alloc);
-    let mut mini = opened(&heap, file)?;
+    let mut mini = opened(&heap, file, Strict)?;
     all_lending_refused(alloc, &mut mini, &heap, &before)
 }
 
@@ -385,10 +394,11 @@ fn read_broken(
     from: &[u8],
     nth: u64,
 ) -> Result<(u8, u64, bool), Error> {
-    let file = MemoryMedium::from_bytes(before.to_vec(alloc)?);
-    let mut mini = opened(alloc, Failing::once(file, Kind::Read, nth))?;
-    let (first, again) = read_twice(alloc, &mut mini, from)?;
+    let file = MemoryMedium::from_bytes(copied(alloc, before)?);
+    let mut mini = opened(alloc, Failing::once(file, Kind::Read, nth), Strict)?;
+    let read = read_twice(alloc, &mut mini, from);
     let medium = mini.into_inner();
+    let (first, again) = read?;
     let failures = medium.failures();
     let same = medium.into_inner().bytes() == before;
     Ok((first, failures, again && same))

@@ -1,7 +1,7 @@
 //! Each word, each slot and each piece of a change is written by a call of its own, and nothing else is.
-use crate::asks::Ask::{self, Extend, Fill, Free, Make, Put, Resize};
-use crate::asks::{asked, made};
-use crate::files::{copied, opened};
+use cfb_content_bench::asks::Ask::{self, Extend, Fill, Free, Make, Put, Resize};
+use cfb_content_bench::asks::{asked, made};
+use cfb_files_bench::files::{copied, opened};
 use cfb_format::consts::END_OF_CHAIN as END;
 use cfb_format::error::Error;
 use cfb_format::memory::MemoryMedium;
@@ -53,9 +53,11 @@ fn writes_within(
     end: u64,
 ) -> Result<u64, Error> {
     let file = MemoryMedium::from_bytes(copied(alloc, before)?);
-    let mut mini = opened(alloc, Counting::within(file, start, end), V3, Strict)?;
-    asked(alloc, &mut mini, written.ask)?;
-    Ok(mini.into_inner().writes())
+    let mut mini = opened(alloc, Counting::within(file, start, end), Strict)?;
+    let answer = asked(alloc, &mut mini, written.ask);
+    let writes = mini.into_inner().writes();
+    answer?;
+    Ok(writes)
 }
 
 /// How many of the ranges have bytes of this one.

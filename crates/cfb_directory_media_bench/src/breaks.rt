@@ -1,9 +1,9 @@
 //! Changes of directories that break off: each write and each flush failing in turn, each request for memory refused in turn.
-use crate::directories::{agrees, fresh, opened};
-use crate::files::created;
-use crate::rows::Ask::{self, Storage, Stream, Take};
-use crate::rows::{asked, number_of_error};
 use cfb_directory::directory::Directory;
+use cfb_directory_bench::asks::Ask::{self, Storage, Stream, Take};
+use cfb_directory_bench::asks::{asked, number_of_error};
+use cfb_directory_bench::directories::{agrees, fresh, opened};
+use cfb_directory_bench::files::created;
 use cfb_format::consts::END_OF_CHAIN;
 use cfb_format::error::Error;
 use cfb_format::medium::{Medium, MediumFault};

@@ -1,8 +1,10 @@
 //! The worked changes of directories, in memory and over a medium that serves single bytes.
-use crate::directories::{agrees, fresh, opened, put, take};
-use crate::files::created;
 use cfb_codecs::timestamp::Timestamp;
 use cfb_directory::directory::Directory;
+use cfb_directory_bench::asks::Ask::{self, Storage, Stream, Take};
+use cfb_directory_bench::asks::{asked, number_of_error};
+use cfb_directory_bench::directories::{agrees, fresh, opened, put, take};
+use cfb_directory_bench::files::created;
 use cfb_entries::fields::Fields;
 use cfb_format::bytes::put as put_bytes;
 use cfb_format::color::Color::{self, Black, Red};
@@ -19,32 +21,6 @@ use cfb_sectors::sector::SectorInit;
 use std::alloc::{Allocator as Heap, Global};
 use std::test::Fail;
 use uuid::Uuid;
-
-/// What a directory is asked for: to put a storage or a stream into a storage, or to take something out.
-#[derive(Clone, Copy)]
-pub enum Ask {
-    Storage(&'static [&'static str], &'static str),
-    Stream(&'static [&'static str], &'static str),
-    Take(&'static [&'static str], &'static str),
-}
-
-use Ask::{Storage, Stream, Take};
-
-/// Asks, and answers the new entry's number, or 0.
-pub fn asked<F: Medium, A: Heap + Clone>(
-    alloc: Global,
-    directory: &mut Directory<F, A>,
-    ask: Ask,
-) -> Result<u32, Error> {
-    match ask {
-        Storage(names, name) => put(alloc, directory, names, name, false),
-        Stream(names, name) => put(alloc, directory, names, name, true),
-        Take(names, name) => {
-            take(directory, names, name)?;
-            Ok(0)
-        }
-    }
-}
 
 /// The number of an entry, its name, its colour, and its left sibling, right sibling and child.
 type Wanted = (u32, &'static str, Color, [u32; 3]);
@@ -407,14 +383,6 @@ fn fullness_is_exact(rt: HostRuntime) -> Result<(), Fail> {
         assert!(rt; answer == 0 || same);
     }
     Ok(())
-}
-
-/// The number of a refusal, or 0.
-pub fn number_of_error<T>(answer: &Result<T, Error>) -> u8 {
-    match answer {
-        Ok(_) => 0,
-        Err(error) => error.number(),
-    }
 }
 
 /// What the fields are in the slot then.
