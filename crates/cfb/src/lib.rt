@@ -36,6 +36,7 @@ pub mod internal {
     pub use cfb_codecs::direntry::DirEntry;
     pub use cfb_codecs::path::{self, CaseMapper};
     pub use cfb_codecs::timestamp::Timestamp;
+    pub use cfb_compound_file::stream::Stream;
     pub use cfb_content::listed::ListedChain;
     pub use cfb_content::writing::write_content;
     pub use cfb_directory::directory::Directory;
@@ -45,6 +46,9 @@ pub mod internal {
     pub use cfb_format::header::Header;
     pub use cfb_format::objtype::ObjType;
     pub use cfb_format::validate::Validation;
+    pub use cfb_format::version::Version;
+    pub use cfb_listing::entries::Entries;
+    pub use cfb_listing::entry::Entry;
     pub use cfb_listing::listing::EntriesOrder;
     pub use cfb_mini::mini_allocator::MiniAllocator;
     pub use cfb_mini_chains::mini_chain::MiniChain;

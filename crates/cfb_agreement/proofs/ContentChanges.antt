@@ -3,7 +3,7 @@ use Rattle.std.proofs.Common.{◌≡◌, ◌≢◌, ℕ, List, true, refl, sym, 
 use Rattle.std.specs.Prelude.{Contains, Some}
 use Rattle.cfb_format.specs.declared.objtype.ObjType.TheVariants.{Stream}
 use Rattle.cfb_format.specs.declared.validate.Validation.TheVariants.{Permissive}
-use Rattle.cfb_format.specs.DirectoryEntry.{Entry}
+use Rattle.cfb_format.specs.DirectoryEntry.{Entry, ButContent}
 use Rattle.cfb_format.specs.Names.{Cases}
 use Rattle.cfb_format.specs.Reading.{IsOutline, Outline, Reads, stream_numbers}
 use Rattle.cfb_format.specs.Siblings.{entry_at}
@@ -22,7 +22,6 @@ use Rattle.cfb_objects.specs.Objects.{tree_from}
 use Rattle.cfb_objects.proofs.Becoming.{tree-becomes}
 use Rattle.cfb_objects.proofs.Fields.{content-changes-in-place}
 use Rattle.cfb_mini_sectors.specs.State.{IsChangeable, bytes_of, cases_of, content_of, entries_of, reading_of}
-use Rattle.cfb_mini_sectors.specs.Steps.{ButContent}
 use Rattle.cfb_mini_sectors.proofs.HeldMini.{held-mini-is-read}
 use Rattle.cfb_content.specs.Contents.{IsStreamOf, KeepsOthers, MovesContent, len_of}
 use Rattle.cfb_content.proofs.Apart.{content-is}
@@ -117,10 +116,11 @@ but-fields a b e = record {
 }
 
 pub content-keeps-made : ContentKeepsMade
-content-keeps-made i old new limits moves stream made change used exact = record {
+content-keeps-made i old new limits moves stream made change used exact snug = record {
   changeable = change;
   used = used;
   exact = exact;
+  snug = snug;
   colored = λ o out.
       subst (λ (p : Outline). AreColored (entries_of new) p)
       (IsOutline-unique (cases_of new) (entries_of new) stream.outline o (moved-is-outline old new i stream.outline limits.cases moves stream.is) out)

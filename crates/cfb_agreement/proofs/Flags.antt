@@ -63,6 +63,9 @@ module _ (s : MiniState) (n : ℕ) (b : Bool) where
     changeable = changeable-flagged Strict m.changeable;
     used = record { sectors = m.used.sectors; mini_sectors = m.used.mini_sectors };
     exact = m.exact;
+    snug = λ k at.
+        let fits = m.snug k (record { outline = at.outline; is = at.is; reached = at.reached }) in
+        record { sectors = fits.sectors; mini_sectors = fits.mini_sectors };
     colored = m.colored;
   }
 

@@ -11,7 +11,7 @@ use Rattle.cfb_trees.specs.Colors.{AreColored}
 use Rattle.cfb_mini_sectors.specs.State.{IsChangeable, MiniState, bytes_of, cases_of, entries_of, parts_of, reading_of, table_of, tables_in, version_of}
 use Rattle.cfb_mini_sectors.specs.Steps.{KeepsLimits}
 use Rattle.cfb_mini.specs.MiniSectors.{IsStill}
-use Rattle.cfb_content.specs.Contents.{AreAllUsed, TellsPlaces}
+use Rattle.cfb_content.specs.Contents.{AreAllUsed, AreSnug, TellsPlaces}
 
 -- what the layers below keep, whether the file is sound, and for how many bytes the buffer of a stream may have room
 pub record FileState : Type 0 where
@@ -47,12 +47,13 @@ Agrees file = is_failed file ≡ false → Holds file
 -- ---- files that were made here
 
 -- what creation gives and each success keeps: the bytes are sound, and such as strict opening takes; each sector and each mini sector is
--- free or has an owner; the tables are as long as the file needs; and the siblings of each storage have a black top and no red one under a
--- red one
+-- free or has an owner; the tables are as long as the file needs, and each stream's chain as long as its length needs; and the siblings of
+-- each storage have a black top and no red one under a red one
 pub record IsAsMade (s : MiniState) : Type 0 where
   pub changeable : IsChangeable Strict s
   pub used : AreAllUsed s
   pub exact : AreExactTables (tables_in s)
+  pub snug : AreSnug s
   pub colored : (o : Outline) → IsOutline (cases_of s) (entries_of s) o → AreColored (entries_of s) o
 
 -- ---- what stays

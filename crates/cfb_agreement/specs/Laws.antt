@@ -15,7 +15,7 @@ use Rattle.cfb_objects.specs.Objects.{tree_from}
 use Rattle.cfb_mini_sectors.specs.Held.{with_table}
 use Rattle.cfb_mini_sectors.specs.State.{IsChangeable, MiniState, bytes_of, cases_of, content_of, entries_of, table_of, tables_in}
 use Rattle.cfb_mini_sectors.specs.Steps.{KeepsLimits}
-use Rattle.cfb_content.specs.Contents.{AreAllUsed, IsStreamOf, KeepsOthers, MovesContent}
+use Rattle.cfb_content.specs.Contents.{AreAllUsed, AreSnug, IsStreamOf, KeepsOthers, MovesContent}
 use Rattle.cfb_agreement.specs.Files.{FileState, Holds, IsAsBefore, IsAsMade, SameSetting, failures_of, is_failed}
 use Rattle.cfb_agreement.specs.Changes.{ChangesOneContent}
 
@@ -73,10 +73,10 @@ ContentBecomesTree = (old new : FileState) (i : ℕ) (o : Outline) (names : List
     → BecomesTree (cases_of old.base) (bytes_of old.base) (bytes_of new.base)
     (content_changed_at (cases_of old.base) (content_of new.base (entry_at (entries_of new.base) i)) names)
 
--- a file that was made here is so again, where the tables are in order: the colours are kept
+-- a file that was made here is so again, where the tables and the chains are in order: the colours are kept
 abbrev pub ContentKeepsMade : Type 0
 ContentKeepsMade = (i : ℕ) (old new : MiniState) → KeepsLimits old new → MovesContent old new i → IsStreamOf old i → IsAsMade old
-    → IsChangeable Strict new → AreAllUsed new → AreExactTables (tables_in new) → IsAsMade new
+    → IsChangeable Strict new → AreAllUsed new → AreExactTables (tables_in new) → AreSnug new → IsAsMade new
 
 -- the entry is a stream's still
 abbrev pub ContentKeepsStream : Type 0

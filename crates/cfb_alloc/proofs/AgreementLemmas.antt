@@ -12,7 +12,7 @@ use Rattle.cfb_format.specs.Bytes.{sector_len, sector_count, words_per_sector, i
 use Rattle.cfb_format.specs.Chain.{value}
 use Rattle.cfb_format.specs.Fat.{fat_of, fat_value, raw_fat, fat_words, fat_padding, is_among, is_fat_padding, ended_past_file, IsFat, HasDistinctPointers}
 use Rattle.cfb_sectors.specs.Words.{with_word}
-use Rattle.cfb_alloc.specs.Agreement.{word_home, word_of, AgreesBut, Agrees, HasSectors, KeepsSectors}
+use Rattle.cfb_alloc.specs.Agreement.{word_home, word_of, AgreesBut, WordsAgree, HasSectors, KeepsSectors}
 use Rattle.cfb_tables.specs.Changes.{PointsWithin}
 use Rattle.cfb_alloc.proofs.Listed.{not_in_nil, in_cons, among-Contains, among-not, joined_distinct}
 use Rattle.cfb_sectors.proofs.WordLemmas.{word_with_word, length-with_word}
@@ -27,7 +27,7 @@ within-stays n w h = go (is_regular w) refl
     go false r = refl
     go true r = ap (λ b. if b then end_of_chain else w) (lt-leb n w (h r))
 
-pub agreeing_read : (version : Version) (bytes list own table : List ℕ) → Agrees version bytes list own table → fat_of version bytes list own ≡ table
+pub agreeing_read : (version : Version) (bytes list own table : List ℕ) → WordsAgree version bytes list own table → fat_of version bytes list own ≡ table
 unfolding fat_of
 agreeing_read version bytes list own table a =
     let len : length (map (fat_value (sector_count version bytes) list own (raw_fat version bytes list)) (range_with_len 0 (sector_count version bytes))) ≡ sector_count version bytes =
@@ -53,7 +53,7 @@ pub every : (p : ℕ → Bool) (xs : List ℕ) → ((i : ℕ) → i < length xs 
 every p [] h = refl
 every p (x ∷ xs) h = (λ j. h 0 (omega arith) j && list_all p xs) ∙ every p xs (λ i lt. h (suc i) (omega arith))
 
-pub agreeing_fat : (version : Version) (bytes list own table : List ℕ) → Agrees version bytes list own table
+pub agreeing_fat : (version : Version) (bytes list own table : List ℕ) → WordsAgree version bytes list own table
     → list_all (λ word. not (word == invalid_sector)) table ≡ true → HasDistinctPointers table → IsFat version bytes list own table
 agreeing_fat version bytes list own table a marks pointers = record {
   values = sym (agreeing_read version bytes list own table a);

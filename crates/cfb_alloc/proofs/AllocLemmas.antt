@@ -3,7 +3,7 @@ use Rattle.std.proofs.Common.{refl, inl, inr, ◌≡◌, ◌≢◌, ◌⊎◌, �
 use Rattle.std.specs.Prelude.{Contains, if◌then◌else◌}
 use Rattle.std.proofs.lemmas.List.Elements.{Contains-append_left, Contains-append_right, Contains-append_cases}
 use Rattle.cfb_format.specs.declared.error.Error.{Error}
-use Rattle.cfb_format.specs.declared.error.Error.TheVariants.{NotFound, AlreadyExists, InvalidInput, InvalidData, Medium, Memory, Full, Unsound, Failed, Unsupported}
+use Rattle.cfb_format.specs.declared.error.Error.TheVariants.{NotFound, AlreadyExists, InvalidInput, InvalidData, Medium, Memory, Full, Unsound, Failed}
 use Rattle.cfb_format.specs.declared.version.Version.{Version}
 use Rattle.cfb_format.specs.Bytes.{end_of_chain, free_sector}
 use Rattle.cfb_format.specs.Chain.{value, IsChain}
@@ -31,7 +31,6 @@ refused_changed invalid memory full medium (InvalidInput d) r = absurd r
 refused_changed invalid memory full medium (Medium f) r = absurd r
 refused_changed invalid memory full medium Unsound r = absurd r
 refused_changed invalid memory full medium Failed r = absurd r
-refused_changed invalid memory full medium Unsupported r = absurd r
 
 -- a refusal that says less of invalid data
 pub refused-less : (P Q memory full medium : Type 0) → (P → Q) → (e : Error) → ChangeRefused P memory full medium e → ChangeRefused Q memory full medium e
@@ -44,7 +43,6 @@ refused-less P Q memory full medium f Memory h = h
 refused-less P Q memory full medium f Full h = h
 refused-less P Q memory full medium f Unsound h = h
 refused-less P Q memory full medium f Failed h = h
-refused-less P Q memory full medium f Unsupported h = h
 
 -- a sector with no next one does not end a chain
 pub next_refused : (invalid memory full medium : Type 0) (table : List ℕ) (i : ℕ) (e : Error) → NextRefused table i e
@@ -59,7 +57,6 @@ next_refused invalid memory full medium table i (InvalidInput d) r = absurd r
 next_refused invalid memory full medium table i (Medium f) r = absurd r
 next_refused invalid memory full medium table i Unsound r = absurd r
 next_refused invalid memory full medium table i Failed r = absurd r
-next_refused invalid memory full medium table i Unsupported r = absurd r
 
 -- the medium failed while sectors that were taken were written
 pub broke_off : (touched more : List ℕ) (old new : AllocatorState) (e : Error) → IsMediumError e → new.file.begun ≡ true → HasTaken old.tables new.tables touched more
@@ -73,7 +70,6 @@ broke_off touched more old new Memory is begun taken = absurd (omega (arith, is)
 broke_off touched more old new Full is begun taken = absurd (omega (arith, is))
 broke_off touched more old new Unsound is begun taken = absurd (omega (arith, is))
 broke_off touched more old new Failed is begun taken = absurd (omega (arith, is))
-broke_off touched more old new Unsupported is begun taken = absurd (omega (arith, is))
 
 -- a sector that goes on is the last member so far
 pub ending_other : (last : ℕ) → last ≢ end_of_chain → ending last ≡ last ∷ []

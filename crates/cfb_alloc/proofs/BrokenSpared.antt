@@ -1,7 +1,7 @@
 -- What changes spared that broke off.
 use Rattle.std.proofs.Common.{◌≡◌, ℕ, List, ◌++◌, sym, subst}
 use Rattle.cfb_format.specs.declared.error.Error.{Error}
-use Rattle.cfb_format.specs.declared.error.Error.TheVariants.{NotFound, AlreadyExists, InvalidInput, InvalidData, Medium, Memory, Full, Unsound, Failed, Unsupported}
+use Rattle.cfb_format.specs.declared.error.Error.TheVariants.{NotFound, AlreadyExists, InvalidInput, InvalidData, Medium, Memory, Full, Unsound, Failed}
 use Rattle.cfb_format.specs.Refused.{AfterMedium}
 use Rattle.cfb_format.proofs.Unique.{IsChain-unique}
 use Rattle.cfb_alloc.specs.Alloc.{AllocatorState}
@@ -19,7 +19,6 @@ after_any broken kept goal Memory r b k = k r
 after_any broken kept goal Full r b k = k r
 after_any broken kept goal Unsound r b k = k r
 after_any broken kept goal Failed r b k = k r
-after_any broken kept goal Unsupported r b k = k r
 
 -- where nothing changed
 spares_same : (own : List ℕ) (old new : AllocatorState) → new ≡ old → Spares own old new

@@ -6,7 +6,7 @@ use Rattle.std.proofs.lemmas.List.Elements.{Contains-get_or}
 use Rattle.std.proofs.lemmas.Map.Steps.{length-le_from_distinct_below}
 use Rattle.std.proofs.lemmas.Map.Views.{exact_unsigned_eq}
 use Rattle.cfb_format.specs.declared.error.Error.{Error}
-use Rattle.cfb_format.specs.declared.error.Error.TheVariants.{NotFound, AlreadyExists, InvalidInput, InvalidData, Medium, Memory, Full, Unsound, Failed, Unsupported}
+use Rattle.cfb_format.specs.declared.error.Error.TheVariants.{NotFound, AlreadyExists, InvalidInput, InvalidData, Medium, Memory, Full, Unsound, Failed}
 use Rattle.cfb_format.specs.declared.version.Version.{Version}
 use Rattle.cfb_format.specs.declared.version.Version.TheVariants.{V3, V4}
 use Rattle.cfb_format.specs.Bytes.{sector_len, max_regular_sector, end_of_chain}
@@ -64,7 +64,6 @@ only_first first second memory full medium never (AlreadyExists d) r = absurd r
 only_first first second memory full medium never (InvalidInput d) r = absurd r
 only_first first second memory full medium never Unsound r = absurd r
 only_first first second memory full medium never Failed r = absurd r
-only_first first second memory full medium never Unsupported r = absurd r
 
 pub some_chain : (table : List ℕ) (s : ℕ) (ids : List ℕ) → chain_from table s ≡ Some ids → NoChain table s → ⊥
 some_chain table s ids e none = none ids (found_chain table s ids e)

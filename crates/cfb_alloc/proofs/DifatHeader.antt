@@ -19,7 +19,7 @@ use Rattle.cfb_format.proofs.HeaderDifat.{word-there}
 use Rattle.cfb_format.proofs.HeaderStart.{u16-same, header_at_start}
 use Rattle.cfb_format.proofs.Words.{words-length, four-words}
 use Rattle.cfb_alloc.specs.Difat.{header_place}
-use Rattle.cfb_sectors.specs.Words.{with_word, Stays}
+use Rattle.cfb_sectors.specs.Words.{with_word, RangeStays}
 use Rattle.cfb_alloc.proofs.DifatEntries.{is_free}
 use Rattle.cfb_alloc.proofs.DifatWords.{same_sector_words}
 use Rattle.cfb_sectors.proofs.WordLemmas.{word_with_word_apart, length-with_word}
@@ -135,7 +135,7 @@ header_on a b h fats first difats entries is long same fats_is first_is difats_i
 }
 
 -- the header stays where its bytes do
-pub header_stays : (a b : List ℕ) (h : Header) → 512 ≤ length a → Stays 0 512 a b → IsHeader a h → IsHeader b h
+pub header_stays : (a b : List ℕ) (h : Header) → 512 ≤ length a → RangeStays 0 512 a b → IsHeader a h → IsHeader b h
 header_stays a b h long stays is =
     let longer = stays.no_shorter in
     let same : take 512 b ≡ take 512 a = same_start 512 a b long longer (λ i low. stays.each i (omega (arith, low, long)) (omega arith) low) in

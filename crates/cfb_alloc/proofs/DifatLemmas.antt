@@ -18,7 +18,7 @@ use Rattle.cfb_format.specs.Fat.{IsDifat, IsStrictDifat, difat_entries, next_dif
 use Rattle.cfb_format.proofs.Words.{sector_words-length, whole-end}
 use Rattle.cfb_alloc.specs.Agreement.{KeepsSectors}
 use Rattle.cfb_alloc.specs.Difat.{ListsTables, difat_places, header_place, listed_in_header, listed_in_sector}
-use Rattle.cfb_sectors.specs.Words.{Stays, with_word}
+use Rattle.cfb_sectors.specs.Words.{RangeStays, with_word}
 use Rattle.cfb_alloc.proofs.DifatEntries.{is_free, Fills, kept, filled_of, fills_is, set_fills, set_ends, unpadded_end, end_unpadded}
 use Rattle.cfb_alloc.proofs.DifatHeader.{Within, within_word, within_if, within_words, SameFields, count_changed, later_changed, then_changed, with_lists, header_on, header_stays, stored_short, stored_same, stored_more, padded_more, length-padded, all_push}
 use Rattle.cfb_alloc.proofs.DifatWalk.{all_same, flat_same, flat_len, flat_set, whole_on, member_whole, lists_numbers, follows_on}
@@ -58,7 +58,7 @@ past_header V4 i = omega arith
 -- ---- what stays
 
 stays_in : (validation : Validation) (a b list own : List ℕ) (h : Header) → IsHeader a h → IsDifat a h list own → IfStrict validation (IsStrictDifat a h list own)
-    → 512 ≤ length a → Stays 0 512 a b → KeepsSectors h.version own a b → ListsTables validation h.version b list own
+    → 512 ≤ length a → RangeStays 0 512 a b → KeepsSectors h.version own a b → ListsTables validation h.version b list own
 stays_in validation a b list own h is d s long stays keeps =
     let v = h.version in
     let words : (i : ℕ) → Contains own i → sector_words v b i ≡ sector_words v a i = λ i m.
@@ -87,9 +87,9 @@ stays_in validation a b list own h is d s long stays keeps =
     }
 
 pub listing_stays : (validation : Validation) (version : Version) (bytes bytes' list own : List ℕ) → ListsTables validation version bytes list own
-    → 512 ≤ length bytes → Stays 0 512 bytes bytes' → KeepsSectors version own bytes bytes' → ListsTables validation version bytes' list own
+    → 512 ≤ length bytes → RangeStays 0 512 bytes bytes' → KeepsSectors version own bytes bytes' → ListsTables validation version bytes' list own
 listing_stays validation version bytes bytes' list own l =
-    subst (λ v. 512 ≤ length bytes → Stays 0 512 bytes bytes' → KeepsSectors v own bytes bytes' → ListsTables validation v bytes' list own) l.same_version
+    subst (λ v. 512 ≤ length bytes → RangeStays 0 512 bytes bytes' → KeepsSectors v own bytes bytes' → ListsTables validation v bytes' list own) l.same_version
     (stays_in validation bytes bytes' list own l.header l.is_header l.difat l.strict)
 
 -- ---- a FAT sector more is listed

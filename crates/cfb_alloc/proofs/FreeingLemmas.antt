@@ -5,7 +5,7 @@ use Rattle.std.proofs.lemmas.List.{get_or_past}
 use Rattle.std.proofs.lemmas.List.Elements.{Contains-append_left, Contains-append_right, Contains-append_cases}
 use Rattle.std.proofs.lemmas.Bool.{cases_lt}
 use Rattle.cfb_format.specs.declared.error.Error.{Error}
-use Rattle.cfb_format.specs.declared.error.Error.TheVariants.{NotFound, AlreadyExists, InvalidInput, InvalidData, Medium, Memory, Full, Unsound, Failed, Unsupported}
+use Rattle.cfb_format.specs.declared.error.Error.TheVariants.{NotFound, AlreadyExists, InvalidInput, InvalidData, Medium, Memory, Full, Unsound, Failed}
 use Rattle.cfb_format.specs.declared.validate.Validation.{Validation}
 use Rattle.cfb_format.specs.declared.version.Version.{Version}
 use Rattle.cfb_format.specs.Bytes.{end_of_chain, max_regular_sector, fat_sector, difat_sector}
@@ -52,7 +52,6 @@ invalid_changed why invalid memory full medium (InvalidInput d) f r = absurd r
 invalid_changed why invalid memory full medium (Medium m) f r = absurd r
 invalid_changed why invalid memory full medium Unsound f r = absurd r
 invalid_changed why invalid memory full medium Failed f r = absurd r
-invalid_changed why invalid memory full medium Unsupported f r = absurd r
 
 pub breaks_by_medium : (made : TableState → TableState → Type 0) (old new : AllocatorState) (e : Error) → IsMediumError e → new.file.begun ≡ true → made old.tables new.tables
     → BreaksOff made old new e
@@ -65,7 +64,6 @@ breaks_by_medium made old new (AlreadyExists d) is begun m = absurd (omega (arit
 breaks_by_medium made old new (InvalidInput d) is begun m = absurd (omega (arith, is))
 breaks_by_medium made old new Unsound is begun m = absurd (omega (arith, is))
 breaks_by_medium made old new Failed is begun m = absurd (omega (arith, is))
-breaks_by_medium made old new Unsupported is begun m = absurd (omega (arith, is))
 
 -- a change that the medium alone can refuse broke off when it was begun and made in memory
 pub breaks_back : {T : Type 0} (r : Result T Error) (made : TableState → TableState → Type 0) (old new : AllocatorState) → IfErr r IsMediumError

@@ -15,7 +15,7 @@ use Rattle.cfb_format.proofs.Words.{whole-end}
 use Rattle.cfb_sectors.specs.declared.sector.SectorInit.{SectorInit}
 use Rattle.cfb_sectors.specs.declared.sector.SectorInit.TheVariants.{Zero, Fat, Difat, Dir}
 use Rattle.cfb_format.specs.DirectoryEntry.{entry_bytes}
-use Rattle.cfb_sectors.specs.Words.{with_word, Stays}
+use Rattle.cfb_sectors.specs.Words.{with_word, RangeStays}
 use Rattle.cfb_sectors.specs.Sectors.{SectorFile, SectorStays, init_bytes}
 use Rattle.cfb_alloc.specs.Agreement.{AgreesBut, IsStrictBut, HasSectors, word_home}
 use Rattle.cfb_alloc.specs.Difat.{ListsTables, ListingStays, FreshFatWords, FreshDifatWords}
@@ -143,7 +143,7 @@ pub filled_whole : (v : Version) (init : SectorInit) (bytes : List ℕ) (i : ℕ
 filled_whole v init bytes i f = le-leb (sector_start v i + sector_len v) (length bytes) f.whole
 
 -- what is listed stays while a sector is filled that is no DIFAT sector
-pub listed_fill : ListingStays → (validation : Validation) (v : Version) (a b list own : List ℕ) (touched : List ℕ) → 512 ≤ length a → Stays 0 512 a b → ChangesSectors touched v a b
+pub listed_fill : ListingStays → (validation : Validation) (v : Version) (a b list own : List ℕ) (touched : List ℕ) → 512 ≤ length a → RangeStays 0 512 a b → ChangesSectors touched v a b
     → ((i : ℕ) → Contains own i → Contains touched i → ⊥) → ListsTables validation v a list own → ListsTables validation v b list own
 listed_fill stays validation v a b list own touched long front change apart l =
     stays validation v a b list own l long front (λ i m. change.sectors i (apart i m))

@@ -20,7 +20,7 @@ use Rattle.cfb_format.specs.Reading.{Reading, Reads, root_entry}
 use Rattle.cfb_format.specs.Siblings.{entry_at}
 use Rattle.cfb_format.specs.Soundness.{IsSound, used_sectors, sectors_of, mini_stream_sectors, large_streams}
 use Rattle.cfb_format.proofs.Chains.{chain_from-IsChain}
-use Rattle.cfb_alloc.specs.Agreement.{word_of, Agrees, IsStrictBut}
+use Rattle.cfb_alloc.specs.Agreement.{word_of, WordsAgree, IsStrictBut}
 use Rattle.cfb_alloc.specs.Alloc.{AllocatorState, HoldsTables}
 use Rattle.cfb_tables.specs.Changes.{AreDisjoint}
 use Rattle.cfb_tables.specs.Clean.{IsClean}
@@ -182,7 +182,7 @@ module _ (cases : Cases) (bytes : List ℕ) (r : Reading) (reads : Reads cases b
     marks = reads.fat.marks;
   }
 
-  sound-agrees : Agrees v bytes r.fat_sectors r.difat_sectors r.fat
+  sound-agrees : WordsAgree v bytes r.fat_sectors r.difat_sectors r.fat
   sound-agrees =
       let is = reads.fat.values in
       let size = len in
@@ -239,7 +239,7 @@ held validation cases bytes r a reads sound strict strict_fat eb el ev ef es eo 
   holds = record {
     measured = el ∙ sym (ap length eb);
     listed = move (λ v b l o f. ListsTables validation v b l o) listed;
-    agrees = move Agrees (sound-agrees cases bytes r reads sound);
+    agrees = move WordsAgree (sound-agrees cases bytes r reads sound);
     strict = move (λ v b l o f. IfStrict validation (IsStrictBut [] v b l f))
         (if_strict validation (IsStrictFat r.header.version bytes r.fat_sectors r.difat_sectors) (IsStrictBut [] r.header.version bytes r.fat_sectors r.fat)
         (strict_from r.header.version bytes r.fat_sectors r.difat_sectors r.fat (sound-agrees cases bytes r reads sound)) strict_fat);

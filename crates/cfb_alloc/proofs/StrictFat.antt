@@ -8,7 +8,7 @@ use Rattle.std.proofs.lemmas.List.Elements.{Contains-get_or}
 use Rattle.cfb_format.specs.declared.version.Version.{Version}
 use Rattle.cfb_format.specs.Bytes.{sector_count, words_per_sector, points_below, is_regular, free_sector, fat_sector, difat_sector}
 use Rattle.cfb_format.specs.Fat.{raw_fat, fat_words, fat_padding, IsStrictFat}
-use Rattle.cfb_alloc.specs.Agreement.{word_of, Agrees, IsStrictBut}
+use Rattle.cfb_alloc.specs.Agreement.{word_of, WordsAgree, IsStrictBut}
 use Rattle.cfb_tables.specs.Changes.{AreDisjoint}
 use Rattle.cfb_alloc.proofs.AgreementLemmas.{every}
 use Rattle.cfb_alloc.proofs.HeldLemmas.{every_member}
@@ -36,7 +36,7 @@ padding_at version bytes list i lt =
     let below : sector_count version bytes + i < length list * words_per_sector version = omega (arith, lt, all, dl) in
     (below, get_or-drop (sector_count version bytes) (fat_words version bytes list) i 0 ∙ fat_words-at version bytes list (sector_count version bytes + i) 0 below)
 
-module _ (version : Version) (bytes list own table : List ℕ) (a : Agrees version bytes list own table) where
+module _ (version : Version) (bytes list own table : List ℕ) (a : WordsAgree version bytes list own table) where
   in_raw : (i : ℕ) → i < length table → slice_index_or (raw_fat version bytes list) i free_sector ≡ word_of version bytes list i
   in_raw i lt =
       let below : i < sector_count version bytes = let c = a.count in omega (arith, lt, c) in

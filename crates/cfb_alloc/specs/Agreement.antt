@@ -36,8 +36,8 @@ pub record IsStrictBut (late : List ℕ) (version : Version) (bytes list table :
   pub padding : (i : ℕ) → length table ≤ i → i < length list * words_per_sector version → word_of version bytes list i ≡ free_sector
 
 -- they hold it
-abbrev pub Agrees : Version → List ℕ → List ℕ → List ℕ → List ℕ → Type 0
-Agrees = AgreesBut []
+abbrev pub WordsAgree : Version → List ℕ → List ℕ → List ℕ → List ℕ → Type 0
+WordsAgree = AgreesBut []
 
 -- the file has all of these sectors
 abbrev pub HasSectors : Version → List ℕ → List ℕ → Type 0
@@ -56,11 +56,11 @@ WordsAtHome = (version : Version) (bytes list : List ℕ) (i : ℕ) → i < sect
 
 -- a table that agrees with the bytes is the FAT that opening reads
 abbrev pub AgreeingIsRead : Type 0
-AgreeingIsRead = (version : Version) (bytes list own table : List ℕ) → Agrees version bytes list own table → fat_of version bytes list own ≡ table
+AgreeingIsRead = (version : Version) (bytes list own table : List ℕ) → WordsAgree version bytes list own table → fat_of version bytes list own ≡ table
 
 -- and the file's FAT, if the mark that is refused isn't in it and no pointer stands twice
 abbrev pub AgreeingIsFat : Type 0
-AgreeingIsFat = (version : Version) (bytes list own table : List ℕ) → Agrees version bytes list own table
+AgreeingIsFat = (version : Version) (bytes list own table : List ℕ) → WordsAgree version bytes list own table
     → list_all (λ word. not (word == invalid_sector)) table ≡ true → HasDistinctPointers table → IsFat version bytes list own table
 
 -- a late word is written

@@ -8,7 +8,7 @@ use Rattle.cfb_format.specs.Header.{IsHeader, IfStrict, header_difat_len}
 use Rattle.cfb_format.specs.Fat.{IsDifat, IsStrictDifat}
 use Rattle.cfb_format.specs.Medium.{written}
 use Rattle.cfb_sectors.specs.declared.sector.SectorInit.TheVariants.{Fat, Difat}
-use Rattle.cfb_sectors.specs.Words.{Stays, with_word}
+use Rattle.cfb_sectors.specs.Words.{RangeStays, with_word}
 use Rattle.cfb_sectors.specs.Sectors.{init_bytes}
 use Rattle.cfb_alloc.specs.Agreement.{KeepsSectors}
 
@@ -58,7 +58,7 @@ linked version bytes own sector = with_word (with_word bytes (link_place version
 -- what is listed stays where header and DIFAT sectors stay and the file gets no shorter
 abbrev pub ListingStays : Type 0
 ListingStays = (validation : Validation) (version : Version) (bytes bytes' list own : List ℕ) → ListsTables validation version bytes list own
-    → 512 ≤ length bytes → Stays 0 512 bytes bytes' → KeepsSectors version own bytes bytes' → ListsTables validation version bytes' list own
+    → 512 ≤ length bytes → RangeStays 0 512 bytes bytes' → KeepsSectors version own bytes bytes' → ListsTables validation version bytes' list own
 
 -- a FAT sector is listed in the header
 abbrev pub ListedInHeader : Type 0

@@ -89,12 +89,14 @@ impl<F: ReadMedium, A: Heap + Clone> Allocator<F, A> {
         validation: Validation,
     ) -> Result<Allocator<F, A>, Error>
         ensures file { IfOk result (λ a. a.file ≡ sectors) }
-        ensures tables { IfOk result (λ a. a.tables ≡ tables_of sectors.version max_regular_sector a.tables.fat fat_sectors.items difat_sectors.items) }
-        ensures fat { IfOk result (λ a. AcceptsFat validation sectors.num_sectors words.items fat_sectors.items difat_sectors.items a.tables.fat) }
+        ensures tables { IfOk result (λ a. a.tables ≡ tables_of
+            sectors.version max_regular_sector a.tables.fat fat_sectors.items difat_sectors.items) }
+        ensures fat { IfOk result (λ a. AcceptsFat validation
+            sectors.num_sectors words.items fat_sectors.items difat_sectors.items a.tables.fat) }
         ensures err { IfErr result (TableRefused
             (AreListed sectors.version sectors.num_sectors fat_sectors.items difat_sectors.items
-            → AcceptsNoFat validation sectors.num_sectors words.items fat_sectors.items difat_sectors.items)
-            Unit ⊥) }
+            → AcceptsNoFat validation
+            sectors.num_sectors words.items fat_sectors.items difat_sectors.items) Unit ⊥) }
     {
         let count = sectors.num_sectors();
         let version = sectors.version();
@@ -122,7 +124,8 @@ impl<F: ReadMedium, A: Heap + Clone> Allocator<F, A> {
 fn are_listed(version: Version, count: u32, fat_sectors: &[u32], difat_sectors: &[u32]) -> bool
     requires { count ≤ max_regular_sector }
     ensures listed { IsTrue result → AreListed version count fat_sectors.now difat_sectors.now }
-    ensures not_listed { result ≡ false → AreListed version count fat_sectors.now difat_sectors.now → ⊥ }
+    ensures not_listed { result ≡ false
+        → AreListed version count fat_sectors.now difat_sectors.now → ⊥ }
 {
     if difat_sectors.len() > count as usize {
         return false;
@@ -187,8 +190,8 @@ impl<F: ReadMedium, A: Heap> Allocator<F, A> {
         ensures placed { IsPlaced self.now.file self.now.tables }
         ensures sizes { AreSizes self.now.tables.version (sizes_of self.now.tables) }
     {
-        let _ = self.sectors.num_sectors();
-        let _ = self.tables.len();
+        let _fact = self.sectors.num_sectors();
+        let _fact = self.tables.len();
         self.sectors.len()
     }
 
@@ -257,7 +260,8 @@ impl<F: ReadMedium, A: Heap> Allocator<F, A> {
         ensures unchanged { self.new ≡ self.old }
         ensures usable { OnOk result (IsUsable self.old.tables) }
         ensures enough { OnOk result (IsTooFew self.old.tables count → ⊥) }
-        ensures err { IfErr result (ChangeRefused (IsUsable self.old.tables → ⊥) (IsTooFew self.old.tables count → ⊥) (IsTooFew self.old.tables count) ⊥) }
+        ensures err { IfErr result (ChangeRefused (IsUsable self.old.tables
+            → ⊥) (IsTooFew self.old.tables count → ⊥) (IsTooFew self.old.tables count) ⊥) }
     {
         let _sizes = self.usable_sizes()?;
         self.tables.reserve(count)
@@ -265,7 +269,10 @@ impl<F: ReadMedium, A: Heap> Allocator<F, A> {
 
     /// Lets the file grow to so many sectors, and to no more. No number above the greatest regular one is taken.
     pub fn set_max_sectors(&mut self, max_sectors: u32)
-        ensures { self.new ≡ record self.old { tables = record self.old.tables { max_sectors = min max_sectors max_regular_sector } } }
+        ensures { self.new ≡ record self.old {
+          tables
+              = record self.old.tables { max_sectors = min max_sectors max_regular_sector };
+        } }
     {
         self.tables.set_max_sectors(max_sectors);
     }
@@ -303,7 +310,8 @@ impl<F: ReadMedium, A: Heap> Allocator<F, A> {
     /// How many FAT sectors and DIFAT sectors there are, if the FAT sectors have a place for each sector's value. `InvalidData`
     /// where they have not: such tables cannot be changed.
     fn usable_sizes(&self) -> Result<TableSizes, Error>
-        ensures ok { IfOk result (λ sizes. (sizes.fats ≡ length self.now.tables.fat_sectors) × (sizes.difats ≡ length self.now.tables.difat_sectors)) }
+        ensures ok { IfOk result (λ sizes. (sizes.fats ≡ length self.now.tables.fat_sectors)
+            × (sizes.difats ≡ length self.now.tables.difat_sectors)) }
         ensures usable { OnOk result (IsUsable self.now.tables) }
         ensures sizes { OnOk result (AreSizes self.now.tables.version (sizes_of self.now.tables)) }
         ensures placed { OnOk result (IsPlaced self.now.file self.now.tables) }
@@ -324,7 +332,8 @@ impl<F: ReadMedium, A: Heap> Allocator<F, A> {
     /// file, and where its chain goes on.
     pub fn check_end(&self, ids: &[u32]) -> Result<(), Error>
         ensures ends { OnOk result (EndsChain self.now.tables.fat ids.now) }
-        ensures err { IfErr result (ChangeRefused (EndsChain self.now.tables.fat ids.now → ⊥) ⊥ ⊥ ⊥) }
+        ensures err { IfErr result (ChangeRefused (EndsChain self.now.tables.fat ids.now
+            → ⊥) ⊥ ⊥ ⊥) }
     {
         let Some(last) = ids.last() else {
             return Ok(());
@@ -358,16 +367,20 @@ impl<F: Medium, A: Heap> Allocator<F, A> {
     pub fn begin_chain(&mut self, init: SectorInit) -> Result<u32, Error>
         ensures taken { IfOk result (λ x. HasTaken self.old.tables self.new.tables [] (x ∷ [])) }
         ensures chain { IfOk result (λ x. IsChain self.new.tables.fat x (x ∷ [])) }
-        ensures filled { IsTrue F.tells → (validation : Validation) → HoldsTables validation self.old
+        ensures filled { IsTrue F.tells
+            → (validation : Validation) → HoldsTables validation self.old
             → IfOk result (λ x. IsFilled self.new.tables.version init self.new.file.bytes x) }
-        ensures holds { IsTrue F.tells → (validation : Validation) → HoldsTables validation self.old → OnOk result (HoldsTables validation self.new) }
+        ensures holds { IsTrue F.tells → (validation : Validation)
+            → HoldsTables validation self.old → OnOk result (HoldsTables validation self.new) }
         ensures others { IsTrue F.tells → OthersStay self.old self.new }
         ensures spares { IsTrue F.tells → Spares [] self.old self.new }
         ensures enough { OnOk result (IsTooFew self.old.tables 1 → ⊥) }
         ensures begun { OnOk result (self.new.file.begun ≡ true) }
         ensures refused { IfErr result (BreaksOff (TakesFor []) self.old self.new) }
-        ensures err { IfErr result (ChangeRefused (IsUsable self.old.tables → ⊥) (IsTooFew self.old.tables 1 → ⊥) (IsTooFew self.old.tables 1) Unit) }
-        ensures counts { IsTrue F.tells → CountsFailure F.write_faults result self.old.file.failures self.new.file.failures }
+        ensures err { IfErr result (ChangeRefused (IsUsable self.old.tables
+            → ⊥) (IsTooFew self.old.tables 1 → ⊥) (IsTooFew self.old.tables 1) Unit) }
+        ensures counts { IsTrue F.tells
+            → CountsFailure F.write_faults result self.old.file.failures self.new.file.failures }
     {
         let before = self.usable_sizes()?;
         let sector = self.tables.take()?;
@@ -398,23 +411,33 @@ impl<F: Medium, A: Heap> Allocator<F, A> {
         count: usize,
         init: SectorInit,
     ) -> Result<(), Error>
-        ensures chain { IsChain self.old.tables.fat (first_or_end ids.old.items) ids.old.items → IsChain self.new.tables.fat (first_or_end ids.new.items) ids.new.items }
-        ensures behind { OnOk result (IsChain self.new.tables.fat (first_or_end (ends_of ids.old.items ++ gained ids.old.items ids.new.items))
-            (ends_of ids.old.items ++ gained ids.old.items ids.new.items)) }
+        ensures chain { IsChain self.old.tables.fat (first_or_end ids.old.items) ids.old.items
+            → IsChain self.new.tables.fat (first_or_end ids.new.items) ids.new.items }
+        ensures behind { OnOk result
+            (IsChain self.new.tables.fat (first_or_end (ends_of ids.old.items
+            ++ gained ids.old.items ids.new.items)) (ends_of ids.old.items
+            ++ gained ids.old.items ids.new.items)) }
         ensures ends { OnOk result (EndsChain self.old.tables.fat ids.old.items) }
-        ensures lengthened { OnOk result (Lengthens count ids.old.items ids.new.items self.old.tables self.new.tables) }
+        ensures lengthened { OnOk result
+            (Lengthens count ids.old.items ids.new.items self.old.tables self.new.tables) }
         ensures none { count ≡ 0 → (self.new ≡ self.old) × (ids.new.items ≡ ids.old.items) }
-        ensures filled { IsTrue F.tells → (validation : Validation) → HoldsTables validation self.old
-            → OnOk result ((i : ℕ) → Contains (gained ids.old.items ids.new.items) i → IsFilled self.new.tables.version init self.new.file.bytes i) }
-        ensures holds { IsTrue F.tells → (validation : Validation) → HoldsTables validation self.old → OnOk result (HoldsTables validation self.new) }
+        ensures filled { IsTrue F.tells
+            → (validation : Validation) → HoldsTables validation self.old
+            → OnOk result ((i : ℕ) → Contains (gained ids.old.items ids.new.items) i
+            → IsFilled self.new.tables.version init self.new.file.bytes i) }
+        ensures holds { IsTrue F.tells → (validation : Validation)
+            → HoldsTables validation self.old → OnOk result (HoldsTables validation self.new) }
         ensures others { IsTrue F.tells → OthersStay self.old self.new }
         ensures spares { IsTrue F.tells → Spares (ends_of ids.old.items) self.old self.new }
         ensures enough { OnOk result (IsTooFew self.old.tables count → ⊥) }
         ensures begun { OnOk result (IsRaised (0 < count) self.old.file self.new.file) }
-        ensures refused { IfErr result (ListBreaksOff (Lengthens count) ids.old.items ids.new.items self.old self.new) }
-        ensures err { IfErr result (ChangeRefused ((IsUsable self.old.tables → ⊥) ⊎ (EndsChain self.old.tables.fat ids.old.items → ⊥))
-            (IsTooFew self.old.tables count → ⊥) (IsTooFew self.old.tables count) Unit) }
-        ensures counts { IsTrue F.tells → CountsFailure F.write_faults result self.old.file.failures self.new.file.failures }
+        ensures refused { IfErr result
+            (ListBreaksOff (Lengthens count) ids.old.items ids.new.items self.old self.new) }
+        ensures err { IfErr result (ChangeRefused ((IsUsable self.old.tables → ⊥)
+            ⊎ (EndsChain self.old.tables.fat ids.old.items → ⊥)) (IsTooFew self.old.tables count
+            → ⊥) (IsTooFew self.old.tables count) Unit) }
+        ensures counts { IsTrue F.tells
+            → CountsFailure F.write_faults result self.old.file.failures self.new.file.failures }
     {
         let before = self.usable_sizes()?;
         self.check_end(ids)?;
@@ -439,14 +462,18 @@ impl<F: Medium, A: Heap> Allocator<F, A> {
         requires usable { IsUsable self.old.tables }
         requires chain { IsChain self.old.tables.fat (first_or_end ids.now) ids.now }
         requires fewer { left < length ids.now }
-        ensures given_back { TablesGiveBack (ends_of (take left ids.now)) (drop left ids.now) self.old.tables self.new.tables }
+        ensures given_back { TablesGiveBack
+            (ends_of (take left ids.now)) (drop left ids.now) self.old.tables self.new.tables }
         ensures holds { IsTrue F.tells → (validation : Validation) → HoldsTables validation self.old
-            → (left ≡ 0 → IsUnnamed self.old.tables.fat (first_or_end ids.now)) → OnOk result (HoldsTables validation self.new) }
-        ensures changes { IsTrue F.tells → ChangesSectors self.old.tables.fat_sectors self.old.tables.version self.old.file.bytes self.new.file.bytes }
+            → (left ≡ 0 → IsUnnamed self.old.tables.fat (first_or_end ids.now))
+            → OnOk result (HoldsTables validation self.new) }
+        ensures changes { IsTrue F.tells → ChangesSectors self.old.tables.fat_sectors
+            self.old.tables.version self.old.file.bytes self.new.file.bytes }
         ensures spares { IsTrue F.tells → Spares ids.now self.old self.new }
         ensures begun { self.new.file.begun ≡ true }
         ensures err { IfErr result IsMediumError }
-        ensures counts { IsTrue F.tells → CountsFailure F.write_faults result self.old.file.failures self.new.file.failures }
+        ensures counts { IsTrue F.tells
+            → CountsFailure F.write_faults result self.old.file.failures self.new.file.failures }
     {
         self.tables.cut_listed(ids, left);
         write_values(
@@ -464,16 +491,23 @@ impl<F: Medium, A: Heap> Allocator<F, A> {
     pub fn cut_listed(&mut self, ids: &mut Vec<u32, A>, left: usize) -> Result<(), Error>
         requires chain { IsChain self.old.tables.fat (first_or_end ids.old.items) ids.old.items }
         ensures chain { IsChain self.new.tables.fat (first_or_end ids.new.items) ids.new.items }
-        ensures shortened { OnOk result (Shortens left ids.old.items ids.new.items self.old.tables self.new.tables) }
-        ensures none { length ids.old.items ≤ left → (self.new ≡ self.old) × (ids.new.items ≡ ids.old.items) × OnErr result ⊥ }
+        ensures shortened { OnOk result
+            (Shortens left ids.old.items ids.new.items self.old.tables self.new.tables) }
+        ensures none { length ids.old.items ≤ left
+            → (self.new ≡ self.old) × (ids.new.items ≡ ids.old.items) × OnErr result ⊥ }
         ensures holds { IsTrue F.tells → (validation : Validation) → HoldsTables validation self.old
-            → (left ≡ 0 → IsUnnamed self.old.tables.fat (first_or_end ids.old.items)) → OnOk result (HoldsTables validation self.new) }
-        ensures changes { IsTrue F.tells → ChangesSectors self.old.tables.fat_sectors self.old.tables.version self.old.file.bytes self.new.file.bytes }
+            → (left ≡ 0 → IsUnnamed self.old.tables.fat (first_or_end ids.old.items))
+            → OnOk result (HoldsTables validation self.new) }
+        ensures changes { IsTrue F.tells → ChangesSectors self.old.tables.fat_sectors
+            self.old.tables.version self.old.file.bytes self.new.file.bytes }
         ensures spares { IsTrue F.tells → Spares ids.old.items self.old self.new }
-        ensures begun { OnOk result (IsRaised (left < length ids.old.items) self.old.file self.new.file) }
-        ensures refused { IfErr result (ListBreaksOff (Shortens left) ids.old.items ids.new.items self.old self.new) }
+        ensures begun { OnOk result (IsRaised (left
+            < length ids.old.items) self.old.file self.new.file) }
+        ensures refused { IfErr result
+            (ListBreaksOff (Shortens left) ids.old.items ids.new.items self.old self.new) }
         ensures err { IfErr result (ChangeRefused (IsUsable self.old.tables → ⊥) ⊥ ⊥ Unit) }
-        ensures counts { IsTrue F.tells → CountsFailure F.write_faults result self.old.file.failures self.new.file.failures }
+        ensures counts { IsTrue F.tells
+            → CountsFailure F.write_faults result self.old.file.failures self.new.file.failures }
     {
         if left >= ids.len() {
             return Ok(());
@@ -491,14 +525,17 @@ impl<F: Medium, A: Heap> Allocator<F, A> {
         requires chain { IsChain self.old.tables.fat (first_or_end ids.now) ids.now }
         ensures freed { OnOk result (TablesGiveBack [] ids.now self.old.tables self.new.tables) }
         ensures none { length ids.now ≡ 0 → (self.new ≡ self.old) × OnErr result ⊥ }
-        ensures holds { IsTrue F.tells → (validation : Validation) → HoldsTables validation self.old
-            → IsUnnamed self.old.tables.fat (first_or_end ids.now) → OnOk result (HoldsTables validation self.new) }
-        ensures changes { IsTrue F.tells → ChangesSectors self.old.tables.fat_sectors self.old.tables.version self.old.file.bytes self.new.file.bytes }
+        ensures holds { IsTrue F.tells → (validation : Validation)
+            → HoldsTables validation self.old → IsUnnamed self.old.tables.fat (first_or_end ids.now)
+            → OnOk result (HoldsTables validation self.new) }
+        ensures changes { IsTrue F.tells → ChangesSectors self.old.tables.fat_sectors
+            self.old.tables.version self.old.file.bytes self.new.file.bytes }
         ensures spares { IsTrue F.tells → Spares ids.now self.old self.new }
         ensures begun { OnOk result (IsRaised (0 < length ids.now) self.old.file self.new.file) }
         ensures refused { IfErr result (BreaksOff (TablesGiveBack [] ids.now) self.old self.new) }
         ensures err { IfErr result (ChangeRefused (IsUsable self.old.tables → ⊥) ⊥ ⊥ Unit) }
-        ensures counts { IsTrue F.tells → CountsFailure F.write_faults result self.old.file.failures self.new.file.failures }
+        ensures counts { IsTrue F.tells
+            → CountsFailure F.write_faults result self.old.file.failures self.new.file.failures }
     {
         if ids.is_empty() {
             return Ok(());
@@ -511,18 +548,25 @@ impl<F: Medium, A: Heap> Allocator<F, A> {
     /// changed but that word's.
     pub fn write_header_word(&mut self, word: HeaderWord, value: u32) -> Result<(), Error>
         ensures tables { self.new.tables ≡ self.old.tables }
-        ensures kept { self.new.file ≡ record self.old.file { bytes = self.new.file.bytes; failures = self.new.file.failures; begun = true } }
+        ensures kept { self.new.file ≡ record self.old.file {
+          bytes = self.new.file.bytes;
+          failures = self.new.file.failures;
+          begun = true;
+        } }
         ensures ok { IsTrue F.tells → OnOk result (self.new.file ≡ record self.old.file {
           bytes = with_word self.old.file.bytes (header_word_place word) value;
           begun = true;
         }) }
-        ensures holds { IsTrue F.tells → (validation : Validation) → HoldsTables validation self.old → OnOk result (HoldsTables validation self.new) }
-        ensures others { IsTrue F.tells → ChangesOnlyBytes (header_word_place word) 4 self.old.file.bytes self.new.file.bytes }
+        ensures holds { IsTrue F.tells → (validation : Validation)
+            → HoldsTables validation self.old → OnOk result (HoldsTables validation self.new) }
+        ensures others { IsTrue F.tells
+            → ChangesOnlyBytes (header_word_place word) 4 self.old.file.bytes self.new.file.bytes }
         ensures spares { IsTrue F.tells → Spares [] self.old self.new }
         ensures err { IfErr result IsMediumError }
-        ensures counts { IsTrue F.tells → CountsFailure F.write_faults result self.old.file.failures self.new.file.failures }
+        ensures counts { IsTrue F.tells
+            → CountsFailure F.write_faults result self.old.file.failures self.new.file.failures }
     {
-        let _count = self.sectors.num_sectors();
+        let _fact = self.sectors.num_sectors();
         self.sectors.write_header_word(word.place(), value)
     }
 }
@@ -536,7 +580,7 @@ impl<F: ReadMedium, A: Heap + Clone> Allocator<F, A> {
     {
         let sectors = self.tables.len();
         let list = self.tables.chain(self.heap.clone()?, start)?;
-        let _met = sectors;
+        let _fact = sectors;
         Ok(list)
     }
 }
@@ -548,17 +592,24 @@ impl<F: Medium, A: Heap + Clone> Allocator<F, A> {
     /// `Memory` and `Full` as in `begin_chain`.
     #[tactic(auto, using(crate::proofs::AllocLemmas::refused_changed))]
     pub fn extend_chain(&mut self, start: u32, init: SectorInit) -> Result<u32, Error>
-        ensures extended { IfOk result (λ x. Extended self.old.tables self.new.tables start (x ∷ [])) }
-        ensures filled { IsTrue F.tells → (validation : Validation) → HoldsTables validation self.old
+        ensures extended { IfOk result (λ x.
+            Extended self.old.tables self.new.tables start (x ∷ [])) }
+        ensures filled { IsTrue F.tells
+            → (validation : Validation) → HoldsTables validation self.old
             → IfOk result (λ x. IsFilled self.new.tables.version init self.new.file.bytes x) }
-        ensures holds { IsTrue F.tells → (validation : Validation) → HoldsTables validation self.old → OnOk result (HoldsTables validation self.new) }
+        ensures holds { IsTrue F.tells → (validation : Validation)
+            → HoldsTables validation self.old → OnOk result (HoldsTables validation self.new) }
         ensures others { IsTrue F.tells → OthersStay self.old self.new }
-        ensures spares { IsTrue F.tells → (list : List ℕ) → IsChain self.old.tables.fat start list → Spares list self.old self.new }
+        ensures spares { IsTrue F.tells → (list : List ℕ)
+            → IsChain self.old.tables.fat start list → Spares list self.old self.new }
         ensures enough { OnOk result (IsTooFew self.old.tables 1 → ⊥) }
         ensures begun { OnOk result (self.new.file.begun ≡ true) }
         ensures refused { IfErr result (BreaksOff (ExtendsFrom start) self.old self.new) }
-        ensures err { IfErr result (ChangeRefused ((IsUsable self.old.tables → ⊥) ⊎ NoLast self.old.tables.fat start) (IsTooFew self.old.tables 1 → ⊥) (IsTooFew self.old.tables 1) Unit) }
-        ensures counts { IsTrue F.tells → CountsFailure F.write_faults result self.old.file.failures self.new.file.failures }
+        ensures err { IfErr result (ChangeRefused ((IsUsable self.old.tables → ⊥)
+            ⊎ NoLast self.old.tables.fat start) (IsTooFew self.old.tables 1
+            → ⊥) (IsTooFew self.old.tables 1) Unit) }
+        ensures counts { IsTrue F.tells
+            → CountsFailure F.write_faults result self.old.file.failures self.new.file.failures }
     {
         let before = self.usable_sizes()?;
         let last = self.tables.last(start)?;
@@ -586,22 +637,27 @@ impl<F: Medium, A: Heap + Clone> Allocator<F, A> {
         count: usize,
         init: SectorInit,
     ) -> Result<Vec<u32, A>, Error>
-        ensures taken { IfOk result (λ list. HasTaken self.old.tables self.new.tables (ending last) list.items) }
-        ensures chain { IfOk result (λ list. IsChain self.new.tables.fat (first_or_end (ending last ++ list.items)) (ending last ++ list.items)) }
+        ensures taken { IfOk result (λ list.
+            HasTaken self.old.tables self.new.tables (ending last) list.items) }
+        ensures chain { IfOk result (λ list. IsChain self.new.tables.fat (first_or_end (ending last
+            ++ list.items)) (ending last ++ list.items)) }
         ensures count { IfOk result (λ list. vec_len list ≡ count) }
         ensures none { count ≡ 0 → self.new ≡ self.old }
-        ensures filled { IsTrue F.tells → (validation : Validation) → HoldsTables validation self.old
-            → IfOk result (λ list. (i : ℕ) → Contains list.items i → IsFilled self.new.tables.version init self.new.file.bytes i) }
-        ensures holds { IsTrue F.tells → (validation : Validation) → HoldsTables validation self.old → OnOk result (HoldsTables validation self.new) }
+        ensures filled { IsTrue F.tells → (validation : Validation)
+            → HoldsTables validation self.old → IfOk result (λ list. (i : ℕ)
+            → Contains list.items i → IsFilled self.new.tables.version init self.new.file.bytes i) }
+        ensures holds { IsTrue F.tells → (validation : Validation)
+            → HoldsTables validation self.old → OnOk result (HoldsTables validation self.new) }
         ensures others { IsTrue F.tells → OthersStay self.old self.new }
         ensures spares { IsTrue F.tells → Spares (ending last) self.old self.new }
         ensures enough { OnOk result (IsTooFew self.old.tables count → ⊥) }
         ensures begun { OnOk result (IsRaised (0 < count) self.old.file self.new.file) }
         ensures refused { IfErr result (BreaksOff (TakesFor (ending last)) self.old self.new) }
-        ensures err { IfErr result (ChangeRefused
-            ((IsUsable self.old.tables → ⊥) ⊎ ((last ≢ end_of_chain) × (value self.old.tables.fat last ≢ end_of_chain)))
+        ensures err { IfErr result (ChangeRefused ((IsUsable self.old.tables → ⊥)
+            ⊎ ((last ≢ end_of_chain) × (value self.old.tables.fat last ≢ end_of_chain)))
             (IsTooFew self.old.tables count → ⊥) (IsTooFew self.old.tables count) Unit) }
-        ensures counts { IsTrue F.tells → CountsFailure F.write_faults result self.old.file.failures self.new.file.failures }
+        ensures counts { IsTrue F.tells
+            → CountsFailure F.write_faults result self.old.file.failures self.new.file.failures }
     {
         if last == END_OF_CHAIN {
             return self.begin_chain_by(count, init);
@@ -617,14 +673,18 @@ impl<F: Medium, A: Heap + Clone> Allocator<F, A> {
     pub fn free_chain(&mut self, start: u32) -> Result<(), Error>
         ensures freed { OnOk result (GivesBackChain [] start self.old.tables self.new.tables) }
         ensures none { start ≡ end_of_chain → self.new ≡ self.old }
-        ensures holds { IsTrue F.tells → (validation : Validation) → HoldsTables validation self.old → IsUnnamed self.old.tables.fat start
-            → OnOk result (HoldsTables validation self.new) }
-        ensures changes { IsTrue F.tells → ChangesSectors self.old.tables.fat_sectors self.old.tables.version self.old.file.bytes self.new.file.bytes }
-        ensures spares { IsTrue F.tells → (list : List ℕ) → IsChain self.old.tables.fat start list → Spares list self.old self.new }
+        ensures holds { IsTrue F.tells → (validation : Validation) → HoldsTables validation self.old
+            → IsUnnamed self.old.tables.fat start → OnOk result (HoldsTables validation self.new) }
+        ensures changes { IsTrue F.tells → ChangesSectors self.old.tables.fat_sectors
+            self.old.tables.version self.old.file.bytes self.new.file.bytes }
+        ensures spares { IsTrue F.tells → (list : List ℕ)
+            → IsChain self.old.tables.fat start list → Spares list self.old self.new }
         ensures begun { OnOk result (IsRaised (start ≢ end_of_chain) self.old.file self.new.file) }
         ensures refused { IfErr result (BreaksOff (GivesBackChain [] start) self.old self.new) }
-        ensures err { IfErr result (ChangeRefused ((IsUsable self.old.tables → ⊥) ⊎ NoChain self.old.tables.fat start) Unit ⊥ Unit) }
-        ensures counts { IsTrue F.tells → CountsFailure F.write_faults result self.old.file.failures self.new.file.failures }
+        ensures err { IfErr result (ChangeRefused ((IsUsable self.old.tables → ⊥)
+            ⊎ NoChain self.old.tables.fat start) Unit ⊥ Unit) }
+        ensures counts { IsTrue F.tells
+            → CountsFailure F.write_faults result self.old.file.failures self.new.file.failures }
     {
         self.usable_sizes()?;
         if start == END_OF_CHAIN {
@@ -639,15 +699,22 @@ impl<F: Medium, A: Heap + Clone> Allocator<F, A> {
     /// `InvalidData` where no chain goes on from the sector, and where the FAT sectors do not cover the file; `Medium` and `Memory`
     /// as in `free_chain`.
     pub fn free_chain_after(&mut self, sector: u32) -> Result<(), Error>
-        ensures cut { OnOk result (GivesBackChain (sector ∷ []) (value self.old.tables.fat sector) self.old.tables self.new.tables) }
-        ensures holds { IsTrue F.tells → (validation : Validation) → HoldsTables validation self.old → OnOk result (HoldsTables validation self.new) }
-        ensures changes { IsTrue F.tells → ChangesSectors self.old.tables.fat_sectors self.old.tables.version self.old.file.bytes self.new.file.bytes }
-        ensures spares { IsTrue F.tells → (list : List ℕ) → IsChain self.old.tables.fat (value self.old.tables.fat sector) list
+        ensures cut { OnOk result (GivesBackChain (sector
+            ∷ []) (value self.old.tables.fat sector) self.old.tables self.new.tables) }
+        ensures holds { IsTrue F.tells → (validation : Validation)
+            → HoldsTables validation self.old → OnOk result (HoldsTables validation self.new) }
+        ensures changes { IsTrue F.tells → ChangesSectors self.old.tables.fat_sectors
+            self.old.tables.version self.old.file.bytes self.new.file.bytes }
+        ensures spares { IsTrue F.tells
+            → (list : List ℕ) → IsChain self.old.tables.fat (value self.old.tables.fat sector) list
             → Spares (sector ∷ list) self.old self.new }
         ensures begun { OnOk result (self.new.file.begun ≡ true) }
-        ensures refused { IfErr result (BreaksOff (GivesBackChain (sector ∷ []) (value self.old.tables.fat sector)) self.old self.new) }
-        ensures err { IfErr result (ChangeRefused ((IsUsable self.old.tables → ⊥) ⊎ NoChain self.old.tables.fat (value self.old.tables.fat sector)) Unit ⊥ Unit) }
-        ensures counts { IsTrue F.tells → CountsFailure F.write_faults result self.old.file.failures self.new.file.failures }
+        ensures refused { IfErr result (BreaksOff (GivesBackChain (sector
+            ∷ []) (value self.old.tables.fat sector)) self.old self.new) }
+        ensures err { IfErr result (ChangeRefused ((IsUsable self.old.tables → ⊥)
+            ⊎ NoChain self.old.tables.fat (value self.old.tables.fat sector)) Unit ⊥ Unit) }
+        ensures counts { IsTrue F.tells
+            → CountsFailure F.write_faults result self.old.file.failures self.new.file.failures }
     {
         self.usable_sizes()?;
         self.tables.next(sector)?;
@@ -659,20 +726,26 @@ impl<F: Medium, A: Heap + Clone> Allocator<F, A> {
     /// Takes so many sectors as a new chain.
     #[tactic(auto, using(crate::proofs::AllocLemmas::refused_changed))]
     fn begin_chain_by(&mut self, count: usize, init: SectorInit) -> Result<Vec<u32, A>, Error>
-        ensures taken { IfOk result (λ list. HasTaken self.old.tables self.new.tables [] list.items) }
-        ensures chain { IfOk result (λ list. IsChain self.new.tables.fat (first_or_end list.items) list.items) }
+        ensures taken { IfOk result (λ list.
+            HasTaken self.old.tables self.new.tables [] list.items) }
+        ensures chain { IfOk result (λ list.
+            IsChain self.new.tables.fat (first_or_end list.items) list.items) }
         ensures count { IfOk result (λ list. vec_len list ≡ count) }
         ensures none { count ≡ 0 → self.new ≡ self.old }
-        ensures filled { IsTrue F.tells → (validation : Validation) → HoldsTables validation self.old
-            → IfOk result (λ list. (i : ℕ) → Contains list.items i → IsFilled self.new.tables.version init self.new.file.bytes i) }
-        ensures holds { IsTrue F.tells → (validation : Validation) → HoldsTables validation self.old → OnOk result (HoldsTables validation self.new) }
+        ensures filled { IsTrue F.tells → (validation : Validation)
+            → HoldsTables validation self.old → IfOk result (λ list. (i : ℕ)
+            → Contains list.items i → IsFilled self.new.tables.version init self.new.file.bytes i) }
+        ensures holds { IsTrue F.tells → (validation : Validation)
+            → HoldsTables validation self.old → OnOk result (HoldsTables validation self.new) }
         ensures others { IsTrue F.tells → OthersStay self.old self.new }
         ensures spares { IsTrue F.tells → Spares [] self.old self.new }
         ensures enough { OnOk result (IsTooFew self.old.tables count → ⊥) }
         ensures begun { OnOk result (IsRaised (0 < count) self.old.file self.new.file) }
         ensures refused { IfErr result (BreaksOff (TakesFor []) self.old self.new) }
-        ensures err { IfErr result (ChangeRefused (IsUsable self.old.tables → ⊥) (IsTooFew self.old.tables count → ⊥) (IsTooFew self.old.tables count) Unit) }
-        ensures counts { IsTrue F.tells → CountsFailure F.write_faults result self.old.file.failures self.new.file.failures }
+        ensures err { IfErr result (ChangeRefused (IsUsable self.old.tables
+            → ⊥) (IsTooFew self.old.tables count → ⊥) (IsTooFew self.old.tables count) Unit) }
+        ensures counts { IsTrue F.tells
+            → CountsFailure F.write_faults result self.old.file.failures self.new.file.failures }
     {
         let before = self.usable_sizes()?;
         if count == 0 {
@@ -688,21 +761,26 @@ impl<F: Medium, A: Heap + Clone> Allocator<F, A> {
     /// Adds so many sectors behind the last one of a chain.
     #[tactic(auto, using(crate::proofs::AllocLemmas::refused_changed))]
     fn append_by(&mut self, last: u32, count: usize, init: SectorInit) -> Result<Vec<u32, A>, Error>
-        ensures taken { IfOk result (λ list. HasTaken self.old.tables self.new.tables (last ∷ []) list.items) }
+        ensures taken { IfOk result (λ list.
+            HasTaken self.old.tables self.new.tables (last ∷ []) list.items) }
         ensures chain { IfOk result (λ list. IsChain self.new.tables.fat last (last ∷ list.items)) }
         ensures count { IfOk result (λ list. vec_len list ≡ count) }
         ensures none { count ≡ 0 → self.new ≡ self.old }
-        ensures filled { IsTrue F.tells → (validation : Validation) → HoldsTables validation self.old
-            → IfOk result (λ list. (i : ℕ) → Contains list.items i → IsFilled self.new.tables.version init self.new.file.bytes i) }
-        ensures holds { IsTrue F.tells → (validation : Validation) → HoldsTables validation self.old → OnOk result (HoldsTables validation self.new) }
+        ensures filled { IsTrue F.tells → (validation : Validation)
+            → HoldsTables validation self.old → IfOk result (λ list. (i : ℕ)
+            → Contains list.items i → IsFilled self.new.tables.version init self.new.file.bytes i) }
+        ensures holds { IsTrue F.tells → (validation : Validation)
+            → HoldsTables validation self.old → OnOk result (HoldsTables validation self.new) }
         ensures others { IsTrue F.tells → OthersStay self.old self.new }
         ensures spares { IsTrue F.tells → Spares (last ∷ []) self.old self.new }
         ensures enough { OnOk result (IsTooFew self.old.tables count → ⊥) }
         ensures begun { OnOk result (IsRaised (0 < count) self.old.file self.new.file) }
         ensures refused { IfErr result (BreaksOff (TakesFor (last ∷ [])) self.old self.new) }
-        ensures err { IfErr result (ChangeRefused ((IsUsable self.old.tables → ⊥) ⊎ (value self.old.tables.fat last ≢ end_of_chain))
-            (IsTooFew self.old.tables count → ⊥) (IsTooFew self.old.tables count) Unit) }
-        ensures counts { IsTrue F.tells → CountsFailure F.write_faults result self.old.file.failures self.new.file.failures }
+        ensures err { IfErr result (ChangeRefused ((IsUsable self.old.tables → ⊥)
+            ⊎ (value self.old.tables.fat last ≢ end_of_chain)) (IsTooFew self.old.tables count
+            → ⊥) (IsTooFew self.old.tables count) Unit) }
+        ensures counts { IsTrue F.tells
+            → CountsFailure F.write_faults result self.old.file.failures self.new.file.failures }
     {
         let before = self.usable_sizes()?;
         if self.tables.next(last)? != END_OF_CHAIN {
@@ -745,15 +823,23 @@ impl<F: ReadMedium, A: Heap> Allocator<F, A> {
     ) -> Result<usize, Error>
         requires { offset ≤ sector_len self.old.tables.version }
         ensures tables { self.new.tables ≡ self.old.tables }
-        ensures kept { self.new.file ≡ record self.old.file { bytes = self.new.file.bytes; failures = self.new.file.failures } }
-        ensures count { IfOk result (λ n. n ≡ min (length into.old) (self.old.file.len - place_in_sector self.old.file sector offset)) }
-        ensures ok { IsTrue F.tells → IfOk result (λ n. take n into.new ≡ part self.old.file.bytes (place_in_sector self.old.file sector offset) n) }
+        ensures kept { self.new.file ≡ record self.old.file {
+          bytes = self.new.file.bytes;
+          failures = self.new.file.failures;
+        } }
+        ensures count { IfOk result (λ n. n ≡ min (length into.old) (self.old.file.len
+            - place_in_sector self.old.file sector offset)) }
+        ensures ok { IsTrue F.tells → IfOk result (λ n. take n into.new
+            ≡ part self.old.file.bytes (place_in_sector self.old.file sector offset) n) }
         ensures rest { IfOk result (λ n. drop n into.new ≡ drop n into.old) }
-        ensures past { sectors_end self.old.file < place_in_sector self.old.file sector offset + length into.old → IsErrAnd result IsInvalidData × (self.new ≡ self.old) }
-        ensures inside { place_in_sector self.old.file sector offset + length into.old ≤ sectors_end self.old.file → IfErr result IsMediumError }
+        ensures past { sectors_end self.old.file < place_in_sector self.old.file sector offset
+            + length into.old → IsErrAnd result IsInvalidData × (self.new ≡ self.old) }
+        ensures inside { place_in_sector self.old.file sector offset + length into.old
+            ≤ sectors_end self.old.file → IfErr result IsMediumError }
         ensures same { IsTrue F.tells → OnOk result (self.new ≡ self.old) }
         ensures bytes { IsTrue F.tells → self.new.file.bytes ≡ self.old.file.bytes }
-        ensures counts { IsTrue F.tells → CountsFailure F.read_faults result self.old.file.failures self.new.file.failures }
+        ensures counts { IsTrue F.tells
+            → CountsFailure F.read_faults result self.old.file.failures self.new.file.failures }
     {
         self.sectors.read_contiguous(sector, offset, into)
     }
@@ -768,8 +854,10 @@ impl<F: Medium, A: Heap> Allocator<F, A> {
         requires some { 0 < length from.now }
         ensures tables { self.new.tables ≡ self.old.tables }
         ensures ok { IsTrue F.tells → OnOk result (self.new.file ≡ record self.old.file {
-          bytes = written self.old.file.bytes (place_in_sector self.old.file sector offset) from.now;
-          len = max self.old.file.len (place_in_sector self.old.file sector offset + length from.now);
+          bytes
+              = written self.old.file.bytes (place_in_sector self.old.file sector offset) from.now;
+          len = max self.old.file.len (place_in_sector self.old.file sector offset
+              + length from.now);
           begun = true;
         }) }
         ensures kept { self.new.file ≡ record self.old.file {
@@ -778,19 +866,29 @@ impl<F: Medium, A: Heap> Allocator<F, A> {
           failures = self.new.file.failures;
           begun = self.new.file.begun;
         } }
-        ensures len { MatchResult result
-            (λ _. self.new.file.len ≡ max self.old.file.len (place_in_sector self.old.file sector offset + length from.now))
-            (λ _. self.new.file.len ≡ self.old.file.len) }
-        ensures past { sectors_end self.old.file < place_in_sector self.old.file sector offset + length from.now → IsErrAnd result IsInvalidData × (self.new ≡ self.old) }
-        ensures inside { place_in_sector self.old.file sector offset + length from.now ≤ sectors_end self.old.file → IfErr result IsMediumError × (self.new.file.begun ≡ true) }
-        ensures others { IsTrue F.tells → ChangesOnlyBytes (place_in_sector self.old.file sector offset) (length from.now) self.old.file.bytes self.new.file.bytes }
-        ensures sectors { IsTrue F.tells → OtherSectorsStay self.old.file.version (place_in_sector self.old.file sector offset) (length from.now) self.old.file.bytes self.new.file.bytes }
+        ensures len { MatchResult result (λ _. self.new.file.len
+            ≡ max self.old.file.len (place_in_sector self.old.file sector offset
+            + length from.now)) (λ _. self.new.file.len ≡ self.old.file.len) }
+        ensures past { sectors_end self.old.file < place_in_sector self.old.file sector offset
+            + length from.now → IsErrAnd result IsInvalidData × (self.new ≡ self.old) }
+        ensures inside { place_in_sector self.old.file sector offset + length from.now
+            ≤ sectors_end self.old.file
+            → IfErr result IsMediumError × (self.new.file.begun ≡ true) }
+        ensures others { IsTrue F.tells
+            → ChangesOnlyBytes (place_in_sector self.old.file sector offset)
+            (length from.now) self.old.file.bytes self.new.file.bytes }
+        ensures sectors { IsTrue F.tells
+            → OtherSectorsStay self.old.file.version (place_in_sector self.old.file sector offset)
+            (length from.now) self.old.file.bytes self.new.file.bytes }
         ensures spares { IsTrue F.tells → (own : List ℕ)
-            → LieAmong own self.old.tables.version (place_in_sector self.old.file sector offset) (length from.now) → Spares own self.old self.new }
+            → LieAmong own self.old.tables.version (place_in_sector self.old.file sector offset)
+            (length from.now) → Spares own self.old self.new }
         ensures holds { IsTrue F.tells → (validation : Validation) → HoldsTables validation self.old
-            → LieOutside (table_sectors self.old.tables) self.old.tables.version (place_in_sector self.old.file sector offset) (length from.now)
+            → LieOutside (table_sectors self.old.tables) self.old.tables.version
+            (place_in_sector self.old.file sector offset) (length from.now)
             → OnOk result (HoldsTables validation self.new) }
-        ensures counts { IsTrue F.tells → CountsFailure F.write_faults result self.old.file.failures self.new.file.failures }
+        ensures counts { IsTrue F.tells
+            → CountsFailure F.write_faults result self.old.file.failures self.new.file.failures }
     {
         self.sectors.write_contiguous(sector, offset, from)
     }
@@ -798,11 +896,17 @@ impl<F: Medium, A: Heap> Allocator<F, A> {
     /// Has the medium hand on what was written. `Medium` where it fails.
     pub fn flush(&mut self) -> Result<(), Error>
         ensures tables { self.new.tables ≡ self.old.tables }
-        ensures ok { IsTrue F.tells → OnOk result (self.new.file ≡ record self.old.file { begun = true }) }
-        ensures kept { self.new.file ≡ record self.old.file { bytes = self.new.file.bytes; failures = self.new.file.failures; begun = true } }
+        ensures ok { IsTrue F.tells
+            → OnOk result (self.new.file ≡ record self.old.file { begun = true }) }
+        ensures kept { self.new.file ≡ record self.old.file {
+          bytes = self.new.file.bytes;
+          failures = self.new.file.failures;
+          begun = true;
+        } }
         ensures bytes { IsTrue F.tells → self.new.file.bytes ≡ self.old.file.bytes }
         ensures err { IfErr result IsMediumError }
-        ensures counts { IsTrue F.tells → CountsFailure F.write_faults result self.old.file.failures self.new.file.failures }
+        ensures counts { IsTrue F.tells
+            → CountsFailure F.write_faults result self.old.file.failures self.new.file.failures }
     {
         self.sectors.flush()
     }
@@ -812,14 +916,19 @@ impl<F: ReadMedium, A: Heap> Allocator<F, A> {
     /// Reads what is there of the bytes from `at` on, as far as `into` has room.
     pub(crate) fn read_at(&mut self, at: u64, into: &mut [u8]) -> Result<usize, Error>
         ensures tables { self.new.tables ≡ self.old.tables }
-        ensures kept { self.new.file ≡ record self.old.file { bytes = self.new.file.bytes; failures = self.new.file.failures } }
+        ensures kept { self.new.file ≡ record self.old.file {
+          bytes = self.new.file.bytes;
+          failures = self.new.file.failures;
+        } }
         ensures count { IfOk result (λ n. n ≡ min (length into.old) (self.old.file.len - at)) }
-        ensures ok { IsTrue F.tells → IfOk result (λ n. take n into.new ≡ part self.old.file.bytes at n) }
+        ensures ok { IsTrue F.tells
+            → IfOk result (λ n. take n into.new ≡ part self.old.file.bytes at n) }
         ensures rest { IfOk result (λ n. drop n into.new ≡ drop n into.old) }
         ensures err { IfErr result IsMediumError }
         ensures same { IsTrue F.tells → OnOk result (self.new ≡ self.old) }
         ensures bytes { IsTrue F.tells → self.new.file.bytes ≡ self.old.file.bytes }
-        ensures counts { IsTrue F.tells → CountsFailure F.read_faults result self.old.file.failures self.new.file.failures }
+        ensures counts { IsTrue F.tells
+            → CountsFailure F.read_faults result self.old.file.failures self.new.file.failures }
     {
         self.sectors.read_at(at, into)
     }
@@ -836,12 +945,19 @@ impl<F: Medium, A: Heap> Allocator<F, A> {
           len = max self.old.file.len (at + length from.now);
           begun = true;
         }) }
-        ensures kept { self.new.file ≡ record self.old.file { len = self.new.file.len; bytes = self.new.file.bytes; failures = self.new.file.failures; begun = true } }
+        ensures kept { self.new.file ≡ record self.old.file {
+          len = self.new.file.len;
+          bytes = self.new.file.bytes;
+          failures = self.new.file.failures;
+          begun = true;
+        } }
         ensures len { MatchResult result
             (λ _. self.new.file.len ≡ max self.old.file.len (at + length from.now))
             (λ e. IsMediumError e × (self.new.file.len ≡ self.old.file.len)) }
-        ensures others { IsTrue F.tells → ChangesOnlyBytes at (length from.now) self.old.file.bytes self.new.file.bytes }
-        ensures counts { IsTrue F.tells → CountsFailure F.write_faults result self.old.file.failures self.new.file.failures }
+        ensures others { IsTrue F.tells
+            → ChangesOnlyBytes at (length from.now) self.old.file.bytes self.new.file.bytes }
+        ensures counts { IsTrue F.tells
+            → CountsFailure F.write_faults result self.old.file.failures self.new.file.failures }
     {
         self.sectors.write_at(at, from)
     }

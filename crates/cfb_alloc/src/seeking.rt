@@ -38,7 +38,8 @@ impl<F: ReadMedium, A: Heap> Allocator<F, A> {
         requires { offset ≤ 512 }
         ensures same_allocator { (allocator_of result).ghost_name ≡ self.entry.ghost_name }
         ensures allocator { (allocator_of result).now ≡ self.old }
-        ensures there { (start_of result ≡ 0) × (len_of result ≡ 512) × (offset_of result ≡ offset) }
+        ensures there { (start_of result ≡ 0)
+            × (len_of result ≡ 512) × (offset_of result ≡ offset) }
     {
         AllocatedSector {
             allocator: self,
@@ -50,12 +51,15 @@ impl<F: ReadMedium, A: Heap> Allocator<F, A> {
 
     /// Lends a sector, from its first byte on. `InvalidData` exactly where it is none of the file.
     pub fn seek_to_sector(&mut self, sector: u32) -> Result<AllocatedSector<'_, F, A>, Error>
-        ensures* refused { sem 𝓛 (lender_rests F.row A.row F.ReadMedium A.Allocator self.entry result) }
-        ensures same_allocator { IfOk result (λ s. (allocator_of s).ghost_name ≡ self.entry.ghost_name) }
+        ensures* refused { sem 𝓛
+            (lender_rests F.row A.row F.ReadMedium A.Allocator self.entry result) }
+        ensures same_allocator { IfOk result (λ s. (allocator_of s).ghost_name
+            ≡ self.entry.ghost_name) }
         ensures allocator { IfOk result (λ s. (allocator_of s).now ≡ self.old) }
         ensures there { IfOk result (λ s. (start_of s ≡ sector_start self.old.tables.version sector)
             × (len_of s ≡ sector_len self.old.tables.version) × (offset_of s ≡ 0)) }
-        ensures lies { IfOk result (λ s. LiesIn self.old.tables.version sector (start_of s) (len_of s)) }
+        ensures lies { IfOk result (λ s.
+            LiesIn self.old.tables.version sector (start_of s) (len_of s)) }
         ensures known { IfOk result (λ s. sector < length self.old.tables.fat) }
         ensures past { IfErr result (λ e. IsInvalidData e × (length self.old.tables.fat ≤ sector)) }
     {
@@ -69,12 +73,15 @@ impl<F: ReadMedium, A: Heap> Allocator<F, A> {
         offset: usize,
     ) -> Result<AllocatedSector<'_, F, A>, Error>
         requires { offset ≤ sector_len self.old.tables.version }
-        ensures* refused { sem 𝓛 (lender_rests F.row A.row F.ReadMedium A.Allocator self.entry result) }
-        ensures same_allocator { IfOk result (λ s. (allocator_of s).ghost_name ≡ self.entry.ghost_name) }
+        ensures* refused { sem 𝓛
+            (lender_rests F.row A.row F.ReadMedium A.Allocator self.entry result) }
+        ensures same_allocator { IfOk result (λ s. (allocator_of s).ghost_name
+            ≡ self.entry.ghost_name) }
         ensures allocator { IfOk result (λ s. (allocator_of s).now ≡ self.old) }
         ensures there { IfOk result (λ s. (start_of s ≡ sector_start self.old.tables.version sector)
             × (len_of s ≡ sector_len self.old.tables.version) × (offset_of s ≡ offset)) }
-        ensures lies { IfOk result (λ s. LiesIn self.old.tables.version sector (start_of s) (len_of s)) }
+        ensures lies { IfOk result (λ s.
+            LiesIn self.old.tables.version sector (start_of s) (len_of s)) }
         ensures known { IfOk result (λ s. sector < length self.old.tables.fat) }
         ensures past { IfErr result (λ e. IsInvalidData e × (length self.old.tables.fat ≤ sector)) }
     {
@@ -99,17 +106,20 @@ impl<F: ReadMedium, A: Heap> Allocator<F, A> {
     ) -> Result<AllocatedSector<'_, F, A>, Error>
         requires piece { index * len + len ≤ sector_len self.old.tables.version }
         requires within { offset ≤ len }
-        ensures* refused { sem 𝓛 (lender_rests F.row A.row F.ReadMedium A.Allocator self.entry result) }
-        ensures same_allocator { IfOk result (λ s. (allocator_of s).ghost_name ≡ self.entry.ghost_name) }
+        ensures* refused { sem 𝓛
+            (lender_rests F.row A.row F.ReadMedium A.Allocator self.entry result) }
+        ensures same_allocator { IfOk result (λ s. (allocator_of s).ghost_name
+            ≡ self.entry.ghost_name) }
         ensures allocator { IfOk result (λ s. (allocator_of s).now ≡ self.old) }
-        ensures there { IfOk result (λ s. (start_of s ≡ sector_start self.old.tables.version sector + index * len)
-            × (len_of s ≡ len) × (offset_of s ≡ offset)) }
-        ensures lies { IfOk result (λ s. LiesIn self.old.tables.version sector (start_of s) (len_of s)) }
+        ensures there { IfOk result (λ s. (start_of s ≡ sector_start self.old.tables.version sector
+            + index * len) × (len_of s ≡ len) × (offset_of s ≡ offset)) }
+        ensures lies { IfOk result (λ s.
+            LiesIn self.old.tables.version sector (start_of s) (len_of s)) }
         ensures known { IfOk result (λ s. sector < length self.old.tables.fat) }
         ensures past { IfErr result (λ e. IsInvalidData e × (length self.old.tables.fat ≤ sector)) }
     {
         let whole = self.sector_len();
-        let _met = whole;
+        let _fact = whole;
         let before = index * len;
         let place = self.sector_place(sector)?;
         Ok(AllocatedSector {
@@ -123,7 +133,8 @@ impl<F: ReadMedium, A: Heap> Allocator<F, A> {
     /// Where a sector begins in the file. `InvalidData` exactly where it is none of the file.
     fn sector_place(&self, sector: u32) -> Result<u64, Error>
         ensures ok { IfOk result (λ at. at ≡ sector_start self.now.tables.version sector) }
-        ensures inside { IfOk result (λ at. at + sector_len self.now.tables.version ≤ sectors_end self.now.file) }
+        ensures inside { IfOk result (λ at. at + sector_len self.now.tables.version
+            ≤ sectors_end self.now.file) }
         ensures fits { IfOk result (λ at. at + sector_len self.now.tables.version < 2 ^ 46) }
         ensures known { OnOk result (sector < length self.now.tables.fat) }
         ensures past { IfErr result (λ e. IsInvalidData e × (length self.now.tables.fat ≤ sector)) }
@@ -133,7 +144,7 @@ impl<F: ReadMedium, A: Heap> Allocator<F, A> {
         if sector as usize >= count {
             return Err(unknown(sector, count));
         }
-        let _met = len;
+        let _fact = len;
         Ok((sector as u64 + 1) * self.sector_len() as u64)
     }
 }
@@ -169,9 +180,11 @@ impl<'a, F: ReadMedium, A: Heap> AllocatedSector<'a, F, A> {
     /// Goes to a byte of it, or to its end.
     pub fn seek(&mut self, offset: usize)
         requires { offset ≤ len_of self.old }
-        ensures same_allocator { (allocator_of self.new).ghost_name ≡ (allocator_of self.old).ghost_name }
+        ensures same_allocator { (allocator_of self.new).ghost_name
+            ≡ (allocator_of self.old).ghost_name }
         ensures allocator { (allocator_of self.new).now ≡ (allocator_of self.old).now }
-        ensures there { (start_of self.new ≡ start_of self.old) × (len_of self.new ≡ len_of self.old) × (offset_of self.new ≡ offset) }
+        ensures there { (start_of self.new ≡ start_of self.old)
+            × (len_of self.new ≡ len_of self.old) × (offset_of self.new ≡ offset) }
     {
         self.offset = offset;
     }
@@ -181,9 +194,11 @@ impl<'a, F: ReadMedium, A: Heap> AllocatedSector<'a, F, A> {
         requires from { start ≤ offset_of self }
         requires to { offset_of self ≤ start + len }
         requires inside { start + len ≤ len_of self }
-        ensures same_allocator { (allocator_of result).ghost_name ≡ (allocator_of self.entry).ghost_name }
+        ensures same_allocator { (allocator_of result).ghost_name
+            ≡ (allocator_of self.entry).ghost_name }
         ensures allocator { (allocator_of result).now ≡ (allocator_of self.entry).now }
-        ensures there { (start_of result ≡ start_of self.entry + start) × (len_of result ≡ len) × (place_of result ≡ place_of self.entry) }
+        ensures there { (start_of result ≡ start_of self.entry + start)
+            × (len_of result ≡ len) × (place_of result ≡ place_of self.entry) }
     {
         let AllocatedSector {
             allocator,
@@ -202,21 +217,30 @@ impl<'a, F: ReadMedium, A: Heap> AllocatedSector<'a, F, A> {
     /// Reads what is there from its place on, as far as `into` and the stretch have room and the file goes, goes on behind it, and
     /// answers how many bytes it is. `Medium` where the medium fails.
     pub fn read(&mut self, into: &mut [u8]) -> Result<usize, Error>
-        ensures same_allocator { (allocator_of self.new).ghost_name ≡ (allocator_of self.old).ghost_name }
-        ensures place { (start_of self.new ≡ start_of self.old) × (len_of self.new ≡ len_of self.old) }
+        ensures same_allocator { (allocator_of self.new).ghost_name
+            ≡ (allocator_of self.old).ghost_name }
+        ensures place { (start_of self.new ≡ start_of self.old)
+            × (len_of self.new ≡ len_of self.old) }
         ensures tables { (allocator_of self.new).now.tables ≡ (allocator_of self.old).now.tables }
         ensures kept { (allocator_of self.new).now.file ≡ record (allocator_of self.old).now.file {
           bytes = (allocator_of self.new).now.file.bytes;
           failures = (allocator_of self.new).now.file.failures;
         } }
-        ensures count { IfOk result (λ n. n ≡ min (min (length into.old) (room_of self.old)) ((allocator_of self.old).now.file.len - place_of self.old)) }
-        ensures offset { MatchResult result (λ n. offset_of self.new ≡ offset_of self.old + n) (λ _. offset_of self.new ≡ offset_of self.old) }
-        ensures ok { IsTrue F.tells → IfOk result (λ n. take n into.new ≡ part (allocator_of self.old).now.file.bytes (place_of self.old) n) }
+        ensures count { IfOk result (λ n. n
+            ≡ min (min (length into.old) (room_of self.old)) ((allocator_of self.old).now.file.len
+            - place_of self.old)) }
+        ensures offset { MatchResult result (λ n. offset_of self.new
+            ≡ offset_of self.old + n) (λ _. offset_of self.new ≡ offset_of self.old) }
+        ensures ok { IsTrue F.tells → IfOk result (λ n. take n into.new
+            ≡ part (allocator_of self.old).now.file.bytes (place_of self.old) n) }
         ensures rest { IfOk result (λ n. drop n into.new ≡ drop n into.old) }
         ensures err { IfErr result IsMediumError }
-        ensures same { IsTrue F.tells → OnOk result ((allocator_of self.new).now ≡ (allocator_of self.old).now) }
-        ensures bytes { IsTrue F.tells → (allocator_of self.new).now.file.bytes ≡ (allocator_of self.old).now.file.bytes }
-        ensures counts { IsTrue F.tells → CountsFailure F.read_faults result (allocator_of self.old).now.file.failures (allocator_of self.new).now.file.failures }
+        ensures same { IsTrue F.tells
+            → OnOk result ((allocator_of self.new).now ≡ (allocator_of self.old).now) }
+        ensures bytes { IsTrue F.tells
+            → (allocator_of self.new).now.file.bytes ≡ (allocator_of self.old).now.file.bytes }
+        ensures counts { IsTrue F.tells → CountsFailure F.read_faults result
+            (allocator_of self.old).now.file.failures (allocator_of self.new).now.file.failures }
     {
         let room = into.len().min(self.remaining());
         let count = self
@@ -233,43 +257,58 @@ impl<'a, F: Medium, A: Heap> AllocatedSector<'a, F, A> {
     /// Writes a beginning of `from` at its place, as far as the stretch has room, goes on behind it, and answers how many bytes it is.
     /// `Medium` where the medium fails: then no byte has changed but where that beginning was to go, and past the old end.
     pub fn write(&mut self, from: &[u8]) -> Result<usize, Error>
-        ensures same_allocator { (allocator_of self.new).ghost_name ≡ (allocator_of self.old).ghost_name }
-        ensures place { (start_of self.new ≡ start_of self.old) × (len_of self.new ≡ len_of self.old) }
+        ensures same_allocator { (allocator_of self.new).ghost_name
+            ≡ (allocator_of self.old).ghost_name }
+        ensures place { (start_of self.new ≡ start_of self.old)
+            × (len_of self.new ≡ len_of self.old) }
         ensures tables { (allocator_of self.new).now.tables ≡ (allocator_of self.old).now.tables }
         ensures count { IfOk result (λ n. n ≡ min (length from.now) (room_of self.old)) }
-        ensures offset { MatchResult result (λ n. offset_of self.new ≡ offset_of self.old + n) (λ _. offset_of self.new ≡ offset_of self.old) }
-        ensures ok { IsTrue F.tells → IfOk result (λ n. 0 < n → (allocator_of self.new).now.file ≡ record (allocator_of self.old).now.file {
-          bytes = written (allocator_of self.old).now.file.bytes (place_of self.old) (take n from.now);
-          len = max (allocator_of self.old).now.file.len (place_of self.old + n);
-          begun = true;
-        }) }
-        ensures none { min (length from.now) (room_of self.old) ≡ 0 → (result ≡ Ok 0) × ((allocator_of self.new).now ≡ (allocator_of self.old).now) }
-        ensures kept { 0 < min (length from.now) (room_of self.old) → (allocator_of self.new).now.file ≡ record (allocator_of self.old).now.file {
-          len = (allocator_of self.new).now.file.len;
-          bytes = (allocator_of self.new).now.file.bytes;
-          failures = (allocator_of self.new).now.file.failures;
-          begun = true;
-        } }
-        ensures len { MatchResult result
-            (λ n. 0 < n → (allocator_of self.new).now.file.len ≡ max (allocator_of self.old).now.file.len (place_of self.old + n))
-            (λ e. IsMediumError e × ((allocator_of self.new).now.file.len ≡ (allocator_of self.old).now.file.len)) }
-        ensures holds { IsTrue F.tells → (validation : Validation) → HoldsTables validation (allocator_of self.old).now → (sector : ℕ)
-            → LiesIn (version_of self.old) sector (start_of self.old) (len_of self.old) → IsNoTableSector (allocator_of self.old).now.tables sector
+        ensures offset { MatchResult result (λ n. offset_of self.new
+            ≡ offset_of self.old + n) (λ _. offset_of self.new ≡ offset_of self.old) }
+        ensures ok { IsTrue F.tells → IfOk result (λ n. 0 < n → (allocator_of self.new).now.file
+            ≡ record (allocator_of self.old).now.file {
+              bytes = written
+                  (allocator_of self.old).now.file.bytes (place_of self.old) (take n from.now);
+              len = max (allocator_of self.old).now.file.len (place_of self.old + n);
+              begun = true;
+            }) }
+        ensures none { min (length from.now) (room_of self.old) ≡ 0
+            → (result ≡ Ok 0) × ((allocator_of self.new).now ≡ (allocator_of self.old).now) }
+        ensures kept { 0 < min (length from.now) (room_of self.old)
+            → (allocator_of self.new).now.file
+            ≡ record (allocator_of self.old).now.file {
+              len = (allocator_of self.new).now.file.len;
+              bytes = (allocator_of self.new).now.file.bytes;
+              failures = (allocator_of self.new).now.file.failures;
+              begun = true;
+            } }
+        ensures len { MatchResult result (λ n. 0 < n → (allocator_of self.new).now.file.len
+            ≡ max (allocator_of self.old).now.file.len (place_of self.old + n)) (λ e.
+            IsMediumError e
+            × ((allocator_of self.new).now.file.len ≡ (allocator_of self.old).now.file.len)) }
+        ensures holds { IsTrue F.tells → (validation : Validation)
+            → HoldsTables validation (allocator_of self.old).now → (sector : ℕ)
+            → LiesIn (version_of self.old) sector (start_of self.old) (len_of self.old)
+            → IsNoTableSector (allocator_of self.old).now.tables sector
             → OnOk result (HoldsTables validation (allocator_of self.new).now) }
-        ensures others { IsTrue F.tells → ChangesOnlyBytes (place_of self.old) (min (length from.now) (room_of self.old))
+        ensures others { IsTrue F.tells
+            → ChangesOnlyBytes (place_of self.old) (min (length from.now) (room_of self.old))
             (allocator_of self.old).now.file.bytes (allocator_of self.new).now.file.bytes }
-        ensures spares { IsTrue F.tells → (sector : ℕ) → LiesIn (version_of self.old) sector (start_of self.old) (len_of self.old)
+        ensures spares { IsTrue F.tells → (sector : ℕ)
+            → LiesIn (version_of self.old) sector (start_of self.old) (len_of self.old)
             → Spares (sector ∷ []) (allocator_of self.old).now (allocator_of self.new).now }
-        ensures sectors { IsTrue F.tells → OtherSectorsStay (version_of self.old) (place_of self.old) (min (length from.now) (room_of self.old))
+        ensures sectors { IsTrue F.tells → OtherSectorsStay
+            (version_of self.old) (place_of self.old) (min (length from.now) (room_of self.old))
             (allocator_of self.old).now.file.bytes (allocator_of self.new).now.file.bytes }
-        ensures counts { IsTrue F.tells → CountsFailure F.write_faults result (allocator_of self.old).now.file.failures (allocator_of self.new).now.file.failures }
+        ensures counts { IsTrue F.tells → CountsFailure F.write_faults result
+            (allocator_of self.old).now.file.failures (allocator_of self.new).now.file.failures }
     {
         let count = from.len().min(self.remaining());
         if count == 0 {
             return Ok(0);
         }
         let known = self.allocator.file_len();
-        let _met = known;
+        let _fact = known;
         self.allocator
             .write_at(self.start + self.offset as u64, &from[..count])?;
         self.offset += count;

@@ -6,7 +6,7 @@ ghost use Rattle.cfb_format.specs.Bytes.{max_regular_sector, is_whole_sector, se
 ghost use Rattle.cfb_format.specs.Medium.{ChangesOnlyBytes};
 ghost use Rattle.cfb_alloc.specs.Agreement.{word_home};
 ghost use Rattle.cfb_tables.specs.Changes.{AreDisjoint};
-ghost use Rattle.cfb_sectors.specs.Words.{Stays, with_word};
+ghost use Rattle.cfb_sectors.specs.Words.{RangeStays, with_word};
 ghost use Rattle.cfb_format.specs.Full.{rounded_up};
 ghost use Rattle.cfb_format.specs.Header.{header_difat_len};
 ghost use Rattle.cfb_format.specs.Refused.{CountsFailure};
@@ -41,15 +41,24 @@ pub fn fill_sectors<F: Medium>(
     init: SectorInit,
 ) -> Result<(), Error>
     requires below { (i : ℕ) → Contains numbers.now i → i < sectors.old.num_sectors }
-    ensures kept { sectors.new ≡ record sectors.old { len = sectors.new.len; bytes = sectors.new.bytes; failures = sectors.new.failures; begun = sectors.new.begun } }
-    ensures measured { IsTrue F.tells → IsMeasured sectors.old → OnOk result (IsMeasured sectors.new) }
-    ensures filled { IsTrue F.tells → OnOk result ((i : ℕ) → Contains numbers.now i → IsFilled sectors.old.version init sectors.new.bytes i) }
-    ensures changes { IsTrue F.tells → ChangesSectors numbers.now sectors.old.version sectors.old.bytes sectors.new.bytes }
-    ensures front { IsTrue F.tells → Stays 0 512 sectors.old.bytes sectors.new.bytes }
+    ensures kept { sectors.new ≡ record sectors.old {
+      len = sectors.new.len;
+      bytes = sectors.new.bytes;
+      failures = sectors.new.failures;
+      begun = sectors.new.begun;
+    } }
+    ensures measured { IsTrue F.tells
+        → IsMeasured sectors.old → OnOk result (IsMeasured sectors.new) }
+    ensures filled { IsTrue F.tells → OnOk result ((i : ℕ)
+        → Contains numbers.now i → IsFilled sectors.old.version init sectors.new.bytes i) }
+    ensures changes { IsTrue F.tells
+        → ChangesSectors numbers.now sectors.old.version sectors.old.bytes sectors.new.bytes }
+    ensures front { IsTrue F.tells → RangeStays 0 512 sectors.old.bytes sectors.new.bytes }
     ensures raised { OnOk result (IsRaised (0 < length numbers.now) sectors.old sectors.new) }
     ensures err { IfErr result IsMediumError }
     ensures begun { IfErr result (λ e. sectors.new.begun ≡ true) }
-    ensures counts { IsTrue F.tells → CountsFailure F.write_faults result sectors.old.failures sectors.new.failures }
+    ensures counts { IsTrue F.tells
+        → CountsFailure F.write_faults result sectors.old.failures sectors.new.failures }
 {
     for number in numbers {
         fill_sector(sectors, *number, init)?;
@@ -64,15 +73,24 @@ fn fill_sector<F: Medium>(
     init: SectorInit,
 ) -> Result<(), Error>
     requires below { number < sectors.old.num_sectors }
-    ensures kept { sectors.new ≡ record sectors.old { len = sectors.new.len; bytes = sectors.new.bytes; failures = sectors.new.failures; begun = true } }
-    ensures measured { IsTrue F.tells → IsMeasured sectors.old → OnOk result (IsMeasured sectors.new) }
-    ensures filled { IsTrue F.tells → OnOk result (IsFilled sectors.old.version init sectors.new.bytes number) }
-    ensures changes { IsTrue F.tells → ChangesSectors (number ∷ []) sectors.old.version sectors.old.bytes sectors.new.bytes }
-    ensures front { IsTrue F.tells → Stays 0 512 sectors.old.bytes sectors.new.bytes }
+    ensures kept { sectors.new ≡ record sectors.old {
+      len = sectors.new.len;
+      bytes = sectors.new.bytes;
+      failures = sectors.new.failures;
+      begun = true;
+    } }
+    ensures measured { IsTrue F.tells
+        → IsMeasured sectors.old → OnOk result (IsMeasured sectors.new) }
+    ensures filled { IsTrue F.tells
+        → OnOk result (IsFilled sectors.old.version init sectors.new.bytes number) }
+    ensures changes { IsTrue F.tells
+        → ChangesSectors (number ∷ []) sectors.old.version sectors.old.bytes sectors.new.bytes }
+    ensures front { IsTrue F.tells → RangeStays 0 512 sectors.old.bytes sectors.new.bytes }
     ensures err { IfErr result IsMediumError }
-    ensures counts { IsTrue F.tells → CountsFailure F.write_faults result sectors.old.failures sectors.new.failures }
+    ensures counts { IsTrue F.tells
+        → CountsFailure F.write_faults result sectors.old.failures sectors.new.failures }
 {
-    let _count = sectors.num_sectors();
+    let _fact = sectors.num_sectors();
     sectors.init_sector(number, init)
 }
 
@@ -87,14 +105,28 @@ fn write_word_in<F: Medium>(
     requires place { place < length list.now }
     requires index { index < words_per_sector sectors.old.version }
     requires below { (i : ℕ) → Contains list.now i → i < sectors.old.num_sectors }
-    ensures kept { sectors.new ≡ record sectors.old { len = sectors.new.len; bytes = sectors.new.bytes; failures = sectors.new.failures; begun = true } }
-    ensures ok { IsTrue F.tells → OnOk result (sectors.new.bytes ≡ with_word sectors.old.bytes (sector_start sectors.old.version (slice_index list.now place) + 4 * index) value) }
-    ensures len { IsTrue F.tells → OnOk result (sectors.new.len ≡ max sectors.old.len (sector_start sectors.old.version (slice_index list.now place) + 4 * index + 4)) }
-    ensures only { IsTrue F.tells → ChangesOnlyBytes (sector_start sectors.old.version (slice_index list.now place) + 4 * index) 4 sectors.old.bytes sectors.new.bytes }
-    ensures measured { IsTrue F.tells → IsMeasured sectors.old → OnOk result (IsMeasured sectors.new) }
-    ensures changes { IsTrue F.tells → ChangesSectors list.now sectors.old.version sectors.old.bytes sectors.new.bytes }
+    ensures kept { sectors.new ≡ record sectors.old {
+      len = sectors.new.len;
+      bytes = sectors.new.bytes;
+      failures = sectors.new.failures;
+      begun = true;
+    } }
+    ensures ok { IsTrue F.tells → OnOk result (sectors.new.bytes
+        ≡ with_word sectors.old.bytes (sector_start sectors.old.version (slice_index list.now place)
+        + 4 * index) value) }
+    ensures len { IsTrue F.tells → OnOk result (sectors.new.len
+        ≡ max sectors.old.len (sector_start sectors.old.version (slice_index list.now place)
+        + 4 * index + 4)) }
+    ensures only { IsTrue F.tells
+        → ChangesOnlyBytes (sector_start sectors.old.version (slice_index list.now place)
+        + 4 * index) 4 sectors.old.bytes sectors.new.bytes }
+    ensures measured { IsTrue F.tells
+        → IsMeasured sectors.old → OnOk result (IsMeasured sectors.new) }
+    ensures changes { IsTrue F.tells
+        → ChangesSectors list.now sectors.old.version sectors.old.bytes sectors.new.bytes }
     ensures err { IfErr result IsMediumError }
-    ensures counts { IsTrue F.tells → CountsFailure F.write_faults result sectors.old.failures sectors.new.failures }
+    ensures counts { IsTrue F.tells
+        → CountsFailure F.write_faults result sectors.old.failures sectors.new.failures }
 {
     sectors.write_word(list[place], index, value)
 }
@@ -106,14 +138,22 @@ fn write_tables_word<F: Medium>(
     value: u32,
 ) -> Result<(), Error>
     requires word { IsTablesWord offset }
-    ensures kept { sectors.new ≡ record sectors.old { bytes = sectors.new.bytes; failures = sectors.new.failures; begun = true } }
-    ensures ok { IsTrue F.tells → OnOk result (sectors.new.bytes ≡ with_word sectors.old.bytes offset value) }
-    ensures measured { IsTrue F.tells → IsMeasured sectors.old → OnOk result (IsMeasured sectors.new) }
-    ensures changes { IsTrue F.tells → ChangesSectors [] sectors.old.version sectors.old.bytes sectors.new.bytes }
+    ensures kept { sectors.new ≡ record sectors.old {
+      bytes = sectors.new.bytes;
+      failures = sectors.new.failures;
+      begun = true;
+    } }
+    ensures ok { IsTrue F.tells
+        → OnOk result (sectors.new.bytes ≡ with_word sectors.old.bytes offset value) }
+    ensures measured { IsTrue F.tells
+        → IsMeasured sectors.old → OnOk result (IsMeasured sectors.new) }
+    ensures changes { IsTrue F.tells
+        → ChangesSectors [] sectors.old.version sectors.old.bytes sectors.new.bytes }
     ensures err { IfErr result IsMediumError }
-    ensures counts { IsTrue F.tells → CountsFailure F.write_faults result sectors.old.failures sectors.new.failures }
+    ensures counts { IsTrue F.tells
+        → CountsFailure F.write_faults result sectors.old.failures sectors.new.failures }
 {
-    let _count = sectors.num_sectors();
+    let _fact = sectors.num_sectors();
     sectors.write_header_word(offset, value)
 }
 
@@ -126,17 +166,28 @@ fn write_fat_word<F: Medium>(
 ) -> Result<(), Error>
     requires there { number < length fat_sectors.now * words_per_sector sectors.old.version }
     requires below { (i : ℕ) → Contains fat_sectors.now i → i < sectors.old.num_sectors }
-    ensures kept { sectors.new ≡ record sectors.old { len = sectors.new.len; bytes = sectors.new.bytes; failures = sectors.new.failures; begun = true } }
-    ensures ok { IsTrue F.tells → OnOk result (sectors.new.bytes ≡ with_word sectors.old.bytes (word_home sectors.old.version fat_sectors.now number) value) }
-    ensures len { IsTrue F.tells → OnOk result (sectors.new.len ≡ max sectors.old.len (word_home sectors.old.version fat_sectors.now number + 4)) }
-    ensures only { IsTrue F.tells → ChangesOnlyBytes (word_home sectors.old.version fat_sectors.now number) 4 sectors.old.bytes sectors.new.bytes }
-    ensures changes { IsTrue F.tells → ChangesSectors fat_sectors.now sectors.old.version sectors.old.bytes sectors.new.bytes }
+    ensures kept { sectors.new ≡ record sectors.old {
+      len = sectors.new.len;
+      bytes = sectors.new.bytes;
+      failures = sectors.new.failures;
+      begun = true;
+    } }
+    ensures ok { IsTrue F.tells → OnOk result (sectors.new.bytes ≡ with_word sectors.old.bytes
+        (word_home sectors.old.version fat_sectors.now number) value) }
+    ensures len { IsTrue F.tells → OnOk result (sectors.new.len
+        ≡ max sectors.old.len (word_home sectors.old.version fat_sectors.now number + 4)) }
+    ensures only { IsTrue F.tells
+        → ChangesOnlyBytes (word_home sectors.old.version fat_sectors.now number)
+        4 sectors.old.bytes sectors.new.bytes }
+    ensures changes { IsTrue F.tells
+        → ChangesSectors fat_sectors.now sectors.old.version sectors.old.bytes sectors.new.bytes }
     ensures fits { value < 2 ^ 32 }
     ensures header { sector_len sectors.old.version ≤ sectors.old.len }
     ensures err { IfErr result IsMediumError }
-    ensures counts { IsTrue F.tells → CountsFailure F.write_faults result sectors.old.failures sectors.new.failures }
+    ensures counts { IsTrue F.tells
+        → CountsFailure F.write_faults result sectors.old.failures sectors.new.failures }
 {
-    let _count = sectors.num_sectors();
+    let _fact = sectors.num_sectors();
     let words = sectors.version().words_per_sector();
     let number = number as usize;
     write_word_in(sectors, fat_sectors, number / words, number % words, value)
@@ -151,12 +202,20 @@ fn write_value<F: Medium, A: Allocator>(
     requires placed { IsPlaced sectors.old tables.now }
     requires covered { IsCovered tables.now }
     requires below { number < length tables.now.fat }
-    ensures kept { sectors.new ≡ record sectors.old { len = sectors.new.len; bytes = sectors.new.bytes; failures = sectors.new.failures; begun = true } }
-    ensures ok { IsTrue F.tells → (validation : Validation) (late : List ℕ) → HoldsBut validation (number ∷ late) sectors.old tables.now
+    ensures kept { sectors.new ≡ record sectors.old {
+      len = sectors.new.len;
+      bytes = sectors.new.bytes;
+      failures = sectors.new.failures;
+      begun = true;
+    } }
+    ensures ok { IsTrue F.tells → (validation : Validation) (late : List ℕ)
+        → HoldsBut validation (number ∷ late) sectors.old tables.now
         → OnOk result (HoldsBut validation late sectors.new tables.now) }
-    ensures changes { IsTrue F.tells → ChangesSectors tables.now.fat_sectors sectors.old.version sectors.old.bytes sectors.new.bytes }
+    ensures changes { IsTrue F.tells → ChangesSectors
+        tables.now.fat_sectors sectors.old.version sectors.old.bytes sectors.new.bytes }
     ensures err { IfErr result IsMediumError }
-    ensures counts { IsTrue F.tells → CountsFailure F.write_faults result sectors.old.failures sectors.new.failures }
+    ensures counts { IsTrue F.tells
+        → CountsFailure F.write_faults result sectors.old.failures sectors.new.failures }
 {
     let value = tables.fat()[number as usize];
     write_fat_word(sectors, tables.fat_sectors(), number, value)
@@ -171,14 +230,22 @@ pub fn write_values<F: Medium, A: Allocator>(
     requires placed { IsPlaced sectors.old tables.now }
     requires covered { IsCovered tables.now }
     requires below { (i : ℕ) → Contains numbers.now i → i < length tables.now.fat }
-    ensures kept { sectors.new ≡ record sectors.old { len = sectors.new.len; bytes = sectors.new.bytes; failures = sectors.new.failures; begun = sectors.new.begun } }
-    ensures ok { IsTrue F.tells → (validation : Validation) (late : List ℕ) → HoldsBut validation (numbers.now ++ late) sectors.old tables.now
+    ensures kept { sectors.new ≡ record sectors.old {
+      len = sectors.new.len;
+      bytes = sectors.new.bytes;
+      failures = sectors.new.failures;
+      begun = sectors.new.begun;
+    } }
+    ensures ok { IsTrue F.tells → (validation : Validation) (late : List ℕ)
+        → HoldsBut validation (numbers.now ++ late) sectors.old tables.now
         → OnOk result (HoldsBut validation late sectors.new tables.now) }
-    ensures changes { IsTrue F.tells → ChangesSectors tables.now.fat_sectors sectors.old.version sectors.old.bytes sectors.new.bytes }
+    ensures changes { IsTrue F.tells → ChangesSectors
+        tables.now.fat_sectors sectors.old.version sectors.old.bytes sectors.new.bytes }
     ensures raised { OnOk result (IsRaised (0 < length numbers.now) sectors.old sectors.new) }
     ensures err { IfErr result IsMediumError }
     ensures begun { IfErr result (λ e. sectors.new.begun ≡ true) }
-    ensures counts { IsTrue F.tells → CountsFailure F.write_faults result sectors.old.failures sectors.new.failures }
+    ensures counts { IsTrue F.tells
+        → CountsFailure F.write_faults result sectors.old.failures sectors.new.failures }
 {
     for number in numbers {
         write_value(sectors, tables, *number)?;
@@ -189,13 +256,21 @@ pub fn write_values<F: Medium, A: Allocator>(
 /// Makes the place of the header behind this one free, if there is one: what follows a free place counts as free. `Medium`.
 fn free_place_behind<F: Medium>(sectors: &mut Sectors<F>, index: usize) -> Result<(), Error>
     requires place { index < header_difat_len }
-    ensures kept { sectors.new ≡ record sectors.old { bytes = sectors.new.bytes; failures = sectors.new.failures; begun = sectors.new.begun } }
-    ensures ok { IsTrue F.tells → OnOk result (sectors.new.bytes ≡ freed_behind sectors.old.bytes index) }
-    ensures measured { IsTrue F.tells → IsMeasured sectors.old → OnOk result (IsMeasured sectors.new) }
-    ensures changes { IsTrue F.tells → ChangesSectors [] sectors.old.version sectors.old.bytes sectors.new.bytes }
+    ensures kept { sectors.new ≡ record sectors.old {
+      bytes = sectors.new.bytes;
+      failures = sectors.new.failures;
+      begun = sectors.new.begun;
+    } }
+    ensures ok { IsTrue F.tells
+        → OnOk result (sectors.new.bytes ≡ freed_behind sectors.old.bytes index) }
+    ensures measured { IsTrue F.tells
+        → IsMeasured sectors.old → OnOk result (IsMeasured sectors.new) }
+    ensures changes { IsTrue F.tells
+        → ChangesSectors [] sectors.old.version sectors.old.bytes sectors.new.bytes }
     ensures raised { OnOk result (IsRaised (index + 1 < header_difat_len) sectors.old sectors.new) }
     ensures err { IfErr result (λ e. IsMediumError e × (sectors.new.begun ≡ true)) }
-    ensures counts { IsTrue F.tells → CountsFailure F.write_faults result sectors.old.failures sectors.new.failures }
+    ensures counts { IsTrue F.tells
+        → CountsFailure F.write_faults result sectors.old.failures sectors.new.failures }
 {
     if index + 1 >= NUM_DIFAT_ENTRIES_IN_HEADER {
         return Ok(());
@@ -210,12 +285,20 @@ fn list_in_header<F: Medium>(
     number: u32,
 ) -> Result<(), Error>
     requires place { index < header_difat_len }
-    ensures kept { sectors.new ≡ record sectors.old { bytes = sectors.new.bytes; failures = sectors.new.failures; begun = true } }
-    ensures ok { IsTrue F.tells → OnOk result (sectors.new.bytes ≡ listed_in_header sectors.old.bytes index number) }
-    ensures measured { IsTrue F.tells → IsMeasured sectors.old → OnOk result (IsMeasured sectors.new) }
-    ensures changes { IsTrue F.tells → ChangesSectors [] sectors.old.version sectors.old.bytes sectors.new.bytes }
+    ensures kept { sectors.new ≡ record sectors.old {
+      bytes = sectors.new.bytes;
+      failures = sectors.new.failures;
+      begun = true;
+    } }
+    ensures ok { IsTrue F.tells
+        → OnOk result (sectors.new.bytes ≡ listed_in_header sectors.old.bytes index number) }
+    ensures measured { IsTrue F.tells
+        → IsMeasured sectors.old → OnOk result (IsMeasured sectors.new) }
+    ensures changes { IsTrue F.tells
+        → ChangesSectors [] sectors.old.version sectors.old.bytes sectors.new.bytes }
     ensures err { IfErr result IsMediumError }
-    ensures counts { IsTrue F.tells → CountsFailure F.write_faults result sectors.old.failures sectors.new.failures }
+    ensures counts { IsTrue F.tells
+        → CountsFailure F.write_faults result sectors.old.failures sectors.new.failures }
 {
     free_place_behind(sectors, index)?;
     write_tables_word(sectors, HEADER_DIFAT + 4 * index, number)?;
@@ -233,13 +316,23 @@ fn list_in_difat_sector<F: Medium>(
     requires place { index < difat_places sectors.old.version (length difat_sectors.now) }
     requires short { index < max_regular_sector }
     requires below { (i : ℕ) → Contains difat_sectors.now i → i < sectors.old.num_sectors }
-    ensures kept { sectors.new ≡ record sectors.old { len = sectors.new.len; bytes = sectors.new.bytes; failures = sectors.new.failures; begun = true } }
-    ensures ok { IsTrue F.tells → OnOk result (sectors.new.bytes ≡ listed_in_sector sectors.old.version sectors.old.bytes difat_sectors.now index number) }
-    ensures len { IsTrue F.tells → OnOk result (sectors.new.len ≡ max sectors.old.len (difat_place sectors.old.version difat_sectors.now index + 4)) }
-    ensures measured { IsTrue F.tells → IsMeasured sectors.old → OnOk result (IsMeasured sectors.new) }
-    ensures changes { IsTrue F.tells → ChangesSectors difat_sectors.now sectors.old.version sectors.old.bytes sectors.new.bytes }
+    ensures kept { sectors.new ≡ record sectors.old {
+      len = sectors.new.len;
+      bytes = sectors.new.bytes;
+      failures = sectors.new.failures;
+      begun = true;
+    } }
+    ensures ok { IsTrue F.tells → OnOk result (sectors.new.bytes
+        ≡ listed_in_sector sectors.old.version sectors.old.bytes difat_sectors.now index number) }
+    ensures len { IsTrue F.tells → OnOk result (sectors.new.len
+        ≡ max sectors.old.len (difat_place sectors.old.version difat_sectors.now index + 4)) }
+    ensures measured { IsTrue F.tells
+        → IsMeasured sectors.old → OnOk result (IsMeasured sectors.new) }
+    ensures changes { IsTrue F.tells
+        → ChangesSectors difat_sectors.now sectors.old.version sectors.old.bytes sectors.new.bytes }
     ensures err { IfErr result IsMediumError }
-    ensures counts { IsTrue F.tells → CountsFailure F.write_faults result sectors.old.failures sectors.new.failures }
+    ensures counts { IsTrue F.tells
+        → CountsFailure F.write_faults result sectors.old.failures sectors.new.failures }
 {
     let entries = sectors.version().words_per_sector() - 1;
     let place = index - NUM_DIFAT_ENTRIES_IN_HEADER;
@@ -261,14 +354,23 @@ fn link_difat_sector<F: Medium>(
 ) -> Result<(), Error>
     requires short { length before.now < max_regular_sector }
     requires below { (i : ℕ) → Contains before.now i → i < sectors.old.num_sectors }
-    ensures kept { sectors.new ≡ record sectors.old { len = sectors.new.len; bytes = sectors.new.bytes; failures = sectors.new.failures; begun = true } }
-    ensures ok { IsTrue F.tells → OnOk result (sectors.new.bytes ≡ linked sectors.old.version sectors.old.bytes before.now number) }
-    ensures measured { IsTrue F.tells → IsMeasured sectors.old → OnOk result (IsMeasured sectors.new) }
-    ensures changes { IsTrue F.tells → ChangesSectors before.now sectors.old.version sectors.old.bytes sectors.new.bytes }
+    ensures kept { sectors.new ≡ record sectors.old {
+      len = sectors.new.len;
+      bytes = sectors.new.bytes;
+      failures = sectors.new.failures;
+      begun = true;
+    } }
+    ensures ok { IsTrue F.tells → OnOk result (sectors.new.bytes
+        ≡ linked sectors.old.version sectors.old.bytes before.now number) }
+    ensures measured { IsTrue F.tells
+        → IsMeasured sectors.old → OnOk result (IsMeasured sectors.new) }
+    ensures changes { IsTrue F.tells
+        → ChangesSectors before.now sectors.old.version sectors.old.bytes sectors.new.bytes }
     ensures err { IfErr result IsMediumError }
-    ensures counts { IsTrue F.tells → CountsFailure F.write_faults result sectors.old.failures sectors.new.failures }
+    ensures counts { IsTrue F.tells
+        → CountsFailure F.write_faults result sectors.old.failures sectors.new.failures }
 {
-    let _count = sectors.num_sectors();
+    let _fact = sectors.num_sectors();
     name_difat_sector(sectors, before, number)?;
     write_tables_word(sectors, HEADER_DIFAT_COUNT, before.len() as u32 + 1)
 }
@@ -280,14 +382,23 @@ fn name_difat_sector<F: Medium>(
     number: u32,
 ) -> Result<(), Error>
     requires below { (i : ℕ) → Contains before.now i → i < sectors.old.num_sectors }
-    ensures kept { sectors.new ≡ record sectors.old { len = sectors.new.len; bytes = sectors.new.bytes; failures = sectors.new.failures; begun = true } }
-    ensures ok { IsTrue F.tells → OnOk result (sectors.new.bytes ≡ with_word sectors.old.bytes (link_place sectors.old.version before.now) number) }
-    ensures measured { IsTrue F.tells → IsMeasured sectors.old → OnOk result (IsMeasured sectors.new) }
-    ensures changes { IsTrue F.tells → ChangesSectors before.now sectors.old.version sectors.old.bytes sectors.new.bytes }
+    ensures kept { sectors.new ≡ record sectors.old {
+      len = sectors.new.len;
+      bytes = sectors.new.bytes;
+      failures = sectors.new.failures;
+      begun = true;
+    } }
+    ensures ok { IsTrue F.tells → OnOk result (sectors.new.bytes
+        ≡ with_word sectors.old.bytes (link_place sectors.old.version before.now) number) }
+    ensures measured { IsTrue F.tells
+        → IsMeasured sectors.old → OnOk result (IsMeasured sectors.new) }
+    ensures changes { IsTrue F.tells
+        → ChangesSectors before.now sectors.old.version sectors.old.bytes sectors.new.bytes }
     ensures err { IfErr result IsMediumError }
-    ensures counts { IsTrue F.tells → CountsFailure F.write_faults result sectors.old.failures sectors.new.failures }
+    ensures counts { IsTrue F.tells
+        → CountsFailure F.write_faults result sectors.old.failures sectors.new.failures }
 {
-    let _count = sectors.num_sectors();
+    let _fact = sectors.num_sectors();
     if before.is_empty() {
         return write_tables_word(sectors, HEADER_FIRST_DIFAT, number);
     }
@@ -304,16 +415,27 @@ fn add_difat_sector<F: Medium>(
     requires short { length before.now < max_regular_sector }
     requires below { (i : ℕ) → Contains before.now i → i < sectors.old.num_sectors }
     requires there { number < sectors.old.num_sectors }
-    ensures kept { sectors.new ≡ record sectors.old { len = sectors.new.len; bytes = sectors.new.bytes; failures = sectors.new.failures; begun = true } }
-    ensures listed { IsTrue F.tells → (validation : Validation) (list : List ℕ) → ListsTables validation sectors.old.version sectors.old.bytes list before.now
-        → IsMeasured sectors.old → difat_places sectors.old.version (length before.now) ≤ length list → (Contains before.now number → ⊥)
-        → OnOk result (ListsTables validation sectors.old.version sectors.new.bytes list (before.now ++ number ∷ [])) }
-    ensures measured { IsTrue F.tells → IsMeasured sectors.old → OnOk result (IsMeasured sectors.new) }
-    ensures changes { IsTrue F.tells → ChangesSectors (before.now ++ number ∷ []) sectors.old.version sectors.old.bytes sectors.new.bytes }
+    ensures kept { sectors.new ≡ record sectors.old {
+      len = sectors.new.len;
+      bytes = sectors.new.bytes;
+      failures = sectors.new.failures;
+      begun = true;
+    } }
+    ensures listed { IsTrue F.tells → (validation : Validation) (list : List ℕ)
+        → ListsTables validation sectors.old.version sectors.old.bytes list before.now
+        → IsMeasured sectors.old → difat_places sectors.old.version (length before.now)
+        ≤ length list → (Contains before.now number → ⊥)
+        → OnOk result (ListsTables validation sectors.old.version sectors.new.bytes list (before.now
+        ++ number ∷ [])) }
+    ensures measured { IsTrue F.tells
+        → IsMeasured sectors.old → OnOk result (IsMeasured sectors.new) }
+    ensures changes { IsTrue F.tells → ChangesSectors (before.now
+        ++ number ∷ []) sectors.old.version sectors.old.bytes sectors.new.bytes }
     ensures err { IfErr result IsMediumError }
-    ensures counts { IsTrue F.tells → CountsFailure F.write_faults result sectors.old.failures sectors.new.failures }
+    ensures counts { IsTrue F.tells
+        → CountsFailure F.write_faults result sectors.old.failures sectors.new.failures }
 {
-    let _count = sectors.num_sectors();
+    let _fact = sectors.num_sectors();
     fill_sector(sectors, number, SectorInit::Difat)?;
     link_difat_sector(sectors, before, number)
 }
@@ -329,16 +451,27 @@ fn list_fat_sector<F: Medium>(
     requires short { index < max_regular_sector }
     requires below { (i : ℕ) → Contains difat_sectors.now i → i < sectors.old.num_sectors }
     requires there { number < sectors.old.num_sectors }
-    ensures kept { sectors.new ≡ record sectors.old { len = sectors.new.len; bytes = sectors.new.bytes; failures = sectors.new.failures; begun = true } }
-    ensures listed { IsTrue F.tells → (validation : Validation) (list : List ℕ) → ListsTables validation sectors.old.version sectors.old.bytes list difat_sectors.now
-        → IsMeasured sectors.old → length list ≡ index → is_whole_sector sectors.old.version sectors.old.bytes number ≡ true
-        → OnOk result (ListsTables validation sectors.old.version sectors.new.bytes (list ++ number ∷ []) difat_sectors.now) }
-    ensures measured { IsTrue F.tells → IsMeasured sectors.old → OnOk result (IsMeasured sectors.new) }
-    ensures changes { IsTrue F.tells → ChangesSectors difat_sectors.now sectors.old.version sectors.old.bytes sectors.new.bytes }
+    ensures kept { sectors.new ≡ record sectors.old {
+      len = sectors.new.len;
+      bytes = sectors.new.bytes;
+      failures = sectors.new.failures;
+      begun = true;
+    } }
+    ensures listed { IsTrue F.tells → (validation : Validation) (list : List ℕ)
+        → ListsTables validation sectors.old.version sectors.old.bytes list difat_sectors.now
+        → IsMeasured sectors.old
+        → length list ≡ index → is_whole_sector sectors.old.version sectors.old.bytes number ≡ true
+        → OnOk result (ListsTables validation sectors.old.version sectors.new.bytes (list
+        ++ number ∷ []) difat_sectors.now) }
+    ensures measured { IsTrue F.tells
+        → IsMeasured sectors.old → OnOk result (IsMeasured sectors.new) }
+    ensures changes { IsTrue F.tells
+        → ChangesSectors difat_sectors.now sectors.old.version sectors.old.bytes sectors.new.bytes }
     ensures err { IfErr result IsMediumError }
-    ensures counts { IsTrue F.tells → CountsFailure F.write_faults result sectors.old.failures sectors.new.failures }
+    ensures counts { IsTrue F.tells
+        → CountsFailure F.write_faults result sectors.old.failures sectors.new.failures }
 {
-    let _count = sectors.num_sectors();
+    let _fact = sectors.num_sectors();
     if index < NUM_DIFAT_ENTRIES_IN_HEADER {
         list_in_header(sectors, index, number)
     } else {
@@ -356,21 +489,35 @@ fn grow_difat<F: Medium>(
 ) -> Result<usize, Error>
     requires short { length difat_sectors.now ≤ max_regular_sector }
     requires listed { listed ≤ length difat_sectors.now }
-    requires full { difat_places sectors.old.version listed ≤ index → listed < length difat_sectors.now }
+    requires full { difat_places sectors.old.version listed ≤ index
+        → listed < length difat_sectors.now }
     requires within { index ≤ difat_places sectors.old.version listed }
     requires below { (i : ℕ) → Contains difat_sectors.now i → i < sectors.old.num_sectors }
-    ensures kept { sectors.new ≡ record sectors.old { len = sectors.new.len; bytes = sectors.new.bytes; failures = sectors.new.failures; begun = sectors.new.begun } }
-    ensures answer { IfOk result (λ n. n ≡ (if nat_lt index (difat_places sectors.old.version listed) then listed else listed + 1)) }
-    ensures place { IfOk result (λ n. (index < difat_places sectors.old.version n) × (n ≤ length difat_sectors.now)) }
+    ensures kept { sectors.new ≡ record sectors.old {
+      len = sectors.new.len;
+      bytes = sectors.new.bytes;
+      failures = sectors.new.failures;
+      begun = sectors.new.begun;
+    } }
+    ensures answer { IfOk result (λ n. n
+        ≡ (if nat_lt index (difat_places sectors.old.version listed) then listed else listed + 1)) }
+    ensures place { IfOk result (λ n. (index < difat_places sectors.old.version n)
+        × (n ≤ length difat_sectors.now)) }
     ensures listed { IsTrue F.tells → (validation : Validation) (list : List ℕ)
-        → ListsTables validation sectors.old.version sectors.old.bytes list (take listed difat_sectors.now)
+        → ListsTables validation sectors.old.version sectors.old.bytes list
+        (take listed difat_sectors.now)
         → IsMeasured sectors.old → index ≤ length list → IsDistinct nat_eq difat_sectors.now
-        → IfOk result (λ n. ListsTables validation sectors.old.version sectors.new.bytes list (take n difat_sectors.now)) }
-    ensures measured { IsTrue F.tells → IsMeasured sectors.old → OnOk result (IsMeasured sectors.new) }
-    ensures changes { IsTrue F.tells → ChangesSectors difat_sectors.now sectors.old.version sectors.old.bytes sectors.new.bytes }
-    ensures raised { OnOk result (IsRaised (difat_places sectors.old.version listed ≤ index) sectors.old sectors.new) }
+        → IfOk result (λ n. ListsTables validation sectors.old.version sectors.new.bytes list
+        (take n difat_sectors.now)) }
+    ensures measured { IsTrue F.tells
+        → IsMeasured sectors.old → OnOk result (IsMeasured sectors.new) }
+    ensures changes { IsTrue F.tells
+        → ChangesSectors difat_sectors.now sectors.old.version sectors.old.bytes sectors.new.bytes }
+    ensures raised { OnOk result (IsRaised (difat_places sectors.old.version listed
+        ≤ index) sectors.old sectors.new) }
     ensures err { IfErr result (λ e. IsMediumError e × (sectors.new.begun ≡ true)) }
-    ensures counts { IsTrue F.tells → CountsFailure F.write_faults result sectors.old.failures sectors.new.failures }
+    ensures counts { IsTrue F.tells
+        → CountsFailure F.write_faults result sectors.old.failures sectors.new.failures }
 {
     let entries = sectors.version().words_per_sector() - 1;
     if index < NUM_DIFAT_ENTRIES_IN_HEADER + listed * entries {
@@ -393,25 +540,36 @@ fn add_fat_sector<F: Medium>(
     requires short { length difat_sectors.now ≤ max_regular_sector }
     requires index { index < length fat_sectors.now }
     requires listed { listed ≤ length difat_sectors.now }
-    requires full { difat_places sectors.old.version listed ≤ index → listed < length difat_sectors.now }
+    requires full { difat_places sectors.old.version listed ≤ index
+        → listed < length difat_sectors.now }
     requires within { index ≤ difat_places sectors.old.version listed }
     requires below { (i : ℕ) → Contains difat_sectors.now i → i < sectors.old.num_sectors }
     requires there { slice_index fat_sectors.now index < sectors.old.num_sectors }
-    ensures kept { sectors.new ≡ record sectors.old { len = sectors.new.len; bytes = sectors.new.bytes; failures = sectors.new.failures; begun = true } }
-    ensures answer { IfOk result (λ n. n ≡ (if nat_lt index (difat_places sectors.old.version listed) then listed else listed + 1)) }
-    ensures listed { IsTrue F.tells → (validation : Validation)
-        → ListsTables validation sectors.old.version sectors.old.bytes (take index fat_sectors.now) (take listed difat_sectors.now)
-        → IsMeasured sectors.old → IsDistinct nat_eq difat_sectors.now → AreDisjoint fat_sectors.now difat_sectors.now
-        → IfOk result (λ n. ListsTables validation sectors.old.version sectors.new.bytes (take (index + 1) fat_sectors.now) (take n difat_sectors.now)) }
-    ensures filled { IsTrue F.tells → AreDisjoint fat_sectors.now difat_sectors.now
-        → OnOk result (IsFilled sectors.old.version Fat sectors.new.bytes (slice_index fat_sectors.now index)) }
-    ensures measured { IsTrue F.tells → IsMeasured sectors.old → OnOk result (IsMeasured sectors.new) }
-    ensures changes { IsTrue F.tells
-        → ChangesSectors (slice_index fat_sectors.now index ∷ difat_sectors.now) sectors.old.version sectors.old.bytes sectors.new.bytes }
+    ensures kept { sectors.new ≡ record sectors.old {
+      len = sectors.new.len;
+      bytes = sectors.new.bytes;
+      failures = sectors.new.failures;
+      begun = true;
+    } }
+    ensures answer { IfOk result (λ n. n
+        ≡ (if nat_lt index (difat_places sectors.old.version listed) then listed else listed + 1)) }
+    ensures listed { IsTrue F.tells
+        → (validation : Validation) → ListsTables validation sectors.old.version sectors.old.bytes
+        (take index fat_sectors.now) (take listed difat_sectors.now) → IsMeasured sectors.old
+        → IsDistinct nat_eq difat_sectors.now → AreDisjoint fat_sectors.now difat_sectors.now
+        → IfOk result (λ n. ListsTables validation sectors.old.version sectors.new.bytes
+        (take (index + 1) fat_sectors.now) (take n difat_sectors.now)) }
+    ensures filled { IsTrue F.tells → AreDisjoint fat_sectors.now difat_sectors.now → OnOk result
+        (IsFilled sectors.old.version Fat sectors.new.bytes (slice_index fat_sectors.now index)) }
+    ensures measured { IsTrue F.tells
+        → IsMeasured sectors.old → OnOk result (IsMeasured sectors.new) }
+    ensures changes { IsTrue F.tells → ChangesSectors (slice_index fat_sectors.now index
+        ∷ difat_sectors.now) sectors.old.version sectors.old.bytes sectors.new.bytes }
     ensures err { IfErr result IsMediumError }
-    ensures counts { IsTrue F.tells → CountsFailure F.write_faults result sectors.old.failures sectors.new.failures }
+    ensures counts { IsTrue F.tells
+        → CountsFailure F.write_faults result sectors.old.failures sectors.new.failures }
 {
-    let _count = sectors.num_sectors();
+    let _fact = sectors.num_sectors();
     let number = fat_sectors[index];
     fill_sector(sectors, number, SectorInit::Fat)?;
     let listed = grow_difat(sectors, difat_sectors, listed, index)?;
@@ -432,22 +590,35 @@ fn write_table_sectors<F: Medium>(
     requires short { length difat_sectors.now ≤ max_regular_sector }
     requires from { fats ≤ length fat_sectors.now }
     requires places { fats ≤ difat_places sectors.old.version difats }
-    requires counted { length difat_sectors.now ≡ max difats (rounded_up (length fat_sectors.now - header_difat_len) (words_per_sector sectors.old.version - 1)) }
+    requires counted { length difat_sectors.now ≡ max difats (rounded_up (length fat_sectors.now
+        - header_difat_len) (words_per_sector sectors.old.version - 1)) }
     requires below { (i : ℕ) → Contains difat_sectors.now i → i < sectors.old.num_sectors }
     requires there { (i : ℕ) → Contains fat_sectors.now i → i < sectors.old.num_sectors }
-    ensures kept { sectors.new ≡ record sectors.old { len = sectors.new.len; bytes = sectors.new.bytes; failures = sectors.new.failures; begun = sectors.new.begun } }
-    ensures listed { IsTrue F.tells → (validation : Validation)
-        → ListsTables validation sectors.old.version sectors.old.bytes (take fats fat_sectors.now) (take difats difat_sectors.now)
-        → IsMeasured sectors.old → IsDistinct nat_eq difat_sectors.now → AreDisjoint fat_sectors.now difat_sectors.now
-        → OnOk result (ListsTables validation sectors.old.version sectors.new.bytes fat_sectors.now difat_sectors.now) }
-    ensures filled { IsTrue F.tells → IsDistinct nat_eq fat_sectors.now → AreDisjoint fat_sectors.now difat_sectors.now
-        → OnOk result ((k : ℕ) → fats ≤ k → k < length fat_sectors.now → IsFilled sectors.old.version Fat sectors.new.bytes (slice_index fat_sectors.now k)) }
-    ensures measured { IsTrue F.tells → IsMeasured sectors.old → OnOk result (IsMeasured sectors.new) }
-    ensures changes { IsTrue F.tells
-        → ChangesSectors (drop fats fat_sectors.now ++ difat_sectors.now) sectors.old.version sectors.old.bytes sectors.new.bytes }
-    ensures raised { OnOk result (IsRaised (fats < length fat_sectors.now) sectors.old sectors.new) }
+    ensures kept { sectors.new ≡ record sectors.old {
+      len = sectors.new.len;
+      bytes = sectors.new.bytes;
+      failures = sectors.new.failures;
+      begun = sectors.new.begun;
+    } }
+    ensures listed { IsTrue F.tells
+        → (validation : Validation) → ListsTables validation sectors.old.version sectors.old.bytes
+        (take fats fat_sectors.now) (take difats difat_sectors.now)
+        → IsMeasured sectors.old → IsDistinct nat_eq difat_sectors.now
+        → AreDisjoint fat_sectors.now difat_sectors.now → OnOk result (ListsTables
+        validation sectors.old.version sectors.new.bytes fat_sectors.now difat_sectors.now) }
+    ensures filled { IsTrue F.tells
+        → IsDistinct nat_eq fat_sectors.now → AreDisjoint fat_sectors.now difat_sectors.now
+        → OnOk result ((k : ℕ) → fats ≤ k → k < length fat_sectors.now
+        → IsFilled sectors.old.version Fat sectors.new.bytes (slice_index fat_sectors.now k)) }
+    ensures measured { IsTrue F.tells
+        → IsMeasured sectors.old → OnOk result (IsMeasured sectors.new) }
+    ensures changes { IsTrue F.tells → ChangesSectors (drop fats fat_sectors.now
+        ++ difat_sectors.now) sectors.old.version sectors.old.bytes sectors.new.bytes }
+    ensures raised { OnOk result (IsRaised (fats
+        < length fat_sectors.now) sectors.old sectors.new) }
     ensures err { IfErr result (λ e. IsMediumError e × (sectors.new.begun ≡ true)) }
-    ensures counts { IsTrue F.tells → CountsFailure F.write_faults result sectors.old.failures sectors.new.failures }
+    ensures counts { IsTrue F.tells
+        → CountsFailure F.write_faults result sectors.old.failures sectors.new.failures }
 {
     let mut listed = difats;
     for index in fats..fat_sectors.len() {
@@ -469,28 +640,43 @@ fn add_sectors<F: Medium>(
     requires short { length difat_sectors.now ≤ max_regular_sector }
     requires from { before.fats ≤ length fat_sectors.now }
     requires places { before.fats ≤ difat_places sectors.old.version before.difats }
-    requires counted { length difat_sectors.now ≡ max before.difats (rounded_up (length fat_sectors.now - header_difat_len) (words_per_sector sectors.old.version - 1)) }
+    requires counted { length difat_sectors.now
+        ≡ max before.difats (rounded_up (length fat_sectors.now
+        - header_difat_len) (words_per_sector sectors.old.version - 1)) }
     requires below { (i : ℕ) → Contains difat_sectors.now i → i < sectors.old.num_sectors }
     requires there { (i : ℕ) → Contains fat_sectors.now i → i < sectors.old.num_sectors }
     requires more { (i : ℕ) → Contains more.now i → i < sectors.old.num_sectors }
-    ensures kept { sectors.new ≡ record sectors.old { len = sectors.new.len; bytes = sectors.new.bytes; failures = sectors.new.failures; begun = sectors.new.begun } }
-    ensures listed { IsTrue F.tells → (validation : Validation)
-        → ListsTables validation sectors.old.version sectors.old.bytes (take before.fats fat_sectors.now) (take before.difats difat_sectors.now)
-        → IsMeasured sectors.old → IsDistinct nat_eq difat_sectors.now → AreDisjoint fat_sectors.now difat_sectors.now → AreDisjoint difat_sectors.now more.now
-        → OnOk result (ListsTables validation sectors.old.version sectors.new.bytes fat_sectors.now difat_sectors.now) }
-    ensures fats { IsTrue F.tells → IsDistinct nat_eq fat_sectors.now → AreDisjoint fat_sectors.now difat_sectors.now → AreDisjoint fat_sectors.now more.now
-        → OnOk result ((k : ℕ) → before.fats ≤ k → k < length fat_sectors.now → IsFilled sectors.old.version Fat sectors.new.bytes (slice_index fat_sectors.now k)) }
-    ensures filled { IsTrue F.tells → OnOk result ((i : ℕ) → Contains more.now i → IsFilled sectors.old.version init sectors.new.bytes i) }
-    ensures measured { IsTrue F.tells → IsMeasured sectors.old → OnOk result (IsMeasured sectors.new) }
-    ensures changes { IsTrue F.tells
-        → ChangesSectors (drop before.fats fat_sectors.now ++ difat_sectors.now ++ more.now) sectors.old.version sectors.old.bytes sectors.new.bytes }
+    ensures kept { sectors.new ≡ record sectors.old {
+      len = sectors.new.len;
+      bytes = sectors.new.bytes;
+      failures = sectors.new.failures;
+      begun = sectors.new.begun;
+    } }
+    ensures listed { IsTrue F.tells
+        → (validation : Validation) → ListsTables validation sectors.old.version sectors.old.bytes
+        (take before.fats fat_sectors.now) (take before.difats difat_sectors.now)
+        → IsMeasured sectors.old
+        → IsDistinct nat_eq difat_sectors.now → AreDisjoint fat_sectors.now difat_sectors.now
+        → AreDisjoint difat_sectors.now more.now → OnOk result (ListsTables
+        validation sectors.old.version sectors.new.bytes fat_sectors.now difat_sectors.now) }
+    ensures fats { IsTrue F.tells → IsDistinct nat_eq fat_sectors.now
+        → AreDisjoint fat_sectors.now difat_sectors.now → AreDisjoint fat_sectors.now more.now
+        → OnOk result ((k : ℕ) → before.fats ≤ k → k < length fat_sectors.now
+        → IsFilled sectors.old.version Fat sectors.new.bytes (slice_index fat_sectors.now k)) }
+    ensures filled { IsTrue F.tells → OnOk result ((i : ℕ)
+        → Contains more.now i → IsFilled sectors.old.version init sectors.new.bytes i) }
+    ensures measured { IsTrue F.tells
+        → IsMeasured sectors.old → OnOk result (IsMeasured sectors.new) }
+    ensures changes { IsTrue F.tells → ChangesSectors (drop before.fats fat_sectors.now
+        ++ difat_sectors.now ++ more.now) sectors.old.version sectors.old.bytes sectors.new.bytes }
     ensures end { OnOk result (sectors.new.len ≤ sectors_end sectors.new) }
     ensures long { sector_len sectors.old.version ≤ sectors.old.len }
     ensures raised { OnOk result (IsRaised (0 < length more.now) sectors.old sectors.new) }
     ensures err { IfErr result (λ e. IsMediumError e × (sectors.new.begun ≡ true)) }
-    ensures counts { IsTrue F.tells → CountsFailure F.write_faults result sectors.old.failures sectors.new.failures }
+    ensures counts { IsTrue F.tells
+        → CountsFailure F.write_faults result sectors.old.failures sectors.new.failures }
 {
-    let _count = sectors.num_sectors();
+    let _fact = sectors.num_sectors();
     write_table_sectors(
         sectors,
         fat_sectors,
@@ -499,7 +685,7 @@ fn add_sectors<F: Medium>(
         before.difats,
     )?;
     fill_sectors(sectors, more, init)?;
-    let _count = sectors.num_sectors();
+    let _fact = sectors.num_sectors();
     Ok(())
 }
 
@@ -525,14 +711,24 @@ fn write_late<F: Medium, A: Allocator>(
     requires difats { before.difats ≤ length tables.now.difat_sectors }
     requires touched { (i : ℕ) → Contains touched.now i → i < length tables.now.fat }
     requires more { (i : ℕ) → Contains more.now i → i < length tables.now.fat }
-    ensures kept { sectors.new ≡ record sectors.old { len = sectors.new.len; bytes = sectors.new.bytes; failures = sectors.new.failures; begun = sectors.new.begun } }
+    ensures kept { sectors.new ≡ record sectors.old {
+      len = sectors.new.len;
+      bytes = sectors.new.bytes;
+      failures = sectors.new.failures;
+      begun = sectors.new.begun;
+    } }
     ensures ok { IsTrue F.tells → (validation : Validation) (late : List ℕ)
-        → HoldsBut validation (drop before.difats tables.now.difat_sectors ++ (drop before.fats tables.now.fat_sectors ++ (more.now ++ (touched.now ++ late)))) sectors.old tables.now
+        → HoldsBut validation (drop before.difats tables.now.difat_sectors
+        ++ (drop before.fats tables.now.fat_sectors
+        ++ (more.now ++ (touched.now ++ late)))) sectors.old tables.now
         → OnOk result (HoldsBut validation late sectors.new tables.now) }
-    ensures changes { IsTrue F.tells → ChangesSectors tables.now.fat_sectors sectors.old.version sectors.old.bytes sectors.new.bytes }
-    ensures raised { OnOk result (IsRaised (0 < length touched.now + length more.now) sectors.old sectors.new) }
+    ensures changes { IsTrue F.tells → ChangesSectors
+        tables.now.fat_sectors sectors.old.version sectors.old.bytes sectors.new.bytes }
+    ensures raised { OnOk result (IsRaised (0
+        < length touched.now + length more.now) sectors.old sectors.new) }
     ensures err { IfErr result (λ e. IsMediumError e × (sectors.new.begun ≡ true)) }
-    ensures counts { IsTrue F.tells → CountsFailure F.write_faults result sectors.old.failures sectors.new.failures }
+    ensures counts { IsTrue F.tells
+        → CountsFailure F.write_faults result sectors.old.failures sectors.new.failures }
 {
     write_values(sectors, tables, &tables.difat_sectors()[before.difats..])?;
     write_values(sectors, tables, &tables.fat_sectors()[before.fats..])?;
@@ -555,22 +751,35 @@ pub fn write_taken<F: Medium, A: Allocator>(
     requires few { length tables.now.fat_sectors ≤ length tables.now.fat }
     requires from { before.fats ≤ length tables.now.fat_sectors }
     requires places { before.fats ≤ difat_places tables.now.version before.difats }
-    requires counted { length tables.now.difat_sectors ≡ max before.difats (rounded_up (length tables.now.fat_sectors - header_difat_len) (words_per_sector tables.now.version - 1)) }
+    requires counted { length tables.now.difat_sectors
+        ≡ max before.difats (rounded_up (length tables.now.fat_sectors
+        - header_difat_len) (words_per_sector tables.now.version - 1)) }
     requires touched { (i : ℕ) → Contains touched.now i → i < length tables.now.fat }
     requires more { (i : ℕ) → Contains more.now i → i < length tables.now.fat }
-    ensures kept { sectors.new ≡ record sectors.old { len = sectors.new.len; bytes = sectors.new.bytes; failures = sectors.new.failures; begun = sectors.new.begun } }
-    ensures holds { IsTrue F.tells → (validation : Validation) (old : TableState) → HasTaken old tables.now touched.now more.now → IsClean tables.now.fat
-        → before.fats ≡ length old.fat_sectors → before.difats ≡ length old.difat_sectors → HoldsBut validation [] sectors.old old
+    ensures kept { sectors.new ≡ record sectors.old {
+      len = sectors.new.len;
+      bytes = sectors.new.bytes;
+      failures = sectors.new.failures;
+      begun = sectors.new.begun;
+    } }
+    ensures holds { IsTrue F.tells → (validation : Validation) (old : TableState)
+        → HasTaken old tables.now touched.now more.now
+        → IsClean tables.now.fat → before.fats ≡ length old.fat_sectors
+        → before.difats ≡ length old.difat_sectors → HoldsBut validation [] sectors.old old
         → OnOk result (HoldsBut validation [] sectors.new tables.now) }
-    ensures filled { IsTrue F.tells → AreDisjoint tables.now.fat_sectors more.now
-        → OnOk result ((i : ℕ) → Contains more.now i → IsFilled tables.now.version init sectors.new.bytes i) }
+    ensures filled { IsTrue F.tells
+        → AreDisjoint tables.now.fat_sectors more.now → OnOk result ((i : ℕ)
+        → Contains more.now i → IsFilled tables.now.version init sectors.new.bytes i) }
     ensures changes { IsTrue F.tells
-        → ChangesSectors (tables.now.fat_sectors ++ tables.now.difat_sectors ++ more.now) tables.now.version sectors.old.bytes sectors.new.bytes }
-    ensures raised { OnOk result (IsRaised (0 < length touched.now + length more.now) sectors.old sectors.new) }
+        → ChangesSectors (tables.now.fat_sectors ++ tables.now.difat_sectors
+        ++ more.now) tables.now.version sectors.old.bytes sectors.new.bytes }
+    ensures raised { OnOk result (IsRaised (0
+        < length touched.now + length more.now) sectors.old sectors.new) }
     ensures err { IfErr result (λ e. IsMediumError e × (sectors.new.begun ≡ true)) }
-    ensures counts { IsTrue F.tells → CountsFailure F.write_faults result sectors.old.failures sectors.new.failures }
+    ensures counts { IsTrue F.tells
+        → CountsFailure F.write_faults result sectors.old.failures sectors.new.failures }
 {
-    let _sizes = tables.len();
+    let _fact = tables.len();
     add_sectors(
         sectors,
         tables.fat_sectors(),

@@ -12,7 +12,7 @@ use Rattle.cfb_format.proofs.ByteLemmas.{length-written, written_below, written_
 use Rattle.cfb_alloc.specs.Agreement.{IsStrictBut}
 use Rattle.cfb_alloc.specs.Alloc.{AllocatorState, HoldsTables, ChangesSectors}
 use Rattle.cfb_sectors.specs.Sectors.{SectorFile, SectorStays}
-use Rattle.cfb_sectors.specs.Words.{Stays}
+use Rattle.cfb_sectors.specs.Words.{RangeStays}
 use Rattle.cfb_alloc.proofs.AgreementLemmas.{agreement_stays}
 use Rattle.cfb_tables.proofs.ChainLemmas.{follows-values, members-busy}
 use Rattle.cfb_alloc.proofs.ChainView.{found_chain}
@@ -85,7 +85,7 @@ module _ (validation : Validation) (a : AllocatorState) (s i o : ℕ) (ids from 
   difats_stay : (j : ℕ) → Contains a.tables.difat_sectors j → SectorStays v j bytes after
   difats_stay j t = stays j difat_sector (h.holds.agrees.difat_marks j t (λ f. h.holds.apart j f t)) (omega arith) (omega arith)
 
-  front_stays : Stays 0 512 bytes after
+  front_stays : RangeStays 0 512 bytes after
   front_stays = Stays_apart at (length from) 0 512 bytes after change (λ low. let past = sector_past_header v i in absurd (omega (arith, low, past)))
 
   same_count : sector_count v after ≡ sector_count v bytes

@@ -5,7 +5,7 @@ use Rattle.std.proofs.lemmas.Bool.{cases_eq}
 use Rattle.std.proofs.lemmas.List.{take_more, take_all}
 use Rattle.std.proofs.lemmas.List.Elements.{Contains-append_right}
 use Rattle.cfb_format.specs.declared.error.Error.{Error}
-use Rattle.cfb_format.specs.declared.error.Error.TheVariants.{NotFound, AlreadyExists, InvalidInput, InvalidData, Medium, Memory, Full, Unsound, Failed, Unsupported}
+use Rattle.cfb_format.specs.declared.error.Error.TheVariants.{NotFound, AlreadyExists, InvalidInput, InvalidData, Medium, Memory, Full, Unsound, Failed}
 use Rattle.cfb_format.specs.declared.version.Version.{Version}
 use Rattle.cfb_format.specs.Bytes.{end_of_chain, sector_len}
 use Rattle.cfb_format.specs.Chain.{IsChain, chain_from}
@@ -34,7 +34,6 @@ after_map broken kept broken' kept' f g Memory r = g r
 after_map broken kept broken' kept' f g Full r = g r
 after_map broken kept broken' kept' f g Unsound r = g r
 after_map broken kept broken' kept' f g Failed r = g r
-after_map broken kept broken' kept' f g Unsupported r = g r
 
 after_either : (broken kept : Type 0) (e : Error) → AfterMedium broken kept e → broken ⊎ kept
 after_either broken kept (Medium m) r = inl r
@@ -46,7 +45,6 @@ after_either broken kept Memory r = inr r
 after_either broken kept Full r = inr r
 after_either broken kept Unsound r = inr r
 after_either broken kept Failed r = inr r
-after_either broken kept Unsupported r = inr r
 
 -- a change of a listed chain was made, or nothing has changed
 pub made_or_not : {T : Type 0} (r : Result T Error) (made : List ℕ → List ℕ → TableState → TableState → Type 0) (ids ids' : List ℕ) (old new : AllocatorState)

@@ -13,15 +13,15 @@ ghost use Rattle.cfb_tables.specs.Refused.{WalkRefused, ChangeRefused};
 ghost use Rattle.cfb_alloc.specs.Broken.{BreaksOff};
 ghost use Rattle.cfb_alloc.specs.Frame.{Spares};
 ghost use Rattle.cfb_alloc.specs.ListedChain.{Lengthens, Shortens, ListBreaksOff};
-ghost use Rattle.cfb_tables.specs.Tables.{GivesBackChain, TablesGiveBack, HasTaken, IsTooFew, ending, first_or_end};
+ghost use Rattle.cfb_tables.specs.Tables.{GivesBackChain, TablesGiveBack, HasTaken, IsTooFew, ending};
 ghost use Rattle.cfb_chains.specs.ChainLists.{StaysOrBecomes};
 ghost use Rattle.cfb_tables.specs.Listed.{ends_of, gained, last_or_end};
 
 use cfb_alloc::alloc::Allocator;
-use cfb_format::consts::END_OF_CHAIN;
 use cfb_format::error::{Detail, Error};
 use cfb_format::medium::{Medium, ReadMedium};
 use cfb_sectors::sector::SectorInit;
+use cfb_tables::ends::first_number;
 use std::alloc::{Allocator as Heap, Global};
 
 /// A list of numbers of sectors.
@@ -68,11 +68,14 @@ impl<'a, F: ReadMedium, A: Heap + Clone> Chain<'a, F, A> {
         start: u32,
         init: SectorInit,
     ) -> Result<Chain<'a, F, A>, Error>
-        ensures* refused { sem 𝓛 (allocator_rests F.row A.row F.ReadMedium A.Allocator allocator.entry result) }
-        ensures same_allocator { IfOk result (λ c. (allocator_of c).ghost_name ≡ allocator.entry.ghost_name) }
+        ensures* refused { sem 𝓛
+            (allocator_rests F.row A.row F.ReadMedium A.Allocator allocator.entry result) }
+        ensures same_allocator { IfOk result (λ c. (allocator_of c).ghost_name
+            ≡ allocator.entry.ghost_name) }
         ensures allocator { IfOk result (λ c. (allocator_of c).now ≡ allocator.old) }
         ensures chain { IfOk result (λ c. IsChain allocator.old.tables.fat start (ids_of c)) }
-        ensures there { IfOk result (λ c. (start_sector_of c ≡ start) × (init_of c ≡ init) × (position_of c ≡ 0)) }
+        ensures there { IfOk result (λ c. (start_sector_of c ≡ start)
+            × (init_of c ≡ init) × (position_of c ≡ 0)) }
         ensures err { IfErr result (WalkRefused allocator.old.tables.fat start) }
     {
         let ids = allocator.chain(start)?;
@@ -99,7 +102,8 @@ impl<'a, F: ReadMedium, A: Heap> Chain<'a, F, A> {
     /// The numbers of its sectors, in order.
     pub fn sector_ids(&self) -> &[u32]
         ensures ids { result.now ≡ ids_of self.now }
-        ensures chained { IsChain (allocator_of self.now).now.tables.fat (start_sector_of self.now) (ids_of self.now) }
+        ensures chained { IsChain
+            (allocator_of self.now).now.tables.fat (start_sector_of self.now) (ids_of self.now) }
     {
         self.ids.numbers()
     }
@@ -127,11 +131,15 @@ impl<'a, F: ReadMedium, A: Heap> Chain<'a, F, A> {
 
     /// Goes to a byte, or to the end. `InvalidInput` exactly past the end: then nothing has changed.
     pub fn seek(&mut self, position: u64) -> Result<(), Error>
-        ensures same_allocator { (allocator_of self.new).ghost_name ≡ (allocator_of self.old).ghost_name }
+        ensures same_allocator { (allocator_of self.new).ghost_name
+            ≡ (allocator_of self.old).ghost_name }
         ensures allocator { (allocator_of self.new).now ≡ (allocator_of self.old).now }
-        ensures chain { (ids_of self.new ≡ ids_of self.old) × (start_sector_of self.new ≡ start_sector_of self.old) × (init_of self.new ≡ init_of self.old) }
-        ensures inside { position ≤ len_of self.old → OnOk result (position_of self.new ≡ position) × OnErr result ⊥ }
-        ensures past { len_of self.old < position → IsErrAnd result IsInvalidInput × (position_of self.new ≡ position_of self.old) }
+        ensures chain { (ids_of self.new ≡ ids_of self.old) × (start_sector_of self.new
+            ≡ start_sector_of self.old) × (init_of self.new ≡ init_of self.old) }
+        ensures inside { position ≤ len_of self.old
+            → OnOk result (position_of self.new ≡ position) × OnErr result ⊥ }
+        ensures past { len_of self.old < position
+            → IsErrAnd result IsInvalidInput × (position_of self.new ≡ position_of self.old) }
     {
         if position > self.len() {
             return Err(past_end(position, self.len()));
@@ -142,9 +150,11 @@ impl<'a, F: ReadMedium, A: Heap> Chain<'a, F, A> {
 
     /// The sector where a byte lies, and 0 past the end.
     fn sector_at(&self, position: u64) -> u32
-        ensures sector { result ≡ slice_index (ids_of self.now) (position / sector_len (version_of self.now)) }
+        ensures sector { result
+            ≡ slice_index (ids_of self.now) (position / sector_len (version_of self.now)) }
         ensures member { position < len_of self.now → Contains (ids_of self.now) result }
-        ensures inside { position < len_of self.now → result < length (allocator_of self.now).now.tables.fat }
+        ensures inside { position < len_of self.now
+            → result < length (allocator_of self.now).now.tables.fat }
     {
         let index = position / self.allocator.sector_len() as u64;
         self.ids.numbers().get(index as usize).copied().unwrap_or(0)
@@ -162,7 +172,8 @@ impl<'a, F: ReadMedium, A: Heap> Chain<'a, F, A> {
     fn room_here(&self) -> usize
         ensures room { result ≡ room_of self.now }
         ensures inside { 0 < result → position_of self.now < len_of self.now }
-        ensures within { 0 < result → position_of self.now % sector_len (version_of self.now) + result ≤ sector_len (version_of self.now) }
+        ensures within { 0 < result → position_of self.now % sector_len (version_of self.now)
+            + result ≤ sector_len (version_of self.now) }
     {
         if self.position >= self.len() {
             return 0;
@@ -175,27 +186,39 @@ impl<'a, F: ReadMedium, A: Heap> Chain<'a, F, A> {
     /// `InvalidData` exactly where the file does not have the byte at the position, and `Medium` where the medium fails: the position
     /// then stays.
     pub fn read(&mut self, into: &mut [u8]) -> Result<usize, Error>
-        ensures same_allocator { (allocator_of self.new).ghost_name ≡ (allocator_of self.old).ghost_name }
+        ensures same_allocator { (allocator_of self.new).ghost_name
+            ≡ (allocator_of self.old).ghost_name }
         ensures tables { (allocator_of self.new).now.tables ≡ (allocator_of self.old).now.tables }
         ensures kept { (allocator_of self.new).now.file ≡ record (allocator_of self.old).now.file {
           bytes = (allocator_of self.new).now.file.bytes;
           failures = (allocator_of self.new).now.file.failures;
         } }
-        ensures chain { (ids_of self.new ≡ ids_of self.old) × (start_sector_of self.new ≡ start_sector_of self.old) × (init_of self.new ≡ init_of self.old) }
+        ensures chain { (ids_of self.new ≡ ids_of self.old) × (start_sector_of self.new
+            ≡ start_sector_of self.old) × (init_of self.new ≡ init_of self.old) }
         ensures count { IfOk result (λ n. n ≤ min (length into.old) (left_of self.old)) }
         ensures some { IfOk result (λ n. 0 < min (length into.old) (left_of self.old) → 0 < n) }
-        ensures within { IfOk result (λ n. (j : ℕ) → j < n → place_at self.old (position_of self.old + j) < (allocator_of self.old).now.file.len) }
-        ensures position { MatchResult result (λ n. position_of self.new ≡ position_of self.old + n) (λ _. position_of self.new ≡ position_of self.old) }
-        ensures ok { IsTrue F.tells → IfOk result (λ n. take n into.new
-            ≡ placed_from (allocator_of self.old).now.file.bytes (place_in_chain (version_of self.old) (allocator_of self.old).now.file.bytes (ids_of self.old)) (position_of self.old) n) }
+        ensures within { IfOk result (λ n. (j : ℕ) → j < n
+            → place_at self.old (position_of self.old + j) < (allocator_of self.old).now.file.len) }
+        ensures position { MatchResult result (λ n. position_of self.new
+            ≡ position_of self.old + n) (λ _. position_of self.new ≡ position_of self.old) }
+        ensures ok { IsTrue F.tells → IfOk result (λ n. take n into.new ≡ placed_from
+            (allocator_of self.old).now.file.bytes (place_in_chain (version_of self.old)
+            (allocator_of self.old).now.file.bytes (ids_of self.old)) (position_of self.old) n) }
         ensures rest { IfOk result (λ n. drop n into.new ≡ drop n into.old) }
-        ensures content { IsTrue F.tells → IsWholeChain self.old → IfOk result (λ n. take n into.new ≡ part (content_of self.old) (position_of self.old) n) }
-        ensures cut { 0 < min (length into.old) (left_of self.old) → (allocator_of self.old).now.file.len ≤ place_of self.old → IsErrAnd result IsInvalidData }
+        ensures content { IsTrue F.tells → IsWholeChain self.old → IfOk result (λ n. take n into.new
+            ≡ part (content_of self.old) (position_of self.old) n) }
+        ensures cut { 0 < min (length into.old) (left_of self.old)
+            → (allocator_of self.old).now.file.len ≤ place_of self.old
+            → IsErrAnd result IsInvalidData }
         ensures there { min (length into.old) (left_of self.old) ≡ 0 → OnErr result ⊥ }
-        ensures err { place_of self.old < (allocator_of self.old).now.file.len → IfErr result IsMediumError }
-        ensures same { IsTrue F.tells → OnOk result ((allocator_of self.new).now ≡ (allocator_of self.old).now) }
-        ensures bytes { IsTrue F.tells → (allocator_of self.new).now.file.bytes ≡ (allocator_of self.old).now.file.bytes }
-        ensures counts { IsTrue F.tells → CountsFailure F.read_faults result (allocator_of self.old).now.file.failures (allocator_of self.new).now.file.failures }
+        ensures err { place_of self.old < (allocator_of self.old).now.file.len
+            → IfErr result IsMediumError }
+        ensures same { IsTrue F.tells
+            → OnOk result ((allocator_of self.new).now ≡ (allocator_of self.old).now) }
+        ensures bytes { IsTrue F.tells
+            → (allocator_of self.new).now.file.bytes ≡ (allocator_of self.old).now.file.bytes }
+        ensures counts { IsTrue F.tells → CountsFailure F.read_faults result
+            (allocator_of self.old).now.file.failures (allocator_of self.new).now.file.failures }
     {
         let room = into.len().min(self.room_here());
         if room == 0 {
@@ -209,26 +232,38 @@ impl<'a, F: ReadMedium, A: Heap> Chain<'a, F, A> {
     fn read_here(&mut self, into: &mut [u8]) -> Result<usize, Error>
         requires some { 0 < length into.old }
         requires inside { position_of self.old < len_of self.old }
-        requires within { position_of self.old % sector_len (version_of self.old) + length into.old ≤ sector_len (version_of self.old) }
-        ensures same_allocator { (allocator_of self.new).ghost_name ≡ (allocator_of self.old).ghost_name }
+        requires within { position_of self.old % sector_len (version_of self.old) + length into.old
+            ≤ sector_len (version_of self.old) }
+        ensures same_allocator { (allocator_of self.new).ghost_name
+            ≡ (allocator_of self.old).ghost_name }
         ensures tables { (allocator_of self.new).now.tables ≡ (allocator_of self.old).now.tables }
         ensures kept { (allocator_of self.new).now.file ≡ record (allocator_of self.old).now.file {
           bytes = (allocator_of self.new).now.file.bytes;
           failures = (allocator_of self.new).now.file.failures;
         } }
-        ensures chain { (ids_of self.new ≡ ids_of self.old) × (start_sector_of self.new ≡ start_sector_of self.old) × (init_of self.new ≡ init_of self.old) }
-        ensures count { IfOk result (λ n. n ≡ min (length into.old) ((allocator_of self.old).now.file.len - place_of self.old)) }
+        ensures chain { (ids_of self.new ≡ ids_of self.old) × (start_sector_of self.new
+            ≡ start_sector_of self.old) × (init_of self.new ≡ init_of self.old) }
+        ensures count { IfOk result (λ n. n
+            ≡ min (length into.old) ((allocator_of self.old).now.file.len - place_of self.old)) }
         ensures some { IfOk result (λ n. 0 < n) }
-        ensures position { MatchResult result (λ n. position_of self.new ≡ position_of self.old + n) (λ _. position_of self.new ≡ position_of self.old) }
-        ensures ok { IsTrue F.tells → IfOk result (λ n. take n into.new
-            ≡ placed_from (allocator_of self.old).now.file.bytes (place_in_chain (version_of self.old) (allocator_of self.old).now.file.bytes (ids_of self.old)) (position_of self.old) n) }
+        ensures position { MatchResult result (λ n. position_of self.new
+            ≡ position_of self.old + n) (λ _. position_of self.new ≡ position_of self.old) }
+        ensures ok { IsTrue F.tells → IfOk result (λ n. take n into.new ≡ placed_from
+            (allocator_of self.old).now.file.bytes (place_in_chain (version_of self.old)
+            (allocator_of self.old).now.file.bytes (ids_of self.old)) (position_of self.old) n) }
         ensures rest { IfOk result (λ n. drop n into.new ≡ drop n into.old) }
-        ensures content { IsTrue F.tells → IsWholeChain self.old → IfOk result (λ n. take n into.new ≡ part (content_of self.old) (position_of self.old) n) }
-        ensures cut { (allocator_of self.old).now.file.len ≤ place_of self.old → IsErrAnd result IsInvalidData }
-        ensures err { place_of self.old < (allocator_of self.old).now.file.len → IfErr result IsMediumError }
-        ensures same { IsTrue F.tells → OnOk result ((allocator_of self.new).now ≡ (allocator_of self.old).now) }
-        ensures bytes { IsTrue F.tells → (allocator_of self.new).now.file.bytes ≡ (allocator_of self.old).now.file.bytes }
-        ensures counts { IsTrue F.tells → CountsFailure F.read_faults result (allocator_of self.old).now.file.failures (allocator_of self.new).now.file.failures }
+        ensures content { IsTrue F.tells → IsWholeChain self.old → IfOk result (λ n. take n into.new
+            ≡ part (content_of self.old) (position_of self.old) n) }
+        ensures cut { (allocator_of self.old).now.file.len ≤ place_of self.old
+            → IsErrAnd result IsInvalidData }
+        ensures err { place_of self.old < (allocator_of self.old).now.file.len
+            → IfErr result IsMediumError }
+        ensures same { IsTrue F.tells
+            → OnOk result ((allocator_of self.new).now ≡ (allocator_of self.old).now) }
+        ensures bytes { IsTrue F.tells
+            → (allocator_of self.new).now.file.bytes ≡ (allocator_of self.old).now.file.bytes }
+        ensures counts { IsTrue F.tells → CountsFailure F.read_faults result
+            (allocator_of self.old).now.file.failures (allocator_of self.new).now.file.failures }
     {
         let sector = self.sector_at(self.position);
         let offset = self.offset_here();
@@ -258,7 +293,8 @@ impl<'a, F: Medium, A: Heap> Chain<'a, F, A> {
     /// is: none exactly where `from` is empty or the end is reached. `Medium` where the medium fails: the position then stays, and no
     /// byte of the file has changed but where `from` was to stand.
     pub fn write_within(&mut self, from: &[u8]) -> Result<usize, Error>
-        ensures same_allocator { (allocator_of self.new).ghost_name ≡ (allocator_of self.old).ghost_name }
+        ensures same_allocator { (allocator_of self.new).ghost_name
+            ≡ (allocator_of self.old).ghost_name }
         ensures tables { (allocator_of self.new).now.tables ≡ (allocator_of self.old).now.tables }
         ensures kept { (allocator_of self.new).now.file ≡ record (allocator_of self.old).now.file {
           len = (allocator_of self.new).now.file.len;
@@ -266,27 +302,40 @@ impl<'a, F: Medium, A: Heap> Chain<'a, F, A> {
           failures = (allocator_of self.new).now.file.failures;
           begun = (allocator_of self.new).now.file.begun;
         } }
-        ensures chain { (ids_of self.new ≡ ids_of self.old) × (start_sector_of self.new ≡ start_sector_of self.old) × (init_of self.new ≡ init_of self.old) }
+        ensures chain { (ids_of self.new ≡ ids_of self.old) × (start_sector_of self.new
+            ≡ start_sector_of self.old) × (init_of self.new ≡ init_of self.old) }
         ensures count { IfOk result (λ n. n ≤ min (length from.now) (left_of self.old)) }
         ensures some { IfOk result (λ n. 0 < min (length from.now) (left_of self.old) → 0 < n) }
-        ensures none { min (length from.now) (left_of self.old) ≡ 0 → OnErr result ⊥ × ((allocator_of self.new).now ≡ (allocator_of self.old).now) }
-        ensures position { MatchResult result (λ n. position_of self.new ≡ position_of self.old + n) (λ _. position_of self.new ≡ position_of self.old) }
-        ensures ok { IsTrue F.tells → IfOk result (λ n. 0 < n → (allocator_of self.new).now.file ≡ record (allocator_of self.old).now.file {
-          bytes = written (allocator_of self.old).now.file.bytes (place_of self.old) (take n from.now);
-          len = max (allocator_of self.old).now.file.len (place_of self.old + n);
-          begun = true;
-        }) }
-        ensures places { IsTrue F.tells → IfOk result (λ n. HasWritten n from.now self.old self.new) }
-        ensures holds { IsTrue F.tells → (validation : Validation) → HoldsTables validation (allocator_of self.old).now → OnOk result (HoldsTables validation (allocator_of self.new).now) }
-        ensures content { IsTrue F.tells → IsWholeChain self.old
-            → IfOk result (λ n. 0 < n → HasBytes self.new (written (content_of self.old) (position_of self.old) (take n from.now))) }
+        ensures none { min (length from.now) (left_of self.old) ≡ 0
+            → OnErr result ⊥ × ((allocator_of self.new).now ≡ (allocator_of self.old).now) }
+        ensures position { MatchResult result (λ n. position_of self.new
+            ≡ position_of self.old + n) (λ _. position_of self.new ≡ position_of self.old) }
+        ensures ok { IsTrue F.tells → IfOk result (λ n. 0 < n → (allocator_of self.new).now.file
+            ≡ record (allocator_of self.old).now.file {
+              bytes = written
+                  (allocator_of self.old).now.file.bytes (place_of self.old) (take n from.now);
+              len = max (allocator_of self.old).now.file.len (place_of self.old + n);
+              begun = true;
+            }) }
+        ensures places { IsTrue F.tells
+            → IfOk result (λ n. HasWritten n from.now self.old self.new) }
+        ensures holds { IsTrue F.tells
+            → (validation : Validation) → HoldsTables validation (allocator_of self.old).now
+            → OnOk result (HoldsTables validation (allocator_of self.new).now) }
+        ensures content { IsTrue F.tells
+            → IsWholeChain self.old → IfOk result (λ n. 0 < n → HasBytes self.new
+            (written (content_of self.old) (position_of self.old) (take n from.now))) }
         ensures err { IfErr result IsMediumError }
-        ensures begun { 0 < min (length from.now) (left_of self.old) → (allocator_of self.new).now.file.begun ≡ true }
-        ensures sectors { IsTrue F.tells → (i : ℕ) → (HoldsWanted (length from.now) self.old i → ⊥)
-            → SectorStays (version_of self.old) i (allocator_of self.old).now.file.bytes (allocator_of self.new).now.file.bytes }
+        ensures begun { 0 < min (length from.now) (left_of self.old)
+            → (allocator_of self.new).now.file.begun ≡ true }
+        ensures sectors { IsTrue F.tells → (i : ℕ)
+            → (HoldsWanted (length from.now) self.old i → ⊥) → SectorStays (version_of self.old) i
+            (allocator_of self.old).now.file.bytes (allocator_of self.new).now.file.bytes }
         ensures others { IsTrue F.tells → ChangesOnlyWanted (length from.now) self.old self.new }
-        ensures spares { IsTrue F.tells → Spares (ids_of self.old) (allocator_of self.old).now (allocator_of self.new).now }
-        ensures counts { IsTrue F.tells → CountsFailure F.write_faults result (allocator_of self.old).now.file.failures (allocator_of self.new).now.file.failures }
+        ensures spares { IsTrue F.tells
+            → Spares (ids_of self.old) (allocator_of self.old).now (allocator_of self.new).now }
+        ensures counts { IsTrue F.tells → CountsFailure F.write_faults result
+            (allocator_of self.old).now.file.failures (allocator_of self.new).now.file.failures }
     {
         let room = from.len().min(self.room_here());
         if room == 0 {
@@ -300,8 +349,10 @@ impl<'a, F: Medium, A: Heap> Chain<'a, F, A> {
     fn write_here(&mut self, from: &[u8]) -> Result<(), Error>
         requires some { 0 < length from.now }
         requires inside { position_of self.old < len_of self.old }
-        requires within { position_of self.old % sector_len (version_of self.old) + length from.now ≤ sector_len (version_of self.old) }
-        ensures same_allocator { (allocator_of self.new).ghost_name ≡ (allocator_of self.old).ghost_name }
+        requires within { position_of self.old % sector_len (version_of self.old) + length from.now
+            ≤ sector_len (version_of self.old) }
+        ensures same_allocator { (allocator_of self.new).ghost_name
+            ≡ (allocator_of self.old).ghost_name }
         ensures tables { (allocator_of self.new).now.tables ≡ (allocator_of self.old).now.tables }
         ensures kept { (allocator_of self.new).now.file ≡ record (allocator_of self.old).now.file {
           len = (allocator_of self.new).now.file.len;
@@ -309,23 +360,33 @@ impl<'a, F: Medium, A: Heap> Chain<'a, F, A> {
           failures = (allocator_of self.new).now.file.failures;
           begun = (allocator_of self.new).now.file.begun;
         } }
-        ensures chain { (ids_of self.new ≡ ids_of self.old) × (start_sector_of self.new ≡ start_sector_of self.old) × (init_of self.new ≡ init_of self.old) }
-        ensures position { MatchResult result (λ _. position_of self.new ≡ position_of self.old + length from.now) (λ _. position_of self.new ≡ position_of self.old) }
-        ensures ok { IsTrue F.tells → OnOk result ((allocator_of self.new).now.file ≡ record (allocator_of self.old).now.file {
-          bytes = written (allocator_of self.old).now.file.bytes (place_of self.old) from.now;
-          len = max (allocator_of self.old).now.file.len (place_of self.old + length from.now);
-          begun = true;
-        }) }
-        ensures holds { IsTrue F.tells → (validation : Validation) → HoldsTables validation (allocator_of self.old).now → OnOk result (HoldsTables validation (allocator_of self.new).now) }
-        ensures content { IsTrue F.tells → IsWholeChain self.old → OnOk result (HasBytes self.new (written (content_of self.old) (position_of self.old) from.now)) }
+        ensures chain { (ids_of self.new ≡ ids_of self.old) × (start_sector_of self.new
+            ≡ start_sector_of self.old) × (init_of self.new ≡ init_of self.old) }
+        ensures position { MatchResult result (λ _. position_of self.new ≡ position_of self.old
+            + length from.now) (λ _. position_of self.new ≡ position_of self.old) }
+        ensures ok { IsTrue F.tells → OnOk result ((allocator_of self.new).now.file
+            ≡ record (allocator_of self.old).now.file {
+              bytes = written (allocator_of self.old).now.file.bytes (place_of self.old) from.now;
+              len = max (allocator_of self.old).now.file.len (place_of self.old + length from.now);
+              begun = true;
+            }) }
+        ensures holds { IsTrue F.tells
+            → (validation : Validation) → HoldsTables validation (allocator_of self.old).now
+            → OnOk result (HoldsTables validation (allocator_of self.new).now) }
+        ensures content { IsTrue F.tells → IsWholeChain self.old → OnOk result
+            (HasBytes self.new (written (content_of self.old) (position_of self.old) from.now)) }
         ensures err { IfErr result IsMediumError }
         ensures begun { (allocator_of self.new).now.file.begun ≡ true }
-        ensures sectors { IsTrue F.tells → (i : ℕ) → i ≢ slice_index (ids_of self.old) (position_of self.old / sector_len (version_of self.old))
-            → SectorStays (version_of self.old) i (allocator_of self.old).now.file.bytes (allocator_of self.new).now.file.bytes }
+        ensures sectors { IsTrue F.tells → (i : ℕ) → i ≢ slice_index
+            (ids_of self.old) (position_of self.old / sector_len (version_of self.old))
+            → SectorStays (version_of self.old) i
+            (allocator_of self.old).now.file.bytes (allocator_of self.new).now.file.bytes }
         ensures others { IsTrue F.tells → ChangesOnlyBytes (place_of self.old) (length from.now)
             (allocator_of self.old).now.file.bytes (allocator_of self.new).now.file.bytes }
-        ensures spares { IsTrue F.tells → Spares (ids_of self.old) (allocator_of self.old).now (allocator_of self.new).now }
-        ensures counts { IsTrue F.tells → CountsFailure F.write_faults result (allocator_of self.old).now.file.failures (allocator_of self.new).now.file.failures }
+        ensures spares { IsTrue F.tells
+            → Spares (ids_of self.old) (allocator_of self.old).now (allocator_of self.new).now }
+        ensures counts { IsTrue F.tells → CountsFailure F.write_faults result
+            (allocator_of self.old).now.file.failures (allocator_of self.new).now.file.failures }
     {
         let sector = self.sector_at(self.position);
         let offset = self.offset_here();
@@ -338,7 +399,8 @@ impl<'a, F: Medium, A: Heap> Chain<'a, F, A> {
     /// fails: of the sectors that one alone has changed then.
     pub fn zero_tail(&mut self, offset: u64) -> Result<(), Error>
         requires { offset ≤ len_of self.old }
-        ensures same_allocator { (allocator_of self.new).ghost_name ≡ (allocator_of self.old).ghost_name }
+        ensures same_allocator { (allocator_of self.new).ghost_name
+            ≡ (allocator_of self.old).ghost_name }
         ensures tables { (allocator_of self.new).now.tables ≡ (allocator_of self.old).now.tables }
         ensures kept { (allocator_of self.new).now.file ≡ record (allocator_of self.old).now.file {
           len = (allocator_of self.new).now.file.len;
@@ -346,27 +408,45 @@ impl<'a, F: Medium, A: Heap> Chain<'a, F, A> {
           failures = (allocator_of self.new).now.file.failures;
           begun = (allocator_of self.new).now.file.begun;
         } }
-        ensures chain { (ids_of self.new ≡ ids_of self.old) × (start_sector_of self.new ≡ start_sector_of self.old) × (init_of self.new ≡ init_of self.old) }
+        ensures chain { (ids_of self.new ≡ ids_of self.old) × (start_sector_of self.new
+            ≡ start_sector_of self.old) × (init_of self.new ≡ init_of self.old) }
         ensures position { position_of self.new ≡ position_of self.old }
-        ensures none { offset % sector_len (version_of self.old) ≡ 0 → OnErr result ⊥ × ((allocator_of self.new).now ≡ (allocator_of self.old).now) }
-        ensures ok { IsTrue F.tells → 0 < offset % sector_len (version_of self.old) → OnOk result ((allocator_of self.new).now.file ≡ record (allocator_of self.old).now.file {
-          bytes = written (allocator_of self.old).now.file.bytes (place_at self.old offset) (replicate (tail_of self.old offset) 0);
-          len = max (allocator_of self.old).now.file.len (place_at self.old offset + tail_of self.old offset);
-          begun = true;
-        }) }
-        ensures holds { IsTrue F.tells → (validation : Validation) → HoldsTables validation (allocator_of self.old).now → OnOk result (HoldsTables validation (allocator_of self.new).now) }
-        ensures whole { IsTrue F.tells → IsWholeChain self.old → OnOk result (IsWholeChain self.new) }
-        ensures same { IsTrue F.tells → IsWholeChain self.old → offset % sector_len (version_of self.old) ≡ 0 → OnOk result (content_of self.new ≡ content_of self.old) }
-        ensures content { IsTrue F.tells → IsWholeChain self.old → 0 < offset % sector_len (version_of self.old)
-            → OnOk result (content_of self.new ≡ written (content_of self.old) offset (replicate (tail_of self.old offset) 0)) }
+        ensures none { offset % sector_len (version_of self.old) ≡ 0
+            → OnErr result ⊥ × ((allocator_of self.new).now ≡ (allocator_of self.old).now) }
+        ensures ok { IsTrue F.tells → 0 < offset % sector_len (version_of self.old)
+            → OnOk result ((allocator_of self.new).now.file ≡ record (allocator_of
+            self.old).now.file {
+              bytes = written (allocator_of self.old).now.file.bytes
+                  (place_at self.old offset) (replicate (tail_of self.old offset) 0);
+              len = max (allocator_of self.old).now.file.len (place_at self.old offset
+                  + tail_of self.old offset);
+              begun = true;
+            }) }
+        ensures holds { IsTrue F.tells
+            → (validation : Validation) → HoldsTables validation (allocator_of self.old).now
+            → OnOk result (HoldsTables validation (allocator_of self.new).now) }
+        ensures whole { IsTrue F.tells
+            → IsWholeChain self.old → OnOk result (IsWholeChain self.new) }
+        ensures same { IsTrue F.tells
+            → IsWholeChain self.old → offset % sector_len (version_of self.old) ≡ 0
+            → OnOk result (content_of self.new ≡ content_of self.old) }
+        ensures content { IsTrue F.tells → IsWholeChain self.old
+            → 0 < offset % sector_len (version_of self.old) → OnOk result (content_of self.new
+            ≡ written (content_of self.old) offset (replicate (tail_of self.old offset) 0)) }
         ensures err { IfErr result IsMediumError }
-        ensures begun { 0 < offset % sector_len (version_of self.old) → (allocator_of self.new).now.file.begun ≡ true }
-        ensures sectors { IsTrue F.tells → (i : ℕ) → i ≢ slice_index (ids_of self.old) (offset / sector_len (version_of self.old))
-            → SectorStays (version_of self.old) i (allocator_of self.old).now.file.bytes (allocator_of self.new).now.file.bytes }
-        ensures others { IsTrue F.tells → ChangesOnlyBytes (place_at self.old offset) (tail_of self.old offset)
+        ensures begun { 0 < offset % sector_len (version_of self.old)
+            → (allocator_of self.new).now.file.begun ≡ true }
+        ensures sectors { IsTrue F.tells → (i : ℕ)
+            → i ≢ slice_index (ids_of self.old) (offset / sector_len (version_of self.old))
+            → SectorStays (version_of self.old) i
             (allocator_of self.old).now.file.bytes (allocator_of self.new).now.file.bytes }
-        ensures spares { IsTrue F.tells → Spares (ids_of self.old) (allocator_of self.old).now (allocator_of self.new).now }
-        ensures counts { IsTrue F.tells → CountsFailure F.write_faults result (allocator_of self.old).now.file.failures (allocator_of self.new).now.file.failures }
+        ensures others { IsTrue F.tells
+            → ChangesOnlyBytes (place_at self.old offset) (tail_of self.old offset)
+            (allocator_of self.old).now.file.bytes (allocator_of self.new).now.file.bytes }
+        ensures spares { IsTrue F.tells
+            → Spares (ids_of self.old) (allocator_of self.old).now (allocator_of self.new).now }
+        ensures counts { IsTrue F.tells → CountsFailure F.write_faults result
+            (allocator_of self.old).now.file.failures (allocator_of self.new).now.file.failures }
     {
         let rest = (offset % self.allocator.sector_len() as u64) as usize;
         if rest == 0 {
@@ -386,22 +466,34 @@ impl<'a, F: Medium, A: Heap + Clone> Chain<'a, F, A> {
     /// has changed where it is refused, but after `Medium`: then the sectors are free in memory, it has none, and of the file's bytes
     /// the FAT sectors alone have changed.
     pub fn free(&mut self) -> Result<(), Error>
-        ensures same_allocator { (allocator_of self.new).ghost_name ≡ (allocator_of self.old).ghost_name }
+        ensures same_allocator { (allocator_of self.new).ghost_name
+            ≡ (allocator_of self.old).ghost_name }
         ensures init { init_of self.new ≡ init_of self.old }
         ensures ids { OnOk result (ids_of self.new ≡ []) }
         ensures none { ids_of self.old ≡ [] → OnErr result ⊥ × IsAsBefore self.old self.new }
-        ensures freed { OnOk result (GivesBackChain [] (start_sector_of self.old) (allocator_of self.old).now.tables (allocator_of self.new).now.tables) }
-        ensures holds { IsTrue F.tells → (validation : Validation) → HoldsTables validation (allocator_of self.old).now
-            → IsUnnamed (allocator_of self.old).now.tables.fat (start_sector_of self.old) → OnOk result (HoldsTables validation (allocator_of self.new).now) }
-        ensures changes { IsTrue F.tells → ChangesSectors (allocator_of self.old).now.tables.fat_sectors (allocator_of self.old).now.tables.version
+        ensures freed { OnOk result (GivesBackChain [] (start_sector_of self.old)
+            (allocator_of self.old).now.tables (allocator_of self.new).now.tables) }
+        ensures holds { IsTrue F.tells
+            → (validation : Validation) → HoldsTables validation (allocator_of self.old).now
+            → IsUnnamed (allocator_of self.old).now.tables.fat (start_sector_of self.old)
+            → OnOk result (HoldsTables validation (allocator_of self.new).now) }
+        ensures changes { IsTrue F.tells
+            → ChangesSectors (allocator_of self.old).now.tables.fat_sectors
+            (allocator_of self.old).now.tables.version
             (allocator_of self.old).now.file.bytes (allocator_of self.new).now.file.bytes }
-        ensures spares { IsTrue F.tells → Spares (ids_of self.old) (allocator_of self.old).now (allocator_of self.new).now }
-        ensures refused { IfErr result (BreaksOff (GivesBackChain [] (start_sector_of self.old)) (allocator_of self.old).now (allocator_of self.new).now) }
+        ensures spares { IsTrue F.tells
+            → Spares (ids_of self.old) (allocator_of self.old).now (allocator_of self.new).now }
+        ensures refused { IfErr result (BreaksOff (GivesBackChain [] (start_sector_of self.old))
+            (allocator_of self.old).now (allocator_of self.new).now) }
         ensures view { IfErr result (StaysOrBecomes [] (ids_of self.old) (ids_of self.new)) }
-        ensures place { IfErr result (StaysOrBecomes 0 (position_of self.old) (position_of self.new)) }
-        ensures err { IfErr result (ChangeRefused (IsUsable (allocator_of self.old).now.tables → ⊥) ⊥ ⊥ Unit) }
-        ensures begun { 0 < length (ids_of self.old) → OnOk result ((allocator_of self.new).now.file.begun ≡ true) }
-        ensures counts { IsTrue F.tells → CountsFailure F.write_faults result (allocator_of self.old).now.file.failures (allocator_of self.new).now.file.failures }
+        ensures place { IfErr result
+            (StaysOrBecomes 0 (position_of self.old) (position_of self.new)) }
+        ensures err { IfErr result (ChangeRefused (IsUsable (allocator_of self.old).now.tables
+            → ⊥) ⊥ ⊥ Unit) }
+        ensures begun { 0 < length (ids_of self.old)
+            → OnOk result ((allocator_of self.new).now.file.begun ≡ true) }
+        ensures counts { IsTrue F.tells → CountsFailure F.write_faults result
+            (allocator_of self.old).now.file.failures (allocator_of self.new).now.file.failures }
     {
         self.cut(0)
     }
@@ -416,43 +508,63 @@ impl<'a, F: Medium, A: Heap + Clone> Chain<'a, F, A> {
     /// fails: then it has gained the sectors in memory, and no byte has changed but in the sectors where `from` was to stand, in table
     /// sectors and in sectors that were free.
     pub fn write(&mut self, from: &[u8]) -> Result<usize, Error>
-        ensures same_allocator { (allocator_of self.new).ghost_name ≡ (allocator_of self.old).ghost_name }
+        ensures same_allocator { (allocator_of self.new).ghost_name
+            ≡ (allocator_of self.old).ghost_name }
         ensures init { init_of self.new ≡ init_of self.old }
         ensures version { version_of self.new ≡ version_of self.old }
         ensures count { IfOk result (λ n. n ≤ length from.now) }
         ensures some { IfOk result (λ n. 0 < length from.now → 0 < n) }
         ensures position { IfOk result (λ n. position_of self.new ≡ position_of self.old + n) }
         ensures none { length from.now ≡ 0 → OnErr result ⊥ × IsAsBefore self.old self.new }
-        ensures ids { OnOk result (ids_of self.new ≡ ids_of self.old ++ gained (ids_of self.old) (ids_of self.new)) }
-        ensures gained { OnOk result (length (gained (ids_of self.old) (ids_of self.new)) ≡ missing_of self.old (length from.now)) }
-        ensures tables { missing_of self.old (length from.now) ≡ 0 → (allocator_of self.new).now.tables ≡ (allocator_of self.old).now.tables }
-        ensures taken { 0 < missing_of self.old (length from.now) → OnOk result (HasTaken (allocator_of self.old).now.tables (allocator_of self.new).now.tables
+        ensures ids { OnOk result (ids_of self.new
+            ≡ ids_of self.old ++ gained (ids_of self.old) (ids_of self.new)) }
+        ensures gained { OnOk result (length (gained (ids_of self.old) (ids_of self.new))
+            ≡ missing_of self.old (length from.now)) }
+        ensures tables { missing_of self.old (length from.now) ≡ 0
+            → (allocator_of self.new).now.tables ≡ (allocator_of self.old).now.tables }
+        ensures taken { 0 < missing_of self.old (length from.now) → OnOk result
+            (HasTaken (allocator_of self.old).now.tables (allocator_of self.new).now.tables
             (ending (last_or_end (ids_of self.old))) (gained (ids_of self.old) (ids_of self.new))) }
-        ensures enough { 0 < missing_of self.old (length from.now) → OnOk result (IsTooFew (allocator_of self.old).now.tables (missing_of self.old (length from.now)) → ⊥) }
-        ensures holds { IsTrue F.tells → (validation : Validation) → HoldsTables validation (allocator_of self.old).now → OnOk result (HoldsTables validation (allocator_of self.new).now) }
-        ensures places { IsTrue F.tells → (validation : Validation) → HoldsTables validation (allocator_of self.old).now
+        ensures enough { 0 < missing_of self.old (length from.now) → OnOk result (IsTooFew
+            (allocator_of self.old).now.tables (missing_of self.old (length from.now)) → ⊥) }
+        ensures holds { IsTrue F.tells
+            → (validation : Validation) → HoldsTables validation (allocator_of self.old).now
+            → OnOk result (HoldsTables validation (allocator_of self.new).now) }
+        ensures places { IsTrue F.tells
+            → (validation : Validation) → HoldsTables validation (allocator_of self.old).now
             → IfOk result (λ n. HasWritten n from.now self.old self.new) }
-        ensures content { IsTrue F.tells → (validation : Validation) → HoldsTables validation (allocator_of self.old).now → IsWholeChain self.old
-            → IfOk result (λ n. 0 < n → (n ≡ length from.now) ⊎ (missing_of self.old (length from.now) ≡ 0) → HasBytes self.new
-            (written (content_of self.old ++ copies (missing_of self.old (length from.now)) (init_bytes (version_of self.old) (init_of self.old))) (position_of self.old) (take n from.now))) }
-        ensures others { IsTrue F.tells → (i : ℕ) → (value (allocator_of self.old).now.tables.fat i ≡ free_sector → ⊥)
-            → (Contains ((allocator_of self.old).now.tables.fat_sectors ++ (allocator_of self.old).now.tables.difat_sectors) i → ⊥)
-            → (HoldsWanted (length from.now) self.old i → ⊥)
-            → SectorStays (version_of self.old) i (allocator_of self.old).now.file.bytes (allocator_of self.new).now.file.bytes }
-        ensures foreign { IsTrue F.tells → OthersStayBut (ids_of self.old) (allocator_of self.old).now (allocator_of self.new).now }
-        ensures spares { IsTrue F.tells → Spares (ids_of self.old) (allocator_of self.old).now (allocator_of self.new).now }
-        ensures there { IsTrue F.tells → IfOk result (λ n. 0 < n → part (allocator_of self.new).now.file.bytes
-            (sector_start (version_of self.old) (slice_index (ids_of self.new) (position_of self.old / sector_len (version_of self.old)))
+        ensures content { IsTrue F.tells
+            → (validation : Validation) → HoldsTables validation (allocator_of self.old).now
+            → IsWholeChain self.old → IfOk result (λ n. 0 < n
+            → (n ≡ length from.now) ⊎ (missing_of self.old (length from.now) ≡ 0)
+            → HasBytes self.new (written (content_of self.old
+            ++ copies (missing_of self.old (length from.now)) (init_bytes
+            (version_of self.old) (init_of self.old))) (position_of self.old) (take n from.now))) }
+        ensures others { IsTrue F.tells → (i : ℕ) → (value (allocator_of self.old).now.tables.fat i
+            ≡ free_sector → ⊥) → (Contains ((allocator_of self.old).now.tables.fat_sectors
+            ++ (allocator_of self.old).now.tables.difat_sectors) i → ⊥)
+            → (HoldsWanted (length from.now) self.old i → ⊥) → SectorStays (version_of self.old) i
+            (allocator_of self.old).now.file.bytes (allocator_of self.new).now.file.bytes }
+        ensures foreign { IsTrue F.tells → OthersStayBut
+            (ids_of self.old) (allocator_of self.old).now (allocator_of self.new).now }
+        ensures spares { IsTrue F.tells
+            → Spares (ids_of self.old) (allocator_of self.old).now (allocator_of self.new).now }
+        ensures there { IsTrue F.tells → IfOk result (λ n. 0 < n → part
+            (allocator_of self.new).now.file.bytes (sector_start (version_of self.old) (slice_index
+            (ids_of self.new) (position_of self.old / sector_len (version_of self.old)))
             + position_of self.old % sector_len (version_of self.old)) n ≡ take n from.now) }
-        ensures begun { 0 < length from.now → OnOk result ((allocator_of self.new).now.file.begun ≡ true) }
-        ensures broken { IfErr result (AfterMedium
-            (((allocator_of self.new).now.file.begun ≡ true) × HasGained (missing_of self.old (length from.now)) self.old self.new)
+        ensures begun { 0 < length from.now
+            → OnOk result ((allocator_of self.new).now.file.begun ≡ true) }
+        ensures broken { IfErr result (AfterMedium (((allocator_of self.new).now.file.begun ≡ true)
+            × HasGained (missing_of self.old (length from.now)) self.old self.new)
             (IsAsBefore self.old self.new)) }
         ensures err { IfErr result (ChangeRefused (IsUsable (allocator_of self.old).now.tables → ⊥)
-            (IsTooFew (allocator_of self.old).now.tables (missing_of self.old (length from.now)) → ⊥)
-            (IsTooFew (allocator_of self.old).now.tables (missing_of self.old (length from.now))) Unit) }
+            (IsTooFew (allocator_of self.old).now.tables (missing_of self.old (length from.now))
+            → ⊥) (IsTooFew
+            (allocator_of self.old).now.tables (missing_of self.old (length from.now))) Unit) }
         ensures needed { missing_of self.old (length from.now) ≡ 0 → IfErr result IsMediumError }
-        ensures counts { IsTrue F.tells → CountsFailure F.write_faults result (allocator_of self.old).now.file.failures (allocator_of self.new).now.file.failures }
+        ensures counts { IsTrue F.tells → CountsFailure F.write_faults result
+            (allocator_of self.old).now.file.failures (allocator_of self.new).now.file.failures }
     {
         let missing = self.missing(from.len());
         if missing == 0 {
@@ -469,53 +581,85 @@ impl<'a, F: Medium, A: Heap + Clone> Chain<'a, F, A> {
     /// `InvalidData`, `Full` and `Memory` as in `write`: nothing has changed then; a shorter length asks for no memory. `Medium` where
     /// the medium fails: then it has its new sectors in memory.
     pub fn set_len(&mut self, len: u64) -> Result<(), Error>
-        ensures same_allocator { (allocator_of self.new).ghost_name ≡ (allocator_of self.old).ghost_name }
+        ensures same_allocator { (allocator_of self.new).ghost_name
+            ≡ (allocator_of self.old).ghost_name }
         ensures init { init_of self.new ≡ init_of self.old }
         ensures version { version_of self.new ≡ version_of self.old }
         ensures count { OnOk result (length (ids_of self.new) ≡ wanted_of self.old len) }
         ensures none { len ≡ len_of self.old → OnErr result ⊥ × IsAsBefore self.old self.new }
-        ensures position { OnOk result (position_of self.new ≡ min (position_of self.old) (len_of self.new)) }
-        ensures grown { length (ids_of self.old) < wanted_of self.old len → OnOk result (ids_of self.new ≡ ids_of self.old ++ gained (ids_of self.old) (ids_of self.new)) }
-        ensures taken { length (ids_of self.old) < wanted_of self.old len → OnOk result (HasTaken (allocator_of self.old).now.tables (allocator_of self.new).now.tables
+        ensures position { OnOk result (position_of self.new
+            ≡ min (position_of self.old) (len_of self.new)) }
+        ensures grown { length (ids_of self.old) < wanted_of self.old len
+            → OnOk result (ids_of self.new
+            ≡ ids_of self.old ++ gained (ids_of self.old) (ids_of self.new)) }
+        ensures taken { length (ids_of self.old) < wanted_of self.old len → OnOk result
+            (HasTaken (allocator_of self.old).now.tables (allocator_of self.new).now.tables
             (ending (last_or_end (ids_of self.old))) (gained (ids_of self.old) (ids_of self.new))) }
         ensures enough { length (ids_of self.old) < wanted_of self.old len
-            → OnOk result (IsTooFew (allocator_of self.old).now.tables (wanted_of self.old len - length (ids_of self.old)) → ⊥) }
-        ensures filled { IsTrue F.tells → (validation : Validation) → HoldsTables validation (allocator_of self.old).now → length (ids_of self.old) < wanted_of self.old len
-            → OnOk result ((i : ℕ) → Contains (gained (ids_of self.old) (ids_of self.new)) i
-            → IsFilled (version_of self.new) (init_of self.old) (allocator_of self.new).now.file.bytes i) }
-        ensures cut { wanted_of self.old len ≤ length (ids_of self.old) → OnOk result (ids_of self.new ≡ take (wanted_of self.old len) (ids_of self.old)) }
-        ensures freed { wanted_of self.old len < length (ids_of self.old) → OnOk result (TablesGiveBack (ends_of (take (wanted_of self.old len) (ids_of self.old)))
-            (drop (wanted_of self.old len) (ids_of self.old)) (allocator_of self.old).now.tables (allocator_of self.new).now.tables) }
-        ensures zeroed { IsTrue F.tells → wanted_of self.old len ≤ length (ids_of self.old) → 0 < len % sector_len (version_of self.old)
-            → OnOk result (part (allocator_of self.new).now.file.bytes
-            (sector_start (version_of self.old) (slice_index (ids_of self.new) (len / sector_len (version_of self.old))) + len % sector_len (version_of self.old))
-            (sector_len (version_of self.old) - len % sector_len (version_of self.old))
-            ≡ replicate (sector_len (version_of self.old) - len % sector_len (version_of self.old)) 0) }
-        ensures tables { wanted_of self.old len ≡ length (ids_of self.old) → (allocator_of self.new).now.tables ≡ (allocator_of self.old).now.tables }
-        ensures holds { IsTrue F.tells → (validation : Validation) → HoldsTables validation (allocator_of self.old).now
-            → (len ≡ 0 → IsUnnamed (allocator_of self.old).now.tables.fat (start_sector_of self.old)) → OnOk result (HoldsTables validation (allocator_of self.new).now) }
-        ensures places { IsTrue F.tells → (validation : Validation) → HoldsTables validation (allocator_of self.old).now → OnOk result (HasResized len self.old self.new) }
-        ensures longer { IsTrue F.tells → (validation : Validation) → HoldsTables validation (allocator_of self.old).now → IsWholeChain self.old
-            → length (ids_of self.old) < wanted_of self.old len → OnOk result (HasBytes self.new
-            (content_of self.old ++ copies (wanted_of self.old len - length (ids_of self.old)) (init_bytes (version_of self.old) (init_of self.old)))) }
-        ensures shorter { IsTrue F.tells → (validation : Validation) → HoldsTables validation (allocator_of self.old).now → IsWholeChain self.old
-            → wanted_of self.old len ≤ length (ids_of self.old) → OnOk result (HasBytes self.new
-            (take len (content_of self.old) ++ replicate (wanted_of self.old len * sector_len (version_of self.old) - len) 0)) }
-        ensures others { IsTrue F.tells → (i : ℕ) → (value (allocator_of self.old).now.tables.fat i ≡ free_sector → ⊥)
-            → (Contains ((allocator_of self.old).now.tables.fat_sectors ++ (allocator_of self.old).now.tables.difat_sectors) i → ⊥)
+            → OnOk result (IsTooFew (allocator_of self.old).now.tables (wanted_of self.old len
+            - length (ids_of self.old)) → ⊥) }
+        ensures filled { IsTrue F.tells
+            → (validation : Validation) → HoldsTables validation (allocator_of self.old).now
+            → length (ids_of self.old) < wanted_of self.old len → OnOk result ((i : ℕ)
+            → Contains (gained (ids_of self.old) (ids_of self.new)) i → IsFilled
+            (version_of self.new) (init_of self.old) (allocator_of self.new).now.file.bytes i) }
+        ensures cut { wanted_of self.old len ≤ length (ids_of self.old)
+            → OnOk result (ids_of self.new ≡ take (wanted_of self.old len) (ids_of self.old)) }
+        ensures freed { wanted_of self.old len < length (ids_of self.old) → OnOk result
+            (TablesGiveBack (ends_of (take (wanted_of self.old len) (ids_of self.old)))
+            (drop (wanted_of self.old len) (ids_of self.old))
+            (allocator_of self.old).now.tables (allocator_of self.new).now.tables) }
+        ensures zeroed { IsTrue F.tells → wanted_of self.old len ≤ length (ids_of self.old)
+            → 0 < len % sector_len (version_of self.old) → OnOk result
+            (part (allocator_of self.new).now.file.bytes (sector_start (version_of self.old)
+            (slice_index (ids_of self.new) (len / sector_len (version_of self.old)))
+            + len % sector_len (version_of self.old)) (sector_len (version_of self.old)
+            - len % sector_len (version_of self.old)) ≡ replicate (sector_len (version_of self.old)
+            - len % sector_len (version_of self.old)) 0) }
+        ensures tables { wanted_of self.old len ≡ length (ids_of self.old)
+            → (allocator_of self.new).now.tables ≡ (allocator_of self.old).now.tables }
+        ensures holds { IsTrue F.tells → (validation : Validation)
+            → HoldsTables validation (allocator_of self.old).now → (len ≡ 0
+            → IsUnnamed (allocator_of self.old).now.tables.fat (start_sector_of self.old))
+            → OnOk result (HoldsTables validation (allocator_of self.new).now) }
+        ensures places { IsTrue F.tells
+            → (validation : Validation) → HoldsTables validation (allocator_of self.old).now
+            → OnOk result (HasResized len self.old self.new) }
+        ensures longer { IsTrue F.tells
+            → (validation : Validation) → HoldsTables validation (allocator_of self.old).now
+            → IsWholeChain self.old → length (ids_of self.old) < wanted_of self.old len
+            → OnOk result (HasBytes self.new (content_of self.old ++ copies (wanted_of self.old len
+            - length (ids_of self.old)) (init_bytes (version_of self.old) (init_of self.old)))) }
+        ensures shorter { IsTrue F.tells
+            → (validation : Validation) → HoldsTables validation (allocator_of self.old).now
+            → IsWholeChain self.old → wanted_of self.old len ≤ length (ids_of self.old)
+            → OnOk result (HasBytes self.new (take len (content_of self.old)
+            ++ replicate (wanted_of self.old len * sector_len (version_of self.old) - len) 0)) }
+        ensures others { IsTrue F.tells → (i : ℕ) → (value (allocator_of self.old).now.tables.fat i
+            ≡ free_sector → ⊥) → (Contains ((allocator_of self.old).now.tables.fat_sectors
+            ++ (allocator_of self.old).now.tables.difat_sectors) i → ⊥)
             → i ≢ slice_index (ids_of self.new) (len / sector_len (version_of self.old))
-            → SectorStays (version_of self.old) i (allocator_of self.old).now.file.bytes (allocator_of self.new).now.file.bytes }
-        ensures foreign { IsTrue F.tells → OthersStayBut (ids_of self.old) (allocator_of self.old).now (allocator_of self.new).now }
-        ensures spares { IsTrue F.tells → Spares (ids_of self.old) (allocator_of self.old).now (allocator_of self.new).now }
-        ensures broken { IfErr result (AfterMedium
-            (((allocator_of self.new).now.file.begun ≡ true) × HasTurned (wanted_of self.old len) self.old self.new)
+            → SectorStays (version_of self.old) i
+            (allocator_of self.old).now.file.bytes (allocator_of self.new).now.file.bytes }
+        ensures foreign { IsTrue F.tells → OthersStayBut
+            (ids_of self.old) (allocator_of self.old).now (allocator_of self.new).now }
+        ensures spares { IsTrue F.tells
+            → Spares (ids_of self.old) (allocator_of self.old).now (allocator_of self.new).now }
+        ensures broken { IfErr result (AfterMedium (((allocator_of self.new).now.file.begun ≡ true)
+            × HasTurned (wanted_of self.old len) self.old self.new)
             (IsAsBefore self.old self.new)) }
-        ensures err { IfErr result (ChangeRefused (IsUsable (allocator_of self.old).now.tables → ⊥)
-            ((length (ids_of self.old) < wanted_of self.old len) × (IsTooFew (allocator_of self.old).now.tables (wanted_of self.old len - length (ids_of self.old)) → ⊥))
-            (IsTooFew (allocator_of self.old).now.tables (wanted_of self.old len - length (ids_of self.old))) Unit) }
-        ensures needed { wanted_of self.old len ≡ length (ids_of self.old) → IfErr result IsMediumError }
-        ensures begun { OnOk result (IsRaised (wanted_of self.old len ≢ length (ids_of self.old)) (allocator_of self.old).now.file (allocator_of self.new).now.file) }
-        ensures counts { IsTrue F.tells → CountsFailure F.write_faults result (allocator_of self.old).now.file.failures (allocator_of self.new).now.file.failures }
+        ensures err { IfErr result (ChangeRefused (IsUsable (allocator_of self.old).now.tables
+            → ⊥) ((length (ids_of self.old) < wanted_of self.old len)
+            × (IsTooFew (allocator_of self.old).now.tables (wanted_of self.old len
+            - length (ids_of self.old))
+            → ⊥)) (IsTooFew (allocator_of self.old).now.tables (wanted_of self.old len
+            - length (ids_of self.old))) Unit) }
+        ensures needed { wanted_of self.old len ≡ length (ids_of self.old)
+            → IfErr result IsMediumError }
+        ensures begun { OnOk result (IsRaised (wanted_of self.old len ≢ length (ids_of self.old))
+            (allocator_of self.old).now.file (allocator_of self.new).now.file) }
+        ensures counts { IsTrue F.tells → CountsFailure F.write_faults result
+            (allocator_of self.old).now.file.failures (allocator_of self.new).now.file.failures }
     {
         let sectors = len.div_ceil(self.allocator.sector_len() as u64) as usize;
         let have = self.num_sectors();
@@ -529,28 +673,42 @@ impl<'a, F: Medium, A: Heap + Clone> Chain<'a, F, A> {
     /// Adds so many sectors at its end: all of them or none. After `Medium` it has them in memory, and after any other error nothing has
     /// changed.
     fn grow(&mut self, count: usize) -> Result<(), Error>
-        ensures same_allocator { (allocator_of self.new).ghost_name ≡ (allocator_of self.old).ghost_name }
+        ensures same_allocator { (allocator_of self.new).ghost_name
+            ≡ (allocator_of self.old).ghost_name }
         ensures init { init_of self.new ≡ init_of self.old }
         ensures version { version_of self.new ≡ version_of self.old }
-        ensures ids { OnOk result (ids_of self.new ≡ ids_of self.old ++ gained (ids_of self.old) (ids_of self.new)) }
+        ensures ids { OnOk result (ids_of self.new
+            ≡ ids_of self.old ++ gained (ids_of self.old) (ids_of self.new)) }
         ensures count { OnOk result (length (gained (ids_of self.old) (ids_of self.new)) ≡ count) }
         ensures position { position_of self.new ≡ position_of self.old }
-        ensures taken { OnOk result (HasTaken (allocator_of self.old).now.tables (allocator_of self.new).now.tables (ending (last_or_end (ids_of self.old)))
-            (gained (ids_of self.old) (ids_of self.new))) }
-        ensures filled { IsTrue F.tells → (validation : Validation) → HoldsTables validation (allocator_of self.old).now
-            → OnOk result ((i : ℕ) → Contains (gained (ids_of self.old) (ids_of self.new)) i
-            → IsFilled (version_of self.new) (init_of self.old) (allocator_of self.new).now.file.bytes i) }
-        ensures holds { IsTrue F.tells → (validation : Validation) → HoldsTables validation (allocator_of self.old).now → OnOk result (HoldsTables validation (allocator_of self.new).now) }
-        ensures content { IsTrue F.tells → (validation : Validation) → HoldsTables validation (allocator_of self.old).now → IsWholeChain self.old
-            → OnOk result (HasBytes self.new (content_of self.old ++ copies count (init_bytes (version_of self.old) (init_of self.old)))) }
-        ensures others { IsTrue F.tells → OthersStay (allocator_of self.old).now (allocator_of self.new).now }
+        ensures taken { OnOk result
+            (HasTaken (allocator_of self.old).now.tables (allocator_of self.new).now.tables
+            (ending (last_or_end (ids_of self.old))) (gained (ids_of self.old) (ids_of self.new))) }
+        ensures filled { IsTrue F.tells → (validation : Validation)
+            → HoldsTables validation (allocator_of self.old).now → OnOk result ((i : ℕ)
+            → Contains (gained (ids_of self.old) (ids_of self.new)) i → IsFilled
+            (version_of self.new) (init_of self.old) (allocator_of self.new).now.file.bytes i) }
+        ensures holds { IsTrue F.tells
+            → (validation : Validation) → HoldsTables validation (allocator_of self.old).now
+            → OnOk result (HoldsTables validation (allocator_of self.new).now) }
+        ensures content { IsTrue F.tells
+            → (validation : Validation) → HoldsTables validation (allocator_of self.old).now
+            → IsWholeChain self.old → OnOk result (HasBytes self.new (content_of self.old
+            ++ copies count (init_bytes (version_of self.old) (init_of self.old)))) }
+        ensures others { IsTrue F.tells
+            → OthersStay (allocator_of self.old).now (allocator_of self.new).now }
         ensures enough { OnOk result (IsTooFew (allocator_of self.old).now.tables count → ⊥) }
-        ensures refused { IfErr result (ListBreaksOff (Lengthens count) (ids_of self.old) (ids_of self.new) (allocator_of self.old).now (allocator_of self.new).now) }
-        ensures spares { IsTrue F.tells → Spares (ids_of self.old) (allocator_of self.old).now (allocator_of self.new).now }
-        ensures err { IfErr result (ChangeRefused (IsUsable (allocator_of self.old).now.tables → ⊥)
-            (IsTooFew (allocator_of self.old).now.tables count → ⊥) (IsTooFew (allocator_of self.old).now.tables count) Unit) }
-        ensures begun { OnOk result (IsRaised (0 < count) (allocator_of self.old).now.file (allocator_of self.new).now.file) }
-        ensures counts { IsTrue F.tells → CountsFailure F.write_faults result (allocator_of self.old).now.file.failures (allocator_of self.new).now.file.failures }
+        ensures refused { IfErr result (ListBreaksOff (Lengthens count) (ids_of self.old)
+            (ids_of self.new) (allocator_of self.old).now (allocator_of self.new).now) }
+        ensures spares { IsTrue F.tells
+            → Spares (ids_of self.old) (allocator_of self.old).now (allocator_of self.new).now }
+        ensures err { IfErr result (ChangeRefused (IsUsable (allocator_of self.old).now.tables
+            → ⊥) (IsTooFew (allocator_of self.old).now.tables count
+            → ⊥) (IsTooFew (allocator_of self.old).now.tables count) Unit) }
+        ensures begun { OnOk result (IsRaised (0
+            < count) (allocator_of self.old).now.file (allocator_of self.new).now.file) }
+        ensures counts { IsTrue F.tells → CountsFailure F.write_faults result
+            (allocator_of self.old).now.file.failures (allocator_of self.new).now.file.failures }
     {
         extend_list(
             self.allocator,
@@ -564,25 +722,39 @@ impl<'a, F: Medium, A: Heap + Clone> Chain<'a, F, A> {
     /// Keeps so many of its sectors and frees those behind them, and goes to its end where the position was past it. After `Medium`
     /// it is cut in memory, and after any other error nothing has changed.
     fn cut(&mut self, count: usize) -> Result<(), Error>
-        ensures same_allocator { (allocator_of self.new).ghost_name ≡ (allocator_of self.old).ghost_name }
+        ensures same_allocator { (allocator_of self.new).ghost_name
+            ≡ (allocator_of self.old).ghost_name }
         ensures init { init_of self.new ≡ init_of self.old }
         ensures version { version_of self.new ≡ version_of self.old }
         ensures ids { OnOk result (ids_of self.new ≡ take count (ids_of self.old)) }
         ensures position { position_of self.new ≡ min (position_of self.old) (len_of self.new) }
-        ensures none { length (ids_of self.old) ≤ count → OnErr result ⊥ × IsAsBefore self.old self.new }
-        ensures cut { count < length (ids_of self.old) → OnOk result (TablesGiveBack (ends_of (take count (ids_of self.old))) (drop count (ids_of self.old))
+        ensures none { length (ids_of self.old) ≤ count
+            → OnErr result ⊥ × IsAsBefore self.old self.new }
+        ensures cut { count < length (ids_of self.old) → OnOk result
+            (TablesGiveBack (ends_of (take count (ids_of self.old))) (drop count (ids_of self.old))
             (allocator_of self.old).now.tables (allocator_of self.new).now.tables) }
-        ensures holds { IsTrue F.tells → (validation : Validation) → HoldsTables validation (allocator_of self.old).now
-            → (count ≡ 0 → IsUnnamed (allocator_of self.old).now.tables.fat (start_sector_of self.old)) → OnOk result (HoldsTables validation (allocator_of self.new).now) }
-        ensures content { IsTrue F.tells → (validation : Validation) → HoldsTables validation (allocator_of self.old).now → IsWholeChain self.old
-            → OnOk result (HasBytes self.new (take (count * sector_len (version_of self.old)) (content_of self.old))) }
-        ensures changes { IsTrue F.tells → ChangesSectors (allocator_of self.old).now.tables.fat_sectors (allocator_of self.old).now.tables.version
+        ensures holds { IsTrue F.tells → (validation : Validation)
+            → HoldsTables validation (allocator_of self.old).now → (count ≡ 0
+            → IsUnnamed (allocator_of self.old).now.tables.fat (start_sector_of self.old))
+            → OnOk result (HoldsTables validation (allocator_of self.new).now) }
+        ensures content { IsTrue F.tells
+            → (validation : Validation) → HoldsTables validation (allocator_of self.old).now
+            → IsWholeChain self.old → OnOk result (HasBytes self.new (take (count
+            * sector_len (version_of self.old)) (content_of self.old))) }
+        ensures changes { IsTrue F.tells
+            → ChangesSectors (allocator_of self.old).now.tables.fat_sectors
+            (allocator_of self.old).now.tables.version
             (allocator_of self.old).now.file.bytes (allocator_of self.new).now.file.bytes }
-        ensures refused { IfErr result (ListBreaksOff (Shortens count) (ids_of self.old) (ids_of self.new) (allocator_of self.old).now (allocator_of self.new).now) }
-        ensures spares { IsTrue F.tells → Spares (ids_of self.old) (allocator_of self.old).now (allocator_of self.new).now }
-        ensures err { IfErr result (ChangeRefused (IsUsable (allocator_of self.old).now.tables → ⊥) ⊥ ⊥ Unit) }
-        ensures begun { OnOk result (IsRaised (count < length (ids_of self.old)) (allocator_of self.old).now.file (allocator_of self.new).now.file) }
-        ensures counts { IsTrue F.tells → CountsFailure F.write_faults result (allocator_of self.old).now.file.failures (allocator_of self.new).now.file.failures }
+        ensures refused { IfErr result (ListBreaksOff (Shortens count) (ids_of self.old)
+            (ids_of self.new) (allocator_of self.old).now (allocator_of self.new).now) }
+        ensures spares { IsTrue F.tells
+            → Spares (ids_of self.old) (allocator_of self.old).now (allocator_of self.new).now }
+        ensures err { IfErr result (ChangeRefused (IsUsable (allocator_of self.old).now.tables
+            → ⊥) ⊥ ⊥ Unit) }
+        ensures begun { OnOk result (IsRaised (count < length (ids_of self.old))
+            (allocator_of self.old).now.file (allocator_of self.new).now.file) }
+        ensures counts { IsTrue F.tells → CountsFailure F.write_faults result
+            (allocator_of self.old).now.file.failures (allocator_of self.new).now.file.failures }
     {
         if count >= self.ids.len() {
             return Ok(());
@@ -602,13 +774,6 @@ impl<'a, F: Medium, A: Heap + Clone> Chain<'a, F, A> {
     }
 }
 
-/// The first number of a list, or END.
-fn first_number(numbers: &[u32]) -> u32
-    ensures { result ≡ first_or_end numbers.now }
-{
-    numbers.first().copied().unwrap_or(END_OF_CHAIN)
-}
-
 /// Adds so many sectors at the end of a chain, and appends them to its list: all of them or none.
 fn extend_list<F: Medium, A: Heap + Clone>(
     allocator: &mut Allocator<F, A>,
@@ -622,20 +787,30 @@ fn extend_list<F: Medium, A: Heap + Clone>(
     ensures few { length ids.new.items ≤ max_regular_sector + 1 }
     ensures longer { length ids.old.items ≤ length ids.new.items }
     ensures version { allocator.new.tables.version ≡ allocator.old.tables.version }
-    ensures lengthened { OnOk result (Lengthens count ids.old.items ids.new.items allocator.old.tables allocator.new.tables) }
-    ensures ids { OnOk result (ids.new.items ≡ ids.old.items ++ gained ids.old.items ids.new.items) }
+    ensures lengthened { OnOk result
+        (Lengthens count ids.old.items ids.new.items allocator.old.tables allocator.new.tables) }
+    ensures ids { OnOk result (ids.new.items
+        ≡ ids.old.items ++ gained ids.old.items ids.new.items) }
     ensures count { OnOk result (length (gained ids.old.items ids.new.items) ≡ count) }
-    ensures taken { OnOk result (HasTaken allocator.old.tables allocator.new.tables (ending (last_or_end ids.old.items)) (gained ids.old.items ids.new.items)) }
-    ensures filled { IsTrue F.tells → (validation : Validation) → HoldsTables validation allocator.old
-        → OnOk result ((i : ℕ) → Contains (gained ids.old.items ids.new.items) i → IsFilled allocator.new.tables.version init allocator.new.file.bytes i) }
-    ensures holds { IsTrue F.tells → (validation : Validation) → HoldsTables validation allocator.old → OnOk result (HoldsTables validation allocator.new) }
+    ensures taken { OnOk result (HasTaken allocator.old.tables allocator.new.tables
+        (ending (last_or_end ids.old.items)) (gained ids.old.items ids.new.items)) }
+    ensures filled { IsTrue F.tells
+        → (validation : Validation) → HoldsTables validation allocator.old
+        → OnOk result ((i : ℕ) → Contains (gained ids.old.items ids.new.items) i
+        → IsFilled allocator.new.tables.version init allocator.new.file.bytes i) }
+    ensures holds { IsTrue F.tells
+        → (validation : Validation) → HoldsTables validation allocator.old
+        → OnOk result (HoldsTables validation allocator.new) }
     ensures others { IsTrue F.tells → OthersStay allocator.old allocator.new }
     ensures spares { IsTrue F.tells → Spares ids.old.items allocator.old allocator.new }
     ensures enough { OnOk result (IsTooFew allocator.old.tables count → ⊥) }
-    ensures refused { IfErr result (ListBreaksOff (Lengthens count) ids.old.items ids.new.items allocator.old allocator.new) }
-    ensures err { IfErr result (ChangeRefused (IsUsable allocator.old.tables → ⊥) (IsTooFew allocator.old.tables count → ⊥) (IsTooFew allocator.old.tables count) Unit) }
+    ensures refused { IfErr result
+        (ListBreaksOff (Lengthens count) ids.old.items ids.new.items allocator.old allocator.new) }
+    ensures err { IfErr result (ChangeRefused (IsUsable allocator.old.tables
+        → ⊥) (IsTooFew allocator.old.tables count → ⊥) (IsTooFew allocator.old.tables count) Unit) }
     ensures begun { OnOk result (IsRaised (0 < count) allocator.old.file allocator.new.file) }
-    ensures counts { IsTrue F.tells → CountsFailure F.write_faults result allocator.old.file.failures allocator.new.file.failures }
+    ensures counts { IsTrue F.tells → CountsFailure
+        F.write_faults result allocator.old.file.failures allocator.new.file.failures }
 {
     let extended = allocator.extend_listed(ids, count, init);
     *start = first_number(ids);
@@ -655,15 +830,21 @@ fn shorten_list<F: Medium, A: Heap + Clone>(
     ensures few { length ids.new.items ≤ max_regular_sector + 1 }
     ensures version { allocator.new.tables.version ≡ allocator.old.tables.version }
     ensures ids { OnOk result (ids.new.items ≡ take count ids.old.items) }
-    ensures cut { OnOk result (TablesGiveBack (ends_of (take count ids.old.items)) (drop count ids.old.items) allocator.old.tables allocator.new.tables) }
-    ensures holds { IsTrue F.tells → (validation : Validation) → HoldsTables validation allocator.old
-        → (count ≡ 0 → IsUnnamed allocator.old.tables.fat start.old) → OnOk result (HoldsTables validation allocator.new) }
-    ensures changes { IsTrue F.tells → ChangesSectors allocator.old.tables.fat_sectors allocator.old.tables.version allocator.old.file.bytes allocator.new.file.bytes }
+    ensures cut { OnOk result (TablesGiveBack (ends_of (take count ids.old.items))
+        (drop count ids.old.items) allocator.old.tables allocator.new.tables) }
+    ensures holds { IsTrue F.tells
+        → (validation : Validation) → HoldsTables validation allocator.old
+        → (count ≡ 0 → IsUnnamed allocator.old.tables.fat start.old)
+        → OnOk result (HoldsTables validation allocator.new) }
+    ensures changes { IsTrue F.tells → ChangesSectors allocator.old.tables.fat_sectors
+        allocator.old.tables.version allocator.old.file.bytes allocator.new.file.bytes }
     ensures spares { IsTrue F.tells → Spares ids.old.items allocator.old allocator.new }
-    ensures refused { IfErr result (ListBreaksOff (Shortens count) ids.old.items ids.new.items allocator.old allocator.new) }
+    ensures refused { IfErr result
+        (ListBreaksOff (Shortens count) ids.old.items ids.new.items allocator.old allocator.new) }
     ensures err { IfErr result (ChangeRefused (IsUsable allocator.old.tables → ⊥) ⊥ ⊥ Unit) }
     ensures begun { OnOk result (allocator.new.file.begun ≡ true) }
-    ensures counts { IsTrue F.tells → CountsFailure F.write_faults result allocator.old.file.failures allocator.new.file.failures }
+    ensures counts { IsTrue F.tells → CountsFailure
+        F.write_faults result allocator.old.file.failures allocator.new.file.failures }
 {
     let cut = allocator.cut_listed(ids, count);
     *start = first_number(ids);
@@ -681,16 +862,26 @@ fn read_sector<F: ReadMedium, A: Heap>(
     requires some { 0 < length into.old }
     requires within { offset + length into.old ≤ sector_len allocator.old.tables.version }
     ensures tables { allocator.new.tables ≡ allocator.old.tables }
-    ensures kept { allocator.new.file ≡ record allocator.old.file { bytes = allocator.new.file.bytes; failures = allocator.new.file.failures } }
-    ensures count { IfOk result (λ n. n ≡ min (length into.old) (allocator.old.file.len - (sector_start allocator.old.tables.version sector + offset))) }
+    ensures kept { allocator.new.file
+        ≡ record allocator.old.file {
+          bytes = allocator.new.file.bytes;
+          failures = allocator.new.file.failures;
+        } }
+    ensures count { IfOk result (λ n. n ≡ min (length into.old) (allocator.old.file.len
+        - (sector_start allocator.old.tables.version sector + offset))) }
     ensures some { IfOk result (λ n. 0 < n) }
-    ensures ok { IsTrue F.tells → IfOk result (λ n. take n into.new ≡ part allocator.old.file.bytes (sector_start allocator.old.tables.version sector + offset) n) }
+    ensures ok { IsTrue F.tells → IfOk result (λ n. take n into.new
+        ≡ part allocator.old.file.bytes (sector_start allocator.old.tables.version sector
+        + offset) n) }
     ensures rest { IfOk result (λ n. drop n into.new ≡ drop n into.old) }
-    ensures cut { allocator.old.file.len ≤ sector_start allocator.old.tables.version sector + offset → IsErrAnd result IsInvalidData }
-    ensures there { sector_start allocator.old.tables.version sector + offset < allocator.old.file.len → IfErr result IsMediumError }
+    ensures cut { allocator.old.file.len ≤ sector_start allocator.old.tables.version sector + offset
+        → IsErrAnd result IsInvalidData }
+    ensures there { sector_start allocator.old.tables.version sector + offset
+        < allocator.old.file.len → IfErr result IsMediumError }
     ensures same { IsTrue F.tells → OnOk result (allocator.new ≡ allocator.old) }
     ensures bytes { IsTrue F.tells → allocator.new.file.bytes ≡ allocator.old.file.bytes }
-    ensures counts { IsTrue F.tells → CountsFailure F.read_faults result allocator.old.file.failures allocator.new.file.failures }
+    ensures counts { IsTrue F.tells → CountsFailure
+        F.read_faults result allocator.old.file.failures allocator.new.file.failures }
 {
     let at = (sector as u64 + 1) * allocator.sector_len() as u64 + offset as u64;
     if at >= allocator.file_len() {
@@ -717,20 +908,27 @@ fn write_sector<F: Medium, A: Heap>(
       failures = allocator.new.file.failures;
       begun = allocator.new.file.begun;
     } }
-    ensures ok { IsTrue F.tells → OnOk result (allocator.new.file ≡ record allocator.old.file {
-      bytes = written allocator.old.file.bytes (sector_start allocator.old.tables.version sector + offset) from.now;
-      len = max allocator.old.file.len (sector_start allocator.old.tables.version sector + offset + length from.now);
-      begun = true;
-    }) }
+    ensures ok { IsTrue F.tells → OnOk result (allocator.new.file
+        ≡ record allocator.old.file {
+          bytes = written allocator.old.file.bytes
+              (sector_start allocator.old.tables.version sector + offset) from.now;
+          len = max allocator.old.file.len (sector_start allocator.old.tables.version sector
+              + offset + length from.now);
+          begun = true;
+        }) }
     ensures err { IfErr result IsMediumError }
     ensures begun { allocator.new.file.begun ≡ true }
-    ensures sectors { IsTrue F.tells → (i : ℕ) → i ≢ sector → SectorStays allocator.old.tables.version i allocator.old.file.bytes allocator.new.file.bytes }
-    ensures others { IsTrue F.tells → ChangesOnlyBytes (sector_start allocator.old.tables.version sector + offset) (length from.now) allocator.old.file.bytes allocator.new.file.bytes }
+    ensures sectors { IsTrue F.tells → (i : ℕ) → i ≢ sector → SectorStays
+        allocator.old.tables.version i allocator.old.file.bytes allocator.new.file.bytes }
+    ensures others { IsTrue F.tells
+        → ChangesOnlyBytes (sector_start allocator.old.tables.version sector
+        + offset) (length from.now) allocator.old.file.bytes allocator.new.file.bytes }
     ensures spares { IsTrue F.tells → Spares (sector ∷ []) allocator.old allocator.new }
-    ensures counts { IsTrue F.tells → CountsFailure F.write_faults result allocator.old.file.failures allocator.new.file.failures }
+    ensures counts { IsTrue F.tells → CountsFailure
+        F.write_faults result allocator.old.file.failures allocator.new.file.failures }
 {
     let len = allocator.file_len();
-    let _met = len;
+    let _fact = len;
     allocator.write_contiguous(sector, offset, from)
 }
 
@@ -750,17 +948,23 @@ fn zero_behind<F: Medium, A: Heap>(
       begun = allocator.new.file.begun;
     } }
     ensures ok { IsTrue F.tells → OnOk result (allocator.new.file ≡ record allocator.old.file {
-      bytes = written allocator.old.file.bytes (sector_start allocator.old.tables.version sector + offset) (replicate (sector_len allocator.old.tables.version - offset) 0);
-      len = max allocator.old.file.len (sector_start allocator.old.tables.version sector + offset + (sector_len allocator.old.tables.version - offset));
+      bytes = written allocator.old.file.bytes (sector_start allocator.old.tables.version sector
+          + offset) (replicate (sector_len allocator.old.tables.version - offset) 0);
+      len = max allocator.old.file.len (sector_start allocator.old.tables.version sector
+          + offset + (sector_len allocator.old.tables.version - offset));
       begun = true;
     }) }
     ensures err { IfErr result IsMediumError }
     ensures begun { allocator.new.file.begun ≡ true }
-    ensures sectors { IsTrue F.tells → (i : ℕ) → i ≢ sector → SectorStays allocator.old.tables.version i allocator.old.file.bytes allocator.new.file.bytes }
-    ensures others { IsTrue F.tells → ChangesOnlyBytes (sector_start allocator.old.tables.version sector + offset) (sector_len allocator.old.tables.version - offset)
-        allocator.old.file.bytes allocator.new.file.bytes }
+    ensures sectors { IsTrue F.tells → (i : ℕ) → i ≢ sector → SectorStays
+        allocator.old.tables.version i allocator.old.file.bytes allocator.new.file.bytes }
+    ensures others { IsTrue F.tells
+        → ChangesOnlyBytes (sector_start allocator.old.tables.version sector
+        + offset) (sector_len allocator.old.tables.version
+        - offset) allocator.old.file.bytes allocator.new.file.bytes }
     ensures spares { IsTrue F.tells → Spares (sector ∷ []) allocator.old allocator.new }
-    ensures counts { IsTrue F.tells → CountsFailure F.write_faults result allocator.old.file.failures allocator.new.file.failures }
+    ensures counts { IsTrue F.tells → CountsFailure
+        F.write_faults result allocator.old.file.failures allocator.new.file.failures }
 {
     let zeros = [0; 4096];
     let len = allocator.sector_len() - offset;

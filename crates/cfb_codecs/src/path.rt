@@ -155,7 +155,8 @@ pub fn name_key<A: Allocator>(
     name: &str,
 ) -> Result<NameKey<A>, Error>
     ensures units { IfOk result (λ key. key.units ≡ (key_of_name cases.now (chars name.now)).0) }
-    ensures letters { IfOk result (λ key. key.letters.items ≡ (key_of_name cases.now (chars name.now)).1) }
+    ensures letters { IfOk result (λ key. key.letters.items
+        ≡ (key_of_name cases.now (chars name.now)).1) }
     ensures refused { IfErr result IsMemory }
 {
     let units = unit_count(name);
@@ -177,7 +178,8 @@ pub fn compare_names<A: Allocator>(cases: &CaseMapper<A>, a: &str, b: &str) -> O
 
 /// The order of the characters in upper case.
 fn compare_letters<A: Allocator>(cases: &CaseMapper<A>, a: &str, b: &str) -> Ordering
-    ensures { result ≡ slice_cmp nat_cmp (map (upper_case cases.now) (chars a.now)) (map (upper_case cases.now) (chars b.now)) }
+    ensures { result ≡ slice_cmp nat_cmp
+        (map (upper_case cases.now) (chars a.now)) (map (upper_case cases.now) (chars b.now)) }
 {
     let others = b.chars().map(|letter| cases.upper_case(letter));
     a.chars().map(|letter| cases.upper_case(letter)).cmp(others)
@@ -232,11 +234,12 @@ fn is_forbidden(letter: char) -> bool
 /// last name away. It answers `InvalidInput` exactly where a `..` finds no name to take away,
 /// and else `Memory` where memory for the names is refused.
 pub fn name_chain_from_path<A: Allocator>(alloc: A, path: &str) -> Result<Vec<&str, A>, Error>
-    ensures ok { IfOk result (λ chain. names_of_path (chars path.now) ≡ Some (map (λ name. chars name.now) chain.items)) }
+    ensures ok { IfOk result (λ chain. names_of_path (chars path.now)
+        ≡ Some (map (λ name. chars name.now) chain.items)) }
     ensures refused { IfErr result (RefusesInput (not (is_some (names_of_path (chars path.now))))) }
 {
     if !stays_below_root(path) {
-        return Err(Error::InvalidInput(Detail::text("a path stays below the root")));
+        return Err(Error::InvalidInput(Detail::text("the path leaves the root")));
     }
     let mut chain = Vec::new(alloc);
     let mut left = path;
@@ -256,7 +259,8 @@ pub fn name_chain_from_path<A: Allocator>(alloc: A, path: &str) -> Result<Vec<&s
 ///
 /// It answers `Memory` where memory for the path is refused, and no other error.
 pub fn path_from_name_chain<A: Allocator>(alloc: A, names: &[&str]) -> Result<String<A>, Error>
-    ensures ok { IfOk result (λ path. chars (string_bytes path) ≡ path_of_names (map (λ name. chars name.now) names.now)) }
+    ensures ok { IfOk result (λ path. chars (string_bytes path)
+        ≡ path_of_names (map (λ name. chars name.now) names.now)) }
     ensures refused { IfErr result IsMemory }
 {
     let mut path = String::new(alloc);
@@ -280,7 +284,8 @@ pub fn stays_below_root(path: &str) -> bool
 /// The first name of a path and a path of the names after it, or none where the path has no
 /// names or does not stay below the root. It takes no memory.
 pub fn next_name(path: &str) -> Option<(&str, &str)>
-    ensures some { IfSome result (λ r. names_left (chars path.now) ≡ chars r.0.now ∷ names_left (chars r.1.now)) }
+    ensures some { IfSome result (λ r. names_left (chars path.now)
+        ≡ chars r.0.now ∷ names_left (chars r.1.now)) }
     ensures none { IfNone result (names_left (chars path.now) ≡ []) }
     ensures shorter { IfSome result (λ r. length r.1.now < length path.now) }
 {
@@ -327,7 +332,8 @@ fn after_parent(path: &str) -> Option<&str>
 
 /// The part before the first `/`, and what stands after it: nothing where there is no `/`.
 fn first_part(path: &str) -> (&str, &str)
-    ensures step { (names : List (List ℕ)) → names_along (chars path.now) (Some names) ≡ names_along (chars result.1.now) (names_with (chars result.0.now) names) }
+    ensures step { (names : List (List ℕ)) → names_along (chars path.now) (Some names)
+        ≡ names_along (chars result.1.now) (names_with (chars result.0.now) names) }
     ensures shorter { 0 < length path.now → length result.1.now < length path.now }
 {
     match path.split_once('/') {

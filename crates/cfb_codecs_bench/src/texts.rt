@@ -36,7 +36,7 @@ const WORDS: [(&[u32], &str); 4] = [
 
 /// Errors with their numbers and texts.
 #[rattlefmt::skip]
-fn errors() -> [(Error, u8, &'static str); 15] {
+fn errors() -> [(Error, u8, &'static str); 14] {
     let missing = Detail::text("no such object");
     [
         (Error::NotFound(missing), 1, "no such object"),
@@ -48,7 +48,6 @@ fn errors() -> [(Error, u8, &'static str); 15] {
         (Error::Full, 7, "file is full"),
         (Error::Unsound, 8, "file is not sound"),
         (Error::Failed, 9, "file failed earlier"),
-        (Error::Unsupported, 10, "not supported yet"),
         (Error::InvalidData(Detail::text("sector")), 4, "sector"),
         (Error::InvalidData(Detail::number("sector", 7)), 4, "sector (7)"),
         (Error::InvalidData(Detail::number("sector", 0)), 4, "sector (0)"),

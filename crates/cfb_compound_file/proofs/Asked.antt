@@ -3,7 +3,7 @@ use Rattle.std.proofs.Common.{◌≡◌, ◌⊎◌, inl, inr, ℕ, List, Bool, t
 use Rattle.std.specs.Prelude.{MatchBool, MatchOption, Option, Some, None, option_map}
 use Rattle.std.specs.Option.{option_map_or}
 use Rattle.cfb_format.specs.declared.error.Error.{Error}
-use Rattle.cfb_format.specs.declared.error.Error.TheVariants.{NotFound, AlreadyExists, InvalidInput, InvalidData, Medium, Memory, Full, Unsound, Failed, Unsupported}
+use Rattle.cfb_format.specs.declared.error.Error.TheVariants.{NotFound, AlreadyExists, InvalidInput, InvalidData, Medium, Memory, Full, Unsound, Failed}
 use Rattle.cfb_format.specs.DirectoryEntry.{root_entry_name}
 use Rattle.cfb_format.specs.Names.{Cases}
 use Rattle.cfb_format.specs.Path.{names_of_path}
@@ -26,7 +26,8 @@ use Rattle.cfb_objects.proofs.Found.{object-is-at-its-entry}
 use Rattle.cfb_mini_sectors.specs.State.{bytes_of, cases_of, content_of, entries_of, reading_of, root_len_of}
 use Rattle.cfb_agreement.specs.Files.{Agrees, FileState, is_failed}
 use Rattle.cfb_agreement.proofs.HeldBytes.{held-means-its-tree}
-use Rattle.cfb_compound_file.specs.Answers.{Answers, AnswersNot, RunsOn, causes_of, setting_of, state_with}
+use Rattle.cfb_compound_file.proofs.CallKinds.{kind_same}
+use Rattle.cfb_compound_file.specs.Answers.{Answers, AnswersNot, RunsOn, causes_of_call, setting_of, state_with}
 use Rattle.cfb_compound_file.specs.Finding.{FindingRefused}
 
 -- ---- questions
@@ -98,16 +99,16 @@ IsByRule file call reply = (o : Outline) → IsOutline (cases_of file.base) (ent
     → Step (cases_of file.base) file.is_sound (root_len_of file.base) (tree_in file o) call reply (tree_in file o)
 
 -- on a failed file nothing is owed but that nothing is blamed without cause
-pub is-answered : (file : FileState) (call : Call) (reply : Reply) → IsQuestion call → Agrees file → HasCause (causes_of file file) reply → IsByRule file call reply → Answers file call reply
+pub is-answered : (file : FileState) (call : Call) (reply : Reply) → IsQuestion call → Agrees file → HasCause (causes_of_call file file) reply → IsByRule file call reply → Answers file call reply
 unfolding RunsOn
 is-answered file call reply question agrees cause by-rule tree means = (tree, means, go (is_failed file) refl)
   where
     go : (b : Bool) → is_failed file ≡ b
-        → MatchBool b (OnFailed (causes_of file file) (kind_of call) reply (state_with file tree))
-        (FollowsRules (setting_of file) (state_with file tree) call reply (state_with file tree) ⊎ IsBroken (causes_of file file) (state_with file tree) call reply (state_with file tree))
+        → MatchBool b (OnFailed (causes_of_call file file) (kind_of call) reply (state_with file tree))
+        (FollowsRules (setting_of file) (state_with file tree) call reply (state_with file tree) ⊎ IsBroken (causes_of_call file file) (setting_of file) (state_with file tree) call reply (state_with file tree))
     go true failed = elim question.kind [
-      | inl e ↦ subst (λ (k : CallKind). OnFailed (causes_of file file) k reply (state_with file tree)) (sym e) (cause, failed)
-      | inr e ↦ subst (λ (k : CallKind). OnFailed (causes_of file file) k reply (state_with file tree)) (sym e) (cause, failed)
+      | inl e ↦ subst (λ (k : CallKind). OnFailed (causes_of_call file file) k reply (state_with file tree)) (sym e) (cause, failed)
+      | inr e ↦ subst (λ (k : CallKind). OnFailed (causes_of_call file file) k reply (state_with file tree)) (sym e) (cause, failed)
     ]
     go false unfailed =
         let held = agrees unfailed in
@@ -126,11 +127,15 @@ unfolding RunsOn
 refused-for-memory file call e kind is = (out_of_memory, ap number_of is, λ tree means. (tree, means, go tree (is_failed file) refl))
   where
     go : (tree : Tree) (b : Bool) → is_failed file ≡ b
-        → MatchBool b (OnFailed (causes_of file file) (kind_of call) (refused out_of_memory) (state_with file tree))
-        (FollowsRules (setting_of file) (state_with file tree) call (refused out_of_memory) (state_with file tree) ⊎ IsBroken (causes_of file file) (state_with file tree) call (refused out_of_memory) (state_with file tree))
-    go tree true failed = subst (λ (k : CallKind). OnFailed (causes_of file file) k (refused out_of_memory) (state_with file tree)) (sym kind) (tt, failed)
+        → MatchBool b (OnFailed (causes_of_call file file) (kind_of call) (refused out_of_memory) (state_with file tree))
+        (FollowsRules (setting_of file) (state_with file tree) call (refused out_of_memory) (state_with file tree) ⊎ IsBroken (causes_of_call file file) (setting_of file) (state_with file tree) call (refused out_of_memory) (state_with file tree))
+    go tree true failed = subst (λ (k : CallKind). OnFailed (causes_of_call file file) k (refused out_of_memory) (state_with file tree)) (sym kind) (tt, failed)
     go tree false unfailed = inr (
-      (out_of_memory, subst (λ (k : CallKind). MayBreak (causes_of file file) k out_of_memory) (sym kind) tt, refl),
+      (
+        out_of_memory,
+        subst (λ (k : CallKind). MayBreak (causes_of_call file file) k out_of_memory) (sym (kind_same (cases_of file.base) tree call asking kind (λ w. cc))) tt,
+        refl,
+      ),
       subst (λ (k : CallKind). CallBreaksOff k (state_with file tree) (state_with file tree)) (sym kind) (inl (refl, refl)),
     )
 
@@ -173,7 +178,6 @@ refused-at-path file call path (Medium f) looks agrees reason = absurd reason
 refused-at-path file call path Full looks agrees reason = absurd reason
 refused-at-path file call path Unsound looks agrees reason = absurd reason
 refused-at-path file call path Failed looks agrees reason = absurd reason
-refused-at-path file call path Unsupported looks agrees reason = absurd reason
 
 -- the three questions that look at a path
 pub entry-looks : (path : List ℕ) → LooksAtPath (entry path) path

@@ -13,7 +13,7 @@ use Rattle.cfb_siblings.specs.Paths.{number_from}
 use Rattle.cfb_objects.specs.Objects.{object_of, tree_from}
 use Rattle.cfb_objects.proofs.Found.{object-is-at-its-entry, storage-by-kind, stream-by-kind}
 use Rattle.cfb_mini_sectors.specs.State.{MiniState, cases_of, content_of, entries_of}
-use Rattle.cfb_compound_file.specs.Adding.{may_stay}
+use Rattle.cfb_compound_file.specs.Adding.{may_be_there}
 
 -- ---- the last name and those before it
 
@@ -50,10 +50,10 @@ module _ (s : MiniState) (o : Outline) (is : IsOutline (cases_of s) (entries_of 
   storage_is k kind = ap is_a_storage (storage-by-kind (entries_of s) (content_of s) o k kind)
 
   -- what may stay is a stream, where it may be emptied
-  pub nothing_stays : (object : Object) → may_stay false object ≡ false
+  pub nothing_stays : (object : Object) → may_be_there false object ≡ false
   nothing_stays object = refl
 
-  pub storage_never_stays : (empties : Bool) (object : Object) → is_a_storage object ≡ true → may_stay empties object ≡ false
+  pub storage_never_stays : (empties : Bool) (object : Object) → is_a_storage object ≡ true → may_be_there empties object ≡ false
   storage_never_stays true object storage = ap (λ (b : Bool). not b) storage
   storage_never_stays false object storage = refl
 

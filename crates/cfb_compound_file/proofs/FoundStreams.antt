@@ -24,7 +24,7 @@ use Rattle.cfb_content.specs.Contents.{IsStreamOf}
 use Rattle.cfb_agreement.specs.Files.{FileState, Holds}
 use Rattle.cfb_agreement.proofs.HeldBytes.{held-means-its-tree}
 use Rattle.cfb_compound_file.specs.OpenedStreams.{IsNoStreamAt, StandsNowhere}
-use Rattle.cfb_compound_file.specs.StreamAnswers.{StandsAt}
+use Rattle.cfb_compound_file.specs.Finding.{StandsAt}
 
 -- ---- what is reached and is a stream
 

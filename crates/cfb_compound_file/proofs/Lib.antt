@@ -1,3 +1,4 @@
+pub mod CallKinds
 pub mod Runs
 pub mod StoredStreams
 pub mod OpenStreams
@@ -11,8 +12,11 @@ pub mod Told
 pub mod WritesOut
 pub mod MadeFiles
 pub mod Changing
+pub mod Sparing
+pub mod Balanced
 pub mod Creation
 pub mod Places
 pub mod NewStreams
 pub mod FilledPlaces
 pub mod Reopening
+pub mod Beginning

@@ -19,7 +19,8 @@ use Rattle.cfb_trees.proofs.Members.{reached-is-within}
 use Rattle.cfb_trees.proofs.PathReached.{found-is-reached}
 use Rattle.cfb_rules.specs.Calls.{Call, EntryInfo}
 use Rattle.cfb_listing.specs.Listings.{ListsChildren}
-use Rattle.cfb_listing.specs.Told.{entry_info, is_stream_kind}
+use Rattle.cfb_outline.specs.Families.{is_stream_kind}
+use Rattle.cfb_listing.specs.Told.{entry_info}
 use Rattle.cfb_rules.specs.Steps.{asking, kind_of}
 use Rattle.cfb_entries.specs.EntryList.{AreInOrder}
 use Rattle.cfb_mini_sectors.specs.State.{cases_of, entries_of}

@@ -19,7 +19,8 @@ use Rattle.cfb_agreement.proofs.InTurn.{same-content-is-none}
 use Rattle.cfb_volume.specs.Answers.{content_at}
 use Rattle.cfb_compound_file.specs.Answers.{MeansTree}
 use Rattle.cfb_compound_file.specs.Stored.{ChangesStream, KeepsRest}
-use Rattle.cfb_compound_file.specs.StreamAnswers.{ClosesTree, StandsAt, closed_tree}
+use Rattle.cfb_compound_file.specs.Finding.{StandsAt}
+use Rattle.cfb_compound_file.specs.StreamAnswers.{ClosesTree, closed_tree}
 
 -- ---- what was changed in turn
 

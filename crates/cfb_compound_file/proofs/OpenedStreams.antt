@@ -3,17 +3,17 @@ use Rattle.std.proofs.Common.{◌≡◌, inl, inr, ℕ, Bool, true, false, List,
 use Rattle.std.specs.Prelude.{IsTrue, Option, Some, None, MatchOption}
 use Rattle.std.specs.Option.{option_map_or}
 use Rattle.cfb_format.specs.declared.error.Error.{Error}
-use Rattle.cfb_format.specs.declared.error.Error.TheVariants.{NotFound, AlreadyExists, InvalidInput, InvalidData, Medium, Memory, Full, Unsound, Failed, Unsupported}
+use Rattle.cfb_format.specs.declared.error.Error.TheVariants.{NotFound, AlreadyExists, InvalidInput, InvalidData, Medium, Memory, Full, Unsound, Failed}
 use Rattle.cfb_format.specs.Meaning.{Means}
 use Rattle.cfb_format.specs.Names.{Cases}
 use Rattle.cfb_format.specs.Tree.{Tree}
 use Rattle.cfb_rules.specs.Calls.{Call, Reply, done, open_stream, refused}
 use Rattle.cfb_rules.specs.Refusal.{Refusal, failed_earlier, invalid_input, not_found, out_of_memory}
 use Rattle.cfb_rules.specs.Runs.{Causes, MayBreak, OnFailed, TreeState, may_stay}
-use Rattle.cfb_rules.specs.Steps.{Step, kind_of}
+use Rattle.cfb_rules.specs.Steps.{Step, kind_of, kind_on}
 use Rattle.cfb_mini_sectors.specs.State.{bytes_of, cases_of, root_len_of}
 use Rattle.cfb_agreement.specs.Files.{Agrees, FileState, is_failed}
-use Rattle.cfb_compound_file.specs.Answers.{Answers, AnswersNot, MeansTree, RunsOn, causes_of, setting_of, state_with}
+use Rattle.cfb_compound_file.specs.Answers.{Answers, AnswersNot, MeansTree, RunsOn, causes_of_call, setting_of, state_with}
 use Rattle.cfb_compound_file.specs.OpenedStreams.{IsNotFound, IsStreamAt}
 use Rattle.cfb_compound_file.proofs.Runs.{runs_failed, runs_unfailed}
 use Rattle.cfb_compound_file.proofs.FoundStreams.{nothing_refused, path_refused, storage_refused, stream_allowed}
@@ -26,25 +26,25 @@ module _ (file : FileState) (call : Call) where
   follows reply calm step = λ (tree : Tree) (means : MeansTree file tree). (
     tree,
     means,
-    runs_unfailed (causes_of file file) (setting_of file) (state_with file tree) call reply (state_with file tree) calm
+    runs_unfailed (causes_of_call file file) (setting_of file) (state_with file tree) call reply (state_with file tree) calm
         (inl (record { step = step tree (means calm); root_len = inr refl; unfailed = calm })),
   )
 
-  breaks : (refusal : Refusal) → is_failed file ≡ false → MayBreak (causes_of file file) (kind_of call) refusal → IsTrue (may_stay (kind_of call)) → Answers file call (refused refusal)
+  breaks : (refusal : Refusal) → is_failed file ≡ false → ((tree : Tree) → MayBreak (causes_of_call file file) (kind_on (cases_of file.base) tree call) refusal) → IsTrue (may_stay (kind_of call)) → Answers file call (refused refusal)
   unfolding RunsOn
   breaks refusal calm may stays = λ (tree : Tree) (means : MeansTree file tree). (
     tree,
     means,
-    runs_unfailed (causes_of file file) (setting_of file) (state_with file tree) call (refused refusal) (state_with file tree) calm
-        (inr ((refusal, may, refl), inl (stays, refl))),
+    runs_unfailed (causes_of_call file file) (setting_of file) (state_with file tree) call (refused refusal) (state_with file tree) calm
+        (inr ((refusal, may tree, refl), inl (stays, refl))),
   )
 
-  failed_before : is_failed file ≡ true → ((s : TreeState) → s.failed ≡ true → OnFailed (causes_of file file) (kind_of call) (refused failed_earlier) s) → Answers file call (refused failed_earlier)
+  failed_before : is_failed file ≡ true → ((s : TreeState) → s.failed ≡ true → OnFailed (causes_of_call file file) (kind_of call) (refused failed_earlier) s) → Answers file call (refused failed_earlier)
   unfolding RunsOn
   failed_before failed on = λ (tree : Tree) (means : MeansTree file tree). (
     tree,
     means,
-    runs_failed (causes_of file file) (setting_of file) (state_with file tree) call (refused failed_earlier) (state_with file tree) failed (on (state_with file tree) failed),
+    runs_failed (causes_of_call file file) (setting_of file) (state_with file tree) call (refused failed_earlier) (state_with file tree) failed (on (state_with file tree) failed),
   )
 
 -- the same for both calls that open a stream
@@ -63,7 +63,7 @@ module _ (file : FileState) (path : List ℕ) (call : Call) (agrees : Agrees fil
   found_answers k at = follows file call done at.unfailed (λ tree means. same (cases_of file.base) file.is_sound (root_len_of file.base) tree done (step_done tree _ (stream_allowed file path (agrees at.unfailed) tree means k at.stands at.kind)))
 
   pub not_found_answers : (e : Error) → IsNotFound file path e → AnswersNot file call e
-  not_found_answers Failed why = (failed_earlier, refl, failed_before file call why (on (causes_of file file)))
+  not_found_answers Failed why = (failed_earlier, refl, failed_before file call why (on (causes_of_call file file)))
   not_found_answers (InvalidInput d) (calm, inl none) =
       (invalid_input, refl, follows file call (refused invalid_input) calm (λ tree means. same (cases_of file.base) file.is_sound (root_len_of file.base) tree (refused invalid_input) (step_refused invalid_input tree _ (path_refused file path (agrees calm) tree means none))))
   not_found_answers (InvalidInput d) (calm, inr at) =
@@ -80,7 +80,6 @@ module _ (file : FileState) (path : List ℕ) (call : Call) (agrees : Agrees fil
   not_found_answers Memory why = absurd why
   not_found_answers Full why = absurd why
   not_found_answers Unsound why = absurd why
-  not_found_answers Unsupported why = absurd why
 
-  pub memory_answers : (e : Error) → e ≡ Memory → is_failed file ≡ false → MayBreak (causes_of file file) (kind_of call) out_of_memory → IsTrue (may_stay (kind_of call)) → AnswersNot file call e
+  pub memory_answers : (e : Error) → e ≡ Memory → is_failed file ≡ false → ((tree : Tree) → MayBreak (causes_of_call file file) (kind_on (cases_of file.base) tree call) out_of_memory) → IsTrue (may_stay (kind_of call)) → AnswersNot file call e
   memory_answers e is calm may stays = subst (λ (x : Error). AnswersNot file call x) (sym is) (out_of_memory, refl, breaks file call out_of_memory calm may stays)

@@ -2,7 +2,7 @@
 use Rattle.std.proofs.Common.{◌≡◌, ◌≢◌, ◌⊎◌, inl, inr, ℕ, List, [], ◌∷◌, ◌++◌, Bool, true, false, refl, sym, ◌∙◌, ap, subst}
 use Rattle.std.specs.Prelude.{Option, Some, None, chars, not}
 use Rattle.cfb_format.specs.declared.error.Error.{Error}
-use Rattle.cfb_format.specs.declared.error.Error.TheVariants.{NotFound, AlreadyExists, InvalidInput, InvalidData, Medium, Memory, Full, Unsound, Failed, Unsupported}
+use Rattle.cfb_format.specs.declared.error.Error.TheVariants.{NotFound, AlreadyExists, InvalidInput, InvalidData, Medium, Memory, Full, Unsound, Failed}
 use Rattle.cfb_format.specs.declared.objtype.ObjType.TheVariants.{Stream}
 use Rattle.cfb_format.specs.Names.{is_valid_name}
 use Rattle.cfb_format.specs.Reading.{IsOutline, Outline}
@@ -19,7 +19,7 @@ use Rattle.cfb_objects.specs.Objects.{object_of}
 use Rattle.cfb_objects.proofs.Leading.{last-name-leads-on}
 use Rattle.cfb_mini_sectors.specs.State.{cases_of, content_of, entries_of}
 use Rattle.cfb_agreement.specs.Files.{FileState}
-use Rattle.cfb_compound_file.specs.Adding.{IsMissing, IsThere, RulesRefuse, RulesSay, may_stay}
+use Rattle.cfb_compound_file.specs.Adding.{IsMissing, IsThere, RulesRefuse, RulesSay, may_be_there}
 use Rattle.cfb_compound_file.specs.Finding.{LeadTo}
 use Rattle.cfb_compound_file.specs.Place.{IsPlace}
 use Rattle.cfb_compound_file.specs.declared.adding.Place.{Place}
@@ -71,7 +71,7 @@ module _ (file : FileState) (empties : Bool) (names before : List (List ℕ)) (l
 
   -- the name is not valid
   pub name_refused : is_valid_name last ≡ false → RulesSay file empties names (Some invalid_input)
-  name_refused wrong = said (Some invalid_input) (λ o is. name_is_wrong file.base o is (may_stay empties) ends.first ends.rest
+  name_refused wrong = said (Some invalid_input) (λ o is. name_is_wrong file.base o is (may_be_there empties) ends.first ends.rest
       (ap (λ (ns : List (List ℕ)). is_valid_name (last_name ns)) (sym ends.some) ∙ ap is_valid_name ends.last_is ∙ wrong))
 
   pub name_refused_so : (e : Error) → RefusesInput (not (is_valid_name last)) e → IsMemory e ⊎ RulesRefuse file empties names e
@@ -88,36 +88,35 @@ module _ (file : FileState) (empties : Bool) (names before : List (List ℕ)) (l
   name_refused_so Full wrong = absurd wrong
   name_refused_so Unsound wrong = absurd wrong
   name_refused_so Failed wrong = absurd wrong
-  name_refused_so Unsupported wrong = absurd wrong
 
   module _ (valid : is_valid_name last ≡ true) where
     stays_or_not : (k : ℕ) (may : Bool) → LeadTo file names (Some k)
-        → ((o : Outline) → IsOutline (cases_of file.base) (entries_of file.base) o → may_stay empties (object_of (entries_of file.base) (content_of file.base) o k) ≡ may)
+        → ((o : Outline) → IsOutline (cases_of file.base) (entries_of file.base) o → may_be_there empties (object_of (entries_of file.base) (content_of file.base) o k) ≡ may)
         → RulesSay file empties names (unless may already_exists)
     stays_or_not k may found may_be = said (unless may already_exists)
-        (λ o is. something_is_there file.base o is (may_stay empties) ends.first ends.rest (valid_last valid) k may (leads (Some k) found o is) (may_be o is))
+        (λ o is. something_is_there file.base o is (may_be_there empties) ends.first ends.rest (valid_last valid) k may (leads (Some k) found o is) (may_be o is))
 
     -- what is there is no stream, or may not be emptied
     pub something_refused : (k : ℕ) → LeadTo file names (Some k) → (empties ≡ false) ⊎ ((entry_at (entries_of file.base) k).obj_type ≢ Stream) → RulesSay file empties names (Some already_exists)
-    something_refused k found (inl keeps) = stays_or_not k false found (λ o is. ap (λ (b : Bool). may_stay b (object_of (entries_of file.base) (content_of file.base) o k)) keeps)
+    something_refused k found (inl keeps) = stays_or_not k false found (λ o is. ap (λ (b : Bool). may_be_there b (object_of (entries_of file.base) (content_of file.base) o k)) keeps)
     something_refused k found (inr no_stream) = stays_or_not k false found
         (λ o is. storage_never_stays file.base o is empties (object_of (entries_of file.base) (content_of file.base) o k) (storage_is file.base o is k no_stream))
 
     -- a stream is there that may be emptied
     pub stream_allowed : (k : ℕ) → LeadTo file names (Some k) → empties ≡ true → (entry_at (entries_of file.base) k).obj_type ≡ Stream → RulesSay file empties names None
     stream_allowed k found empty kind = stays_or_not k true found (λ o is.
-        ap (λ (b : Bool). may_stay b (object_of (entries_of file.base) (content_of file.base) o k)) empty ∙ ap (λ (b : Bool). not b) (stream_is file.base o is k kind))
+        ap (λ (b : Bool). may_be_there b (object_of (entries_of file.base) (content_of file.base) o k)) empty ∙ ap (λ (b : Bool). not b) (stream_is file.base o is k kind))
 
     module _ (none : LeadTo file names None) where
       pub parent_missed : LeadTo file before None → RulesSay file empties names (Some not_found)
       parent_missed above = said (Some not_found) (λ o is.
-          parent_is_missing file.base o is (may_stay empties) ends.first ends.rest (valid_last valid) (leads None none o is) (leads_above None above o is))
+          parent_is_missing file.base o is (may_be_there empties) ends.first ends.rest (valid_last valid) (leads None none o is) (leads_above None above o is))
 
       module _ (p : ℕ) (above : LeadTo file before (Some p)) where
         below_it : (storage : Bool) → ((o : Outline) → IsOutline (cases_of file.base) (entries_of file.base) o → is_a_storage (object_of (entries_of file.base) (content_of file.base) o p) ≡ storage)
             → RulesSay file empties names (unless storage invalid_input)
         below_it storage kind = said (unless storage invalid_input) (λ o is.
-            parent_is_there file.base o is (may_stay empties) ends.first ends.rest (valid_last valid) p storage (leads None none o is) (leads_above (Some p) above o is) (kind o is))
+            parent_is_there file.base o is (may_be_there empties) ends.first ends.rest (valid_last valid) p storage (leads None none o is) (leads_above (Some p) above o is) (kind o is))
 
         pub parent_refused : (entry_at (entries_of file.base) p).obj_type ≡ Stream → RulesSay file empties names (Some invalid_input)
         parent_refused kind = below_it false (λ o is. stream_is file.base o is p kind)

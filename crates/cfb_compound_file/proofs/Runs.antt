@@ -8,8 +8,8 @@ use Rattle.cfb_rules.specs.Steps.{kind_of}
 module _ (causes : Causes) (setting : Setting) (old : TreeState) (call : Call) (reply : Reply) (new : TreeState) where
   pub runs_failed : old.failed ≡ true → OnFailed causes (kind_of call) reply new → CallRuns causes setting old call reply new
   runs_failed failed says =
-      subst (λ (b : Bool). MatchBool b (OnFailed causes (kind_of call) reply new) (FollowsRules setting old call reply new ⊎ IsBroken causes old call reply new)) (sym failed) says
+      subst (λ (b : Bool). MatchBool b (OnFailed causes (kind_of call) reply new) (FollowsRules setting old call reply new ⊎ IsBroken causes setting old call reply new)) (sym failed) says
 
-  pub runs_unfailed : old.failed ≡ false → FollowsRules setting old call reply new ⊎ IsBroken causes old call reply new → CallRuns causes setting old call reply new
+  pub runs_unfailed : old.failed ≡ false → FollowsRules setting old call reply new ⊎ IsBroken causes setting old call reply new → CallRuns causes setting old call reply new
   runs_unfailed calm says =
-      subst (λ (b : Bool). MatchBool b (OnFailed causes (kind_of call) reply new) (FollowsRules setting old call reply new ⊎ IsBroken causes old call reply new)) (sym calm) says
+      subst (λ (b : Bool). MatchBool b (OnFailed causes (kind_of call) reply new) (FollowsRules setting old call reply new ⊎ IsBroken causes setting old call reply new)) (sym calm) says

@@ -4,7 +4,7 @@ use Rattle.std.proofs.Math.Logic.{∥∥₁_elim, ∥∥₁_map}
 use Rattle.std.proofs.Math.Bridge.{le_prop}
 use Rattle.std.specs.Prelude.{Result, Ok, Err, IfOk, IfErr, OnOk, OnErr, if◌then◌else◌}
 use Rattle.cfb_format.specs.declared.error.Error.{Error}
-use Rattle.cfb_format.specs.declared.error.Error.TheVariants.{NotFound, AlreadyExists, InvalidInput, InvalidData, Medium, Memory, Full, Unsound, Failed, Unsupported}
+use Rattle.cfb_format.specs.declared.error.Error.TheVariants.{NotFound, AlreadyExists, InvalidInput, InvalidData, Medium, Memory, Full, Unsound, Failed}
 use Rattle.cfb_format.specs.declared.validate.Validation.TheVariants.{Permissive}
 use Rattle.cfb_format.specs.Bytes.{max_stream_len}
 use Rattle.cfb_format.specs.Medium.{written}
@@ -16,7 +16,7 @@ use Rattle.cfb_tables.specs.Owners.{tally}
 use Rattle.cfb_tables.proofs.Counts.{in-tally, tally-in}
 use Rattle.cfb_rules.specs.StreamCalls.{resized}
 use Rattle.cfb_entries.specs.EntryList.{AreInOrder}
-use Rattle.cfb_mini_sectors.specs.State.{MiniState, cases_of, entries_of, tables_in}
+use Rattle.cfb_mini_sectors.specs.State.{MiniState, bytes_of, cases_of, entries_of, table_of, tables_in}
 use Rattle.cfb_content.specs.Contents.{IsStreamOf, len_of}
 use Rattle.cfb_content.proofs.Apart.{same-reached}
 use Rattle.cfb_content.proofs.Readable.{whole-of}
@@ -26,10 +26,11 @@ use Rattle.cfb_agreement.specs.Files.{Agrees, FileState, Holds, IsAsBefore, Same
 use Rattle.cfb_agreement.specs.Laws.{with_flags}
 use Rattle.cfb_agreement.proofs.Flags.{as-before-same, flags-not-read}
 use Rattle.cfb_agreement.proofs.InTurn.{contents-in-turn, same-content-is-none}
-use Rattle.cfb_volume.specs.Answers.{IsBreak as IsVolumeBreak, content_at}
-use Rattle.cfb_stream_buffer.specs.Contents.{Fails, IsBreak, KeptOrFailed, WritesPart, laid, stored_after_resize, stored_after_write}
+use Rattle.cfb_volume.specs.Answers.{content_at}
+use Rattle.cfb_format.specs.Refused.{IsBreak}
+use Rattle.cfb_stream_buffer.specs.Contents.{Fails, KeptOrFailed, WritesPart, laid, stored_after_resize, stored_after_write}
 use Rattle.cfb_compound_file.specs.Flags.{flags_change_nothing}
-use Rattle.cfb_compound_file.specs.Stored.{ChangesStream, stored_of}
+use Rattle.cfb_compound_file.specs.Stored.{ChangesStream, kept_of, stored_of}
 
 -- ---- entries
 
@@ -71,6 +72,32 @@ agrees_as_before old new before agrees = agrees_with_flags old new (failures_of 
 
 pub stored_as_before : (old new : FileState) (i : ℕ) → IsAsBefore old new → stored_of new i ≡ stored_of old i
 stored_as_before old new i before = ap (λ (z : FileState). stored_of z i) (as-before-same old new before)
+
+-- what is kept but for the count of failures is as before
+pub as_before : (old new : FileState) → kept_of new ≡ kept_of old → IsAsBefore old new
+as_before old new same = record {
+  base = ap (λ (z : FileState). record z.base {
+    directory = record z.base.directory {
+      table = record (table_of z.base) { file = record (table_of z.base).file { bytes = bytes_of new.base; failures = failures_of new } };
+    };
+  }) same;
+  bytes = ap (λ (z : FileState). bytes_of z.base) same;
+  is_sound = ap (λ (z : FileState). z.is_sound) same;
+  buffer_limit = ap (λ (z : FileState). z.buffer_limit) same;
+}
+
+-- where a change broke off and the file has not failed
+pub broken_kept : {T : Type 0} (old new : FileState) (r : Result T Error) → OnErr r (StaysOrFails old new) → is_failed new ≡ false → OnErr r (kept_of new ≡ kept_of old)
+broken_kept old new (Ok x) stays calm = tt
+broken_kept old new (Err e) stays calm = elim stays [
+  | inl before ↦ ap (λ (z : FileState). kept_of z) (as-before-same old new before)
+  | inr failed ↦ absurd (let w : true ≡ false = sym failed ∙ calm in cc)
+]
+
+-- a flush that did not fail the file
+pub flushed_kept : {T : Type 0} (old new : FileState) (r : Result T Error) → OnOk r (new ≡ old) → OnErr r (is_failed new ≡ true) → is_failed new ≡ false → kept_of new ≡ kept_of old
+flushed_kept old new (Ok x) same failed calm = ap (λ (z : FileState). kept_of z) same
+flushed_kept old new (Err e) same failed calm = absurd (let w : true ≡ false = sym failed ∙ calm in cc)
 
 -- ---- changing
 
@@ -163,7 +190,7 @@ module _ (old new : FileState) (i : ℕ) (setting : SameSetting old new) (was : 
 
 -- ---- refusals
 
-break_by : (P Q : Type 0) (e : Error) → (P → Q) → IsVolumeBreak P e → IsBreak Q e
+break_by : (P Q : Type 0) (e : Error) → (P → Q) → IsBreak P e → IsBreak Q e
 break_by P Q (NotFound d) by why = why
 break_by P Q (AlreadyExists d) by why = why
 break_by P Q (InvalidInput d) by why = why
@@ -173,12 +200,16 @@ break_by P Q Memory by why = tt
 break_by P Q Full by why = by why
 break_by P Q Unsound by why = why
 break_by P Q Failed by why = why
-break_by P Q Unsupported by why = why
 
-pub change_refused : {T : Type 0} (P Q : Type 0) (old new : FileState) (i : ℕ) (r : Result T Error) → (P → Q) → SameSetting old new → IfErr r (IsVolumeBreak P) → OnErr r (StaysOrFails old new)
+pub change_refused : {T : Type 0} (P Q : Type 0) (old new : FileState) (i : ℕ) (r : Result T Error) → (P → Q) → SameSetting old new → IfErr r (IsBreak P) → OnErr r (StaysOrFails old new)
     → IfErr r (λ e. IsBreak Q e × KeptOrFailed (stored_of old i) (stored_of new i))
 change_refused P Q old new i (Ok x) by setting why stays = tt
 change_refused P Q old new i (Err e) by setting why stays = (break_by P Q e by why, stays_stored old new i setting stays)
+
+-- where fullness was found this holds
+pub full_then : {T : Type 0} (P X : Type 0) (r : Result T Error) → (P → X) → IfErr r (IsBreak P) → IfErr r (λ e. e ≡ Full → X)
+full_then P X (Ok x) by why = tt
+full_then P X (Err e) by why = λ is. by (subst (λ (z : Error). IsBreak P z) is why)
 
 pub resized_done : {T : Type 0} (old new : FileState) (i len : ℕ) (r : Result T Error) → SameSetting old new → is_failed old ≡ false → OnOk r (len_of new.base i ≡ len)
     → OnOk r (content_at new i ≡ resized (content_at old i) len) → OnOk r (is_failed new ≡ false) → OnOk r (stored_of new i ≡ stored_after_resize (stored_of old i) len)

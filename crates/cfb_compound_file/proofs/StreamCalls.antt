@@ -1,5 +1,5 @@
 -- What the window answers, said of an open stream.
-use Rattle.std.proofs.Common.{◌≡◌, ℕ, Bool, true, false, refl, sym, ◌∙◌, ap}
+use Rattle.std.proofs.Common.{◌≡◌, inl, inr, ℕ, Bool, true, false, refl, sym, ◌∙◌, ap}
 use Rattle.std.specs.Prelude.{IsTrue, Some, Result, Ok, Err, IfErr, OnErr, OnOk, MatchBool}
 use Rattle.cfb_format.specs.declared.error.Error.{Error}
 use Rattle.cfb_format.specs.declared.medium.MediumFault.{MediumFault}
@@ -7,15 +7,16 @@ use Rattle.cfb_format.specs.Refused.{CountsError, CountsFailure}
 use Rattle.cfb_rules.specs.Refusal.{Refusal, failed_earlier}
 use Rattle.cfb_rules.specs.Runs.{BlamesOneOf, Causes, Closes, StreamRun, is_never_refused, is_served}
 use Rattle.cfb_rules.specs.StreamCalls.{StreamCall, StreamReply, StreamStep}
-use Rattle.cfb_agreement.specs.Files.{FileState, is_failed}
+use Rattle.cfb_agreement.specs.Changes.{StaysOrFails}
+use Rattle.cfb_agreement.specs.Files.{FileState, failures_of, is_failed}
 use Rattle.cfb_volume.specs.Answers.{content_at}
-use Rattle.cfb_stream_buffer.specs.Contents.{Stored, setting_of}
-use Rattle.cfb_stream_window.specs.Windows.{Runs, Suits, Window, run_of, settled, state_of}
+use Rattle.cfb_stream_buffer.specs.Contents.{Stored, stream_setting_of}
+use Rattle.cfb_stream_window.specs.Windows.{IsSettled, Runs, Suits, Window, run_of, settled, state_of}
 use Rattle.cfb_stream_window.proofs.Carrying.{settled_agrees}
-use Rattle.cfb_compound_file.specs.Stored.{ChangesStream, stored_of}
+use Rattle.cfb_compound_file.specs.Stored.{ChangesStream, kept_of, stored_of}
 use Rattle.cfb_compound_file.specs.StreamAnswers.{GoesOn, OpenStream, closing_of}
 use Rattle.cfb_compound_file.proofs.OpenStreams.{asked, rest_then}
-use Rattle.cfb_compound_file.proofs.StoredStreams.{unfailed_content}
+use Rattle.cfb_compound_file.proofs.StoredStreams.{as_before, unfailed_content}
 
 pub goes_on_by : (tells : Bool) (old new : OpenStream) → new.entry ≡ old.entry → new.window.bound ≡ old.window.bound
     → (IsTrue tells → ChangesStream old.entry old.file new.file) → GoesOn tells old new
@@ -26,11 +27,25 @@ goes_on_by tells old new entry bound changes = record {
   rest = λ told first k. rest_then old.entry old.file new.file first (changes told) k;
 }
 
--- a refusal, with what the count of failures says
-pub refused_with : {T : Type 0} (P Q : Error → Type 0) (can : MediumFault → Bool) (m n : ℕ) (result : Result T Error) → IfErr result P → CountsFailure can result m n
-    → ((e : Error) → P e → CountsError can m n e → Q e) → IfErr result Q
-refused_with P Q can m n (Ok x) why counts by = tt
-refused_with P Q can m n (Err e) why counts by = by e why counts
+-- where all but the count of failures is kept unless the file has failed
+pub stays_or_fails : (old new : FileState) → (is_failed new ≡ false → kept_of new ≡ kept_of old) → StaysOrFails old new
+stays_or_fails old new kept = go (is_failed new) refl
+  where
+    go : (b : Bool) → is_failed new ≡ b → StaysOrFails old new
+    go true failed = inr failed
+    go false calm = inl (as_before old new (kept calm))
+
+-- what holds in any case holds where this was refused
+pub refused_or_not : {T : Type 0} (X : Type 0) (result : Result T Error) → X → OnErr result X
+refused_or_not X (Ok x) holds = tt
+refused_or_not X (Err e) holds = holds
+
+-- a refusal, with what the count of failures says, and what is kept
+pub refused_with : {T : Type 0} (P Q : Error → Type 0) (can : MediumFault → Bool) (old new : FileState) (result : Result T Error) → IfErr result P
+    → CountsFailure can result (failures_of old) (failures_of new) → (is_failed new ≡ false → OnErr result (kept_of new ≡ kept_of old))
+    → ((e : Error) → P e → CountsError can (failures_of old) (failures_of new) e → StaysOrFails old new → Q e) → IfErr result Q
+refused_with P Q can old new (Ok x) why counts kept by = tt
+refused_with P Q can old new (Err e) why counts kept by = by e why counts (stays_or_fails old new kept)
 
 pub refused_as : {T : Type 0} (P Q : Error → Type 0) (result : Result T Error) → IfErr result P → ((e : Error) → P e → Q e) → IfErr result Q
 refused_as P Q (Ok x) why by = tt
@@ -43,9 +58,14 @@ refused_then P X (Err e) why by = by e why
 
 -- a call that is never refused
 pub asks : (causes : Causes) (s : Stored) (w x : Window) (call : StreamCall) (reply : StreamReply) → is_never_refused call ≡ true → is_served reply ≡ true
-    → StreamStep (setting_of s) (state_of s w) call reply (state_of s x) → Runs causes s w call reply s x
+    → StreamStep (stream_setting_of s) (state_of s w) call reply (state_of s x) → Runs causes s w call reply s x
 unfolding Runs
-asks causes s w x call reply never served step = asked causes (setting_of s) call reply (run_of s w) (run_of s x) s.failed refl refl never served step
+asks causes s w x call reply never served step = asked causes (stream_setting_of s) call reply (run_of s w) (run_of s x) s.failed refl refl never served step
+
+-- where what is stored is as before, no more than what was kept back was written out
+pub settles_none : {T : Type 0} (s t : Stored) (w : Window) (result : Result T Error) → t ≡ s → OnOk result (IsSettled s w t)
+settles_none s t w (Ok x) same = inl same
+settles_none s t w (Err e) same = tt
 
 -- ---- closing
 

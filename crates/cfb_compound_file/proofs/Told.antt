@@ -24,7 +24,8 @@ use Rattle.cfb_rules.specs.CallReplies.{entry_reply, has_object, listed_object, 
 use Rattle.cfb_rules.specs.Finding.{found_at, last_name, object_at, parent_names}
 use Rattle.cfb_rules.specs.Refusal.{invalid_input, not_found}
 use Rattle.cfb_listing.specs.Listings.{ListsChildren, Walks}
-use Rattle.cfb_listing.specs.Told.{entry_info, is_stream_kind}
+use Rattle.cfb_outline.specs.Families.{is_stream_kind}
+use Rattle.cfb_listing.specs.Told.{entry_info}
 use Rattle.cfb_listing.proofs.Telling.{root-told, storage-told, stream-told}
 use Rattle.cfb_objects.specs.Objects.{found_of, inside_of, object_of}
 use Rattle.cfb_objects.proofs.Found.{found-is-at-its-entry, inside-is-below, object-is-at-its-entry, object-is-at-its-path, storage-by-kind, stream-by-kind}

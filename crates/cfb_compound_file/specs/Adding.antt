@@ -18,9 +18,10 @@ use Rattle.cfb_content.specs.Contents.{IsStreamOf}
 use Rattle.cfb_agreement.specs.Files.{Agrees, FileState, is_failed}
 use Rattle.cfb_stream_window.specs.Windows.{Suits, window_opened}
 use Rattle.cfb_compound_file.specs.Answers.{IsDoneBy}
-use Rattle.cfb_compound_file.specs.Finding.{LeadTo}
+use Rattle.cfb_compound_file.specs.Finding.{LeadTo, StandsAt}
+use Rattle.cfb_compound_file.specs.OpenedStreams.{BeginsAt}
 use Rattle.cfb_compound_file.specs.Stored.{KeepsRest}
-use Rattle.cfb_compound_file.specs.StreamAnswers.{OpenStream, StandsAt, stored_in}
+use Rattle.cfb_compound_file.specs.StreamAnswers.{OpenStream, stored_in}
 
 -- the two calls that make a stream: one empties a stream that is there
 abbrev pub creation : Bool → List ℕ → Call
@@ -28,9 +29,9 @@ creation true path = create_stream path
 creation false path = create_new_stream path
 
 -- what may stand where a stream is made
-abbrev pub may_stay : Bool → Object → Bool
-may_stay true = is_a_stream
-may_stay false = never
+abbrev pub may_be_there : Bool → Object → Bool
+may_be_there true = is_a_stream
+may_be_there false = never
 
 -- ---- the place of a new stream
 
@@ -60,7 +61,7 @@ pub record IsMissing (file : FileState) (names : List (List ℕ)) (parent : ℕ)
 -- the rules answer so of a stream at these names, whatever the streams hold
 abbrev pub RulesSay : FileState → Bool → List (List ℕ) → Option Refusal → Type 0
 RulesSay file empties names answer = (o : Outline) → IsOutline (cases_of file.base) (entries_of file.base) o
-    → creation_refusal (cases_of file.base) (tree_from (entries_of file.base) (content_of file.base) o) (may_stay empties) names ≡ answer
+    → creation_refusal (cases_of file.base) (tree_from (entries_of file.base) (content_of file.base) o) (may_be_there empties) names ≡ answer
 
 -- they refuse it
 abbrev pub RulesRefuse : FileState → Bool → List (List ℕ) → Error → Type 0
@@ -68,8 +69,8 @@ RulesRefuse file empties names e = (refusal : Refusal) × IsRefusal refusal e ×
 
 -- ---- a new stream
 
--- By this call an empty stream was made at this path, or the one that is there was emptied, in a file as it was first. It is open at its start;
--- from then on nothing has changed.
+-- By this call an empty stream was made at this path, or the one that is there was emptied, in a file as it was first. It is open at its
+-- start, as the tree has it; from then on nothing has changed.
 pub record IsCreatedBy (tells : Bool) (old : FileState) (call : Call) (path : List ℕ) (s : OpenStream) : Type 0 where
   pub does : IsTrue tells → IsDoneBy old call done s.file
   pub agrees : IsTrue tells → Agrees s.file
@@ -77,4 +78,5 @@ pub record IsCreatedBy (tells : Bool) (old : FileState) (call : Call) (path : Li
   pub window : s.window ≡ window_opened 0 old.buffer_limit
   pub suits : IsTrue tells → Suits (stored_in s) s.window
   pub stands : StandsAt s.file s.entry path
+  pub begins : IsTrue tells → BeginsAt s.file path s
   pub rest : KeepsRest s.entry s.file s.file

@@ -10,9 +10,12 @@ use Rattle.cfb_format.specs.Tree.{Tree}
 use Rattle.cfb_rules.specs.Calls.{Call, Reply, refused}
 use Rattle.cfb_rules.specs.Refusal.{IsRefusal, Refusal}
 use Rattle.cfb_rules.specs.Runs.{CallRuns, Causes, Setting, TreeState}
-use Rattle.cfb_mini_sectors.specs.State.{bytes_of, cases_of, root_len_of, version_of}
+use Rattle.cfb_directory.specs.State.{IsFullForEntry}
+use Rattle.cfb_mini_sectors.specs.State.{bytes_of, cases_of, entries_of, root_len_of, version_of}
+use Rattle.cfb_insertion.specs.Balance.{AreAllBalanced}
 use Rattle.cfb_agreement.specs.Changes.{StaysOrFails}
 use Rattle.cfb_agreement.specs.Files.{FileState, IsAsMade, IsFullFile, LeavesNoneFree, SameSetting, failures_of, is_failed}
+use Rattle.cfb_compound_file.specs.Sparing.{SparesStreams}
 
 -- what stays the same of a file
 abbrev pub setting_of : FileState → Setting
@@ -21,6 +24,10 @@ setting_of file = record { cases = cases_of file.base; stream = record { limit =
 -- the medium is blamed only where its count of failures rose, and the numbers only where the tables are full as the call leaves them
 abbrev pub causes_of : FileState → FileState → Causes
 causes_of old new = record { medium = Rises (failures_of old) (failures_of new); full = IsFullFile new }
+
+-- by a call by path the numbers are blamed only where no entry can be had then
+abbrev pub causes_of_call : FileState → FileState → Causes
+causes_of_call old new = record (causes_of old new) { full = IsFullForEntry new.base.directory }
 
 -- the bytes of a file that has not failed mean this tree
 abbrev pub MeansTree : FileState → Tree → Type 0
@@ -37,7 +44,7 @@ RunsOn causes old call reply new = (tree : Tree) → MeansTree old tree
 
 -- a question was answered so, and changes nothing
 abbrev pub Answers : FileState → Call → Reply → Type 0
-Answers file call reply = RunsOn (causes_of file file) file call reply file
+Answers file call reply = RunsOn (causes_of_call file file) file call reply file
 
 -- it was refused so
 abbrev pub AnswersNot : FileState → Call → Error → Type 0
@@ -45,23 +52,32 @@ AnswersNot file call e = (refusal : Refusal) × IsRefusal refusal e × Answers f
 
 -- ---- calls that may change the file
 
--- a file that was made here is in order still, unless it failed; and where a sector was appended none is free
+-- the children of every storage are in balance
+abbrev pub IsBalancedFile : FileState → Type 0
+IsBalancedFile file = AreAllBalanced (cases_of file.base) (entries_of file.base)
+
+-- unless the file failed: if it was made here it is in order still, if its storages were in balance they are so, and where a sector was
+-- appended none is free
 pub record StaysInOrder (old new : FileState) : Type 0 where
   pub setting : SameSetting old new
   pub made : is_failed new ≡ false → IsAsMade old.base → IsAsMade new.base
+  pub balanced : is_failed new ≡ false → IsBalancedFile old → IsBalancedFile new
   pub grows : is_failed new ≡ false → LeavesNoneFree old.base new.base
 
--- the call was done
+-- the call was done, no call of the medium failed, and the streams that it is not about stay
 pub record IsDoneBy (old : FileState) (call : Call) (reply : Reply) (new : FileState) : Type 0 where
-  pub runs : RunsOn (causes_of old new) old call reply new
+  pub runs : RunsOn (causes_of_call old new) old call reply new
   pub order : StaysInOrder old new
+  pub spares : SparesStreams old call new
+  pub calm : failures_of new ≡ failures_of old
 
 -- it was refused: by the rules or since numbers lack, and then nothing has changed; or by the medium or for memory, and then all is as before
 -- but the count of failures, or the file has failed
 pub record IsRefusedBy (can_give : MediumFault → Bool) (old : FileState) (call : Call) (new : FileState) (e : Error) : Type 0 where
   pub refusal : Refusal
   pub is : IsRefusal refusal e
-  pub runs : RunsOn (causes_of old new) old call (refused refusal) new
+  pub runs : RunsOn (causes_of_call old new) old call (refused refusal) new
   pub stays : HasReason (record (at_every_error (new ≡ old)) { medium = λ f. StaysOrFails old new; memory = StaysOrFails old new }) e
   pub order : StaysInOrder old new
+  pub spares : SparesStreams old call new
   pub counts : CountsError can_give (failures_of old) (failures_of new) e

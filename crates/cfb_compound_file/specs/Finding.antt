@@ -8,7 +8,7 @@ use Rattle.cfb_format.specs.Path.{names_of_path}
 use Rattle.cfb_format.specs.Reading.{IsOutline, Outline}
 use Rattle.cfb_format.specs.Refused.{HasReason, no_error}
 use Rattle.cfb_format.specs.Siblings.{entry_at}
-use Rattle.cfb_siblings.specs.Paths.{number_from}
+use Rattle.cfb_siblings.specs.Paths.{number_at_path, number_from}
 use Rattle.cfb_trees.specs.Reached.{IsReached}
 use Rattle.cfb_mini_sectors.specs.State.{cases_of, entries_of}
 use Rattle.cfb_agreement.specs.Files.{FileState}
@@ -28,6 +28,10 @@ kind_found entries number = option_map (λ k. (entry_at entries k).obj_type) num
 abbrev pub LeadTo : FileState → List (List ℕ) → Option ℕ → Type 0
 LeadTo file names found = (o : Outline) → IsOutline (cases_of file.base) (entries_of file.base) o
     → number_from (cases_of file.base) (entries_of file.base) 0 o names ≡ found
+
+-- the entry stands at this path
+abbrev pub StandsAt : FileState → ℕ → List ℕ → Type 0
+StandsAt file entry path = (o : Outline) → IsOutline (cases_of file.base) (entries_of file.base) o → number_at_path (cases_of file.base) (entries_of file.base) o path ≡ Some entry
 
 -- the path has names, and nothing stands at them
 abbrev pub LeadsToNothing : FileState → List ℕ → Type 0

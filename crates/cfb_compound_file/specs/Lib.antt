@@ -1,9 +1,11 @@
+pub mod Sparing
 pub mod Answers
 pub mod Opening
 pub mod Stored
 pub mod Flags
 pub mod Finding
 pub mod StreamAnswers
+pub mod Buffering
 pub mod Streams
 pub mod ReadStreams
 pub mod OpenedStreams

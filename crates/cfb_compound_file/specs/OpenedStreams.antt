@@ -12,7 +12,11 @@ use Rattle.cfb_content.specs.Contents.{IsStreamOf, len_of}
 use Rattle.cfb_agreement.specs.Files.{FileState, is_failed}
 use Rattle.cfb_stream_window.specs.Windows.{window_opened}
 use Rattle.cfb_compound_file.specs.Stored.{KeepsRest}
-use Rattle.cfb_compound_file.specs.StreamAnswers.{OpenStream, StandsAt}
+use Rattle.cfb_format.specs.Tree.{Tree}
+use Rattle.cfb_rules.specs.Runs.{opened_by_path}
+use Rattle.cfb_compound_file.specs.Answers.{MeansTree}
+use Rattle.cfb_compound_file.specs.Finding.{StandsAt}
+use Rattle.cfb_compound_file.specs.StreamAnswers.{OpenStream, stream_in}
 
 -- no entry stands at this path
 abbrev pub StandsNowhere : FileState → List ℕ → Type 0
@@ -42,6 +46,10 @@ IsNotFound file path = HasReason (record no_error {
 -- nothing stands at this path: it leaves the root, or has names that lead to nothing
 abbrev pub IsNowhere : List ℕ → Error → Type 0
 IsNowhere path = HasReason (record no_error { invalid_input = names_of_path path ≡ None; not_found = (names : List (List ℕ)) × (names_of_path path ≡ Some names) })
+
+-- the open stream is the one that the tree has at this path: its length, what can be read of it, at its first byte
+abbrev pub BeginsAt : FileState → List ℕ → OpenStream → Type 0
+BeginsAt file path s = (tree : Tree) → MeansTree file tree → stream_in s ≡ opened_by_path (cases_of file.base) tree path
 
 -- a stream was opened at this path: the file is as before, and the window stands at the start of the stream
 pub record IsOpenedAt (old : FileState) (path : List ℕ) (s : OpenStream) : Type 0 where

@@ -6,7 +6,7 @@ use Rattle.cfb_content.specs.Contents.{IsStreamOf, len_of}
 use Rattle.cfb_compound_file.specs.declared.adding.Place.{Place}
 use Rattle.cfb_compound_file.specs.declared.adding.Place.TheVariants.{There, Missing}
 use Rattle.cfb_compound_file.specs.Adding.{IsMissing, IsThere}
-use Rattle.cfb_compound_file.specs.StreamAnswers.{StandsAt}
+use Rattle.cfb_compound_file.specs.Finding.{StandsAt}
 
 -- by the rules a stream may be made there
 abbrev pub IsPlace : FileState → Bool → List (List ℕ) → Place → Type 0

@@ -7,13 +7,15 @@ use Rattle.std.specs.declared.alloc.Allocator as heap
 use Rattle.cfb_format.specs.declared.error.Error.{Error}
 use Rattle.cfb_format.specs.declared.medium.ReadMedium as reading
 use Rattle.cfb_stream_window.specs.Windows.{Window}
-use Rattle.cfb_agreement.specs.Files.{FileState}
+use Rattle.cfb_format.specs.Refused.{CountsFailure}
+use Rattle.cfb_agreement.specs.Files.{FileState, failures_of}
 use Rattle.cfb_compound_file.specs.declared.held.Held as held
 use Rattle.cfb_compound_file.specs.declared.read_stream.ReadStream.{ReadStream}
 use Rattle.cfb_compound_file.specs.contracts.compound_file.CompoundFile.{the_row}
 use Rattle.cfb_compound_file.specs.contracts.read_stream.ReadStream as stream
 use Rattle.cfb_stream_window.specs.contracts.read_window.ReadWindow as window
 use Rattle.cfb_rules.specs.StreamCalls.{fill_buf, got}
+use Rattle.cfb_compound_file.specs.Buffering.{BuffersRead}
 use Rattle.cfb_compound_file.specs.Stored.{kept_of}
 use Rattle.cfb_compound_file.specs.StreamAnswers.{GoesOn, IsStreamRefused, OpenStream, StreamRunsBy, causes_of_reading, open_stream_of}
 
@@ -45,7 +47,9 @@ module _ (F A : RattleType) (r : reading.Ghosts F.Denot) (h : heap.Ghosts A.Deno
     pub runs : IsTrue r.tells → MatchResult result (λ bytes. StreamRunsBy (causes_of_reading (file_of old).now (file_of new).now) (open_of old) fill_buf (got bytes.now) (open_of new))
         (IsStreamRefused (causes_of_reading (file_of old).now (file_of new).now) r.read_faults (open_of old) fill_buf (open_of new))
     pub goes_on : GoesOn r.tells (open_of old) (open_of new)
+    pub counts : IsTrue r.tells → CountsFailure r.read_faults result (failures_of (file_of old).now) (failures_of (file_of new).now)
     pub kept : IsTrue r.tells → kept_of (file_of new).now ≡ kept_of (file_of old).now
+    pub buffers : BuffersRead r.tells (open_of old) (open_of new) result
 
   abbrev pub stream_rests : MutBor (ReadStream F.Denot A.Denot Window r b) → Result (Bor (List ℕ)) Error → Fml
   stream_rests s result = Rests (stream.the_row (record { mir = named 1; lft = [] }) F A (window.the_row A h) r b h) s (λ new. IsFilled result s.now new)

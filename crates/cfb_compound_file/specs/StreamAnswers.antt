@@ -2,20 +2,20 @@
 use Rattle.std.specs.Prelude.{ℕ, ◌≡◌, Bool, IsTrue, List, Option, Some, None, Result, Ok, Err, if◌then◌else◌}
 use Rattle.cfb_format.specs.declared.error.Error.{Error}
 use Rattle.cfb_format.specs.declared.medium.MediumFault.{MediumFault}
-use Rattle.cfb_format.specs.Reading.{IsOutline, Outline}
 use Rattle.cfb_format.specs.Refused.{CountsError}
 use Rattle.cfb_format.specs.Tree.{Tree}
 use Rattle.cfb_rules.specs.Refusal.{IsRefusal, Refusal, failed_earlier}
 use Rattle.cfb_rules.specs.Runs.{Causes, Closes, StreamRun, tree_with_stream}
 use Rattle.cfb_rules.specs.StreamCalls.{StreamCall, StreamReply, StreamState}
-use Rattle.cfb_siblings.specs.Paths.{number_at_path}
-use Rattle.cfb_mini_sectors.specs.State.{cases_of, entries_of}
+use Rattle.cfb_mini_sectors.specs.State.{cases_of}
 use Rattle.cfb_content.specs.Contents.{IsTooLongFor}
+use Rattle.cfb_agreement.specs.Changes.{StaysOrFails}
 use Rattle.cfb_agreement.specs.Files.{Agrees, FileState, failures_of, is_failed}
 use Rattle.cfb_stream_buffer.specs.Contents.{KeptOrFailed, Stored}
 use Rattle.cfb_stream_window.specs.Answers.{AtRefusal}
-use Rattle.cfb_stream_window.specs.Windows.{IsRefused, Runs, Window, run_of, state_of}
+use Rattle.cfb_stream_window.specs.Windows.{IsCallRefused, Runs, Window, run_of, state_of}
 use Rattle.cfb_compound_file.specs.Answers.{MeansTree, causes_of}
+use Rattle.cfb_compound_file.specs.Finding.{StandsAt}
 use Rattle.cfb_compound_file.specs.Stored.{ChangesStream, KeepsRest, kept_of, stored_of}
 
 -- the file that is borrowed, the number of the stream's entry, and the window in memory
@@ -58,13 +58,15 @@ causes_of_len entry len old new = record (causes_of old new) { full = IsTooLongF
 
 -- it was refused by the rules, and nothing more is said of what it leaves
 abbrev pub IsStreamRefusedBy : Causes → OpenStream → StreamCall → OpenStream → Error → Type 0
-IsStreamRefusedBy causes old call new e = IsRefused causes (stored_in old) old.window call (stored_in new) new.window e
+IsStreamRefusedBy causes old call new e = IsCallRefused causes (stored_in old) old.window call (stored_in new) new.window e
 
--- It was refused by the rules, and what is stored is as before or the file has failed. After a refusal of the input, of a file that is not
--- sound or of one that failed earlier, nothing at all has changed; and where bytes can't be read, nothing but the count of failures.
+-- It was refused by the rules. The file is as before but the count of failures, with nothing written out, or it has failed; and so is what is
+-- stored. After a refusal of the input, of a file that is not sound or of one that failed earlier, nothing at all has changed; and where
+-- bytes can't be read, nothing but the count of failures.
 pub record IsStreamRefused (causes : Causes) (can_give : MediumFault → Bool) (old : OpenStream) (call : StreamCall) (new : OpenStream) (e : Error) : Type 0 where
   pub rules : IsStreamRefusedBy causes old call new e
   pub stops : KeptOrFailed (stored_in old) (stored_in new)
+  pub stays : StaysOrFails old.file new.file
   pub untouched : AtRefusal ((new.file ≡ old.file) × (new.window ≡ old.window)) (kept_of new.file ≡ kept_of old.file) e
   pub counts : CountsError can_give (failures_of old.file) (failures_of new.file) e
 
@@ -79,10 +81,6 @@ pub record GoesOn (tells : Bool) (old new : OpenStream) : Type 0 where
   pub rest : IsTrue tells → (first : FileState) → KeepsRest old.entry first old.file → KeepsRest old.entry first new.file
 
 -- ---- from opening to closing
-
--- the entry stands at this path
-abbrev pub StandsAt : FileState → ℕ → List ℕ → Type 0
-StandsAt file entry path = (o : Outline) → IsOutline (cases_of file.base) (entries_of file.base) o → number_at_path (cases_of file.base) (entries_of file.base) o path ≡ Some entry
 
 -- the tree once the stream was closed: with its bytes, or as it was in a file that is not sound
 abbrev pub closed_tree : FileState → Tree → List ℕ → List ℕ → Tree

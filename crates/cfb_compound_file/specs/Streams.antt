@@ -8,7 +8,8 @@ use Rattle.cfb_format.specs.declared.error.Error.{Error}
 use Rattle.cfb_format.specs.declared.medium.Medium as writing
 use Rattle.cfb_format.specs.declared.medium.ReadMedium as reading
 use Rattle.cfb_stream_window.specs.Windows.{Window}
-use Rattle.cfb_agreement.specs.Files.{FileState}
+use Rattle.cfb_format.specs.Refused.{CountsFailure}
+use Rattle.cfb_agreement.specs.Files.{FileState, failures_of}
 use Rattle.cfb_compound_file.specs.declared.held.Held as held
 use Rattle.cfb_compound_file.specs.declared.stream.Stream.{Stream}
 use Rattle.cfb_compound_file.specs.contracts.compound_file.CompoundFile.{the_row}
@@ -16,6 +17,7 @@ use Rattle.cfb_compound_file.specs.contracts.stream.Stream as stream
 use Rattle.cfb_stream_window.specs.contracts.window.Window as window
 use Rattle.cfb_rules.specs.StreamCalls.{fill_buf, got}
 use Rattle.cfb_compound_file.specs.Answers.{causes_of}
+use Rattle.cfb_compound_file.specs.Buffering.{BuffersRead}
 use Rattle.cfb_compound_file.specs.Stored.{kept_of}
 use Rattle.cfb_compound_file.specs.StreamAnswers.{GoesOn, IsStreamRefused, OpenStream, StreamRunsOn, open_stream_of}
 
@@ -47,7 +49,9 @@ module _ (F A : RattleType) (r : reading.Ghosts F.Denot) (g : writing.Ghosts F.D
     pub runs : IsTrue r.tells → MatchResult result (λ bytes. StreamRunsOn (open_of old) fill_buf (got bytes.now) (open_of new))
         (IsStreamRefused (causes_of (file_of old).now (file_of new).now) (λ f. r.read_faults f || g.write_faults f) (open_of old) fill_buf (open_of new))
     pub goes_on : GoesOn r.tells (open_of old) (open_of new)
+    pub counts : IsTrue r.tells → CountsFailure (λ f. r.read_faults f || g.write_faults f) result (failures_of (file_of old).now) (failures_of (file_of new).now)
     pub calm : IsTrue r.tells → (window_of old).pending ≡ false → kept_of (file_of new).now ≡ kept_of (file_of old).now
+    pub buffers : BuffersRead r.tells (open_of old) (open_of new) result
 
   abbrev pub stream_rests : MutBor (Stream F.Denot A.Denot Window g r b) → Result (Bor (List ℕ)) Error → Fml
   stream_rests s result = Rests (stream.the_row (record { mir = named 1; lft = [] }) F A (window.the_row A h) g r b h) s (λ new. IsFilled result s.now new)

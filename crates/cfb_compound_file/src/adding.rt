@@ -34,8 +34,10 @@ impl<F: ReadMedium, A: Heap + Clone> CompoundFile<F, A> {
     /// Where a stream at these names belongs, by the rules: `AlreadyExists` for the root, for a storage, and for a stream that may not be
     /// emptied; `InvalidInput` where the last name is not valid or the parent is a stream; `NotFound` where there is no parent; `Memory`.
     fn place_for_stream<'p>(&self, names: &[&'p str], empties: bool) -> Result<Place<'p>, Error>
-        ensures ok { IfOk result (IsPlace self.now empties (map (λ name. chars name.now) names.now)) }
-        ensures refused { IfErr result (λ e. IsMemory e ⊎ RulesRefuse self.now empties (map (λ name. chars name.now) names.now) e) }
+        ensures ok { IfOk result (IsPlace self.now empties (map (λ name.
+            chars name.now) names.now)) }
+        ensures refused { IfErr result (λ e. IsMemory e
+            ⊎ RulesRefuse self.now empties (map (λ name. chars name.now) names.now) e) }
     {
         let Some((last, before)) = names.split_last() else {
             return Err(Error::AlreadyExists(Detail::text("the root is there")));
@@ -61,7 +63,12 @@ impl<F: ReadMedium, A: Heap + Clone> CompoundFile<F, A> {
 
     /// A buffer for a new stream, that holds nothing. `Memory`.
     fn new_buffer(&self) -> Result<StreamBuffer<A>, Error>
-        ensures ok { IfOk result (λ b. b ≡ record { filled = []; cursor = 0; room = 1024; bound = max 1024 self.now.buffer_limit }) }
+        ensures ok { IfOk result (λ b. b ≡ record {
+          filled = [];
+          cursor = 0;
+          room = 1024;
+          bound = max 1024 self.now.buffer_limit;
+        }) }
         ensures refused { IfErr result IsMemory }
     {
         let alloc = self.volume.heap().clone()?;
@@ -74,7 +81,8 @@ impl<F: Medium, A: Heap + Clone> CompoundFile<F, A> {
     /// `InvalidInput` where the path leaves the root; `Unsound`; `Memory`.
     fn place_at<'p>(&self, path: &'p str, empties: bool) -> Result<Place<'p>, Error>
         ensures ok { IfOk result (IsPlaceOf self.now empties (chars path.now)) }
-        ensures refused { IsTrue F.tells → IfErr result (λ e. IsRefusedBy (λ f. F.read_faults f || F.write_faults f) self.now (creation empties (chars path.now)) self.now e) }
+        ensures refused { IsTrue F.tells → IfErr result (λ e. IsRefusedBy (λ f. F.read_faults f
+            || F.write_faults f) self.now (creation empties (chars path.now)) self.now e) }
     {
         if self.volume.is_failed() {
             return Err(Error::Failed);
@@ -95,10 +103,12 @@ impl<F: Medium, A: Heap + Clone> CompoundFile<F, A> {
         requires { IsSomePlace self.old place }
         ensures filled { IfOk result (HasNewStream self.old place.entry self.new) }
         ensures agrees { IsTrue F.tells → Agrees self.new }
-        ensures runs { IsTrue F.tells → OnOk result ((empties : Bool) (path : List ℕ) → IsPlaceOf self.old empties path place.entry
+        ensures runs { IsTrue F.tells → OnOk result ((empties : Bool) (path : List ℕ)
+            → IsPlaceOf self.old empties path place.entry
             → IsDoneBy self.old (creation empties path) done self.new) }
-        ensures refused { IsTrue F.tells → IfErr result (λ e. (empties : Bool) (path : List ℕ) → IsPlaceOf self.old empties path place.entry
-            → IsRefusedBy (λ f. F.read_faults f || F.write_faults f) self.old (creation empties path) self.new e) }
+        ensures refused { IsTrue F.tells → IfErr result (λ e. (empties : Bool) (path : List ℕ)
+            → IsPlaceOf self.old empties path place.entry → IsRefusedBy (λ f. F.read_faults f
+            || F.write_faults f) self.old (creation empties path) self.new e) }
     {
         match place {
             Place::There(number) => {
@@ -118,8 +128,10 @@ impl<F: Medium, A: Heap + Clone> CompoundFile<F, A> {
     /// Makes an empty stream at this path, or empties the one that is there where that may be, and answers the number of its entry with the
     /// window at its start, whose buffer is had before anything changes.
     fn add_stream(&mut self, path: &str, empties: bool) -> Result<(u32, Window<A>), Error>
-        ensures created { IfOk result (λ s. IsCreatedBy F.tells self.old (creation empties (chars path.now)) (chars path.now) (open_stream_of self.new s.0 s.1)) }
-        ensures refused { IsTrue F.tells → IfErr result (IsRefusedBy (λ f. F.read_faults f || F.write_faults f) self.old (creation empties (chars path.now)) self.new) }
+        ensures created { IfOk result (λ s. IsCreatedBy F.tells self.old (creation empties
+            (chars path.now)) (chars path.now) (open_stream_of self.new s.0 s.1)) }
+        ensures refused { IsTrue F.tells → IfErr result (IsRefusedBy (λ f. F.read_faults f
+            || F.write_faults f) self.old (creation empties (chars path.now)) self.new) }
     {
         let place = self.place_at(path, empties)?;
         let buffer = self.new_buffer()?;
@@ -141,10 +153,11 @@ impl<F: Medium, A: Heap + Clone> CompoundFile<F, A> {
     /// the count of failures is as before, or the file has failed.
     pub fn create_stream(&mut self, path: &str) -> Result<Stream<'_, F, A>, Error>
         ensures lent { IfOk result (λ s. (file_of s).ghost_name ≡ self.entry.ghost_name) }
-        ensures created { IfOk result (λ s. IsCreatedBy F.tells self.old (create_stream (chars path.now)) (chars path.now) (open_of s)) }
+        ensures created { IfOk result (λ s. IsCreatedBy F.tells self.old
+            (create_stream (chars path.now)) (chars path.now) (open_of s)) }
         ensures* refused { sem 𝓛 (file_rests F.row A.row F.ReadMedium F.Medium.own A.Allocator
-            (λ old last e. IsTrue F.tells → IsRefusedBy (λ f. F.read_faults f || F.write_faults f) old (create_stream (chars path.now)) last e)
-            self.entry result) }
+            (λ old last e. IsTrue F.tells → IsRefusedBy (λ f. F.read_faults f
+            || F.write_faults f) old (create_stream (chars path.now)) last e) self.entry result) }
     {
         let (entry, window) = self.add_stream(path, true)?;
         Ok(Stream {
@@ -159,10 +172,12 @@ impl<F: Medium, A: Heap + Clone> CompoundFile<F, A> {
     /// It is refused as `create_stream` is; and with `AlreadyExists` where a stream is there too.
     pub fn create_new_stream(&mut self, path: &str) -> Result<Stream<'_, F, A>, Error>
         ensures lent { IfOk result (λ s. (file_of s).ghost_name ≡ self.entry.ghost_name) }
-        ensures created { IfOk result (λ s. IsCreatedBy F.tells self.old (create_new_stream (chars path.now)) (chars path.now) (open_of s)) }
-        ensures* refused { sem 𝓛 (file_rests F.row A.row F.ReadMedium F.Medium.own A.Allocator
-            (λ old last e. IsTrue F.tells → IsRefusedBy (λ f. F.read_faults f || F.write_faults f) old (create_new_stream (chars path.now)) last e)
-            self.entry result) }
+        ensures created { IfOk result (λ s. IsCreatedBy F.tells self.old
+            (create_new_stream (chars path.now)) (chars path.now) (open_of s)) }
+        ensures* refused { sem 𝓛
+            (file_rests F.row A.row F.ReadMedium F.Medium.own A.Allocator (λ old last e.
+            IsTrue F.tells → IsRefusedBy (λ f. F.read_faults f || F.write_faults f) old
+            (create_new_stream (chars path.now)) last e) self.entry result) }
     {
         let (entry, window) = self.add_stream(path, false)?;
         Ok(Stream {

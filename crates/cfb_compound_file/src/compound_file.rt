@@ -57,7 +57,8 @@ impl<F: ReadMedium, A: Heap> CompoundFile<F, A> {
     pub fn into_inner(self) -> F
         ensures bytes { F.bytes result ≡ bytes_of self.base }
         ensures failures { F.failures result ≡ failures_of self }
-        ensures reopens { IsTrue F.tells → is_failed self ≡ false → self.is_sound ≡ true → CanBeReopened self }
+        ensures reopens { IsTrue F.tells
+            → is_failed self ≡ false → self.is_sound ≡ true → CanBeReopened self }
     {
         // Only of a sound file, since of another one it is not kept that its limit of mini sectors is the version's. The bytes of such a file
         // never change: they are those that opening accepted.

@@ -2,7 +2,8 @@
 ghost use Rattle.std.specs.Prelude.{◌≡◌, false, true, IsTrue, IfErr, OnOk};
 ghost use Rattle.cfb_format.specs.Refused.{HasReason, no_error};
 ghost use Rattle.cfb_rules.specs.Calls.{done, flush};
-ghost use Rattle.cfb_agreement.specs.Files.{is_failed};
+ghost use Rattle.cfb_agreement.specs.Files.{failures_of, is_failed};
+ghost use Rattle.cfb_agreement.specs.Laws.{with_flags};
 ghost use Rattle.cfb_compound_file.specs.Answers.{IsDoneBy, IsRefusedBy};
 
 use crate::compound_file::CompoundFile;
@@ -17,7 +18,10 @@ impl<F: Medium, A: Heap> CompoundFile<F, A> {
         ensures ok { IsTrue F.tells → OnOk result (IsDoneBy self.old flush done self.new) }
         ensures same { IsTrue F.tells → OnOk result (self.new ≡ self.old) }
         ensures unfailed { OnOk result (is_failed self.old ≡ false) }
-        ensures refused { IsTrue F.tells → IfErr result (IsRefusedBy F.write_faults self.old flush self.new) }
+        ensures rest { IsTrue F.tells
+            → self.new ≡ with_flags self.old (failures_of self.new) (is_failed self.new) }
+        ensures refused { IsTrue F.tells
+            → IfErr result (IsRefusedBy F.write_faults self.old flush self.new) }
         ensures err { IfErr result (HasReason (record no_error {
           failed = (is_failed self.old ≡ true) × (self.new ≡ self.old);
           medium = λ f. (is_failed self.old ≡ false) × (is_failed self.new ≡ true);

@@ -7,7 +7,7 @@ ghost use Rattle.cfb_content.specs.Contents.{IsStreamOf, len_of};
 ghost use Rattle.cfb_agreement.specs.Files.{Agrees, is_failed};
 ghost use Rattle.cfb_stream_window.specs.Windows.{Suits, window_opened};
 ghost use Rattle.cfb_compound_file.specs.Answers.{Answers, AnswersNot};
-ghost use Rattle.cfb_compound_file.specs.OpenedStreams.{IsNotFound, IsNowhere, IsOpenedAt, IsStreamAt};
+ghost use Rattle.cfb_compound_file.specs.OpenedStreams.{BeginsAt, IsNotFound, IsNowhere, IsOpenedAt, IsStreamAt};
 ghost use Rattle.cfb_compound_file.specs.Stored.{stored_of};
 
 use crate::compound_file::CompoundFile;
@@ -58,7 +58,8 @@ impl<F: ReadMedium, A: Heap + Clone> CompoundFile<F, A> {
     fn read_window(&self, entry: u32) -> Result<ReadWindow<A>, Error>
         requires unfailed { is_failed self.now ≡ false }
         requires there { IsStreamOf self.now.base entry }
-        ensures value { IfOk result (λ w. w ≡ window_opened (len_of self.now.base entry) self.now.buffer_limit) }
+        ensures value { IfOk result (λ w. w
+            ≡ window_opened (len_of self.now.base entry) self.now.buffer_limit) }
         ensures suits { IsTrue F.tells → IfOk result (λ w. Suits (stored_of self.now entry) w) }
         ensures refused { IfErr result IsMemory }
     {
@@ -73,10 +74,13 @@ impl<F: ReadMedium, A: Heap + Clone> CompoundFile<F, A> {
     pub fn open_read_stream(&mut self, path: &str) -> Result<ReadStream<'_, F, A>, Error>
         ensures lent { IfOk result (λ s. (file_of s).ghost_name ≡ self.entry.ghost_name) }
         ensures opened { IfOk result (λ s. IsOpenedAt self.old (chars path.now) (open_of s)) }
-        ensures runs { IsTrue F.tells → OnOk result (Answers self.old (open_read_stream (chars path.now)) done) }
-        ensures* refused { sem 𝓛 (file_rests F.row A.row F.ReadMedium A.Allocator
-            (λ old last e. (last ≡ old) × (IsTrue F.tells → AnswersNot old (open_read_stream (chars path.now)) e))
-            self.entry result) }
+        ensures runs { IsTrue F.tells
+            → OnOk result (Answers self.old (open_read_stream (chars path.now)) done) }
+        ensures begins { IsTrue F.tells
+            → IfOk result (λ s. BeginsAt self.old (chars path.now) (open_of s)) }
+        ensures* refused { sem 𝓛 (file_rests F.row A.row F.ReadMedium A.Allocator (λ old last e.
+            (last ≡ old) × (IsTrue F.tells
+            → AnswersNot old (open_read_stream (chars path.now)) e)) self.entry result) }
     {
         let entry = self.stream_at(path)?;
         let window = self.read_window(entry)?;
@@ -95,7 +99,8 @@ impl<F: Medium, A: Heap + Clone> CompoundFile<F, A> {
     fn window(&self, entry: u32) -> Result<Window<A>, Error>
         requires unfailed { is_failed self.now ≡ false }
         requires there { IsStreamOf self.now.base entry }
-        ensures value { IfOk result (λ w. w ≡ window_opened (len_of self.now.base entry) self.now.buffer_limit) }
+        ensures value { IfOk result (λ w. w
+            ≡ window_opened (len_of self.now.base entry) self.now.buffer_limit) }
         ensures suits { IsTrue F.tells → IfOk result (λ w. Suits (stored_of self.now entry) w) }
         ensures refused { IfErr result IsMemory }
     {
@@ -110,10 +115,13 @@ impl<F: Medium, A: Heap + Clone> CompoundFile<F, A> {
     pub fn open_stream(&mut self, path: &str) -> Result<Stream<'_, F, A>, Error>
         ensures lent { IfOk result (λ s. (file_of s).ghost_name ≡ self.entry.ghost_name) }
         ensures opened { IfOk result (λ s. IsOpenedAt self.old (chars path.now) (open_of s)) }
-        ensures runs { IsTrue F.tells → OnOk result (Answers self.old (open_stream (chars path.now)) done) }
+        ensures runs { IsTrue F.tells
+            → OnOk result (Answers self.old (open_stream (chars path.now)) done) }
+        ensures begins { IsTrue F.tells
+            → IfOk result (λ s. BeginsAt self.old (chars path.now) (open_of s)) }
         ensures* refused { sem 𝓛 (file_rests F.row A.row F.ReadMedium F.Medium.own A.Allocator
-            (λ old last e. (last ≡ old) × (IsTrue F.tells → AnswersNot old (open_stream (chars path.now)) e))
-            self.entry result) }
+            (λ old last e. (last ≡ old) × (IsTrue F.tells
+            → AnswersNot old (open_stream (chars path.now)) e)) self.entry result) }
     {
         let entry = self.stream_at(path)?;
         let window = self.window(entry)?;

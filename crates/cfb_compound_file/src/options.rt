@@ -42,7 +42,12 @@ impl<A: Heap> Model for OpenOptions<A> {
 
     ghost Value = { Options };
 
-    ghost view = { λ o. record { buffer_limit = o.max_buffer_size; max_sectors = o.max_sectors; cases = unwrap_or o.letters default_cases; validation = o.validation } };
+    ghost view = { λ o. record {
+      buffer_limit = o.max_buffer_size;
+      max_sectors = o.max_sectors;
+      cases = unwrap_or o.letters default_cases;
+      validation = o.validation;
+    } };
 }
 
 impl<A: Heap> Default for OpenOptions<A> {
@@ -115,8 +120,9 @@ impl<A: Heap + Clone> OpenOptions<A> {
     /// `InvalidData` exactly where its bytes are not acceptable in this mode (MS-CFB 2.2 to 2.6), or have a MiniFAT with more entries than
     /// there are numbers; `Medium` where the medium fails, and `Memory` where memory is refused.
     pub fn open_with<F: ReadMedium>(self, alloc: A, medium: F) -> Result<CompoundFile<F, A>, Error>
-        ensures answers { IsTrue F.tells → MatchResult result
-            (IsOpenedWith self (F.bytes medium) (F.failures medium)) (OpeningWithRefused F.read_faults self (F.bytes medium)) }
+        ensures answers { IsTrue F.tells
+            → MatchResult result (IsOpenedWith self (F.bytes medium) (F.failures medium))
+            (OpeningWithRefused F.read_faults self (F.bytes medium)) }
         ensures kinds { IfErr result IsOfOpening }
     {
         laws::bytes_are_what_is_held();
@@ -130,7 +136,8 @@ impl<A: Heap + Clone> OpenOptions<A> {
     /// `Memory` where memory is refused.
     pub fn create_with<F: Medium>(self, alloc: A, medium: F) -> Result<CompoundFile<F, A>, Error>
         requires empty_medium { IsTrue F.tells → F.bytes medium ≡ [] }
-        ensures answers { IsTrue F.tells → MatchResult result (IsCreatedWith V4 self (F.failures medium)) (CreatingRefused F.write_faults) }
+        ensures answers { IsTrue F.tells → MatchResult result
+            (IsCreatedWith V4 self (F.failures medium)) (CreatingRefused F.write_faults) }
         ensures version { IfOk result (λ file. version_of file.base ≡ V4) }
         ensures kinds { IfErr result IsOfCreating }
     {
@@ -145,7 +152,8 @@ impl<A: Heap + Clone> OpenOptions<A> {
         medium: F,
     ) -> Result<CompoundFile<F, A>, Error>
         requires empty_medium { IsTrue F.tells → F.bytes medium ≡ [] }
-        ensures answers { IsTrue F.tells → MatchResult result (IsCreatedWith version self (F.failures medium)) (CreatingRefused F.write_faults) }
+        ensures answers { IsTrue F.tells → MatchResult result
+            (IsCreatedWith version self (F.failures medium)) (CreatingRefused F.write_faults) }
         ensures version { IfOk result (λ file. version_of file.base ≡ version) }
         ensures kinds { IfErr result IsOfCreating }
     {
@@ -177,7 +185,8 @@ impl<F: ReadMedium, A: Heap + Clone> CompoundFile<F, A> {
     /// numbers; `Medium` where the medium fails, and `Memory` where memory is refused.
     pub fn open(alloc: A, medium: F) -> Result<CompoundFile<F, A>, Error>
         ensures answers { IsTrue F.tells → MatchResult result
-            (IsOpenedWith permissive_options (F.bytes medium) (F.failures medium)) (OpeningWithRefused F.read_faults permissive_options (F.bytes medium)) }
+            (IsOpenedWith permissive_options (F.bytes medium) (F.failures medium))
+            (OpeningWithRefused F.read_faults permissive_options (F.bytes medium)) }
         ensures kinds { IfErr result IsOfOpening }
     {
         OpenOptions::new().open_with(alloc, medium)
@@ -186,8 +195,9 @@ impl<F: ReadMedium, A: Heap + Clone> CompoundFile<F, A> {
     /// Opens a compound file, and refuses also what other writers are known to leave behind, and what does no harm. `InvalidData` exactly
     /// where its bytes are not acceptable so; `Medium` and `Memory` as `open`.
     pub fn open_strict(alloc: A, medium: F) -> Result<CompoundFile<F, A>, Error>
-        ensures answers { IsTrue F.tells → MatchResult result
-            (IsOpenedWith strict_options (F.bytes medium) (F.failures medium)) (OpeningWithRefused F.read_faults strict_options (F.bytes medium)) }
+        ensures answers { IsTrue F.tells
+            → MatchResult result (IsOpenedWith strict_options (F.bytes medium) (F.failures medium))
+            (OpeningWithRefused F.read_faults strict_options (F.bytes medium)) }
         ensures kinds { IfErr result IsOfOpening }
     {
         OpenOptions::new().strict().open_with(alloc, medium)
@@ -199,7 +209,9 @@ impl<F: Medium, A: Heap + Clone> CompoundFile<F, A> {
     /// where memory is refused.
     pub fn create(alloc: A, medium: F) -> Result<CompoundFile<F, A>, Error>
         requires empty_medium { IsTrue F.tells → F.bytes medium ≡ [] }
-        ensures answers { IsTrue F.tells → MatchResult result (IsCreatedWith V4 permissive_options (F.failures medium)) (CreatingRefused F.write_faults) }
+        ensures answers { IsTrue F.tells
+            → MatchResult result (IsCreatedWith V4 permissive_options (F.failures medium))
+            (CreatingRefused F.write_faults) }
         ensures version { IfOk result (λ file. version_of file.base ≡ V4) }
         ensures kinds { IfErr result IsOfCreating }
     {
@@ -214,7 +226,9 @@ impl<F: Medium, A: Heap + Clone> CompoundFile<F, A> {
         medium: F,
     ) -> Result<CompoundFile<F, A>, Error>
         requires empty_medium { IsTrue F.tells → F.bytes medium ≡ [] }
-        ensures answers { IsTrue F.tells → MatchResult result (IsCreatedWith version permissive_options (F.failures medium)) (CreatingRefused F.write_faults) }
+        ensures answers { IsTrue F.tells
+            → MatchResult result (IsCreatedWith version permissive_options (F.failures medium))
+            (CreatingRefused F.write_faults) }
         ensures version { IfOk result (λ file. version_of file.base ≡ version) }
         ensures kinds { IfErr result IsOfCreating }
     {

@@ -9,7 +9,8 @@ ghost use Rattle.cfb_format.specs.Refused.{IsMemory};
 ghost use Rattle.cfb_rules.specs.Calls.{entries, entry, exists, flag, is_storage, is_stream, one_entry, read_root_storage, read_storage, root_entry, walk, walk_storage};
 ghost use Rattle.cfb_siblings.specs.Paths.{number_at_path};
 ghost use Rattle.cfb_agreement.specs.Files.{Agrees};
-ghost use Rattle.cfb_listing.specs.Told.{entry_info, is_stream_kind};
+ghost use Rattle.cfb_outline.specs.Families.{is_stream_kind};
+ghost use Rattle.cfb_listing.specs.Told.{entry_info};
 ghost use Rattle.cfb_listing.specs.Left.{entries_left};
 ghost use Rattle.cfb_listing.specs.Listings.{ListsChildren, Walks};
 ghost use Rattle.cfb_mini_sectors.specs.State.{cases_of, entries_of};
@@ -30,8 +31,10 @@ use std::alloc::Allocator as Heap;
 impl<F: ReadMedium, A: Heap> CompoundFile<F, A> {
     /// The kind of what stands at this path, if anything does. It takes no memory.
     fn kind_at(&self, path: &str) -> Option<ObjType>
-        ensures kind { (o : Outline) → IsOutline (cases_of self.now.base) (entries_of self.now.base) o
-            → result ≡ kind_found (entries_of self.now.base) (number_at_path (cases_of self.now.base) (entries_of self.now.base) o (chars path.now)) }
+        ensures kind { (o : Outline)
+            → IsOutline (cases_of self.now.base) (entries_of self.now.base) o
+            → result ≡ kind_found (entries_of self.now.base) (number_at_path
+            (cases_of self.now.base) (entries_of self.now.base) o (chars path.now)) }
         ensures agrees { IsTrue F.tells → Agrees self.now }
     {
         let number = self.volume.number_at(path)?;
@@ -48,14 +51,16 @@ impl<F: ReadMedium, A: Heap> CompoundFile<F, A> {
 
     /// Whether a stream stands at this path. It takes no memory.
     pub fn is_stream(&self, path: &str) -> bool
-        ensures asks { IsTrue F.tells → Answers self.now (is_stream (chars path.now)) (flag result) }
+        ensures asks { IsTrue F.tells
+            → Answers self.now (is_stream (chars path.now)) (flag result) }
     {
         is_of_stream(self.kind_at(path))
     }
 
     /// Whether a storage stands at this path, the root among them. It takes no memory.
     pub fn is_storage(&self, path: &str) -> bool
-        ensures asks { IsTrue F.tells → Answers self.now (is_storage (chars path.now)) (flag result) }
+        ensures asks { IsTrue F.tells
+            → Answers self.now (is_storage (chars path.now)) (flag result) }
     {
         is_of_storage(self.kind_at(path))
     }
@@ -103,8 +108,10 @@ impl<F: ReadMedium, A: Heap + Clone> CompoundFile<F, A> {
     /// The names that a path says, and the number of the entry at them. `InvalidInput` where the path leaves the root, `NotFound` where
     /// nothing is there, `Memory`.
     fn find<'p>(&self, path: &'p str) -> Result<(Vec<&'p str, A>, u32), Error>
-        ensures names { IfOk result (λ found. names_of_path (chars path.now) ≡ Some (map (λ name. chars name.now) found.0.items)) }
-        ensures number { IfOk result (λ found. LeadTo self.now (map (λ name. chars name.now) found.0.items) (Some found.1)) }
+        ensures names { IfOk result (λ found. names_of_path (chars path.now)
+            ≡ Some (map (λ name. chars name.now) found.0.items)) }
+        ensures number { IfOk result (λ found.
+            LeadTo self.now (map (λ name. chars name.now) found.0.items) (Some found.1)) }
         ensures reached { IfOk result (λ found. IsObjectOf self.now found.1) }
         ensures refused { IfErr result (FindingRefused self.now (chars path.now)) }
         ensures agrees { IsTrue F.tells → Agrees self.now }
@@ -119,7 +126,8 @@ impl<F: ReadMedium, A: Heap + Clone> CompoundFile<F, A> {
     /// What is told of the entry of this number, with these names in its path. `Memory`.
     fn told_at(&self, names: &[&str], number: u32) -> Result<Entry<A>, Error>
         requires { IsObjectOf self.now number }
-        ensures ok { IfOk result (λ told. told ≡ entry_info (path_of_names (map (λ name. chars name.now) names.now)) (entry_at (entries_of self.now.base) number)) }
+        ensures ok { IfOk result (λ told. told ≡ entry_info (path_of_names (map (λ name.
+            chars name.now) names.now)) (entry_at (entries_of self.now.base) number)) }
         ensures err { IfErr result IsMemory }
         ensures agrees { IsTrue F.tells → Agrees self.now }
     {
@@ -131,7 +139,8 @@ impl<F: ReadMedium, A: Heap + Clone> CompoundFile<F, A> {
     /// What is told of the objects on the first level of the storage of this number, which has these names in its path. `Memory`.
     fn children_at(&self, names: &[&str], number: u32) -> Result<Entries<'_, F, A>, Error>
         requires { IsStorageOf self.now number }
-        ensures ok { IfOk result (λ list. ListsChildren (entries_of self.now.base) (path_of_names (map (λ name. chars name.now) names.now)) number (entries_left list)) }
+        ensures ok { IfOk result (λ list. ListsChildren (entries_of self.now.base)
+            (path_of_names (map (λ name. chars name.now) names.now)) number (entries_left list)) }
         ensures err { IfErr result IsMemory }
         ensures agrees { IsTrue F.tells → Agrees self.now }
     {
@@ -143,7 +152,8 @@ impl<F: ReadMedium, A: Heap + Clone> CompoundFile<F, A> {
 
     /// The root and all that is in it, as `walk` tells them. `Memory`.
     fn walk_root(&self) -> Result<Entries<'_, F, A>, Error>
-        ensures ok { IfOk result (λ list. Walks (entries_of self.now.base) (path_of_names []) 0 (entries_left list)) }
+        ensures ok { IfOk result (λ list.
+            Walks (entries_of self.now.base) (path_of_names []) 0 (entries_left list)) }
         ensures err { IfErr result IsMemory }
         ensures agrees { IsTrue F.tells → Agrees self.now }
     {
@@ -156,8 +166,10 @@ impl<F: ReadMedium, A: Heap + Clone> CompoundFile<F, A> {
     /// The object of this number and all that is in it; in its path these names stand before its stored name. `Memory`.
     fn walk_below(&self, before: &[&str], number: u32) -> Result<Entries<'_, F, A>, Error>
         requires { IsObjectOf self.now number }
-        ensures ok { IfOk result (λ list. Walks (entries_of self.now.base)
-            (child_path (path_of_names (map (λ name. chars name.now) before.now)) (entry_at (entries_of self.now.base) number).name) number (entries_left list)) }
+        ensures ok { IfOk result (λ list.
+            Walks (entries_of self.now.base) (child_path (path_of_names (map (λ name.
+            chars name.now) before.now)) (entry_at (entries_of self.now.base) number).name) number
+            (entries_left list)) }
         ensures err { IfErr result IsMemory }
     {
         let entries = self.volume.entries();
@@ -185,8 +197,10 @@ impl<F: ReadMedium, A: Heap + Clone> CompoundFile<F, A> {
     /// What is told of what stands at this path. Its path has the names as they were asked for. `InvalidInput` where the path leaves the
     /// root, `NotFound` where nothing is there, `Memory`.
     pub fn entry(&self, path: &str) -> Result<Entry<A>, Error>
-        ensures ok { IsTrue F.tells → IfOk result (λ e. Answers self.now (entry (chars path.now)) (one_entry e)) }
-        ensures refused { IsTrue F.tells → IfErr result (AnswersNot self.now (entry (chars path.now))) }
+        ensures ok { IsTrue F.tells
+            → IfOk result (λ e. Answers self.now (entry (chars path.now)) (one_entry e)) }
+        ensures refused { IsTrue F.tells
+            → IfErr result (AnswersNot self.now (entry (chars path.now))) }
     {
         let (names, number) = self.find(path)?;
         self.told_at(&names, number)
@@ -194,7 +208,8 @@ impl<F: ReadMedium, A: Heap + Clone> CompoundFile<F, A> {
 
     /// What is told of the objects of the root on its first level, in name order. `Memory`.
     pub fn read_root_storage(&self) -> Result<Entries<'_, F, A>, Error>
-        ensures ok { IsTrue F.tells → IfOk result (λ list. Answers self.now read_root_storage (entries (entries_left list))) }
+        ensures ok { IsTrue F.tells → IfOk result (λ list.
+            Answers self.now read_root_storage (entries (entries_left list))) }
         ensures refused { IsTrue F.tells → IfErr result (AnswersNot self.now read_root_storage) }
         ensures err { IfErr result IsMemory }
     {
@@ -204,8 +219,10 @@ impl<F: ReadMedium, A: Heap + Clone> CompoundFile<F, A> {
     /// What is told of the objects of the storage at this path on its first level, in name order. Their paths begin with the names as they
     /// were asked for. `InvalidInput` where the path leaves the root or leads to a stream, `NotFound` where nothing is there, `Memory`.
     pub fn read_storage(&self, path: &str) -> Result<Entries<'_, F, A>, Error>
-        ensures ok { IsTrue F.tells → IfOk result (λ list. Answers self.now (read_storage (chars path.now)) (entries (entries_left list))) }
-        ensures refused { IsTrue F.tells → IfErr result (AnswersNot self.now (read_storage (chars path.now))) }
+        ensures ok { IsTrue F.tells → IfOk result (λ list.
+            Answers self.now (read_storage (chars path.now)) (entries (entries_left list))) }
+        ensures refused { IsTrue F.tells
+            → IfErr result (AnswersNot self.now (read_storage (chars path.now))) }
     {
         let (names, number) = self.find(path)?;
         if is_stream_entry(self.volume.entries(), number) {
@@ -216,7 +233,8 @@ impl<F: ReadMedium, A: Heap + Clone> CompoundFile<F, A> {
 
     /// What is told of the root and of all that is in it: each storage before what is in it, and siblings in name order. `Memory`.
     pub fn walk(&self) -> Result<Entries<'_, F, A>, Error>
-        ensures ok { IsTrue F.tells → IfOk result (λ list. Answers self.now walk (entries (entries_left list))) }
+        ensures ok { IsTrue F.tells
+            → IfOk result (λ list. Answers self.now walk (entries (entries_left list))) }
         ensures refused { IsTrue F.tells → IfErr result (AnswersNot self.now walk) }
         ensures err { IfErr result IsMemory }
     {
@@ -226,8 +244,10 @@ impl<F: ReadMedium, A: Heap + Clone> CompoundFile<F, A> {
     /// What is told of what stands at this path and of all that is in it. The paths begin with the asked names of the parent, and go on with
     /// stored names. `InvalidInput` where the path leaves the root, `NotFound` where nothing is there, `Memory`.
     pub fn walk_storage(&self, path: &str) -> Result<Entries<'_, F, A>, Error>
-        ensures ok { IsTrue F.tells → IfOk result (λ list. Answers self.now (walk_storage (chars path.now)) (entries (entries_left list))) }
-        ensures refused { IsTrue F.tells → IfErr result (AnswersNot self.now (walk_storage (chars path.now))) }
+        ensures ok { IsTrue F.tells → IfOk result (λ list.
+            Answers self.now (walk_storage (chars path.now)) (entries (entries_left list))) }
+        ensures refused { IsTrue F.tells
+            → IfErr result (AnswersNot self.now (walk_storage (chars path.now))) }
     {
         let (names, number) = self.find(path)?;
         let Some((_, before)) = names.split_last() else {

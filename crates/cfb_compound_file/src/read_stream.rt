@@ -2,9 +2,11 @@
 ghost use Rattle.std.specs.Prelude.{◌≡◌, ◌+◌, ◌++◌, ◌≤◌, ◌==◌, length, take, drop, false, true, IsTrue, IfOk, IfErr, OnOk, OnErr};
 ghost use Rattle.std.specs.Borrow.{sem};
 ghost use Rattle.cfb_content.specs.Contents.{IsStreamOf};
-ghost use Rattle.cfb_agreement.specs.Files.{is_failed};
+ghost use Rattle.cfb_agreement.specs.Files.{failures_of, is_failed};
+ghost use Rattle.cfb_format.specs.Refused.{CountsFailure};
 ghost use Rattle.cfb_rules.specs.Runs.{Closes};
 ghost use Rattle.cfb_stream_window.specs.Windows.{Suits, whence_of};
+ghost use Rattle.cfb_compound_file.specs.Buffering.{BuffersRead, BuffersRest};
 ghost use Rattle.cfb_compound_file.specs.Stored.{kept_of, stored_of};
 ghost use Rattle.cfb_compound_file.specs.StreamAnswers.{GoesOn, IsStreamRefused, IsStreamRefusedBy, StreamRunsBy, StreamRunsOn, causes_of_reading, closing_of, run_in};
 
@@ -43,7 +45,8 @@ impl<'a, F: ReadMedium, A: Heap + Clone> ReadStream<'a, F, A> {
     /// Whether the stream is empty.
     pub fn is_empty(&self) -> bool
         ensures value { result ≡ ((window_of self.now).size == 0) }
-        ensures runs { StreamRunsOn (open_of self.now) ask_is_empty (answered result) (open_of self.now) }
+        ensures runs { StreamRunsOn
+            (open_of self.now) ask_is_empty (answered result) (open_of self.now) }
     {
         self.window.is_empty()
     }
@@ -53,7 +56,8 @@ impl<'a, F: ReadMedium, A: Heap + Clone> ReadStream<'a, F, A> {
         ensures value { result ≡ (window_of self.now).base + (window_of self.now).cursor }
         ensures inside { result ≤ (window_of self.now).size }
         ensures room { (window_of self.now).room ≤ (window_of self.now).bound }
-        ensures runs { StreamRunsOn (open_of self.now) ask_position (offset result) (open_of self.now) }
+        ensures runs { StreamRunsOn
+            (open_of self.now) ask_position (offset result) (open_of self.now) }
     {
         self.window.position()
     }
@@ -63,18 +67,27 @@ impl<'a, F: ReadMedium, A: Heap + Clone> ReadStream<'a, F, A> {
     pub fn read(&mut self, into: &mut [u8]) -> Result<usize, Error>
         ensures same_file { (file_of self.new).ghost_name ≡ (file_of self.old).ghost_name }
         ensures most { IfOk result (λ n. n ≤ length into.new) }
-        ensures runs { IsTrue F.tells → IfOk result (λ n. StreamRunsBy (causes_of_reading (file_of self.old).now (file_of self.new).now) (open_of self.old) (read (length into.old)) (got (take n into.new)) (open_of self.new)) }
-        ensures refused { IsTrue F.tells → IfErr result (IsStreamRefused (causes_of_reading (file_of self.old).now (file_of self.new).now) F.read_faults
-            (open_of self.old) (read (length into.old)) (open_of self.new)) }
+        ensures runs { IsTrue F.tells → IfOk result (λ n.
+            StreamRunsBy (causes_of_reading (file_of self.old).now (file_of self.new).now) (open_of
+            self.old) (read (length into.old)) (got (take n into.new)) (open_of self.new)) }
+        ensures refused { IsTrue F.tells → IfErr result
+            (IsStreamRefused (causes_of_reading (file_of self.old).now (file_of self.new).now)
+            F.read_faults (open_of self.old) (read (length into.old)) (open_of self.new)) }
         ensures goes_on { GoesOn F.tells (open_of self.old) (open_of self.new) }
-        ensures kept { IsTrue F.tells → kept_of (file_of self.new).now ≡ kept_of (file_of self.old).now }
+        ensures kept { IsTrue F.tells
+            → kept_of (file_of self.new).now ≡ kept_of (file_of self.old).now }
+        ensures counts { IsTrue F.tells → CountsFailure F.read_faults result
+            (failures_of (file_of self.old).now) (failures_of (file_of self.new).now) }
+        ensures none { length into.old ≡ 0 → (file_of self.new).now ≡ (file_of self.old).now }
+        ensures buffers { BuffersRead F.tells (open_of self.old) (open_of self.new) result }
     {
         self.window.read(self.file, self.entry, into)
     }
 
     /// Lends bytes from the position on: at least one, unless the position is the end. It is refused as `read` is.
     pub fn fill_buf(&mut self) -> Result<&[u8], Error>
-        ensures* after_borrow { sem 𝓛 (stream_rests F.row A.row F.ReadMedium A.Allocator self.entry result) }
+        ensures* after_borrow { sem 𝓛
+            (stream_rests F.row A.row F.ReadMedium A.Allocator self.entry result) }
     {
         match self.window.fill(self.file, self.entry) {
             Ok(()) => Ok(self.window.rest()),
@@ -88,6 +101,8 @@ impl<'a, F: ReadMedium, A: Heap + Clone> ReadStream<'a, F, A> {
         ensures file { (file_of self.new).now ≡ (file_of self.old).now }
         ensures entry { entry_of self.new ≡ entry_of self.old }
         ensures runs { StreamRunsOn (open_of self.old) (consume amount) ready (open_of self.new) }
+        ensures bound { (window_of self.new).bound ≡ (window_of self.old).bound }
+        ensures room { (window_of self.new).room ≡ (window_of self.old).room }
     {
         self.window.consume(amount);
     }
@@ -99,11 +114,18 @@ impl<'a, F: ReadMedium, A: Heap + Clone> ReadStream<'a, F, A> {
         ensures appends { IfOk result (λ n. (length into.new.items ≡ length into.old.items + n)
             × (into.new.items ≡ into.old.items ++ drop (length into.old.items) into.new.items)) }
         ensures nothing { OnErr result (into.new.items ≡ into.old.items) }
-        ensures runs { IsTrue F.tells → OnOk result (StreamRunsBy (causes_of_reading (file_of self.old).now (file_of self.new).now) (open_of self.old) read_to_end (got (drop (length into.old.items) into.new.items)) (open_of self.new)) }
-        ensures refused { IsTrue F.tells → IfErr result (IsStreamRefused (causes_of_reading (file_of self.old).now (file_of self.new).now) F.read_faults
-            (open_of self.old) read_to_end (open_of self.new)) }
+        ensures runs { IsTrue F.tells → OnOk result (StreamRunsBy
+            (causes_of_reading (file_of self.old).now (file_of self.new).now) (open_of self.old)
+            read_to_end (got (drop (length into.old.items) into.new.items)) (open_of self.new)) }
+        ensures refused { IsTrue F.tells → IfErr result
+            (IsStreamRefused (causes_of_reading (file_of self.old).now (file_of self.new).now)
+            F.read_faults (open_of self.old) read_to_end (open_of self.new)) }
         ensures goes_on { GoesOn F.tells (open_of self.old) (open_of self.new) }
-        ensures kept { IsTrue F.tells → kept_of (file_of self.new).now ≡ kept_of (file_of self.old).now }
+        ensures kept { IsTrue F.tells
+            → kept_of (file_of self.new).now ≡ kept_of (file_of self.old).now }
+        ensures counts { IsTrue F.tells → CountsFailure F.read_faults result
+            (failures_of (file_of self.old).now) (failures_of (file_of self.new).now) }
+        ensures buffers { BuffersRest F.tells (open_of self.old) (open_of self.new) result }
     {
         self.window.read_to_end(self.file, self.entry, into)
     }
@@ -113,9 +135,14 @@ impl<'a, F: ReadMedium, A: Heap + Clone> ReadStream<'a, F, A> {
         ensures same_file { (file_of self.new).ghost_name ≡ (file_of self.old).ghost_name }
         ensures file { (file_of self.new).now ≡ (file_of self.old).now }
         ensures entry { entry_of self.new ≡ entry_of self.old }
-        ensures runs { IsTrue F.tells → IfOk result (λ at. StreamRunsBy (causes_of_reading (file_of self.old).now (file_of self.new).now) (open_of self.old) (seek (whence_of to)) (offset at) (open_of self.new)) }
-        ensures refused { IsTrue F.tells → IfErr result (IsStreamRefusedBy (causes_of_reading (file_of self.old).now (file_of self.new).now)
-            (open_of self.old) (seek (whence_of to)) (open_of self.new)) }
+        ensures runs { IsTrue F.tells → IfOk result (λ at.
+            StreamRunsBy (causes_of_reading (file_of self.old).now (file_of self.new).now)
+            (open_of self.old) (seek (whence_of to)) (offset at) (open_of self.new)) }
+        ensures refused { IsTrue F.tells
+            → IfErr result (IsStreamRefusedBy (causes_of_reading (file_of self.old).now
+            (file_of self.new).now) (open_of self.old) (seek (whence_of to)) (open_of self.new)) }
+        ensures bound { (window_of self.new).bound ≡ (window_of self.old).bound }
+        ensures room { (window_of self.new).room ≡ (window_of self.old).room }
     {
         self.window.seek(self.file, self.entry, to)
     }
@@ -123,7 +150,8 @@ impl<'a, F: ReadMedium, A: Heap + Clone> ReadStream<'a, F, A> {
     /// Ends the work on the stream. `Failed` alone.
     pub fn close(self) -> Result<(), Error>
         ensures same { self.exit.0.now ≡ (file_of self.entry).now }
-        ensures closes { Closes (causes_of_reading (file_of self.entry).now self.exit.0.now) (run_in (open_of self.entry)) (closing_of result) (is_failed self.exit.0.now) }
+        ensures closes { Closes (causes_of_reading (file_of self.entry).now self.exit.0.now)
+            (run_in (open_of self.entry)) (closing_of result) (is_failed self.exit.0.now) }
         ensures refused { IfErr result (λ e. e ≡ Error.Failed) }
     {
         let ReadStream {

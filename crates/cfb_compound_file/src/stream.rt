@@ -1,11 +1,13 @@
 //! Streams, as lists of bytes with a position, through a buffer. Lengths and places are in bytes.
-ghost use Rattle.std.specs.Prelude.{◌≡◌, ◌+◌, ◌++◌, ◌≤◌, ◌==◌, ◌||◌, length, take, drop, false, true, IsTrue, IfOk, IfErr, OnOk, OnErr, None};
+ghost use Rattle.std.specs.Prelude.{◌≡◌, ◌+◌, ◌++◌, ◌≤◌, ◌==◌, ◌||◌, min, length, take, drop, false, true, IsTrue, IfOk, IfErr, OnOk, OnErr, None};
 ghost use Rattle.std.specs.Borrow.{sem};
 ghost use Rattle.cfb_content.specs.Contents.{IsStreamOf};
-ghost use Rattle.cfb_agreement.specs.Files.{Agrees, FileState, is_failed};
+ghost use Rattle.cfb_agreement.specs.Files.{Agrees, FileState, failures_of, is_failed};
+ghost use Rattle.cfb_format.specs.Refused.{CountsFailure};
 ghost use Rattle.cfb_rules.specs.Runs.{Closes};
 ghost use Rattle.cfb_stream_window.specs.Windows.{Suits, whence_of};
 ghost use Rattle.cfb_compound_file.specs.Answers.{causes_of};
+ghost use Rattle.cfb_compound_file.specs.Buffering.{BuffersRead, BuffersRest, BuffersSeek, BuffersWrite};
 ghost use Rattle.cfb_compound_file.specs.Stored.{ChangesStream, KeepsRest, kept_of, stored_of};
 ghost use Rattle.cfb_compound_file.specs.StreamAnswers.{ClosesTree, GoesOn, IsClosingRefused, IsStreamRefused, StreamRunsBy, StreamRunsOn, causes_of_len, open_stream_of, run_in, stream_in};
 
@@ -21,7 +23,7 @@ use std::io::SeekFrom;
 /// A stream that is open to be read and written. It has to be closed. What is written is kept back, and written out by `flush`, `close`, a
 /// `set_len` that changes the length, a read or a seek that leaves the buffer, a full buffer, and a write of at least 65536 bytes.
 ///
-/// Every call but `len`, `is_empty`, `position` and `consume` answers `Failed` on a file that has failed. Where bytes that are kept back
+/// Every call but `is_failed`, `len`, `is_empty`, `position` and `consume` answers `Failed` on a file that has failed. Where bytes that are kept back
 /// have to be written out and can't be (`Medium`, `Memory`, `Full`), they are lost, and the file has failed.
 pub struct Stream<'a, F: Medium, A: Heap = Global, W: Held = Window<A>> {
     pub(crate) file: &'a mut CompoundFile<F, A>,
@@ -35,6 +37,13 @@ impl<'a, F: Medium, A: Heap + Clone> Stream<'a, F, A> {
     ghost use Rattle.cfb_rules.specs.StreamCalls.{answered, ask_is_empty, ask_len, ask_position, consume, count, fill_buf, flush, got, offset, read, read_to_end, ready, seek, set_len, write};
     ghost use Rattle.cfb_compound_file.specs.Streams.{entry_of, file_of, open_of, stream_rests, window_of};
 
+    /// Whether the file has failed.
+    pub fn is_failed(&self) -> bool
+        ensures { result ≡ is_failed (file_of self.now).now }
+    {
+        self.file.is_failed()
+    }
+
     /// The length of the stream.
     pub fn len(&self) -> u64
         ensures value { result ≡ (window_of self.now).size }
@@ -46,7 +55,8 @@ impl<'a, F: Medium, A: Heap + Clone> Stream<'a, F, A> {
     /// Whether the stream is empty.
     pub fn is_empty(&self) -> bool
         ensures value { result ≡ ((window_of self.now).size == 0) }
-        ensures runs { StreamRunsOn (open_of self.now) ask_is_empty (answered result) (open_of self.now) }
+        ensures runs { StreamRunsOn
+            (open_of self.now) ask_is_empty (answered result) (open_of self.now) }
     {
         self.window.is_empty()
     }
@@ -56,7 +66,8 @@ impl<'a, F: Medium, A: Heap + Clone> Stream<'a, F, A> {
         ensures value { result ≡ (window_of self.now).base + (window_of self.now).cursor }
         ensures inside { result ≤ (window_of self.now).size }
         ensures room { (window_of self.now).room ≤ (window_of self.now).bound }
-        ensures runs { StreamRunsOn (open_of self.now) ask_position (offset result) (open_of self.now) }
+        ensures runs { StreamRunsOn
+            (open_of self.now) ask_position (offset result) (open_of self.now) }
     {
         self.window.position()
     }
@@ -66,18 +77,27 @@ impl<'a, F: Medium, A: Heap + Clone> Stream<'a, F, A> {
     pub fn read(&mut self, into: &mut [u8]) -> Result<usize, Error>
         ensures same_file { (file_of self.new).ghost_name ≡ (file_of self.old).ghost_name }
         ensures most { IfOk result (λ n. n ≤ length into.new) }
-        ensures runs { IsTrue F.tells → IfOk result (λ n. StreamRunsOn (open_of self.old) (read (length into.old)) (got (take n into.new)) (open_of self.new)) }
-        ensures refused { IsTrue F.tells → IfErr result (IsStreamRefused (causes_of (file_of self.old).now (file_of self.new).now) (λ f. F.read_faults f || F.write_faults f)
-            (open_of self.old) (read (length into.old)) (open_of self.new)) }
+        ensures runs { IsTrue F.tells → IfOk result (λ n. StreamRunsOn (open_of self.old)
+            (read (length into.old)) (got (take n into.new)) (open_of self.new)) }
+        ensures refused { IsTrue F.tells → IfErr result (IsStreamRefused
+            (causes_of (file_of self.old).now (file_of self.new).now) (λ f. F.read_faults f
+            || F.write_faults f) (open_of self.old) (read (length into.old)) (open_of self.new)) }
         ensures goes_on { GoesOn F.tells (open_of self.old) (open_of self.new) }
-        ensures calm { IsTrue F.tells → (window_of self.old).pending ≡ false → kept_of (file_of self.new).now ≡ kept_of (file_of self.old).now }
+        ensures counts { IsTrue F.tells
+            → CountsFailure (λ f. F.read_faults f || F.write_faults f) result
+            (failures_of (file_of self.old).now) (failures_of (file_of self.new).now) }
+        ensures calm { IsTrue F.tells → (window_of self.old).pending ≡ false
+            → kept_of (file_of self.new).now ≡ kept_of (file_of self.old).now }
+        ensures none { length into.old ≡ 0 → (file_of self.new).now ≡ (file_of self.old).now }
+        ensures buffers { BuffersRead F.tells (open_of self.old) (open_of self.new) result }
     {
         self.window.read(self.file, self.entry, into)
     }
 
     /// Lends bytes from the position on: at least one, unless the position is the end. It is refused as `read` is.
     pub fn fill_buf(&mut self) -> Result<&[u8], Error>
-        ensures* after_borrow { sem 𝓛 (stream_rests F.row A.row F.ReadMedium F.Medium.own A.Allocator self.entry result) }
+        ensures* after_borrow { sem 𝓛
+            (stream_rests F.row A.row F.ReadMedium F.Medium.own A.Allocator self.entry result) }
     {
         match self.window.fill(self.file, self.entry) {
             Ok(()) => Ok(self.window.rest()),
@@ -91,6 +111,8 @@ impl<'a, F: Medium, A: Heap + Clone> Stream<'a, F, A> {
         ensures file { (file_of self.new).now ≡ (file_of self.old).now }
         ensures entry { entry_of self.new ≡ entry_of self.old }
         ensures runs { StreamRunsOn (open_of self.old) (consume amount) ready (open_of self.new) }
+        ensures bound { (window_of self.new).bound ≡ (window_of self.old).bound }
+        ensures room { (window_of self.new).room ≡ (window_of self.old).room }
     {
         self.window.consume(amount);
     }
@@ -102,11 +124,18 @@ impl<'a, F: Medium, A: Heap + Clone> Stream<'a, F, A> {
         ensures appends { IfOk result (λ n. (length into.new.items ≡ length into.old.items + n)
             × (into.new.items ≡ into.old.items ++ drop (length into.old.items) into.new.items)) }
         ensures nothing { OnErr result (into.new.items ≡ into.old.items) }
-        ensures runs { IsTrue F.tells → OnOk result (StreamRunsOn (open_of self.old) read_to_end (got (drop (length into.old.items) into.new.items)) (open_of self.new)) }
-        ensures refused { IsTrue F.tells → IfErr result (IsStreamRefused (causes_of (file_of self.old).now (file_of self.new).now) (λ f. F.read_faults f || F.write_faults f)
-            (open_of self.old) read_to_end (open_of self.new)) }
+        ensures runs { IsTrue F.tells → OnOk result (StreamRunsOn (open_of self.old) read_to_end
+            (got (drop (length into.old.items) into.new.items)) (open_of self.new)) }
+        ensures refused { IsTrue F.tells → IfErr result (IsStreamRefused
+            (causes_of (file_of self.old).now (file_of self.new).now) (λ f. F.read_faults f
+            || F.write_faults f) (open_of self.old) read_to_end (open_of self.new)) }
         ensures goes_on { GoesOn F.tells (open_of self.old) (open_of self.new) }
-        ensures calm { IsTrue F.tells → (window_of self.old).pending ≡ false → kept_of (file_of self.new).now ≡ kept_of (file_of self.old).now }
+        ensures counts { IsTrue F.tells
+            → CountsFailure (λ f. F.read_faults f || F.write_faults f) result
+            (failures_of (file_of self.old).now) (failures_of (file_of self.new).now) }
+        ensures calm { IsTrue F.tells → (window_of self.old).pending ≡ false
+            → kept_of (file_of self.new).now ≡ kept_of (file_of self.old).now }
+        ensures buffers { BuffersRest F.tells (open_of self.old) (open_of self.new) result }
     {
         self.window.read_to_end(self.file, self.entry, into)
     }
@@ -116,11 +145,21 @@ impl<'a, F: Medium, A: Heap + Clone> Stream<'a, F, A> {
     pub fn write(&mut self, bytes: &[u8]) -> Result<usize, Error>
         ensures same_file { (file_of self.new).ghost_name ≡ (file_of self.old).ghost_name }
         ensures most { IfOk result (λ n. n ≤ length bytes.now) }
-        ensures runs { IsTrue F.tells → IfOk result (λ n. StreamRunsOn (open_of self.old) (write bytes.now) (count n) (open_of self.new)) }
-        ensures refused { IsTrue F.tells → IfErr result (IsStreamRefused (causes_of (file_of self.old).now (file_of self.new).now) (λ f. F.read_faults f || F.write_faults f)
-            (open_of self.old) (write bytes.now) (open_of self.new)) }
+        ensures runs { IsTrue F.tells → IfOk result (λ n.
+            StreamRunsOn (open_of self.old) (write bytes.now) (count n) (open_of self.new)) }
+        ensures refused { IsTrue F.tells → IfErr result (IsStreamRefused
+            (causes_of (file_of self.old).now (file_of self.new).now) (λ f. F.read_faults f
+            || F.write_faults f) (open_of self.old) (write bytes.now) (open_of self.new)) }
         ensures goes_on { GoesOn F.tells (open_of self.old) (open_of self.new) }
+        ensures counts { IsTrue F.tells
+            → CountsFailure (λ f. F.read_faults f || F.write_faults f) result
+            (failures_of (file_of self.old).now) (failures_of (file_of self.new).now) }
         ensures none { length bytes.now ≡ 0 → (file_of self.new).now ≡ (file_of self.old).now }
+        ensures buffers { BuffersWrite F.tells
+            (open_of self.old) (open_of self.new) result (length bytes.now) }
+        ensures inside { IsTrue F.tells → (window_of self.old).pending ≡ false
+            → (window_of self.old).base + (window_of self.old).cursor + min 1 (length bytes.now)
+            ≤ (window_of self.old).size → IfErr result (λ e. e ≡ Error.Full → ⊥) }
     {
         self.window.write(self.file, self.entry, bytes)
     }
@@ -128,11 +167,18 @@ impl<'a, F: Medium, A: Heap + Clone> Stream<'a, F, A> {
     /// Goes to a place in the stream. `InvalidInput` for a place outside of it; with bytes kept back also `Medium`, `Memory` and `Full`.
     pub fn seek(&mut self, to: SeekFrom) -> Result<u64, Error>
         ensures same_file { (file_of self.new).ghost_name ≡ (file_of self.old).ghost_name }
-        ensures runs { IsTrue F.tells → IfOk result (λ at. StreamRunsOn (open_of self.old) (seek (whence_of to)) (offset at) (open_of self.new)) }
-        ensures refused { IsTrue F.tells → IfErr result (IsStreamRefused (causes_of (file_of self.old).now (file_of self.new).now) (λ f. F.read_faults f || F.write_faults f)
-            (open_of self.old) (seek (whence_of to)) (open_of self.new)) }
+        ensures runs { IsTrue F.tells → IfOk result (λ at.
+            StreamRunsOn (open_of self.old) (seek (whence_of to)) (offset at) (open_of self.new)) }
+        ensures refused { IsTrue F.tells → IfErr result (IsStreamRefused
+            (causes_of (file_of self.old).now (file_of self.new).now) (λ f. F.read_faults f
+            || F.write_faults f) (open_of self.old) (seek (whence_of to)) (open_of self.new)) }
         ensures goes_on { GoesOn F.tells (open_of self.old) (open_of self.new) }
-        ensures calm { (window_of self.old).pending ≡ false → (file_of self.new).now ≡ (file_of self.old).now }
+        ensures counts { IsTrue F.tells
+            → CountsFailure (λ f. F.read_faults f || F.write_faults f) result
+            (failures_of (file_of self.old).now) (failures_of (file_of self.new).now) }
+        ensures calm { (window_of self.old).pending ≡ false
+            → (file_of self.new).now ≡ (file_of self.old).now }
+        ensures buffers { BuffersSeek F.tells (open_of self.old) (open_of self.new) result to }
     {
         self.window.seek(self.file, self.entry, to)
     }
@@ -142,11 +188,22 @@ impl<'a, F: Medium, A: Heap + Clone> Stream<'a, F, A> {
     /// needs more numbers than are left, which is found before anything is written.
     pub fn set_len(&mut self, len: u64) -> Result<(), Error>
         ensures same_file { (file_of self.new).ghost_name ≡ (file_of self.old).ghost_name }
-        ensures runs { IsTrue F.tells → OnOk result (StreamRunsBy (causes_of_len (entry_of self.old) len (file_of self.old).now (file_of self.new).now) (open_of self.old) (set_len len) ready (open_of self.new)) }
-        ensures refused { IsTrue F.tells → IfErr result (IsStreamRefused (causes_of_len (entry_of self.old) len (file_of self.old).now (file_of self.new).now) (λ f. F.read_faults f || F.write_faults f)
-            (open_of self.old) (set_len len) (open_of self.new)) }
+        ensures runs { IsTrue F.tells → OnOk result
+            (StreamRunsBy (causes_of_len (entry_of self.old) len (file_of self.old).now
+            (file_of self.new).now) (open_of self.old) (set_len len) ready (open_of self.new)) }
+        ensures refused { IsTrue F.tells
+            → IfErr result (IsStreamRefused (causes_of_len (entry_of self.old) len
+            (file_of self.old).now (file_of self.new).now) (λ f. F.read_faults f
+            || F.write_faults f) (open_of self.old) (set_len len) (open_of self.new)) }
         ensures goes_on { GoesOn F.tells (open_of self.old) (open_of self.new) }
-        ensures same { len ≡ (window_of self.old).size → (file_of self.new).now ≡ (file_of self.old).now }
+        ensures counts { IsTrue F.tells
+            → CountsFailure (λ f. F.read_faults f || F.write_faults f) result
+            (failures_of (file_of self.old).now) (failures_of (file_of self.new).now) }
+        ensures same { len ≡ (window_of self.old).size
+            → (file_of self.new).now ≡ (file_of self.old).now }
+        ensures foreseen { IsTrue F.tells
+            → IfErr result (λ e. e ≡ Error.Full → (file_of self.new).now ≡ (file_of self.old).now) }
+        ensures room { (window_of self.new).room ≡ (window_of self.old).room }
     {
         self.window.set_len(self.file, self.entry, len)
     }
@@ -155,10 +212,19 @@ impl<'a, F: Medium, A: Heap + Clone> Stream<'a, F, A> {
     /// `Memory` and `Full`.
     pub fn flush(&mut self) -> Result<(), Error>
         ensures same_file { (file_of self.new).ghost_name ≡ (file_of self.old).ghost_name }
-        ensures runs { IsTrue F.tells → OnOk result (StreamRunsOn (open_of self.old) flush ready (open_of self.new)) }
-        ensures refused { IsTrue F.tells → IfErr result (IsStreamRefused (causes_of (file_of self.old).now (file_of self.new).now) (λ f. F.read_faults f || F.write_faults f)
-            (open_of self.old) flush (open_of self.new)) }
+        ensures runs { IsTrue F.tells
+            → OnOk result (StreamRunsOn (open_of self.old) flush ready (open_of self.new)) }
+        ensures refused { IsTrue F.tells → IfErr result
+            (IsStreamRefused (causes_of (file_of self.old).now (file_of self.new).now) (λ f.
+            F.read_faults f || F.write_faults f) (open_of self.old) flush (open_of self.new)) }
         ensures goes_on { GoesOn F.tells (open_of self.old) (open_of self.new) }
+        ensures counts { IsTrue F.tells
+            → CountsFailure (λ f. F.read_faults f || F.write_faults f) result
+            (failures_of (file_of self.old).now) (failures_of (file_of self.new).now) }
+        ensures calm { IsTrue F.tells
+            → (window_of self.old).pending ≡ false → is_failed (file_of self.new).now ≡ false
+            → kept_of (file_of self.new).now ≡ kept_of (file_of self.old).now }
+        ensures room { (window_of self.new).room ≡ (window_of self.old).room }
     {
         self.window.flush(self.file, self.entry)
     }
@@ -166,13 +232,25 @@ impl<'a, F: Medium, A: Heap + Clone> Stream<'a, F, A> {
     /// Writes out what is kept back, and ends the work on the stream. With nothing kept back only `Failed` comes; else also `Medium`,
     /// `Memory` and `Full`.
     pub fn close(self) -> Result<(), Error>
-        ensures closes { IsTrue F.tells → OnOk result (Closes (causes_of (file_of self.entry).now self.exit.0.now) (run_in (open_of self.entry)) None (is_failed self.exit.0.now)) }
-        ensures refused { IsTrue F.tells → IfErr result (IsClosingRefused (λ f. F.read_faults f || F.write_faults f) (open_of self.entry) self.exit.0.now) }
-        ensures tree { IsTrue F.tells → (first : FileState) → ClosesTree first (entry_of self.entry) (stream_in (open_of self.entry)).content self.exit.0.now }
-        ensures changes { IsTrue F.tells → ChangesStream (entry_of self.entry) (file_of self.entry).now self.exit.0.now }
-        ensures rest { IsTrue F.tells → (first : FileState) → KeepsRest (entry_of self.entry) first (file_of self.entry).now → KeepsRest (entry_of self.entry) first self.exit.0.now }
-        ensures calm { (window_of self.entry).pending ≡ false → self.exit.0.now ≡ (file_of self.entry).now }
-        ensures sure { (window_of self.entry).pending ≡ false → OnErr result (is_failed (file_of self.entry).now ≡ true) }
+        ensures closes { IsTrue F.tells
+            → OnOk result (Closes (causes_of (file_of self.entry).now self.exit.0.now)
+            (run_in (open_of self.entry)) None (is_failed self.exit.0.now)) }
+        ensures refused { IsTrue F.tells → IfErr result (IsClosingRefused (λ f. F.read_faults f
+            || F.write_faults f) (open_of self.entry) self.exit.0.now) }
+        ensures tree { IsTrue F.tells → (first : FileState) → ClosesTree first
+            (entry_of self.entry) (stream_in (open_of self.entry)).content self.exit.0.now }
+        ensures changes { IsTrue F.tells
+            → ChangesStream (entry_of self.entry) (file_of self.entry).now self.exit.0.now }
+        ensures rest { IsTrue F.tells
+            → (first : FileState) → KeepsRest (entry_of self.entry) first (file_of self.entry).now
+            → KeepsRest (entry_of self.entry) first self.exit.0.now }
+        ensures calm { (window_of self.entry).pending ≡ false
+            → self.exit.0.now ≡ (file_of self.entry).now }
+        ensures sure { (window_of self.entry).pending ≡ false
+            → OnErr result (is_failed (file_of self.entry).now ≡ true) }
+        ensures counts { IsTrue F.tells
+            → CountsFailure (λ f. F.read_faults f || F.write_faults f) result
+            (failures_of (file_of self.entry).now) (failures_of self.exit.0.now) }
     {
         let Stream {
             file,
@@ -207,13 +285,19 @@ fn finish<F: Medium, A: Heap + Clone>(
     requires is_open { IsTrue F.tells → Suits (stored_of file.old entry) window }
     ensures still_there { ∥ IsStreamOf file.new.base entry ∥₁ }
     ensures still_open { IsTrue F.tells → Suits (stored_of file.new entry) window }
-    ensures closes { IsTrue F.tells → OnOk result (Closes (causes_of file.old file.new) (run_in (open_stream_of file.old entry window)) None (is_failed file.new)) }
-    ensures refused { IsTrue F.tells → IfErr result (IsClosingRefused (λ f. F.read_faults f || F.write_faults f) (open_stream_of file.old entry window) file.new) }
-    ensures tree { IsTrue F.tells → (first : FileState) → ClosesTree first entry (stream_in (open_stream_of file.old entry window)).content file.new }
+    ensures closes { IsTrue F.tells → OnOk result (Closes (causes_of file.old file.new)
+        (run_in (open_stream_of file.old entry window)) None (is_failed file.new)) }
+    ensures refused { IsTrue F.tells → IfErr result (IsClosingRefused (λ f. F.read_faults f
+        || F.write_faults f) (open_stream_of file.old entry window) file.new) }
+    ensures tree { IsTrue F.tells → (first : FileState) → ClosesTree first entry
+        (stream_in (open_stream_of file.old entry window)).content file.new }
     ensures changes { IsTrue F.tells → ChangesStream entry file.old file.new }
-    ensures rest { IsTrue F.tells → (first : FileState) → KeepsRest entry first file.old → KeepsRest entry first file.new }
+    ensures rest { IsTrue F.tells
+        → (first : FileState) → KeepsRest entry first file.old → KeepsRest entry first file.new }
     ensures calm { window.pending ≡ false → file.new ≡ file.old }
     ensures sure { window.pending ≡ false → OnErr result (is_failed file.old ≡ true) }
+    ensures counts { IsTrue F.tells → CountsFailure (λ f. F.read_faults f
+        || F.write_faults f) result (failures_of file.old) (failures_of file.new) }
 {
     let closed = window.close(file, entry);
     // What the file keeps in memory is what its bytes say still.

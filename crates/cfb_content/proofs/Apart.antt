@@ -18,7 +18,7 @@ use Rattle.cfb_format.specs.Soundness.{IsSound, KeepsLoose, used_mini_sectors, u
 use Rattle.cfb_format.proofs.Chains.{chain_from-IsChain}
 use Rattle.cfb_format.proofs.Unique.{IsHeader-unique, IsOutline-unique}
 use Rattle.cfb_tables.specs.Changes.{AreDisjoint}
-use Rattle.cfb_tables.specs.Owners.{IsClosed, Uses, tally}
+use Rattle.cfb_tables.specs.Owners.{IsClosedUnder, Uses, tally}
 use Rattle.cfb_tables.specs.Tables.{first_or_end}
 use Rattle.cfb_tables.proofs.ChainLemmas.{members-busy, regular-le}
 use Rattle.cfb_tables.proofs.ClosedLemmas.{chains-closed, closed-together, marks-closed, owned-unnamed}
@@ -66,7 +66,7 @@ maybe-busy table b start n m =
     let busy = members-busy table start c.0 c.1 n c.2 in (busy.0, busy.1)
 
 -- and they point to no others
-maybe-closed : (table : List ℕ) (b : Bool) (start : ℕ) → IsClosed table (unwrap_or (if b then Some [] else chain_from table start) [])
+maybe-closed : (table : List ℕ) (b : Bool) (start : ℕ) → IsClosedUnder table (unwrap_or (if b then Some [] else chain_from table start) [])
 maybe-closed table b start n m regular =
     let c = maybe-chain table b start n m in
     subst (λ (w : Option (List ℕ)). Contains (unwrap_or w []) (value table n)) (sym c.3) (chains-closed table start c.0 c.1 n c.2 regular)
@@ -80,10 +80,10 @@ module _ (table : List ℕ) (large : Bool) where
       go true c = maybe-busy table b start n c
       go false c = absurd (Contains-nil n c)
 
-  owned-closed : (b : Bool) (start : ℕ) → IsClosed table (if large then unwrap_or (if b then Some [] else chain_from table start) [] else [])
+  owned-closed : (b : Bool) (start : ℕ) → IsClosedUnder table (if large then unwrap_or (if b then Some [] else chain_from table start) [] else [])
   owned-closed b start = go large
     where
-      go : (l : Bool) → IsClosed table (if l then unwrap_or (if b then Some [] else chain_from table start) [] else [])
+      go : (l : Bool) → IsClosedUnder table (if l then unwrap_or (if b then Some [] else chain_from table start) [] else [])
       go true = maybe-closed table b start
       go false = λ n m regular. absurd (Contains-nil n m)
 
@@ -98,17 +98,17 @@ minis-busy s k n m = go (is_large (entry_at (entries_of s) k)) m
     go true c = absurd (Contains-nil n c)
     go false c = maybe-busy s.minifat ((entry_at (entries_of s) k).stream_len == 0) (entry_at (entries_of s) k).start_sector n c
 
-sectors-closed : (s : MiniState) (k : ℕ) → IsClosed (tables_in s).fat (sectors_owned s k)
+sectors-closed : (s : MiniState) (k : ℕ) → IsClosedUnder (tables_in s).fat (sectors_owned s k)
 sectors-closed s k = owned-closed (tables_in s).fat (is_large (entry_at (entries_of s) k)) false (entry_at (entries_of s) k).start_sector
 
-minis-closed : (s : MiniState) (k : ℕ) → IsClosed s.minifat (mini_sectors_owned s k)
+minis-closed : (s : MiniState) (k : ℕ) → IsClosedUnder s.minifat (mini_sectors_owned s k)
 minis-closed s k = go (is_large (entry_at (entries_of s) k))
   where
-    go : (l : Bool) → IsClosed s.minifat (if l then [] else unwrap_or (mini_chain (parts_of s) (entry_at (entries_of s) k)) [])
+    go : (l : Bool) → IsClosedUnder s.minifat (if l then [] else unwrap_or (mini_chain (parts_of s) (entry_at (entries_of s) k)) [])
     go true = λ n m regular. absurd (Contains-nil n m)
     go false = maybe-closed s.minifat ((entry_at (entries_of s) k).stream_len == 0) (entry_at (entries_of s) k).start_sector
 
-flat-closed : (table : List ℕ) (f : ℕ → List ℕ) (xs : List ℕ) → ((k : ℕ) → IsClosed table (f k)) → IsClosed table (flat_map f xs)
+flat-closed : (table : List ℕ) (f : ℕ → List ℕ) (xs : List ℕ) → ((k : ℕ) → IsClosedUnder table (f k)) → IsClosedUnder table (flat_map f xs)
 flat-closed table f [] h = λ n m regular. absurd (Contains-nil n m)
 flat-closed table f (x ∷ xs) h = closed-together table (f x) (flat_map f xs) (h x) (flat-closed table f xs h)
 
@@ -154,7 +154,7 @@ module _ (v : Validation) (s : MiniState) (held : HoldsMini v s) where
     | inr b ↦ λ e. omega (arith, difat-mark n b, e)
   ]
 
-  tables-closed : IsClosed fat (table_sectors (tables_in s))
+  tables-closed : IsClosedUnder fat (table_sectors (tables_in s))
   tables-closed = marks-closed fat (table_sectors (tables_in s))
       (λ n m regular. let le = regular-le (value fat n) regular in
       elim (Contains-append_cases (tables_in s).fat_sectors (tables_in s).difat_sectors n m) [
@@ -169,8 +169,8 @@ module _ (v : Validation) (s : MiniState) (held : HoldsMini v s) where
   stream-busy n m = (maybe-busy fat ((entry_at (entries_of s) 0).stream_len == 0 && not (is_regular (entry_at (entries_of s) 0).start_sector))
       (entry_at (entries_of s) 0).start_sector n (subst (λ (l : List ℕ). Contains l n) (sym stream-is) m)).0
 
-  stream-closed : IsClosed fat (mini_stream_of s)
-  stream-closed = subst (λ (l : List ℕ). IsClosed fat l) stream-is
+  stream-closed : IsClosedUnder fat (mini_stream_of s)
+  stream-closed = subst (λ (l : List ℕ). IsClosedUnder fat l) stream-is
       (maybe-closed fat ((entry_at (entries_of s) 0).stream_len == 0 && not (is_regular (entry_at (entries_of s) 0).start_sector)) (entry_at (entries_of s) 0).start_sector)
 
   pub system-busy : (n : ℕ) → Contains (system_sectors s) n → value fat n ≢ free_sector
@@ -182,7 +182,7 @@ module _ (v : Validation) (s : MiniState) (held : HoldsMini v s) where
     ]
   ]
 
-  system-closed : IsClosed fat (system_sectors s)
+  system-closed : IsClosedUnder fat (system_sectors s)
   system-closed = closed-together fat (s.directory.sectors ++ s.minifat_sectors) (mini_stream_of s)
       (closed-together fat s.directory.sectors s.minifat_sectors (chains-closed fat (first_or_end s.directory.sectors) s.directory.sectors held.directory.chain)
       (chains-closed fat (first_or_end s.minifat_sectors) s.minifat_sectors held.chain))

@@ -14,7 +14,7 @@ use Rattle.cfb_format.specs.DirectoryEntry.{Entry}
 use Rattle.cfb_format.specs.Siblings.{entry_at}
 use Rattle.cfb_format.proofs.Chains.{chain_from-IsChain}
 use Rattle.cfb_sectors.specs.Sectors.{SectorStays}
-use Rattle.cfb_sectors.specs.Words.{Stays}
+use Rattle.cfb_sectors.specs.Words.{RangeStays}
 use Rattle.cfb_tables.specs.Listed.{gained}
 use Rattle.cfb_tables.proofs.ChainLemmas.{chain-stays}
 use Rattle.cfb_alloc.specs.Frame.{IsForeign, Spares}
@@ -30,10 +30,10 @@ use Rattle.cfb_content.proofs.Owned.{large-content, large-owned, small-content, 
 
 -- ---- nothing changes, and one change after the other
 
-stays-same : (from to : ℕ) (a : List ℕ) → Stays from to a a
+stays-same : (from to : ℕ) (a : List ℕ) → RangeStays from to a a
 stays-same from to a = record { no_shorter = omega arith; each = λ i lt low high. refl }
 
-stays-then : (from to : ℕ) (a b c : List ℕ) → Stays from to a b → Stays from to b c → Stays from to a c
+stays-then : (from to : ℕ) (a b c : List ℕ) → RangeStays from to a b → RangeStays from to b c → RangeStays from to a c
 stays-then from to a b c p q = record {
   no_shorter = omega (arith, p.no_shorter, q.no_shorter);
   each = λ i lt low high. q.each i (omega (arith, lt, p.no_shorter)) low high ∙ p.each i lt low high;
@@ -63,11 +63,11 @@ module _ (old mid new : MiniState) (e : Entry) (version : version_of mid ≡ ver
     chain = b.chain ∙ a.chain;
     sectors = λ l n c.
         stays-then (sector_start (version_of old) n) (sector_start (version_of old) (n + 1)) (bytes_of old) (bytes_of mid) (bytes_of new) (a.sectors l n c)
-        (subst (λ w. Stays (sector_start w n) (sector_start w (n + 1)) (bytes_of mid) (bytes_of new)) version (b.sectors l n (there-large l n c)));
+        (subst (λ w. RangeStays (sector_start w n) (sector_start w (n + 1)) (bytes_of mid) (bytes_of new)) version (b.sectors l n (there-large l n c)));
     places = λ l n c. b.places l n (there-small l n c) ∙ a.places l n c;
     mini_sectors = λ l n c.
         stays-then (mini_place old n) (mini_place old n + mini_sector_len) (bytes_of old) (bytes_of mid) (bytes_of new) (a.mini_sectors l n c)
-        (subst (λ (at : ℕ). Stays at (at + mini_sector_len) (bytes_of mid) (bytes_of new)) (a.places l n c) (b.mini_sectors l n (there-small l n c)));
+        (subst (λ (at : ℕ). RangeStays at (at + mini_sector_len) (bytes_of mid) (bytes_of new)) (a.places l n c) (b.mini_sectors l n (there-small l n c)));
   }
 
 pub others-kept-then : OthersAreKeptInTurn
@@ -90,7 +90,7 @@ pub next-start : (v : Version) (i : ℕ) → sector_start v (i + 1) ≡ sector_s
 next-start V3 i = omega arith
 next-start V4 i = omega arith
 
-pub stays-inside : (v : Version) (i n at : ℕ) (a b : List ℕ) → at ≡ sector_start v i + 64 * n % sector_len v → SectorStays v i a b → Stays at (at + 64) a b
+pub stays-inside : (v : Version) (i n at : ℕ) (a b : List ℕ) → at ≡ sector_start v i + 64 * n % sector_len v → SectorStays v i a b → RangeStays at (at + 64) a b
 unfolding SectorStays
 stays-inside v i n at a b e s = record {
   no_shorter = s.no_shorter;

@@ -7,6 +7,7 @@ pub mod Rewritten
 pub mod InUse
 pub mod Changing
 pub mod Sound
+pub mod Snug
 pub mod Fullness
 pub mod StreamEntry
 mod KnownSectors

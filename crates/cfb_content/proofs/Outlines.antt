@@ -3,7 +3,7 @@ use Rattle.std.proofs.Common.{◌≡◌, ◌≢◌, ◌*◌, ◌%◌, ◌⊎◌,
 use Rattle.std.specs.Prelude.{Contains, nat_eq}
 use Rattle.std.specs.List.{IsDistinct}
 use Rattle.std.proofs.lemmas.Bool.{cases_eq}
-use Rattle.cfb_format.specs.DirectoryEntry.{Entry}
+use Rattle.cfb_format.specs.DirectoryEntry.{Entry, ButContent}
 use Rattle.cfb_format.specs.Siblings.{entry_at}
 use Rattle.cfb_format.specs.Reading.{IsOutline, Outline, stream_numbers}
 use Rattle.cfb_siblings.proofs.Tallies.{counted, once-distinct}
@@ -11,7 +11,6 @@ use Rattle.cfb_trees.specs.Changes.{ButFields}
 use Rattle.cfb_trees.proofs.Members.{below-once, no-root, stream-reached}
 use Rattle.cfb_trees.proofs.Same.{outline-kept}
 use Rattle.cfb_mini_sectors.specs.State.{MiniState, cases_of, entries_of, root_len_of}
-use Rattle.cfb_mini_sectors.specs.Steps.{ButContent}
 use Rattle.cfb_content.specs.Contents.{MovesContent}
 use Rattle.cfb_content.specs.Laws.{ContentMovesInTurn, MovedIsOutline, MovedRootIsMoved, SameEntriesAreMoved, StreamIsNoRoot, StreamStays}
 

@@ -14,7 +14,7 @@ use Rattle.cfb_format.specs.DirectoryEntry.{Entry}
 use Rattle.cfb_format.specs.Siblings.{entry_at}
 use Rattle.cfb_format.proofs.Chains.{chain_from-IsChain}
 use Rattle.cfb_sectors.specs.Sectors.{SectorStays}
-use Rattle.cfb_sectors.specs.Words.{Stays}
+use Rattle.cfb_sectors.specs.Words.{RangeStays}
 use Rattle.cfb_tables.proofs.ChainLemmas.{members-busy}
 use Rattle.cfb_soundness.specs.Layout.{LiesInPieces}
 use Rattle.cfb_soundness.specs.Places.{SamePiece, Stand, mini_start, place_by}
@@ -28,7 +28,7 @@ use Rattle.cfb_content.proofs.Kept.{next-start}
 use Rattle.cfb_content.proofs.Outlines.{no-root-stream}
 use Rattle.cfb_content.proofs.Owned.{large-content, large-owned, small-content, small-owned, some-of}
 
-same-piece : (len start : ℕ) (a b : List ℕ) → Stays start (start + len) a b → SamePiece len start a b
+same-piece : (len start : ℕ) (a b : List ℕ) → RangeStays start (start + len) a b → SamePiece len start a b
 same-piece len start a b s o lt inside = (omega (arith, s.no_shorter, inside), s.each (start + o) inside (omega arith) (omega (arith, lt)))
 
 -- ---- where streams lie
@@ -77,7 +77,7 @@ module _ (old new : MiniState) (e e' : Entry) (held : HoldsMiniStream old) (held
       (λ n m. (
         refl,
         same-piece (sector_len (version_of old)) (sector_start (version_of old) n) (bytes_of old) (bytes_of new)
-            (subst (λ (to : ℕ). Stays (sector_start (version_of old) n) to (bytes_of old) (bytes_of new)) (next-start (version_of old) n)
+            (subst (λ (to : ℕ). RangeStays (sector_start (version_of old) n) to (bytes_of old) (bytes_of new)) (next-start (version_of old) n)
             (keeps.sectors b n (subst (λ (w : Option (List ℕ)). Contains (unwrap_or w []) n) (sym (sym (large-content old e b) ∙ list.1)) m))),
       ))
 
@@ -94,7 +94,7 @@ module _ (old new : MiniState) (e e' : Entry) (held : HoldsMiniStream old) (held
       let there : mini_place new m ≡ mini_start (version_of new) held'.sectors m = ap (λ (w : Option (List ℕ)). mini_start (version_of new) (unwrap_or w []) m) held'.kept in (
         sym there ∙ keeps.places b m at' ∙ here,
         same-piece mini_sector_len (mini_start (version_of old) held.sectors m) (bytes_of old) (bytes_of new)
-            (subst (λ (p : ℕ). Stays p (p + 64) (bytes_of old) (bytes_of new)) here (keeps.mini_sectors b m at')),
+            (subst (λ (p : ℕ). RangeStays p (p + 64) (bytes_of old) (bytes_of new)) here (keeps.mini_sectors b m at')),
       ))
 
   kept : (b : Bool) → is_large e ≡ b → content_of new e' ≡ content_of old e

@@ -1,7 +1,7 @@
 -- How the refusal of a step is one of the whole.
 use Rattle.std.proofs.Common.{arith}
 use Rattle.cfb_format.specs.declared.error.Error.{Error}
-use Rattle.cfb_format.specs.declared.error.Error.TheVariants.{AlreadyExists, Failed, Full, InvalidData, InvalidInput, Medium, Memory, NotFound, Unsound, Unsupported}
+use Rattle.cfb_format.specs.declared.error.Error.TheVariants.{AlreadyExists, Failed, Full, InvalidData, InvalidInput, Medium, Memory, NotFound, Unsound}
 use Rattle.cfb_format.specs.Refused.{IsInvalidData}
 use Rattle.cfb_tables.specs.Refused.{ChangeRefused}
 
@@ -17,7 +17,6 @@ refused-as invalid invalid' memory memory' full full' medium medium' a b c d Mem
 refused-as invalid invalid' memory memory' full full' medium medium' a b c d Full h = c h
 refused-as invalid invalid' memory memory' full full' medium medium' a b c d Unsound h = h
 refused-as invalid invalid' memory memory' full full' medium medium' a b c d Failed h = h
-refused-as invalid invalid' memory memory' full full' medium medium' a b c d Unsupported h = h
 
 -- a refusal of the bytes has this reason
 pub invalid-refused : (invalid memory full medium : Type 0) (e : Error) → IsInvalidData e → invalid → ChangeRefused invalid memory full medium e
@@ -30,4 +29,3 @@ invalid-refused invalid memory full medium Memory is why = absurd (omega (arith,
 invalid-refused invalid memory full medium Full is why = absurd (omega (arith, is))
 invalid-refused invalid memory full medium Unsound is why = absurd (omega (arith, is))
 invalid-refused invalid memory full medium Failed is why = absurd (omega (arith, is))
-invalid-refused invalid memory full medium Unsupported is why = absurd (omega (arith, is))

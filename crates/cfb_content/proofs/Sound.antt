@@ -14,7 +14,7 @@ use Rattle.cfb_format.specs.Soundness.{IsSound, used_mini_sectors, used_sectors}
 use Rattle.cfb_format.proofs.Unique.{IsOutline-unique}
 use Rattle.cfb_tables.specs.Owners.{AllUsed, Uses}
 use Rattle.cfb_tables.proofs.UseLemmas.{nothing-loose, uses-kept}
-use Rattle.cfb_alloc.specs.Agreement.{Agrees}
+use Rattle.cfb_alloc.specs.Agreement.{WordsAgree}
 use Rattle.cfb_sound_changes.specs.Kept.{IsReady}
 use Rattle.cfb_sound_changes.proofs.Kept.{used-sound}
 use Rattle.cfb_mini_sectors.specs.State.{MiniState, bytes_of, cases_of, content_of, entries_of, parts_of, reading_of, tables_in}
@@ -74,7 +74,7 @@ module _ (v : Validation) (i : ℕ) (old new : MiniState) (change : ChangesConte
     sound-now h is =
         let version = version-is v new h change.held is in
         let ready : IsReady (bytes_of new) (reading_of h new p) = record {
-          agrees = subst (λ w. Agrees w (bytes_of new) (tables_in new).fat_sectors (tables_in new).difat_sectors (tables_in new).fat) (sym version) change.held.directory.tables.holds.agrees;
+          agrees = subst (λ w. WordsAgree w (bytes_of new) (tables_in new).fat_sectors (tables_in new).difat_sectors (tables_in new).fat) (sym version) change.held.directory.tables.holds.agrees;
           mini_stream = subst (λ (w : Option (List ℕ)). IsSome w) (sym change.held.mini_stream.chain) refl;
           chains = chain-at;
           mini_room = subst (λ (w : Option (List ℕ)). length new.minifat * mini_sector_len ≤ length (unwrap_or w []) * sector_len h.version) (sym change.held.mini_stream.chain)

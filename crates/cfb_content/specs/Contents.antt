@@ -1,21 +1,21 @@
 -- The contents of a file's streams, and how one of them changes while the others stay (MS-CFB 2.3, 2.4 and 2.6.3).
-use Rattle.std.specs.Prelude.{ℕ, ◌≡◌, ◌≢◌, ◌+◌, ◌*◌, ◌/◌, ◌%◌, ◌<◌, ◌⊎◌, List, [], true, false, length, slice_index, unwrap_or, Contains}
+use Rattle.std.specs.Prelude.{ℕ, ◌≡◌, ◌≢◌, ◌+◌, ◌*◌, ◌/◌, ◌%◌, ◌<◌, ◌≤◌, ◌⊎◌, List, [], true, false, length, max, slice_index, unwrap_or, Contains}
 use Rattle.cfb_format.specs.declared.error.Error.{Error}
 use Rattle.cfb_format.specs.declared.validate.Validation.{Validation}
-use Rattle.cfb_format.specs.Content.{content_chain, is_large, mini_chain, mini_sector_len, mini_stream_chain, sector_chain}
-use Rattle.cfb_format.specs.DirectoryEntry.{Entry}
-use Rattle.cfb_format.specs.Full.{IsTooLong, minifat_len_for}
+use Rattle.cfb_format.specs.Content.{content_chain, is_large, mini_chain, mini_sector_len, mini_stream_chain, mini_stream_cutoff, sector_chain}
+use Rattle.cfb_format.specs.DirectoryEntry.{Entry, ButContent}
+use Rattle.cfb_format.specs.Full.{IsTooLong, mini_sectors_for, minifat_len_for, sectors_for}
 use Rattle.cfb_format.specs.Reading.{IsOutline, Outline, Reading, stream_numbers}
 use Rattle.cfb_format.specs.Refused.{HasReason, at_every_error}
 use Rattle.cfb_format.specs.Siblings.{entry_at}
 use Rattle.cfb_format.specs.Soundness.{used_sectors, used_mini_sectors}
 use Rattle.cfb_sectors.specs.Sectors.{SectorStays}
-use Rattle.cfb_sectors.specs.Words.{Stays}
+use Rattle.cfb_sectors.specs.Words.{RangeStays}
 use Rattle.cfb_soundness.specs.Streams.{own_sectors, own_mini_sectors}
 use Rattle.cfb_tables.specs.Owners.{AllUsed}
 use Rattle.cfb_alloc.specs.Alloc.{IsMeasured}
 use Rattle.cfb_mini_sectors.specs.State.{IsChangeable, MiniState, bytes_of, cases_of, entries_of, mini_place, parts_of, root_len_of, table_of, tables_in, version_of}
-use Rattle.cfb_mini_sectors.specs.Steps.{ButContent}
+use Rattle.cfb_mini_sectors.specs.Steps.{IsZeroMini}
 use Rattle.cfb_mini.specs.MiniSectors.{IsStill}
 
 -- ---- which stream
@@ -59,7 +59,7 @@ pub record KeepsContent (old new : MiniState) (e : Entry) : Type 0 where
   pub sectors : is_large e ≡ true → (i : ℕ) → Contains (unwrap_or (sector_chain (parts_of old) e) []) i → SectorStays (version_of old) i (bytes_of old) (bytes_of new)
   pub places : is_large e ≡ false → (m : ℕ) → Contains (unwrap_or (mini_chain (parts_of old) e) []) m → mini_place new m ≡ mini_place old m
   pub mini_sectors : is_large e ≡ false → (m : ℕ) → Contains (unwrap_or (mini_chain (parts_of old) e) []) m
-      → Stays (mini_place old m) (mini_place old m + mini_sector_len) (bytes_of old) (bytes_of new)
+      → RangeStays (mini_place old m) (mini_place old m + mini_sector_len) (bytes_of old) (bytes_of new)
 
 -- the contents of all streams of the tree stay, but for that of one entry
 abbrev pub KeepsOthers : ℕ → MiniState → MiniState → Type 0
@@ -79,6 +79,34 @@ pub record MovesContent (old new : MiniState) (i : ℕ) : Type 0 where
 pub record AreAllUsed (s : MiniState) : Type 0 where
   pub sectors : (o : Outline) → IsOutline (cases_of s) (entries_of s) o → AllUsed (tables_in s).fat (used_sectors (parts_with s o))
   pub mini_sectors : (o : Outline) → IsOutline (cases_of s) (entries_of s) o → AllUsed s.minifat (used_mini_sectors (parts_with s o))
+
+-- ---- how long a chain is
+
+-- a stream with this entry has exactly the sectors, or mini sectors, that its length needs
+pub record IsSnug (s : MiniState) (e : Entry) : Type 0 where
+  pub sectors : length (own_sectors (parts_of s) e) ≡ sectors_for (version_of s) e.stream_len
+  pub mini_sectors : length (own_mini_sectors (parts_of s) e) ≡ mini_sectors_for e.stream_len
+
+-- and so has each stream of the tree
+abbrev pub AreSnug : MiniState → Type 0
+AreSnug s = (k : ℕ) → IsStreamOf s k → IsSnug s (entry_at (entries_of s) k)
+
+-- the stream of that entry has got exactly what its new length needs: where it was cut, and where it moved across 4096 bytes; where it went
+-- on in the table where it lay it has the greater of that and what it had
+pub record SizesChain (old new : MiniState) (i : ℕ) : Type 0 where
+  pub shorter : len_of new i < len_of old i → IsSnug new (entry_at (entries_of new) i)
+  pub moved : len_of old i < mini_stream_cutoff → mini_stream_cutoff ≤ len_of new i
+      → IsSnug new (entry_at (entries_of new) i)
+  pub longer : mini_stream_cutoff ≤ len_of old i → len_of old i ≤ len_of new i
+      → length (sectors_owned new i)
+      ≡ max (sectors_for (version_of new) (len_of new i)) (length (sectors_owned old i))
+  pub longer_small : len_of old i ≤ len_of new i → len_of new i < mini_stream_cutoff
+      → length (mini_sectors_owned new i)
+      ≡ max (mini_sectors_for (len_of new i)) (length (mini_sectors_owned old i))
+
+-- each mini sector that the stream of that entry gave back reads as zeros
+abbrev pub WipesMinis : MiniState → MiniState → ℕ → Type 0
+WipesMinis old new i = (m : ℕ) → Contains (mini_sectors_owned old i) m → (Contains (mini_sectors_owned new i) m → ⊥) → IsZeroMini new m
 
 -- ---- fullness
 

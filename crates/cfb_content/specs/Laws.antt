@@ -17,7 +17,7 @@ use Rattle.cfb_alloc.specs.Frame.{Spares, table_sectors}
 use Rattle.cfb_chains.specs.ChainPlaces.{place_along}
 use Rattle.cfb_mini_sectors.specs.State.{HoldsMini, HoldsMiniStream, IsChangeable, MiniState, bytes_of, cases_of, content_of, entries_of, parts_of, table_of, tables_in, version_of}
 use Rattle.cfb_mini_sectors.specs.Steps.{IsTooFewAfterFor, KeepsLimits, KeepsMini, MovesRoot, SparesMini, system_sectors}
-use Rattle.cfb_content.specs.Contents.{AreAllUsed, IsStreamOf, IsTooLongFor, KeepsContent, KeepsOthers, MovesContent, len_of, mini_place_along, mini_sectors_owned, sectors_owned}
+use Rattle.cfb_content.specs.Contents.{AreAllUsed, AreSnug, IsSnug, IsStreamOf, IsTooLongFor, KeepsContent, KeepsOthers, MovesContent, SizesChain, len_of, mini_place_along, mini_sectors_owned, sectors_owned}
 use Rattle.cfb_content.specs.Uses.{ChangesContent, ChangesUse, Owns}
 
 -- ---- the tree
@@ -99,6 +99,28 @@ ChangedIsChangeable = (validation : Validation) (i : ℕ) (old new : MiniState) 
 abbrev pub AllUsedIsKept : Type 0
 AllUsedIsKept = (validation : Validation) (i : ℕ) (old new : MiniState) → ChangesContent validation i old new → ChangesUse old new
     → AreAllUsed old → AreAllUsed new
+
+-- ---- how long the chains are
+
+-- what was kept of a stream is as long as it was
+abbrev pub KeptIsSnug : Type 0
+KeptIsSnug = (old new : MiniState) (e e' : Entry) → version_of new ≡ version_of old → KeepsContent old new e
+    → e'.start_sector ≡ e.start_sector → e'.stream_len ≡ e.stream_len → IsSnug old e → IsSnug new e'
+
+-- an empty stream has nothing and needs nothing
+abbrev pub EmptyIsSnug : Type 0
+EmptyIsSnug = (s : MiniState) (e : Entry) → e.stream_len ≡ 0 → IsSnug s e
+
+-- where the others are kept and the one has got what its length needs, each stream has
+abbrev pub SizedIsSnug : Type 0
+SizedIsSnug = (old new : MiniState) (i : ℕ) → KeepsLimits old new → MovesContent old new i → KeepsOthers i old new → IsStreamOf old i
+    → SizesChain old new i → AreSnug old → AreSnug new
+
+-- a stream whose length and chain stay has what it had
+abbrev pub SameIsSized : Type 0
+SameIsSized = (validation : Validation) (old new : MiniState) (i : ℕ) → IsChangeable validation old → IsStreamOf old i
+    → version_of new ≡ version_of old → (tables_in new).fat ≡ (tables_in old).fat → new.minifat ≡ old.minifat
+    → entry_at (entries_of new) i ≡ entry_at (entries_of old) i → SizesChain old new i
 
 -- ---- what is the stream's own
 

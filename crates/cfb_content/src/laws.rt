@@ -1,6 +1,6 @@
 //! What the definitions promise about each other. None of these functions does anything: each has a law
 //! as its contract.
-ghost use Rattle.cfb_content.specs.Laws.{AllUsedIsKept, ChangedIsChangeable, ContentMovesInTurn, EmptyOwnsNothing, EnoughIsNotTooLong, KeptIsReadable, KeptMiniIsSpared, LackIsTooLong, LargeIsReadByPlaces, LargeIsResized, LargeIsThere, LargeIsWritten, LargeOwnsItsChain, MovedIsOutline, MovedRootIsMoved, NothingIsMoved, OthersAreKeptInTurn, OthersAreReadable, OwnIsApart, OwnStays, SameEntriesAreMoved, SmallIsReadByPlaces, SmallIsResized, SmallIsThere, SmallIsWritten, SmallOwnsItsChain, SparedIsKept, SparedSectorsAreKept, StreamIsNoRoot, StreamOwnsItsOwn, StreamStartIsUnnamed, StreamStays};
+ghost use Rattle.cfb_content.specs.Laws.{AllUsedIsKept, ChangedIsChangeable, ContentMovesInTurn, EmptyIsSnug, EmptyOwnsNothing, EnoughIsNotTooLong, KeptIsReadable, KeptIsSnug, KeptMiniIsSpared, LackIsTooLong, LargeIsReadByPlaces, LargeIsResized, LargeIsThere, LargeIsWritten, LargeOwnsItsChain, MovedIsOutline, MovedRootIsMoved, NothingIsMoved, OthersAreKeptInTurn, OthersAreReadable, OwnIsApart, OwnStays, SameEntriesAreMoved, SameIsSized, SizedIsSnug, SmallIsReadByPlaces, SmallIsResized, SmallIsThere, SmallIsWritten, SmallOwnsItsChain, SparedIsKept, SparedSectorsAreKept, StreamIsNoRoot, StreamOwnsItsOwn, StreamStartIsUnnamed, StreamStays};
 ghost use Rattle.cfb_content.specs.Uses.{GrowthStays, LargeBecomesSmall, LargeGoesOn, LargeIsCut, SameUse, SmallBecomesLarge, SmallGoesOn, SmallIsCut, UsedByOwners};
 
 /// Start and length of a stream's entry and of the root's are none of what the tree hangs on (MS-CFB 2.6).
@@ -80,6 +80,14 @@ pub fn uses_follow_the_content()
 pub fn files_stay_changeable()
     ensures changeable { ChangedIsChangeable }
     ensures all_used { AllUsedIsKept }
+{}
+
+/// Each stream has exactly the sectors, or mini sectors, that its length needs, where it was so before the one got a chain for its length.
+pub fn chains_fit_their_lengths()
+    ensures kept { KeptIsSnug }
+    ensures empty { EmptyIsSnug }
+    ensures sized { SizedIsSnug }
+    ensures same { SameIsSized }
 {}
 
 /// A length is too long for the format exactly where memory has too few numbers for it.

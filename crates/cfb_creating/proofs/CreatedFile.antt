@@ -1,6 +1,6 @@
 -- What memory keeps of a created file is what its bytes say.
 use Rattle.std.proofs.Common.{◌≡◌, ◌∙◌, ℕ, zero, suc, ◌-◌, ◌<◌, List, [], ◌∷◌, true, false, refl, sym, ap, subst, arith, lit<}
-use Rattle.std.specs.Prelude.{◌≢◌, slice_index_or}
+use Rattle.std.specs.Prelude.{◌≢◌, Contains, slice_index_or}
 use Rattle.cfb_format.specs.declared.header.Header.{Header}
 use Rattle.cfb_format.specs.declared.version.Version.{Version}
 use Rattle.cfb_format.specs.declared.version.Version.TheVariants.{V3, V4}
@@ -13,12 +13,13 @@ use Rattle.cfb_format.specs.DirectoryEntry.{Entry, EntryFits, IsValidEntry, empt
 use Rattle.cfb_format.specs.Header.{IfStrict, IsHeader}
 use Rattle.cfb_format.specs.Laws.{AtMostOneHeader, AtMostOneOutline}
 use Rattle.cfb_format.specs.Names.{Cases}
-use Rattle.cfb_format.specs.Reading.{IsOutline, IsStrict, Outline, no_more}
+use Rattle.cfb_format.specs.Reading.{IsOutline, IsStrict, Outline, no_more, stream_numbers}
 use Rattle.cfb_format.specs.Siblings.{entry_at, is_red_at}
 use Rattle.cfb_format.specs.Soundness.{IsSound, used_sectors}
 use Rattle.cfb_format.proofs.CreatedFacts.{exact, reads, sound, strict, three_sectors}
 use Rattle.cfb_tables.specs.Owners.{AllUsed}
 use Rattle.cfb_tables.specs.Tables.{AreExactTables}
+use Rattle.cfb_tables.proofs.Members.{Contains-nil}
 use Rattle.cfb_trees.specs.Colors.{AreColored}
 use Rattle.cfb_trees.specs.Reached.{IsReached}
 use Rattle.cfb_directory.specs.State.{AreWritable}
@@ -140,6 +141,8 @@ module _ (one_header : AtMostOneHeader) (one_outline : AtMostOneOutline) (v : Ve
         mini_sectors = λ o is m used. absurd (used refl);
       };
       exact = exact_tables v limit;
+      -- there is no stream
+      snug = λ k at. absurd (Contains-nil k (subst (λ (p : Outline). Contains (stream_numbers p) k) (sym (the_outline at.outline at.is)) at.reached));
       colored = λ o is. subst (AreColored (created_reading v).entries) (the_outline o is) (colored v);
     }
 

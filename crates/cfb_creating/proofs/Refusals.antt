@@ -1,7 +1,7 @@
 -- What is left of a refusal once its other reasons cannot be.
 use Rattle.std.specs.Prelude.{Result, Ok, Err, IfErr, IfOk, refl}
 use Rattle.cfb_format.specs.declared.error.Error.{Error}
-use Rattle.cfb_format.specs.declared.error.Error.TheVariants.{NotFound, AlreadyExists, InvalidInput, InvalidData, Medium, Memory, Full, Unsound, Failed, Unsupported}
+use Rattle.cfb_format.specs.declared.error.Error.TheVariants.{NotFound, AlreadyExists, InvalidInput, InvalidData, Medium, Memory, Full, Unsound, Failed}
 use Rattle.cfb_format.specs.Refused.{IsMemory}
 use Rattle.cfb_tables.specs.Refused.{TableRefused}
 
@@ -16,7 +16,6 @@ only_memory P M right (Medium g) r = absurd r
 only_memory P M right Full r = absurd r
 only_memory P M right Unsound r = absurd r
 only_memory P M right Failed r = absurd r
-only_memory P M right Unsupported r = absurd r
 
 pub memory_is_left : {T : Type 0} (r : Result T Error) (P M : Type 0) → (P → ⊥) → IfErr r (TableRefused P M ⊥) → IfErr r IsMemory
 memory_is_left (Ok x) P M right p = tt

@@ -47,7 +47,8 @@ impl EmptySlots {
 fn lay_out(version: Version, piece: usize, slots: &EmptySlots, into: &mut [u8])
     requires piece { piece < 3 }
     requires len { length into.old ≡ sector_len version }
-    ensures { into.new ≡ part (created_bytes version) (piece * sector_len version) (sector_len version) }
+    ensures { into.new
+        ≡ part (created_bytes version) (piece * sector_len version) (sector_len version) }
 {
     match piece {
         0 => lay_out_header(version, into),
@@ -81,7 +82,8 @@ fn new_header(version: Version) -> Header
 /// Fills a sector with the header of a created file, and zeros behind it.
 fn lay_out_header(version: Version, into: &mut [u8])
     requires { 512 ≤ length into.old }
-    ensures { into.new ≡ header_bytes (created_header version) ++ replicate (length into.old - 512) 0 }
+    ensures { into.new ≡ header_bytes (created_header version)
+        ++ replicate (length into.old - 512) 0 }
 {
     let mut bytes = [0; consts::HEADER_LEN];
     new_header(version).write_to(&mut bytes);
@@ -91,7 +93,8 @@ fn lay_out_header(version: Version, into: &mut [u8])
 
 fn lay_out_fat(into: &mut [u8])
     requires { 8 ≤ length into.old }
-    ensures { into.new ≡ word_bytes (fat_sector ∷ end_of_chain ∷ []) ++ replicate (length into.old - 8) 255 }
+    ensures { into.new ≡ word_bytes (fat_sector ∷ end_of_chain ∷ [])
+        ++ replicate (length into.old - 8) 255 }
 {
     into.fill(0xff);
     put_words(into, 0, &[consts::FAT_SECTOR, consts::END_OF_CHAIN]);
@@ -119,7 +122,8 @@ pub(crate) fn write_created<F: Medium>(
     requires empty { IsTrue F.tells → F.bytes medium.old ≡ [] }
     ensures ok { IsTrue F.tells → OnOk result (F.bytes medium.new ≡ created_bytes version) }
     ensures calm { IsTrue F.tells → OnOk result (F.failures medium.new ≡ F.failures medium.old) }
-    ensures err { IsTrue F.tells → IfErr result (FailsBy F.write_faults (F.failures medium.old) (F.failures medium.new)) }
+    ensures err { IsTrue F.tells
+        → IfErr result (FailsBy F.write_faults (F.failures medium.old) (F.failures medium.new)) }
 {
     for piece in 0..PIECES {
         lay_out(version, piece, slots, sector);

@@ -31,15 +31,22 @@ pub fn create_file<F: Medium, A: Heap + Clone>(
 ) -> Result<MiniAllocator<F, A>, Error>
     requires empty_medium { IsTrue F.tells → F.bytes medium ≡ [] }
     ensures bytes { IsTrue F.tells → IfOk result (λ file. bytes_of file ≡ created_bytes version) }
-    ensures calm { IsTrue F.tells → IfOk result (λ file. (table_of file).file.failures ≡ F.failures medium) }
+    ensures calm { IsTrue F.tells
+        → IfOk result (λ file. (table_of file).file.failures ≡ F.failures medium) }
     ensures ended { IfOk result (λ file. (table_of file).file.begun ≡ false) }
     ensures version { IfOk result (λ file. version_of file ≡ version) }
     ensures letters { IfOk result (λ file. cases_of file ≡ letters) }
-    ensures limit { IfOk result (λ file. (tables_in file).max_sectors ≡ min max_sectors max_regular_sector) }
-    ensures holds { IsTrue F.tells → IfOk result (λ file. (limit : ℕ) → Holds (record { base = file; is_sound = true; buffer_limit = limit })) }
+    ensures limit { IfOk result (λ file. (tables_in file).max_sectors
+        ≡ min max_sectors max_regular_sector) }
+    ensures holds { IsTrue F.tells → IfOk result (λ file. (limit : ℕ)
+        → Holds (record { base = file; is_sound = true; buffer_limit = limit })) }
     ensures made { IsTrue F.tells → IfOk result IsAsMade }
     ensures err { IfErr result (HasReason (record no_error { medium = λ fault. ⊤; memory = ⊤ })) }
-    ensures fault { IsTrue F.tells → IfErr result (HasReason (record no_error { medium = λ fault. IsTrue (F.write_faults fault); memory = ⊤ })) }
+    ensures fault { IsTrue F.tells → IfErr result (HasReason (record no_error {
+      medium = λ fault.
+          IsTrue (F.write_faults fault);
+      memory = ⊤;
+    })) }
 {
     laws::parts_are_unique();
     mini_laws::sound_mini_sectors_are_held();
@@ -56,10 +63,16 @@ fn write_file<F: Medium, A: Heap + Clone>(
     mut medium: F,
 ) -> Result<F, Error>
     requires empty { IsTrue F.tells → F.bytes medium ≡ [] }
-    ensures bytes { IsTrue F.tells → IfOk result (λ written. F.bytes written ≡ created_bytes version) }
-    ensures calm { IsTrue F.tells → IfOk result (λ written. F.failures written ≡ F.failures medium) }
+    ensures bytes { IsTrue F.tells
+        → IfOk result (λ written. F.bytes written ≡ created_bytes version) }
+    ensures calm { IsTrue F.tells
+        → IfOk result (λ written. F.failures written ≡ F.failures medium) }
     ensures err { IfErr result (HasReason (record no_error { medium = λ fault. ⊤; memory = ⊤ })) }
-    ensures fault { IsTrue F.tells → IfErr result (HasReason (record no_error { medium = λ fault. IsTrue (F.write_faults fault); memory = ⊤ })) }
+    ensures fault { IsTrue F.tells → IfErr result (HasReason (record no_error {
+      medium = λ fault.
+          IsTrue (F.write_faults fault);
+      memory = ⊤;
+    })) }
 {
     let slots = EmptySlots::new(heap.clone()?)?;
     let mut sector = vec![in heap; 0; version.sector_len()]?;

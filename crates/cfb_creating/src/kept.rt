@@ -31,7 +31,8 @@ pub(crate) fn keep_file<F: ReadMedium, A: Heap + Clone>(
     letters: CaseMapper<A>,
 ) -> Result<MiniAllocator<F, A>, Error>
     requires there { IsTrue F.tells → F.bytes medium ≡ created_bytes version }
-    ensures ok { IfOk result (λ file. file ≡ created_state version (F.bytes medium) (F.failures medium) letters max_regular_sector) }
+    ensures ok { IfOk result (λ file. file
+        ≡ created_state version (F.bytes medium) (F.failures medium) letters max_regular_sector) }
     ensures err { IfErr result IsMemory }
 {
     laws::created_file_is_right();
@@ -48,7 +49,8 @@ fn keep_tables<F: ReadMedium, A: Heap + Clone>(
     sectors: Sectors<F>,
 ) -> Result<Allocator<F, A>, Error>
     requires two { sectors.num_sectors ≡ 2 }
-    ensures ok { IfOk result (λ a. a ≡ record { file = sectors; tables = created_tables sectors.version max_regular_sector }) }
+    ensures ok { IfOk result (λ a. a
+        ≡ record { file = sectors; tables = created_tables sectors.version max_regular_sector }) }
     ensures err { IfErr result IsMemory }
 {
     let fat_sectors = Vec::from_array(heap.clone()?, [0])?;

@@ -2,7 +2,7 @@
 use Rattle.std.specs.Prelude.{ℕ, Bool, Result, Ok, Err, IfErr, refl}
 use Rattle.cfb_format.specs.declared.medium.MediumFault.{MediumFault}
 use Rattle.cfb_format.specs.declared.error.Error.{Error}
-use Rattle.cfb_format.specs.declared.error.Error.TheVariants.{NotFound, AlreadyExists, InvalidInput, InvalidData, Medium, Memory, Full, Unsound, Failed, Unsupported}
+use Rattle.cfb_format.specs.declared.error.Error.TheVariants.{NotFound, AlreadyExists, InvalidInput, InvalidData, Medium, Memory, Full, Unsound, Failed}
 use Rattle.cfb_format.specs.Refused.{HasReason, IsInvalidOrMemory, AfterMedium, CountsError, no_error}
 use Rattle.cfb_sectors.specs.Sectors.{IsMediumError}
 use Rattle.cfb_tables.specs.Refused.{TableRefused, ChangeRefused}
@@ -18,7 +18,6 @@ walk_invalid P Q f (Medium g) r = absurd r
 walk_invalid P Q f Full r = absurd r
 walk_invalid P Q f Unsound r = absurd r
 walk_invalid P Q f Failed r = absurd r
-walk_invalid P Q f Unsupported r = absurd r
 
 -- bytes that are refused for a reason
 pub invalid_for : (P memory full medium : Type 0) → P → (e : Error) → ChangeRefused Unit ⊥ ⊥ ⊥ e → ChangeRefused P memory full medium e
@@ -31,7 +30,6 @@ invalid_for P memory full medium p (Medium g) r = absurd r
 invalid_for P memory full medium p Full r = absurd r
 invalid_for P memory full medium p Unsound r = absurd r
 invalid_for P memory full medium p Failed r = absurd r
-invalid_for P memory full medium p Unsupported r = absurd r
 
 -- such a refusal breaks nothing off
 pub invalid_stops : (broken kept : Type 0) → kept → (e : Error) → ChangeRefused Unit ⊥ ⊥ ⊥ e → AfterMedium broken kept e
@@ -44,7 +42,6 @@ invalid_stops broken kept k (Medium g) r = absurd r
 invalid_stops broken kept k Full r = absurd r
 invalid_stops broken kept k Unsound r = absurd r
 invalid_stops broken kept k Failed r = absurd r
-invalid_stops broken kept k Unsupported r = absurd r
 
 -- the medium's error while slots were written
 pub medium_refused : (invalid memory full begun : Type 0) (e : Error) → HasReason (record no_error { medium = λ f. begun }) e → ChangeRefused invalid memory full Unit e
@@ -57,7 +54,6 @@ medium_refused invalid memory full begun (InvalidInput d) r = absurd r
 medium_refused invalid memory full begun Full r = absurd r
 medium_refused invalid memory full begun Unsound r = absurd r
 medium_refused invalid memory full begun Failed r = absurd r
-medium_refused invalid memory full begun Unsupported r = absurd r
 
 pub medium_stops : (begun kept : Type 0) (e : Error) → HasReason (record no_error { medium = λ f. begun }) e → AfterMedium begun kept e
 medium_stops begun kept (Medium g) r = r
@@ -69,7 +65,6 @@ medium_stops begun kept (InvalidInput d) r = absurd r
 medium_stops begun kept Full r = absurd r
 medium_stops begun kept Unsound r = absurd r
 medium_stops begun kept Failed r = absurd r
-medium_stops begun kept Unsupported r = absurd r
 
 -- of an error's reasons, what follows from each
 pub err_map : {T : Type 0} (P Q : Error → Type 0) → ((e : Error) → P e → Q e) → (r : Result T Error) → IfErr r P → IfErr r Q
@@ -87,7 +82,6 @@ invalid_counts can_give n (Medium g) r = absurd r
 invalid_counts can_give n Full r = absurd r
 invalid_counts can_give n Unsound r = absurd r
 invalid_counts can_give n Failed r = absurd r
-invalid_counts can_give n Unsupported r = absurd r
 
 -- and the medium's error is it
 pub medium_is : (begun : Type 0) (e : Error) → HasReason (record no_error { medium = λ f. begun }) e → IsMediumError e
@@ -100,4 +94,3 @@ medium_is begun (InvalidInput d) r = absurd r
 medium_is begun Full r = absurd r
 medium_is begun Unsound r = absurd r
 medium_is begun Failed r = absurd r
-medium_is begun Unsupported r = absurd r

@@ -20,7 +20,7 @@ use Rattle.cfb_alloc.specs.Frame.{table_sectors}
 use Rattle.cfb_alloc.proofs.AgreementLemmas.{every}
 use Rattle.cfb_alloc.proofs.Frames.{other-chains-spared}
 use Rattle.cfb_directory.specs.Slots.{HoldSlotsBut}
-use Rattle.cfb_directory.specs.State.{AreWritable, bytes_of, tables_in, version_of}
+use Rattle.cfb_directory.specs.State.{AreWritable, directory_bytes, directory_tables, directory_version}
 use Rattle.cfb_directory.specs.HeldLaws.{DirectoryStaysHeld, HeldDirectoryIsRead, HeldDirectoryIsStrict}
 use Rattle.cfb_directory.proofs.Placed.{held_no_tables}
 use Rattle.cfb_directory.proofs.Rewritten.{strict_header_stays}
@@ -33,12 +33,12 @@ all_whole v bytes list whole = every (is_whole_sector v bytes) list
 
 pub held-directory-is-read : HeldDirectoryIsRead
 held-directory-is-read validation d h =
-    let read = by-place validation (version_of d) (bytes_of d) d.sectors d.entries h.slots in
+    let read = by-place validation (directory_version d) (directory_bytes d) d.sectors d.entries h.slots in
     let few = h.most in
     record {
-      chain = subst (λ s. IsChain (tables_in d).fat s d.sectors) (sym h.first) h.chain;
+      chain = subst (λ s. IsChain (directory_tables d).fat s d.sectors) (sym h.first) h.chain;
       some = h.some;
-      whole = all_whole (version_of d) (bytes_of d) d.sectors h.whole;
+      whole = all_whole (directory_version d) (directory_bytes d) d.sectors h.whole;
       most = omega (arith, few, read.2);
       slots = read.0;
     }
@@ -50,25 +50,25 @@ counted_in V4 number word n e c = subst (λ x. n ≤ x) (sym e) c
 pub held-directory-is-strict : HeldDirectoryIsStrict
 held-directory-is-strict d h held is =
     let listed = held.tables.holds.listed in
-    let version : h.version ≡ version_of d = ap (λ (k : Header). k.version) (IsHeader-unique (bytes_of d) h listed.header is listed.is_header) ∙ listed.same_version in
-    let read = by-place Strict (version_of d) (bytes_of d) d.sectors d.entries held.slots in
+    let version : h.version ≡ directory_version d = ap (λ (k : Header). k.version) (IsHeader-unique (directory_bytes d) h listed.header is listed.is_header) ∙ listed.same_version in
+    let read = by-place Strict (directory_version d) (directory_bytes d) d.sectors d.entries held.slots in
     record {
-      header = subst (λ w. IsStrictHeader w (bytes_of d)) (sym version) held.strict_header;
+      header = subst (λ w. IsStrictHeader w (directory_bytes d)) (sym version) held.strict_header;
       directory_count = subst (λ w. IsStrictCount w h.num_dir_sectors (length d.sectors)) (sym version)
-          (counted_in (version_of d) h.num_dir_sectors (word_at (bytes_of d) 40) (length d.sectors)
-          (subst (λ w. h.num_dir_sectors ≡ dir_sectors_of w (word_at (bytes_of d) 40)) version is.num_dir_sectors) held.counted);
-      entries = subst (λ w. AllZip (IsStrictEntry w) (slots w (bytes_of d) d.sectors) d.entries) (sym version) read.1;
+          (counted_in (directory_version d) h.num_dir_sectors (word_at (directory_bytes d) 40) (length d.sectors)
+          (subst (λ w. h.num_dir_sectors ≡ dir_sectors_of w (word_at (directory_bytes d) 40)) version is.num_dir_sectors) held.counted);
+      entries = subst (λ w. AllZip (IsStrictEntry w) (slots w (directory_bytes d) d.sectors) d.entries) (sym version) read.1;
     }
 
 pub directory-stays-held : DirectoryStaysHeld
 directory-stays-held validation own d a h tables sizes spares apart count first =
-    let v = version_of d in
+    let v = directory_version d in
     let bytes = a.file.bytes in
     let longer = spares.no_shorter in
     let version = sym spares.same_version in
-    let free : AreDisjoint d.sectors (table_sectors (tables_in d)) = λ i m t.
+    let free : AreDisjoint d.sectors (table_sectors (directory_tables d)) = λ i m t.
     let none = held_no_tables validation d h i m in
-    elim (Contains-append_cases (tables_in d).fat_sectors (tables_in d).difat_sectors i t) [ inl fat ↦ none.0 fat | inr difat ↦ none.1 difat ] in
+    elim (Contains-append_cases (directory_tables d).fat_sectors (directory_tables d).difat_sectors i t) [ inl fat ↦ none.0 fat | inr difat ↦ none.1 difat ] in
     let stays = other-chains-spared own d.table a (first_or_end d.sectors) d.sectors spares h.chain apart free in
     let whole : HasSectors v bytes d.sectors = λ i m. (let w = h.whole i m in omega (arith, w, longer)) in
     record {
@@ -79,10 +79,10 @@ directory-stays-held validation own d a h tables sizes spares apart count first 
       whole = subst (λ w. HasSectors w bytes d.sectors) version whole;
       first = first ∙ h.first;
       slots = subst (λ w. HoldSlotsBut [] validation w bytes d.sectors d.entries) version
-          (slots-stay [] validation v (bytes_of d) bytes d.sectors d.entries h.slots h.whole stays.2);
+          (slots-stay [] validation v (directory_bytes d) bytes d.sectors d.entries h.slots h.whole stays.2);
       writable = subst (λ w. AreWritable w d.entries) version h.writable;
       most = h.most;
       counted = subst (λ w. IfStrict validation (IsStrictCount w (word_at bytes 40) (length d.sectors))) version
           (subst (λ n. IfStrict validation (IsStrictCount v n (length d.sectors))) (sym count) h.counted);
-      strict_header = subst (λ w. IfStrict validation (IsStrictHeader w bytes)) version (strict_header_stays validation v (bytes_of d) bytes count h.strict_header);
+      strict_header = subst (λ w. IfStrict validation (IsStrictHeader w bytes)) version (strict_header_stays validation v (directory_bytes d) bytes count h.strict_header);
     }

@@ -20,7 +20,7 @@ use Rattle.cfb_format.specs.Siblings.{entry_at}
 use Rattle.cfb_format.proofs.ByteLemmas.{part_apart}
 use Rattle.cfb_sectors.specs.declared.sector.SectorInit.TheVariants.{Dir}
 use Rattle.cfb_sectors.specs.Sectors.{IsMediumError}
-use Rattle.cfb_sectors.specs.Words.{Stays}
+use Rattle.cfb_sectors.specs.Words.{RangeStays}
 use Rattle.cfb_sectors.proofs.SectorLemmas.{SectorStays_next, after_header}
 use Rattle.cfb_sectors.proofs.WordLemmas.{word_stays}
 use Rattle.cfb_tables.specs.Listed.{ends_of, gained, last_or_end}
@@ -30,7 +30,7 @@ use Rattle.cfb_tables.proofs.ListedLemmas.{ending_other, last_is}
 use Rattle.cfb_tables.proofs.Members.{Contains-one}
 use Rattle.cfb_alloc.specs.Agreement.{HasSectors, KeepsSectors}
 use Rattle.cfb_format.specs.declared.error.Error.{Error}
-use Rattle.cfb_format.specs.declared.error.Error.TheVariants.{NotFound, AlreadyExists, InvalidInput, InvalidData, Medium, Memory, Full, Unsound, Failed, Unsupported}
+use Rattle.cfb_format.specs.declared.error.Error.TheVariants.{NotFound, AlreadyExists, InvalidInput, InvalidData, Medium, Memory, Full, Unsound, Failed}
 use Rattle.cfb_alloc.specs.Alloc.{AllocatorState, HoldsTables, IsFilled, IsOtherHeaderByte, IsUsable, OthersStay}
 use Rattle.cfb_alloc.specs.Frame.{Spares}
 use Rattle.cfb_alloc.specs.ListedChain.{Lengthens}
@@ -41,10 +41,10 @@ use Rattle.cfb_siblings.specs.Laws.{grown_by}
 use Rattle.cfb_siblings.proofs.Grown.{entry-stays}
 use Rattle.cfb_format.specs.Full.{max_entries}
 use Rattle.cfb_entries.specs.EntryList.{EntryList}
-use Rattle.cfb_directory.specs.Steps.{IsNotHeld}
+use Rattle.cfb_directory.specs.Steps.{IsDirectoryNotHeld}
 use Rattle.cfb_directory.specs.Growing.{ArePlaced, AreSectorsOf, IsListedChain, KeepsBounds}
 use Rattle.cfb_directory.specs.Slots.{HavePlaces, HoldSlotsBut, slot_of}
-use Rattle.cfb_directory.specs.State.{AreWritable, DirectoryState, HoldsDirectory, IsKeptHeaderByte, bytes_of, tables_in, version_of}
+use Rattle.cfb_directory.specs.State.{AreWritable, DirectoryState, HoldsDirectory, IsKeptHeaderByte, directory_bytes, directory_tables, directory_version}
 use Rattle.cfb_directory.proofs.SlotPlaces.{slot_stays}
 use Rattle.cfb_directory.proofs.SlotWrites.{fresh-held, slots-stay}
 use Rattle.cfb_directory.proofs.Placed.{header_there}
@@ -77,22 +77,22 @@ ends-among (x ∷ xs) i m = ending-among (last_or_end (x ∷ xs)) (x ∷ xs) (λ
 module _ (validation : Validation) (old : DirectoryState) (held : HoldsDirectory validation old) (b : AllocatorState) (others : OthersStay old.table b)
     (new : List ℕ) (change : ChangesOnlyBytes 40 4 b.file.bytes new) where
   abbrev v : Version
-  v = version_of old
+  v = directory_version old
 
-  longer : length (bytes_of old) ≤ length new
+  longer : length (directory_bytes old) ≤ length new
   longer = let x = others.no_shorter in let y = change.no_shorter in omega (arith, x, y)
 
-  pub sectors-kept : KeepsSectors v old.sectors (bytes_of old) new
+  pub sectors-kept : KeepsSectors v old.sectors (directory_bytes old) new
   sectors-kept i m =
-      let busy = (members-busy (tables_in old).fat (first_or_end old.sectors) old.sectors held.chain i m) in
+      let busy = (members-busy (directory_tables old).fat (first_or_end old.sectors) old.sectors held.chain i m) in
       let apart = members-no_table validation old.table (first_or_end old.sectors) old.sectors held.tables held.chain i m in
-      SectorStays_next (version_of old) (version_of old) i (bytes_of old) b.file.bytes new refl
-      (others.sectors i busy.0 (λ t. elim (Contains-append_cases (tables_in old).fat_sectors (tables_in old).difat_sectors i t) [ inl f ↦ apart.0 f | inr d ↦ apart.1 d ]) (not_in_nil i))
-      (after_header (version_of old) i 40 4 b.file.bytes new change (omega arith))
+      SectorStays_next (directory_version old) (directory_version old) i (directory_bytes old) b.file.bytes new refl
+      (others.sectors i busy.0 (λ t. elim (Contains-append_cases (directory_tables old).fat_sectors (directory_tables old).difat_sectors i t) [ inl f ↦ apart.0 f | inr d ↦ apart.1 d ]) (not_in_nil i))
+      (after_header (directory_version old) i 40 4 b.file.bytes new change (omega arith))
 
-  pub slots-kept : (entries : List Entry) → length entries ≡ length old.sectors * entries_per_sector (version_of old) → (k : ℕ) → k < length entries
-      → slot_of (version_of old) new old.sectors k ≡ slot_of (version_of old) (bytes_of old) old.sectors k
-  slots-kept entries count k lt = slot_stays (version_of old) (bytes_of old) new old.sectors k held.whole sectors-kept (omega (arith, lt, count))
+  pub slots-kept : (entries : List Entry) → length entries ≡ length old.sectors * entries_per_sector (directory_version old) → (k : ℕ) → k < length entries
+      → slot_of (directory_version old) new old.sectors k ≡ slot_of (directory_version old) (directory_bytes old) old.sectors k
+  slots-kept entries count k lt = slot_stays (directory_version old) (directory_bytes old) new old.sectors k held.whole sectors-kept (omega (arith, lt, count))
 
 -- ---- the longer directory is held
 
@@ -110,8 +110,8 @@ header-word : (version : Version) (old a b : AllocatorState) (at : ℕ) → Othe
     → at + 4 ≤ length old.file.bytes → word_at b.file.bytes at ≡ word_at old.file.bytes at
 header-word version old a b at others change _ low high within =
     let longer = others.no_shorter in
-    let first : Stays 48 68 old.file.bytes a.file.bytes = record { no_shorter = longer; each = λ i lt from to. others.header i lt (inr (inl (from, to))) } in
-    let second : Stays 48 68 a.file.bytes b.file.bytes = record { no_shorter = change.no_shorter; each = λ i lt from to. change.above i lt (omega (arith, from)) } in
+    let first : RangeStays 48 68 old.file.bytes a.file.bytes = record { no_shorter = longer; each = λ i lt from to. others.header i lt (inr (inl (from, to))) } in
+    let second : RangeStays 48 68 a.file.bytes b.file.bytes = record { no_shorter = change.no_shorter; each = λ i lt from to. change.above i lt (omega (arith, from)) } in
     word_stays 48 68 at a.file.bytes b.file.bytes second low high (omega (arith, within, longer)) ∙ word_stays 48 68 at old.file.bytes a.file.bytes first low high within
 
 -- the word behind which version 3 has nothing
@@ -141,41 +141,41 @@ not-empty before x after is none =
 
 -- the word of a sector was added behind a directory that was held, and its number was written
 module _ (validation : Validation) (old new : DirectoryState) (b : AllocatorState) (held : HoldsDirectory validation old)
-    (lengthened : Lengthens 1 old.sectors new.sectors (tables_in old) b.tables) (chain : IsListedChain b.tables new.sectors) (bounds : KeepsBounds (tables_in old) b.tables)
+    (lengthened : Lengthens 1 old.sectors new.sectors (directory_tables old) b.tables) (chain : IsListedChain b.tables new.sectors) (bounds : KeepsBounds (directory_tables old) b.tables)
     (sizes : AreSizes b.tables.version (sizes_of b.tables))
     (filled : (i : ℕ) → Contains (gained old.sectors new.sectors) i → IsFilled b.tables.version Dir b.file.bytes i) (others : OthersStay old.table b)
-    (tables : tables_in new ≡ b.tables) (same3 : b.tables.version ≡ V3 → new.table ≡ b) (count4 : b.tables.version ≡ V4 → word_at (bytes_of new) 40 ≡ length new.sectors)
-    (holds : HoldsTables validation new.table) (change : ChangesOnlyBytes 40 4 b.file.bytes (bytes_of new))
-    (entries : new.entries ≡ grown_by old.entries (entries_per_sector (version_of old))) (few : length new.entries ≤ max_entries) where
+    (tables : directory_tables new ≡ b.tables) (same3 : b.tables.version ≡ V3 → new.table ≡ b) (count4 : b.tables.version ≡ V4 → word_at (directory_bytes new) 40 ≡ length new.sectors)
+    (holds : HoldsTables validation new.table) (change : ChangesOnlyBytes 40 4 b.file.bytes (directory_bytes new))
+    (entries : new.entries ≡ grown_by old.entries (entries_per_sector (directory_version old))) (few : length new.entries ≤ max_entries) where
   abbrev w : Version
-  w = version_of old
+  w = directory_version old
 
-  version-same : version_of new ≡ w
+  version-same : directory_version new ≡ w
   version-same = ap (λ (t : TableState). t.version) tables ∙ bounds.version
 
   abbrev x : ℕ
-  x = (one-gained old.sectors new.sectors (tables_in old) b.tables lengthened).0
+  x = (one-gained old.sectors new.sectors (directory_tables old) b.tables lengthened).0
 
   listed : new.sectors ≡ old.sectors ++ x ∷ []
-  listed = (one-gained old.sectors new.sectors (tables_in old) b.tables lengthened).2
+  listed = (one-gained old.sectors new.sectors (directory_tables old) b.tables lengthened).2
 
-  fresh : IsFilled w Dir (bytes_of new) x
-  fresh = filled-stays w b.file.bytes (bytes_of new) x change
+  fresh : IsFilled w Dir (directory_bytes new) x
+  fresh = filled-stays w b.file.bytes (directory_bytes new) x change
       (subst (λ (u : Version). IsFilled u Dir b.file.bytes x) bounds.version
-      (filled x (subst (λ l. Contains l x) (sym (one-gained old.sectors new.sectors (tables_in old) b.tables lengthened).1) (0, omega arith, refl))))
+      (filled x (subst (λ l. Contains l x) (sym (one-gained old.sectors new.sectors (directory_tables old) b.tables lengthened).1) (0, omega arith, refl))))
 
-  grown-whole : HasSectors w (bytes_of new) new.sectors
+  grown-whole : HasSectors w (directory_bytes new) new.sectors
   grown-whole i m = elim (Contains-append_cases old.sectors (x ∷ []) i (subst (λ l. Contains l i) listed m)) [
-    | inl a ↦ let was = held.whole i a in let l = longer validation old held b others (bytes_of new) change in omega (arith, was, l)
-    | inr a ↦ subst (λ k. sector_start w k + sector_len w ≤ length (bytes_of new)) (Contains-one x i a) fresh.whole
+    | inl a ↦ let was = held.whole i a in let l = longer validation old held b others (directory_bytes new) change in omega (arith, was, l)
+    | inr a ↦ subst (λ k. sector_start w k + sector_len w ≤ length (directory_bytes new)) (Contains-one x i a) fresh.whole
   ]
 
-  grown-slots : HoldSlotsBut [] validation w (bytes_of new) new.sectors new.entries
+  grown-slots : HoldSlotsBut [] validation w (directory_bytes new) new.sectors new.entries
   grown-slots =
-      let stayed = slots-stay [] validation w (bytes_of old) (bytes_of new) old.sectors old.entries held.slots held.whole (sectors-kept validation old held b others (bytes_of new) change) in
-      let more = fresh-held [] validation w (bytes_of new) old.sectors old.entries x stayed fresh in
-      subst (λ (l : List ℕ). HoldSlotsBut [] validation w (bytes_of new) l new.entries) (sym listed)
-      (subst (λ (es : List Entry). HoldSlotsBut [] validation w (bytes_of new) (old.sectors ++ x ∷ []) es) (sym entries) more)
+      let stayed = slots-stay [] validation w (directory_bytes old) (directory_bytes new) old.sectors old.entries held.slots held.whole (sectors-kept validation old held b others (directory_bytes new) change) in
+      let more = fresh-held [] validation w (directory_bytes new) old.sectors old.entries x stayed fresh in
+      subst (λ (l : List ℕ). HoldSlotsBut [] validation w (directory_bytes new) l new.entries) (sym listed)
+      (subst (λ (es : List Entry). HoldSlotsBut [] validation w (directory_bytes new) (old.sectors ++ x ∷ []) es) (sym entries) more)
 
   grown-writable : AreWritable w new.entries
   grown-writable k lt used =
@@ -186,22 +186,22 @@ module _ (validation : Validation) (old new : DirectoryState) (b : AllocatorStat
 
   pub grown-holds : HoldsDirectory validation new
   grown-holds =
-      let long = (header_there w (bytes_of old) old.sectors held.some held.whole).0 in
+      let long = (header_there w (directory_bytes old) old.sectors held.some held.whole).0 in
       let v_new = sym version-same in
       record {
         tables = holds;
         sizes = subst (λ (t : TableState). AreSizes t.version (sizes_of t)) (sym tables) sizes;
         chain = subst (λ (t : TableState). IsListedChain t new.sectors) (sym tables) chain;
         some = not-empty old.sectors x new.sectors listed;
-        whole = subst (λ (u : Version). HasSectors u (bytes_of new) new.sectors) v_new grown-whole;
+        whole = subst (λ (u : Version). HasSectors u (directory_bytes new) new.sectors) v_new grown-whole;
         first = header-word w old.table b new.table 48 others change (omega arith) (omega arith) (omega arith) (omega (arith, long)) ∙ held.first
             ∙ sym (ap first_or_end listed ∙ first-stays old.sectors x held.some);
-        slots = subst (λ (u : Version). HoldSlotsBut [] validation u (bytes_of new) new.sectors new.entries) v_new grown-slots;
+        slots = subst (λ (u : Version). HoldSlotsBut [] validation u (directory_bytes new) new.sectors new.entries) v_new grown-slots;
         writable = subst (λ (u : Version). AreWritable u new.entries) v_new grown-writable;
         most = few;
-        counted = counted-after validation (version_of new) (word_at (bytes_of new) 40) (length new.sectors) (λ e. count4 (sym (ap (λ (t : TableState). t.version) tables) ∙ e));
-        strict_header = subst (λ (u : Version). IfStrict validation (IsStrictHeader u (bytes_of new))) v_new
-            (strict-after validation w (bytes_of old) (bytes_of new)
+        counted = counted-after validation (directory_version new) (word_at (directory_bytes new) 40) (length new.sectors) (λ e. count4 (sym (ap (λ (t : TableState). t.version) tables) ∙ e));
+        strict_header = subst (λ (u : Version). IfStrict validation (IsStrictHeader u (directory_bytes new))) v_new
+            (strict-after validation w (directory_bytes old) (directory_bytes new)
             (λ e. ap (λ (a : AllocatorState). word_at a.file.bytes 40) (same3 (bounds.version ∙ e)) ∙ low-word old.table b others (omega (arith, long)))
             held.strict_header);
       }
@@ -211,18 +211,18 @@ module _ (validation : Validation) (old new : DirectoryState) (b : AllocatorStat
 pub grown-entries : (got : List Entry) (list old : EntryList) (n per : ℕ) → got ≡ grown_by list.entries n → list.entries ≡ old.entries → n ≡ per → got ≡ grown_by old.entries per
 grown-entries got list old n per is same len = is ∙ ap (λ (es : List Entry). grown_by es n) same ∙ ap (λ m. grown_by old.entries m) len
 
-pub grown-placed : (old : DirectoryState) (b e : AllocatorState) (after : List ℕ) (entries : List Entry) → ArePlaced old → Lengthens 1 old.sectors after (tables_in old) b.tables
-    → KeepsBounds (tables_in old) b.tables → AreSectorsOf b.tables after → entries ≡ grown_by old.entries (entries_per_sector (version_of old)) → e.tables ≡ b.tables
+pub grown-placed : (old : DirectoryState) (b e : AllocatorState) (after : List ℕ) (entries : List Entry) → ArePlaced old → Lengthens 1 old.sectors after (directory_tables old) b.tables
+    → KeepsBounds (directory_tables old) b.tables → AreSectorsOf b.tables after → entries ≡ grown_by old.entries (entries_per_sector (directory_version old)) → e.tables ≡ b.tables
     → HavePlaces e.tables.version after (length entries) (length e.tables.fat)
 grown-placed old b e after entries placed lengthened bounds within is same =
-    let per = entries_per_sector (version_of old) in
+    let per = entries_per_sector (directory_version old) in
     let count : length entries ≡ length old.entries + per = ap (λ (l : List Entry). length l) is ∙ length-append old.entries (replicate per unallocated_entry)
     ∙ ap (λ n. length old.entries + n) (length-replicate per unallocated_entry) in
-    let sectors : length after ≡ length old.sectors + 1 = ap (λ (l : List ℕ). length l) (one-gained old.sectors after (tables_in old) b.tables lengthened).2
-    ∙ length-append old.sectors ((one-gained old.sectors after (tables_in old) b.tables lengthened).0 ∷ []) in
+    let sectors : length after ≡ length old.sectors + 1 = ap (λ (l : List ℕ). length l) (one-gained old.sectors after (directory_tables old) b.tables lengthened).2
+    ∙ length-append old.sectors ((one-gained old.sectors after (directory_tables old) b.tables lengthened).0 ∷ []) in
     let slots = placed.slots in
-    let whole : length entries ≡ length after * per = count ∙ ap (λ n. n + per) slots ∙ more (version_of old) (length old.sectors) ∙ ap (λ n. n * per) (sym sectors) in
-    let v_new : version_of old ≡ e.tables.version = sym (ap (λ (t : TableState). t.version) same ∙ bounds.version) in
+    let whole : length entries ≡ length after * per = count ∙ ap (λ n. n + per) slots ∙ more (directory_version old) (length old.sectors) ∙ ap (λ n. n * per) (sym sectors) in
+    let v_new : directory_version old ≡ e.tables.version = sym (ap (λ (t : TableState). t.version) same ∙ bounds.version) in
     record {
       slots = subst (λ (u : Version). length entries ≡ length after * entries_per_sector u) v_new whole;
       within = λ i m. subst (λ (t : TableState). i < length t.fat) (sym same) (within i m);
@@ -259,9 +259,9 @@ grown-header a b e others same change i lt kept =
 -- ---- refusals
 
 -- where the directory is held, its chain can be lengthened
-pub lengthens-held : (d : DirectoryState) → (IsUsable (tables_in d) → ⊥) ⊎ ((last_or_end d.sectors ≢ end_of_chain) × (value (tables_in d).fat (last_or_end d.sectors) ≢ end_of_chain)) → IsNotHeld d
+pub lengthens-held : (d : DirectoryState) → (IsUsable (directory_tables d) → ⊥) ⊎ ((last_or_end d.sectors ≢ end_of_chain) × (value (directory_tables d).fat (last_or_end d.sectors) ≢ end_of_chain)) → IsDirectoryNotHeld d
 lengthens-held d (inl unusable) validation held = unusable (held-usable validation d.table held.tables)
-lengthens-held d (inr goes_on) validation held = goes_on.1 (last_is (tables_in d).fat (first_or_end d.sectors) d.sectors held.chain (some d.sectors held.some)).0
+lengthens-held d (inr goes_on) validation held = goes_on.1 (last_is (directory_tables d).fat (first_or_end d.sectors) d.sectors held.chain (some d.sectors held.some)).0
   where
     some : (list : List ℕ) → list ≢ [] → 0 < length list
     some [] ne = absurd (ne refl)
@@ -278,7 +278,6 @@ medium-broke broken kept b Memory is = absurd (omega (arith, is))
 medium-broke broken kept b Full is = absurd (omega (arith, is))
 medium-broke broken kept b Unsound is = absurd (omega (arith, is))
 medium-broke broken kept b Failed is = absurd (omega (arith, is))
-medium-broke broken kept b Unsupported is = absurd (omega (arith, is))
 
 -- how many entries there are then
 pub grown-many : (entries got : List Entry) (per : ℕ) → got ≡ grown_by entries per → length entries + per ≤ max_entries → length got ≤ max_entries

@@ -13,7 +13,7 @@ use Rattle.cfb_siblings.specs.Touched.{Touches, TouchesOnly}
 use Rattle.cfb_alloc.specs.Alloc.{AllocatorState, HoldsTables}
 use Rattle.cfb_entries.specs.EntryList.{InsertsEntry}
 use Rattle.cfb_directory.specs.Slots.{ChangesSlots, HoldSlotsBut, slot_of}
-use Rattle.cfb_directory.specs.State.{DirectoryState, HoldsDirectory, bytes_of, tables_in, version_of}
+use Rattle.cfb_directory.specs.State.{DirectoryState, HoldsDirectory, directory_bytes, directory_tables, directory_version}
 use Rattle.cfb_directory.proofs.SlotWrites.{entries-stay}
 use Rattle.cfb_directory.proofs.InsertLinks.{first-or-later, touched-stands, writable-inserted}
 use Rattle.cfb_directory.proofs.Placed.{header_left, slot_left}
@@ -34,30 +34,30 @@ module _ (old : DirectoryState) (entries : List Entry) (parent n : ℕ) (entry :
       some [] has = absurd (has (λ m. Contains-nil n m))
       some (x ∷ xs) has = omega arith
 
-  module _ (validation : Validation) (held : HoldsDirectory validation old) (stands : EntryFits entry × IsValidEntry (version_of old) entry) where
-    pub late-slots : HoldSlotsBut (touched ++ []) validation (version_of old) (bytes_of old) old.sectors entries
-    late-slots = entries-stay touched [] validation (version_of old) (bytes_of old) old.sectors old.entries entries held.slots i.inserted.longer touches.told
+  module _ (validation : Validation) (held : HoldsDirectory validation old) (stands : EntryFits entry × IsValidEntry (directory_version old) entry) where
+    pub late-slots : HoldSlotsBut (touched ++ []) validation (directory_version old) (directory_bytes old) old.sectors entries
+    late-slots = entries-stay touched [] validation (directory_version old) (directory_bytes old) old.sectors old.entries entries held.slots i.inserted.longer touches.told
 
-    pub touched-valid : (k : ℕ) → Contains touched k → IsValidEntry (version_of old) (entry_at entries k)
+    pub touched-valid : (k : ℕ) → Contains touched k → IsValidEntry (directory_version old) (entry_at entries k)
     touched-valid k m =
-        (touched-stands (version_of old) old.cases old.entries entries parent n entry reached i held.most stands held.writable k
+        (touched-stands (directory_version old) old.cases old.entries entries parent n entry reached i held.most stands held.writable k
         (only (i.before ++ i.behind) i.inserted.was k m)).1
 
-    pub put-holds : (table : AllocatorState) (cases : Cases) → table.tables ≡ tables_in old → HoldsTables validation table
-        → HoldSlotsBut [] validation (version_of old) table.file.bytes old.sectors entries → ChangesSlots touched (version_of old) old.sectors (bytes_of old) table.file.bytes
+    pub put-holds : (table : AllocatorState) (cases : Cases) → table.tables ≡ directory_tables old → HoldsTables validation table
+        → HoldSlotsBut [] validation (directory_version old) table.file.bytes old.sectors entries → ChangesSlots touched (directory_version old) old.sectors (directory_bytes old) table.file.bytes
         → HoldsDirectory validation (record { table = table; sectors = old.sectors; cases = cases; entries = entries })
     put-holds table cases same holds slots change =
-        rewritten validation old table cases entries held same holds change.no_shorter (header_left touched (version_of old) old.sectors (bytes_of old) table.file.bytes change) slots
-        (writable-inserted (version_of old) old.cases old.entries entries parent n entry reached i held.most stands held.writable) i.inserted.longer
+        rewritten validation old table cases entries held same holds change.no_shorter (header_left touched (directory_version old) old.sectors (directory_bytes old) table.file.bytes change) slots
+        (writable-inserted (directory_version old) old.cases old.entries entries parent n entry reached i held.most stands held.writable) i.inserted.longer
 
   -- the slots of all used entries stay but those of the storage and of its children
-  pub put-keeps : (validation : Validation) → HoldsDirectory validation old → (new : List ℕ) → ChangesSlots touched (version_of old) old.sectors (bytes_of old) new
+  pub put-keeps : (validation : Validation) → HoldsDirectory validation old → (new : List ℕ) → ChangesSlots touched (directory_version old) old.sectors (directory_bytes old) new
       → (list : List ℕ) → HasChildren old.cases old.entries parent list → (k : ℕ) → k < length old.entries → (entry_at old.entries k).obj_type ≢ Unallocated
-      → k ≢ parent → (Contains list k → ⊥) → slot_of (version_of old) new old.sectors k ≡ slot_of (version_of old) (bytes_of old) old.sectors k
+      → k ≢ parent → (Contains list k → ⊥) → slot_of (directory_version old) new old.sectors k ≡ slot_of (directory_version old) (directory_bytes old) old.sectors k
   put-keeps validation held new change list children k lt used no_parent out =
       let count = held.slots.count in
       let longer = i.inserted.longer in
-      slot_left touched (version_of old) old.sectors (bytes_of old) new k held.chain.distinct held.whole change
+      slot_left touched (directory_version old) old.sectors (directory_bytes old) new k held.chain.distinct held.whole change
       (λ t m. let w = touches.within t m in omega (arith, w, longer, count)) (omega (arith, lt, count))
       (λ m. elim (only list children k m) [
         | inl e ↦ no_parent e

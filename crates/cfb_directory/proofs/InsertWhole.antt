@@ -4,7 +4,7 @@ use Rattle.std.specs.Prelude.{Contains, slice_index, if◌then◌else◌}
 use Rattle.std.proofs.lemmas.List.{get_or_append_left}
 use Rattle.std.proofs.lemmas.List.Elements.{Contains-append_cases}
 use Rattle.cfb_format.specs.declared.error.Error.{Error}
-use Rattle.cfb_format.specs.declared.error.Error.TheVariants.{NotFound, AlreadyExists, InvalidInput, InvalidData, Medium, Memory, Full, Unsound, Failed, Unsupported}
+use Rattle.cfb_format.specs.declared.error.Error.TheVariants.{NotFound, AlreadyExists, InvalidInput, InvalidData, Medium, Memory, Full, Unsound, Failed}
 use Rattle.cfb_format.specs.declared.version.Version.{Version}
 use Rattle.cfb_format.specs.Bytes.{entries_per_sector, free_sector, sector_start, word_at}
 use Rattle.cfb_format.specs.Chain.{value}
@@ -29,8 +29,8 @@ use Rattle.cfb_entries.specs.Insertions.{IsInsertionOf}
 use Rattle.cfb_entries.proofs.Contents.{insertion-stays, reached-stays}
 use Rattle.cfb_directory.specs.Growing.{ArePlaced}
 use Rattle.cfb_directory.specs.Slots.{slot_of}
-use Rattle.cfb_directory.specs.State.{DirectoryState, version_of, with_room}
-use Rattle.cfb_directory.specs.Steps.{IsNotHeld}
+use Rattle.cfb_directory.specs.State.{DirectoryState, directory_version, with_room}
+use Rattle.cfb_directory.specs.Steps.{IsDirectoryNotHeld}
 use Rattle.cfb_directory.proofs.SlotPlaces.{slot_sector}
 use Rattle.cfb_directory.proofs.Placed.{held_places}
 use Rattle.cfb_directory.proofs.InsertGrow.{one-gained}
@@ -43,23 +43,23 @@ has-room P true entries per same grown = same
 has-room P false entries per same grown = grown
 
 module _ (d : DirectoryState) (entries : List Entry) (is : entries ≡ with_room d) where
-  roomy : (P : List Entry → Type 0) → P d.entries → P (grown_by d.entries (entries_per_sector (version_of d))) → P entries
-  roomy P same grown = subst P (sym is) (has-room P (has_free d.entries) d.entries (entries_per_sector (version_of d)) same grown)
+  roomy : (P : List Entry → Type 0) → P d.entries → P (grown_by d.entries (entries_per_sector (directory_version d))) → P entries
+  roomy P same grown = subst P (sym is) (has-room P (has_free d.entries) d.entries (entries_per_sector (directory_version d)) same grown)
 
   pub roomy-same : (k : ℕ) → entry_at entries k ≡ entry_at d.entries k
   roomy-same k = roomy (λ es. entry_at es k ≡ entry_at d.entries k) refl
-      (entry-stays d.entries (entries_per_sector (version_of d)) k)
+      (entry-stays d.entries (entries_per_sector (directory_version d)) k)
 
   pub roomy-longer : length d.entries ≤ length entries
-  roomy-longer = roomy (λ es. length d.entries ≤ length es) (omega arith) (length-grows d.entries (entries_per_sector (version_of d)))
+  roomy-longer = roomy (λ es. length d.entries ≤ length es) (omega arith) (length-grows d.entries (entries_per_sector (directory_version d)))
 
   pub roomy-reached : (parent : ℕ) → IsReachedStorage d.cases d.entries parent → IsReachedStorage d.cases entries parent
-  roomy-reached parent r = roomy (λ es. IsReachedStorage d.cases es parent) r (reached-stays d.cases d.entries (entries_per_sector (version_of d)) parent r)
+  roomy-reached parent r = roomy (λ es. IsReachedStorage d.cases es parent) r (reached-stays d.cases d.entries (entries_per_sector (directory_version d)) parent r)
 
   pub roomy-insertion : {A : Type 0} (name : List ℕ) (parent : ℕ) (insertion : Insertion A) → IsInsertionOf name d.cases d.entries parent insertion
       → IsInsertionOf name d.cases entries parent insertion
   roomy-insertion name parent insertion h = roomy (λ es. IsInsertionOf name d.cases es parent insertion) h
-      (insertion-stays name d.cases d.entries (entries_per_sector (version_of d)) parent insertion h)
+      (insertion-stays name d.cases d.entries (entries_per_sector (directory_version d)) parent insertion h)
 
   pub roomy-children : (parent : ℕ) (list : List ℕ) → HasChildren d.cases d.entries parent list → HasChildren d.cases entries parent list
   roomy-children parent list h = children-same d.entries entries roomy-same roomy-longer d.cases parent list h
@@ -102,7 +102,7 @@ same-slot before after old new v bytes n k (inr h) count lt =
 -- ---- refusals
 
 -- a directory that is held has its places
-pub unplaced-not-held : (d : DirectoryState) → (ArePlaced d → ⊥) → IsNotHeld d
+pub unplaced-not-held : (d : DirectoryState) → (ArePlaced d → ⊥) → IsDirectoryNotHeld d
 unplaced-not-held d none validation held = none (held_places validation d held)
 
 pub checked-refused : (P Q F : Type 0) (M : Type 0) → (P → Q) → (e : Error) → TableRefused P ⊥ F e → ChangeRefused Q M F (Unit {0}) e
@@ -115,7 +115,6 @@ checked-refused P Q F M f Memory h = absurd h
 checked-refused P Q F M f Full h = h
 checked-refused P Q F M f Unsound h = h
 checked-refused P Q F M f Failed h = h
-checked-refused P Q F M f Unsupported h = h
 
 -- ---- the way there
 

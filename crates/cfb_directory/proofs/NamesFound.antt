@@ -10,12 +10,12 @@ use Rattle.cfb_trees.proofs.PathNames.{growth-keeps-names}
 use Rattle.cfb_trees.proofs.Same.{growth-keeps-outline}
 use Rattle.cfb_entries.specs.EntryList.{has_free}
 use Rattle.cfb_directory.specs.NameLaws.{InsertedIsFound, RemovedIsFoundNoMore}
-use Rattle.cfb_directory.specs.State.{DirectoryState, version_of, with_room}
+use Rattle.cfb_directory.specs.State.{DirectoryState, directory_version, with_room}
 use Rattle.cfb_directory.proofs.InsertWhole.{has-room, roomy-same}
 
 module _ (d : DirectoryState) (o : Outline) where
   abbrev per : ℕ
-  per = entries_per_sector (version_of d)
+  per = entries_per_sector (directory_version d)
 
   names-same : (path : List (List ℕ)) → number_from d.cases (with_room d) 0 o path ≡ number_from d.cases d.entries 0 o path
   names-same path = has-room (λ es. number_from d.cases es 0 o path ≡ number_from d.cases d.entries 0 o path) (has_free d.entries) d.entries per refl

@@ -18,18 +18,18 @@ use Rattle.cfb_alloc.specs.Frame.{Spares}
 use Rattle.cfb_alloc.specs.InSector.{IsNoTableSector}
 use Rattle.cfb_alloc.proofs.HeldOrder.{members-no_table}
 use Rattle.cfb_directory.specs.Slots.{ChangesSlots, HavePlaces, slot_of, slot_place}
-use Rattle.cfb_directory.specs.State.{DirectoryState, HoldsDirectory, version_of, tables_in}
+use Rattle.cfb_directory.specs.State.{DirectoryState, HoldsDirectory, directory_version, directory_tables}
 use Rattle.cfb_directory.proofs.SlotPlaces.{header-outside, slot_inside, slots_apart}
 
 -- its sectors have a slot for each entry
-pub held_places : (validation : Validation) (d : DirectoryState) → HoldsDirectory validation d → HavePlaces (version_of d) d.sectors (length d.entries) (length (tables_in d).fat)
+pub held_places : (validation : Validation) (d : DirectoryState) → HoldsDirectory validation d → HavePlaces (directory_version d) d.sectors (length d.entries) (length (directory_tables d).fat)
 held_places validation d h = record {
   slots = h.slots.count;
-  within = λ i m. (members-busy (tables_in d).fat (first_or_end d.sectors) d.sectors h.chain i m).1;
+  within = λ i m. (members-busy (directory_tables d).fat (first_or_end d.sectors) d.sectors h.chain i m).1;
 }
 
 -- none of them holds the tables
-pub held_no_tables : (validation : Validation) (d : DirectoryState) → HoldsDirectory validation d → (i : ℕ) → Contains d.sectors i → IsNoTableSector (tables_in d) i
+pub held_no_tables : (validation : Validation) (d : DirectoryState) → HoldsDirectory validation d → (i : ℕ) → Contains d.sectors i → IsNoTableSector (directory_tables d) i
 held_no_tables validation d h = members-no_table validation d.table (first_or_end d.sectors) d.sectors h.tables h.chain
 
 -- a file with a sector has its header

@@ -15,7 +15,7 @@ use Rattle.cfb_tables.specs.Tables.{TableState}
 use Rattle.cfb_alloc.specs.Agreement.{HasSectors}
 use Rattle.cfb_alloc.specs.Alloc.{AllocatorState, HoldsTables}
 use Rattle.cfb_directory.specs.Slots.{HoldSlotsBut}
-use Rattle.cfb_directory.specs.State.{DirectoryState, HoldsDirectory, AreWritable, version_of, bytes_of, tables_in}
+use Rattle.cfb_directory.specs.State.{DirectoryState, HoldsDirectory, AreWritable, directory_version, directory_bytes, directory_tables}
 use Rattle.cfb_directory.proofs.Placed.{header_there}
 
 -- what strict opening wants of a header's word 40
@@ -42,15 +42,15 @@ module _ (v : Version) (old new list : List ℕ) (some : list ≢ []) (whole : H
 
 -- its sectors and tables as before, and the entries that the slots hold now
 pub rewritten : (validation : Validation) (d : DirectoryState) (a : AllocatorState) (cases : Cases) (entries : List Entry) → HoldsDirectory validation d
-    → a.tables ≡ tables_in d → HoldsTables validation a → length (bytes_of d) ≤ length a.file.bytes
-    → ((i : ℕ) → i < length (bytes_of d) → i < sector_len (version_of d) → slice_index a.file.bytes i ≡ slice_index (bytes_of d) i)
-    → HoldSlotsBut [] validation (version_of d) a.file.bytes d.sectors entries → AreWritable (version_of d) entries → length entries ≡ length d.entries
+    → a.tables ≡ directory_tables d → HoldsTables validation a → length (directory_bytes d) ≤ length a.file.bytes
+    → ((i : ℕ) → i < length (directory_bytes d) → i < sector_len (directory_version d) → slice_index a.file.bytes i ≡ slice_index (directory_bytes d) i)
+    → HoldSlotsBut [] validation (directory_version d) a.file.bytes d.sectors entries → AreWritable (directory_version d) entries → length entries ≡ length d.entries
     → HoldsDirectory validation (record { table = a; sectors = d.sectors; cases = cases; entries = entries })
 rewritten validation d a cases entries h same tables longer header slots writable count =
-    let v = version_of d in
+    let v = directory_version d in
     let bytes = a.file.bytes in
-    let word = word_left v (bytes_of d) bytes d.sectors h.some h.whole header in
-    let held : HoldsTables validation (record { file = a.file; tables = tables_in d }) = subst (λ (t : TableState). HoldsTables validation (record { file = a.file; tables = t })) same tables in
+    let word = word_left v (directory_bytes d) bytes d.sectors h.some h.whole header in
+    let held : HoldsTables validation (record { file = a.file; tables = directory_tables d }) = subst (λ (t : TableState). HoldsTables validation (record { file = a.file; tables = t })) same tables in
     subst (λ (t : TableState). HoldsDirectory validation (record { table = record { file = a.file; tables = t }; sectors = d.sectors; cases = cases; entries = entries })) (sym same) (record {
       tables = held;
       sizes = h.sizes;
@@ -62,5 +62,5 @@ rewritten validation d a cases entries h same tables longer header slots writabl
       writable = writable;
       most = let few = h.most in omega (arith, few, count);
       counted = subst (λ n. IfStrict validation (IsStrictCount v n (length d.sectors))) (sym (word 40 (omega arith))) h.counted;
-      strict_header = strict_header_stays validation v (bytes_of d) bytes (word 40 (omega arith)) h.strict_header;
+      strict_header = strict_header_stays validation v (directory_bytes d) bytes (word 40 (omega arith)) h.strict_header;
     })

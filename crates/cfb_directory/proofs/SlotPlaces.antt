@@ -11,7 +11,7 @@ use Rattle.cfb_format.specs.declared.version.Version.TheVariants.{V3, V4}
 use Rattle.cfb_format.specs.Bytes.{sector_len, sector_start, entries_per_sector}
 use Rattle.cfb_format.specs.Medium.{part}
 use Rattle.cfb_format.proofs.ByteLemmas.{length-part, part_at}
-use Rattle.cfb_sectors.specs.Words.{Stays}
+use Rattle.cfb_sectors.specs.Words.{RangeStays}
 use Rattle.cfb_sectors.specs.Sectors.{SectorStays, place_in_sector}
 use Rattle.cfb_alloc.specs.Agreement.{HasSectors, KeepsSectors}
 use Rattle.cfb_alloc.specs.Alloc.{AllocatorState}
@@ -108,7 +108,7 @@ header-outside version sectors i k low = header_before version (slice_index sect
 -- ---- bytes that stay
 
 -- a part of what stayed
-part_stays : (from to at n : ℕ) (a b : List ℕ) → Stays from to a b → from ≤ at → at + n ≤ to → at + n ≤ length a → part b at n ≡ part a at n
+part_stays : (from to at n : ℕ) (a b : List ℕ) → RangeStays from to a b → from ≤ at → at + n ≤ to → at + n ≤ length a → part b at n ≡ part a at n
 part_stays from to at n a b stays low high within =
     let longer = stays.no_shorter in
     let la = length-part a at n in

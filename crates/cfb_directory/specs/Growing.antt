@@ -3,15 +3,15 @@ use Rattle.std.specs.Prelude.{ℕ, ◌≡◌, ◌<◌, List, length, Contains}
 use Rattle.cfb_format.specs.Chain.{IsChain}
 use Rattle.cfb_tables.specs.Tables.{TableState, first_or_end}
 use Rattle.cfb_directory.specs.Slots.{HavePlaces, slot_of}
-use Rattle.cfb_directory.specs.State.{DirectoryState, version_of, bytes_of, tables_in}
+use Rattle.cfb_directory.specs.State.{DirectoryState, directory_version, directory_bytes, directory_tables}
 
 -- each entry has a slot in sectors of the file, and no slot is left over
 abbrev pub ArePlaced : DirectoryState → Type 0
-ArePlaced d = HavePlaces (version_of d) d.sectors (length d.entries) (length (tables_in d).fat)
+ArePlaced d = HavePlaces (directory_version d) d.sectors (length d.entries) (length (directory_tables d).fat)
 
 -- in the file the slots of all entries stay
 abbrev pub KeepsSlots : DirectoryState → DirectoryState → Type 0
-KeepsSlots old new = (k : ℕ) → k < length old.entries → slot_of (version_of old) (bytes_of new) old.sectors k ≡ slot_of (version_of old) (bytes_of old) old.sectors k
+KeepsSlots old new = (k : ℕ) → k < length old.entries → slot_of (directory_version old) (directory_bytes new) old.sectors k ≡ slot_of (directory_version old) (directory_bytes old) old.sectors k
 
 -- these sectors are sectors of the file
 abbrev pub AreSectorsOf : TableState → List ℕ → Type 0

@@ -30,14 +30,14 @@ pub record DirectoryState : Type 0 where
 abbrev pub directory_of : AllocatorState → List ℕ → EntryList → DirectoryState
 directory_of table sectors list = record { table = table; sectors = sectors; cases = list.cases; entries = list.entries }
 
-abbrev pub version_of : DirectoryState → Version
-version_of d = d.table.tables.version
+abbrev pub directory_version : DirectoryState → Version
+directory_version d = d.table.tables.version
 
-abbrev pub bytes_of : DirectoryState → List ℕ
-bytes_of d = d.table.file.bytes
+abbrev pub directory_bytes : DirectoryState → List ℕ
+directory_bytes d = d.table.file.bytes
 
-abbrev pub tables_in : DirectoryState → TableState
-tables_in d = d.table.tables
+abbrev pub directory_tables : DirectoryState → TableState
+directory_tables d = d.table.tables
 
 -- ---- what the bytes hold
 
@@ -50,35 +50,35 @@ AreWritable version entries = (k : ℕ) → k < length entries → (entry_at ent
 -- this mode takes them
 pub record HoldsDirectory (validation : Validation) (d : DirectoryState) : Type 0 where
   pub tables : HoldsTables validation d.table
-  pub sizes : AreSizes (version_of d) (sizes_of (tables_in d))
-  pub chain : IsChain (tables_in d).fat (first_or_end d.sectors) d.sectors
+  pub sizes : AreSizes (directory_version d) (sizes_of (directory_tables d))
+  pub chain : IsChain (directory_tables d).fat (first_or_end d.sectors) d.sectors
   pub some : d.sectors ≢ []
-  pub whole : HasSectors (version_of d) (bytes_of d) d.sectors
-  pub first : word_at (bytes_of d) 48 ≡ first_or_end d.sectors
-  pub slots : HoldSlotsBut [] validation (version_of d) (bytes_of d) d.sectors d.entries
-  pub writable : AreWritable (version_of d) d.entries
+  pub whole : HasSectors (directory_version d) (directory_bytes d) d.sectors
+  pub first : word_at (directory_bytes d) 48 ≡ first_or_end d.sectors
+  pub slots : HoldSlotsBut [] validation (directory_version d) (directory_bytes d) d.sectors d.entries
+  pub writable : AreWritable (directory_version d) d.entries
   pub most : length d.entries ≤ max_entries
-  pub counted : IfStrict validation (IsStrictCount (version_of d) (word_at (bytes_of d) 40) (length d.sectors))
-  pub strict_header : IfStrict validation (IsStrictHeader (version_of d) (bytes_of d))
+  pub counted : IfStrict validation (IsStrictCount (directory_version d) (word_at (directory_bytes d) 40) (length d.sectors))
+  pub strict_header : IfStrict validation (IsStrictHeader (directory_version d) (directory_bytes d))
 
 -- ---- fullness
 
 -- one more entry can't be had: no slot is free, and the directory has as many as it may have, or no sector can be had
 abbrev pub IsFullForEntry : DirectoryState → Type 0
 IsFullForEntry d = (has_free d.entries ≡ false)
-    × ((max_entries < length d.entries + entries_per_sector (version_of d)) ⊎ IsTooFew (tables_in d) 1)
+    × ((max_entries < length d.entries + entries_per_sector (directory_version d)) ⊎ IsTooFew (directory_tables d) 1)
 
 -- the entries among which a new one is put: where no slot is free, those of one more sector come behind them
 abbrev pub with_room : DirectoryState → List Entry
-with_room d = if has_free d.entries then d.entries else grown_by d.entries (entries_per_sector (version_of d))
+with_room d = if has_free d.entries then d.entries else grown_by d.entries (entries_per_sector (directory_version d))
 
 -- ---- what every call leaves alone
 
 -- the version, the letters and the greatest number of sectors stay
-pub record KeepsLimits (old new : DirectoryState) : Type 0 where
-  pub version : version_of new ≡ version_of old
+pub record KeepsDirectoryLimits (old new : DirectoryState) : Type 0 where
+  pub version : directory_version new ≡ directory_version old
   pub cases : new.cases ≡ old.cases
-  pub max_sectors : (tables_in new).max_sectors ≡ (tables_in old).max_sectors
+  pub max_sectors : (directory_tables new).max_sectors ≡ (directory_tables old).max_sectors
 
 -- a byte of the header that no change of the directory writes: it does not speak of the tables, nor, in version 4, counts the
 -- directory's sectors (MS-CFB 2.2)
@@ -86,5 +86,5 @@ abbrev pub IsKeptHeaderByte : Version → ℕ → Type 0
 IsKeptHeaderByte V3 i = (i < 44) ⊎ ((48 ≤ i) × (i < 68))
 IsKeptHeaderByte V4 i = (i < 40) ⊎ ((48 ≤ i) × (i < 68))
 
-abbrev pub KeepsHeader : DirectoryState → DirectoryState → Type 0
-KeepsHeader old new = (i : ℕ) → i < length (bytes_of old) → IsKeptHeaderByte (version_of old) i → slice_index (bytes_of new) i ≡ slice_index (bytes_of old) i
+abbrev pub KeepsDirectoryHeader : DirectoryState → DirectoryState → Type 0
+KeepsDirectoryHeader old new = (i : ℕ) → i < length (directory_bytes old) → IsKeptHeaderByte (directory_version old) i → slice_index (directory_bytes new) i ≡ slice_index (directory_bytes old) i

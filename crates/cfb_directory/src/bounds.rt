@@ -4,7 +4,8 @@ ghost use Rattle.cfb_directory.specs.Slots.{IsLeastAbove};
 
 /// The least number above all of some sectors and of these, where `above` is the least above the former.
 pub fn least_above(above: usize, more: &[u32]) -> usize
-    ensures { (sectors : List ℕ) → IsLeastAbove sectors above → IsLeastAbove (sectors ++ more.now) result }
+    ensures { (sectors : List ℕ)
+        → IsLeastAbove sectors above → IsLeastAbove (sectors ++ more.now) result }
 {
     let mut least = above;
     for sector in more {

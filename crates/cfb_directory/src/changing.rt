@@ -6,7 +6,7 @@ ghost use Rattle.cfb_format.specs.DirectoryEntry.{IsValidEntry};
 ghost use Rattle.cfb_format.specs.Refused.{CountsFailure};
 ghost use Rattle.cfb_format.specs.Siblings.{entry_at};
 ghost use Rattle.cfb_outline.specs.Outlines.{IsReachedStorage};
-ghost use Rattle.cfb_siblings.specs.Children.{HasChildren, IsChildNamed, KeepsColors};
+ghost use Rattle.cfb_siblings.specs.Children.{HasChildren, IsChildNamed};
 ghost use Rattle.cfb_sectors.specs.Sectors.{IsMediumError};
 ghost use Rattle.cfb_tables.specs.Refused.{ChangeRefused};
 ghost use Rattle.cfb_alloc.specs.Frame.{Spares};
@@ -15,8 +15,8 @@ ghost use Rattle.cfb_entries.specs.EntryList.{RemovesEntry};
 ghost use Rattle.cfb_entries.specs.Fields.{fields_in, entry_with_fields, entries_with_fields};
 ghost use Rattle.cfb_directory.specs.Growing.{ArePlaced};
 ghost use Rattle.cfb_directory.specs.Slots.{IsLeastAbove};
-ghost use Rattle.cfb_directory.specs.State.{HoldsDirectory, KeepsLimits, directory_of};
-ghost use Rattle.cfb_directory.specs.Steps.{IsNotHeld, KeepsOtherSlots, StaysRedApart, KeepsSlotsBut, KeepsWholeHeader, StopsShort};
+ghost use Rattle.cfb_directory.specs.State.{HoldsDirectory, KeepsDirectoryLimits, directory_of};
+ghost use Rattle.cfb_directory.specs.Steps.{IsDirectoryNotHeld, KeepsOtherSlots, StaysRedApart, KeepsSlotsBut, KeepsWholeHeader, DirectoryStopsShort};
 
 use crate::slots::{are_placed, numbered_entry_fits, write_entries, write_entry};
 use cfb_alloc::alloc::Allocator;
@@ -46,21 +46,34 @@ pub(crate) fn remove_entry<F: Medium, A: Heap + Clone>(
     requires above { IsLeastAbove sectors.now above }
     requires parent { IsReachedStorage entries.old.cases entries.old.entries parent }
     requires there { (list : List ℕ) → HasChildren entries.old.cases entries.old.entries parent list
-        → (n : ℕ) × IsChildNamed entries.old.cases entries.old.entries (chars name.now) list n × ((entry_at entries.old.entries n).child ≡ no_stream) }
-    ensures removed { OnOk result ((r : RemovesEntry entries.old.cases entries.old.entries entries.new.entries parent (chars name.now)) × KeepsColors entries.old.entries entries.new.entries r.freed) }
-    ensures red_apart { OnOk result (StaysRedApart (directory_of allocator.old sectors.now entries.old) (directory_of allocator.new sectors.now entries.new) parent) }
+        → (n : ℕ) × IsChildNamed entries.old.cases entries.old.entries (chars name.now) list n
+        × ((entry_at entries.old.entries n).child ≡ no_stream) }
+    ensures removed { OnOk result (RemovesEntry entries.old.cases entries.old.entries
+        entries.new.entries parent (chars name.now)) }
+    ensures red_apart { OnOk result (StaysRedApart (directory_of allocator.old
+        sectors.now entries.old) (directory_of allocator.new sectors.now entries.new) parent) }
     ensures kept { allocator.new.tables ≡ allocator.old.tables }
-    ensures holds { IsTrue F.tells → (validation : Validation) → HoldsDirectory validation (directory_of allocator.old sectors.now entries.old)
-        → OnOk result (HoldsDirectory validation (directory_of allocator.new sectors.now entries.new)) }
+    ensures holds { IsTrue F.tells → (validation : Validation)
+        → HoldsDirectory validation (directory_of allocator.old sectors.now entries.old)
+        → OnOk result
+        (HoldsDirectory validation (directory_of allocator.new sectors.now entries.new)) }
     ensures spares { IsTrue F.tells → Spares sectors.now allocator.old allocator.new }
-    ensures header { IsTrue F.tells → KeepsWholeHeader (directory_of allocator.old sectors.now entries.old) (directory_of allocator.new sectors.now entries.new) }
-    ensures slots { IsTrue F.tells → (validation : Validation) → HoldsDirectory validation (directory_of allocator.old sectors.now entries.old)
-        → KeepsOtherSlots parent (directory_of allocator.old sectors.now entries.old) (directory_of allocator.new sectors.now entries.new) }
-    ensures limits { KeepsLimits (directory_of allocator.old sectors.now entries.old) (directory_of allocator.new sectors.now entries.new) }
+    ensures header { IsTrue F.tells
+        → KeepsWholeHeader (directory_of allocator.old sectors.now entries.old)
+        (directory_of allocator.new sectors.now entries.new) }
+    ensures slots { IsTrue F.tells → (validation : Validation)
+        → HoldsDirectory validation (directory_of allocator.old sectors.now entries.old)
+        → KeepsOtherSlots parent (directory_of allocator.old sectors.now entries.old)
+        (directory_of allocator.new sectors.now entries.new) }
+    ensures limits { KeepsDirectoryLimits (directory_of allocator.old sectors.now entries.old)
+        (directory_of allocator.new sectors.now entries.new) }
     ensures begun { OnOk result (allocator.new.file.begun ≡ true) }
-    ensures refused { IfErr result (StopsShort (directory_of allocator.old sectors.now entries.old) (directory_of allocator.new sectors.now entries.new)) }
-    ensures err { IfErr result (ChangeRefused (IsNotHeld (directory_of allocator.old sectors.now entries.old)) Unit ⊥ Unit) }
-    ensures counts { IsTrue F.tells → CountsFailure F.write_faults result allocator.old.file.failures allocator.new.file.failures }
+    ensures refused { IfErr result (DirectoryStopsShort (directory_of allocator.old
+        sectors.now entries.old) (directory_of allocator.new sectors.now entries.new)) }
+    ensures err { IfErr result (ChangeRefused
+        (IsDirectoryNotHeld (directory_of allocator.old sectors.now entries.old)) Unit ⊥ Unit) }
+    ensures counts { IsTrue F.tells → CountsFailure
+        F.write_faults result allocator.old.file.failures allocator.new.file.failures }
 {
     let count = entries.list().len();
     if !are_placed(allocator, sectors, above, count) {
@@ -83,26 +96,40 @@ pub(crate) fn change_fields<F: Medium, A: Heap, W: FnOnce(Fields) -> Fields>(
     requires above { IsLeastAbove sectors.now above }
     requires inside { number < length entries.old.entries }
     requires callable { W.IsAlwaysCallable change }
-    requires root_len { number ≡ 0 → (f : Fields) → W.post change (fields_in (entry_at entries.old.entries 0)) f → f.stream_len % 64 ≡ 0 }
-    ensures changed { OnOk result ((f : Fields) × W.post change (fields_in (entry_at entries.old.entries number)) f
+    requires root_len { number ≡ 0 → (f : Fields)
+        → W.post change (fields_in (entry_at entries.old.entries 0)) f → f.stream_len % 64 ≡ 0 }
+    ensures changed { OnOk result ((f : Fields)
+        × W.post change (fields_in (entry_at entries.old.entries number)) f
         × (entries.new.entries ≡ entries_with_fields entries.old.entries number f)) }
     ensures entries { (entries.new.entries ≡ entries.old.entries)
-        ⊎ ((f : Fields) × W.post change (fields_in (entry_at entries.old.entries number)) f × (entries.new.entries ≡ entries_with_fields entries.old.entries number f)) }
+        ⊎ ((f : Fields) × W.post change (fields_in (entry_at entries.old.entries number)) f
+        × (entries.new.entries ≡ entries_with_fields entries.old.entries number f)) }
     ensures kept { allocator.new.tables ≡ allocator.old.tables }
-    ensures holds { IsTrue F.tells → (validation : Validation) → HoldsDirectory validation (directory_of allocator.old sectors.now entries.old)
+    ensures holds { IsTrue F.tells → (validation : Validation)
+        → HoldsDirectory validation (directory_of allocator.old sectors.now entries.old)
         → ((f : Fields) → W.post change (fields_in (entry_at entries.old.entries number)) f
-        → IsValidEntry allocator.old.tables.version (entry_with_fields (entry_at entries.old.entries number) f))
-        → OnOk result (HoldsDirectory validation (directory_of allocator.new sectors.now entries.new)) }
+        → IsValidEntry allocator.old.tables.version
+        (entry_with_fields (entry_at entries.old.entries number) f)) → OnOk result
+        (HoldsDirectory validation (directory_of allocator.new sectors.now entries.new)) }
     ensures spares { IsTrue F.tells → Spares sectors.now allocator.old allocator.new }
-    ensures header { IsTrue F.tells → KeepsWholeHeader (directory_of allocator.old sectors.now entries.old) (directory_of allocator.new sectors.now entries.new) }
-    ensures slots { IsTrue F.tells → (validation : Validation) → HoldsDirectory validation (directory_of allocator.old sectors.now entries.old)
-        → KeepsSlotsBut number (directory_of allocator.old sectors.now entries.old) (directory_of allocator.new sectors.now entries.new) }
-    ensures limits { KeepsLimits (directory_of allocator.old sectors.now entries.old) (directory_of allocator.new sectors.now entries.new) }
+    ensures header { IsTrue F.tells
+        → KeepsWholeHeader (directory_of allocator.old sectors.now entries.old)
+        (directory_of allocator.new sectors.now entries.new) }
+    ensures slots { IsTrue F.tells → (validation : Validation)
+        → HoldsDirectory validation (directory_of allocator.old sectors.now entries.old)
+        → KeepsSlotsBut number (directory_of allocator.old sectors.now entries.old)
+        (directory_of allocator.new sectors.now entries.new) }
+    ensures limits { KeepsDirectoryLimits (directory_of allocator.old sectors.now entries.old)
+        (directory_of allocator.new sectors.now entries.new) }
     ensures begun { OnOk result (allocator.new.file.begun ≡ true) }
-    ensures refused { IfErr result (StopsShort (directory_of allocator.old sectors.now entries.old) (directory_of allocator.new sectors.now entries.new)) }
-    ensures err { IfErr result (ChangeRefused (IsNotHeld (directory_of allocator.old sectors.now entries.old)) ⊥ ⊥ Unit) }
-    ensures placed { ArePlaced (directory_of allocator.old sectors.now entries.old) → IfErr result IsMediumError }
-    ensures counts { IsTrue F.tells → CountsFailure F.write_faults result allocator.old.file.failures allocator.new.file.failures }
+    ensures refused { IfErr result (DirectoryStopsShort (directory_of allocator.old
+        sectors.now entries.old) (directory_of allocator.new sectors.now entries.new)) }
+    ensures err { IfErr result (ChangeRefused
+        (IsDirectoryNotHeld (directory_of allocator.old sectors.now entries.old)) ⊥ ⊥ Unit) }
+    ensures placed { ArePlaced (directory_of allocator.old sectors.now entries.old)
+        → IfErr result IsMediumError }
+    ensures counts { IsTrue F.tells → CountsFailure
+        F.write_faults result allocator.old.file.failures allocator.new.file.failures }
 {
     let count = entries.list().len();
     if !are_placed(allocator, sectors, above, count) {

@@ -14,7 +14,7 @@ ghost use Rattle.cfb_format.specs.Refused.{CountsFailure, IsInvalidOrMemory};
 ghost use Rattle.cfb_format.specs.Siblings.{entry_at};
 ghost use Rattle.cfb_codecs.specs.EntryModel.{entries_of, entry_of, new_entry};
 ghost use Rattle.cfb_outline.specs.Outlines.{AcceptsOutline, IsReachedStorage};
-ghost use Rattle.cfb_siblings.specs.Children.{HasChildren, IsAbsent, IsChildNamed, KeepsBalance, KeepsColors};
+ghost use Rattle.cfb_siblings.specs.Children.{HasChildren, IsAbsent, IsChildNamed, KeepsBalance};
 ghost use Rattle.cfb_siblings.specs.Paths.{number_from};
 ghost use Rattle.cfb_sectors.specs.Sectors.{IsMediumError, IsRaised};
 ghost use Rattle.cfb_tables.specs.Changes.{NoChain};
@@ -28,8 +28,8 @@ ghost use Rattle.cfb_entries.specs.declared.fields.Fields.{Fields};
 ghost use Rattle.cfb_format.specs.Full.{max_entries};
 ghost use Rattle.cfb_entries.specs.EntryList.{AreInOrder, HaveShortNames, InsertsEntry, RemovesEntry, has_free};
 ghost use Rattle.cfb_entries.specs.Fields.{fields_in, entry_with_fields, entries_with_fields};
-ghost use Rattle.cfb_directory.specs.State.{HoldsDirectory, IsFullForEntry, KeepsHeader, KeepsLimits, bytes_of, tables_in, version_of, with_room};
-ghost use Rattle.cfb_directory.specs.Steps.{IsNotHeld, KeepsOtherSlots, StaysRedApart, KeepsSlotsBut, KeepsWholeHeader, StopsShort};
+ghost use Rattle.cfb_directory.specs.State.{HoldsDirectory, IsFullForEntry, KeepsDirectoryHeader, KeepsDirectoryLimits, directory_bytes, directory_tables, directory_version, with_room};
+ghost use Rattle.cfb_directory.specs.Steps.{IsDirectoryNotHeld, KeepsOtherSlots, StaysRedApart, KeepsSlotsBut, KeepsWholeHeader, DirectoryStopsShort};
 
 use crate::bounds::least_above;
 use crate::changing::{change_fields, remove_entry};
@@ -67,7 +67,12 @@ impl<F: ReadMedium, A: Heap> Model for Directory<F, A> {
 
     ghost Value = { DirectoryState };
 
-    ghost view = { λ d. record { table = d.allocator; sectors = d.sectors.items; cases = d.entries.cases; entries = d.entries.entries } };
+    ghost view = { λ d. record {
+      table = d.allocator;
+      sectors = d.sectors.items;
+      cases = d.entries.cases;
+      entries = d.entries.entries;
+    } };
 
     ghost invariant = { λ d. IsLeastAbove d.sectors.items d.above };
 }
@@ -86,14 +91,21 @@ impl<F: ReadMedium, A: Heap + Clone> Directory<F, A> {
         start: u32,
         validation: Validation,
     ) -> Result<Directory<F, A>, Error>
-        ensures same { IfOk result (λ d. (d.table ≡ allocator) × (d.cases ≡ letters) × (d.entries ≡ entries_of entries.items)) }
-        ensures chain { IfOk result (λ d. IsChain allocator.tables.fat start d.sectors × (d.sectors ≢ [])) }
-        ensures count { IfOk result (λ d. length d.entries ≡ length d.sectors * entries_per_sector allocator.tables.version) }
-        ensures accepted { OnOk result ((o : Outline) × AcceptsOutline validation letters (entries_of entries.items) o) }
-        ensures fit { OnOk result (HaveShortNames (entries_of entries.items) × (vec_len entries ≤ max_entries)) }
-        ensures refused { IfErr result (IsInvalidOrMemory ((list : List ℕ) (o : Outline) → IsChain allocator.tables.fat start list → list ≢ []
+        ensures same { IfOk result (λ d. (d.table ≡ allocator)
+            × (d.cases ≡ letters) × (d.entries ≡ entries_of entries.items)) }
+        ensures chain { IfOk result (λ d. IsChain allocator.tables.fat start d.sectors
+            × (d.sectors ≢ [])) }
+        ensures count { IfOk result (λ d. length d.entries
+            ≡ length d.sectors * entries_per_sector allocator.tables.version) }
+        ensures accepted { OnOk result ((o : Outline)
+            × AcceptsOutline validation letters (entries_of entries.items) o) }
+        ensures fit { OnOk result (HaveShortNames (entries_of entries.items)
+            × (vec_len entries ≤ max_entries)) }
+        ensures refused { IfErr result (IsInvalidOrMemory ((list : List ℕ) (o : Outline)
+            → IsChain allocator.tables.fat start list → list ≢ []
             → vec_len entries ≡ length list * entries_per_sector allocator.tables.version
-            → AcceptsOutline validation letters (entries_of entries.items) o → HaveShortNames (entries_of entries.items) → vec_len entries ≤ max_entries → ⊥)) }
+            → AcceptsOutline validation letters (entries_of entries.items) o
+            → HaveShortNames (entries_of entries.items) → vec_len entries ≤ max_entries → ⊥)) }
     {
         let sectors = allocator.chain(start)?;
         if sectors.is_empty() {
@@ -129,21 +141,21 @@ fn unslotted(sectors: usize, entries: usize) -> Error
 impl<F: ReadMedium, A: Heap> Directory<F, A> {
     /// The version of the file.
     pub fn version(&self) -> Version
-        ensures { result ≡ version_of self.now }
+        ensures { result ≡ directory_version self.now }
     {
         self.allocator.version()
     }
 
     /// The length of a sector, in bytes.
     pub fn sector_len(&self) -> usize
-        ensures { result ≡ sector_len (version_of self.now) }
+        ensures { result ≡ sector_len (directory_version self.now) }
     {
         self.allocator.sector_len()
     }
 
     /// The medium.
     pub fn inner(&self) -> &F
-        ensures bytes { F.bytes result.now ≡ bytes_of self.now }
+        ensures bytes { F.bytes result.now ≡ directory_bytes self.now }
         ensures failures { F.failures result.now ≡ self.now.table.file.failures }
     {
         self.allocator.inner()
@@ -151,7 +163,7 @@ impl<F: ReadMedium, A: Heap> Directory<F, A> {
 
     /// Gives the medium back.
     pub fn into_inner(self) -> F
-        ensures bytes { F.bytes result ≡ bytes_of self }
+        ensures bytes { F.bytes result ≡ directory_bytes self }
         ensures failures { F.failures result ≡ self.table.file.failures }
     {
         let Directory {
@@ -173,7 +185,10 @@ impl<F: ReadMedium, A: Heap> Directory<F, A> {
 
     /// Says that the change that was begun, if one was, has ended well.
     pub fn end_change(&mut self)
-        ensures { self.new ≡ record self.old { table = record self.old.table { file = record self.old.table.file { begun = false } } } }
+        ensures { self.new ≡ record self.old {
+          table
+              = record self.old.table { file = record self.old.table.file { begun = false } };
+        } }
     {
         self.allocator.end_change();
     }
@@ -181,7 +196,10 @@ impl<F: ReadMedium, A: Heap> Directory<F, A> {
     /// Lets the file grow to so many sectors, and to no more. No number above the greatest regular one is taken.
     pub fn set_max_sectors(&mut self, max_sectors: u32)
         ensures { self.new ≡ record self.old {
-          table = record self.old.table { tables = record (tables_in self.old) { max_sectors = min max_sectors max_regular_sector } };
+          table = record self.old.table {
+            tables = record
+                (directory_tables self.old) { max_sectors = min max_sectors max_regular_sector };
+          };
         } }
     {
         self.allocator.set_max_sectors(max_sectors);
@@ -248,8 +266,11 @@ impl<F: ReadMedium, A: Heap> Directory<F, A> {
     /// The entry that these names lead to from the root: `None` where nothing is there. There is nothing in a stream (MS-CFB 2.6.2). It
     /// takes no memory.
     pub fn stream_id_for_name_chain(&self, names: &[&str]) -> Option<u32>
-        ensures found { (o : Outline) → IsOutline self.now.cases self.now.entries o → result ≡ number_from self.now.cases self.now.entries 0 o (map (λ name. chars name.now) names.now) }
-        ensures reached { (o : Outline) → IsOutline self.now.cases self.now.entries o → IfSome result (λ k. Contains (0 ∷ numbers o) k) }
+        ensures found { (o : Outline) → IsOutline self.now.cases self.now.entries o
+            → result ≡ number_from self.now.cases self.now.entries 0 o (map (λ name.
+            chars name.now) names.now) }
+        ensures reached { (o : Outline) → IsOutline self.now.cases self.now.entries o
+            → IfSome result (λ k. Contains (0 ∷ numbers o) k) }
     {
         self.entries.find(names)
     }
@@ -258,8 +279,10 @@ impl<F: ReadMedium, A: Heap> Directory<F, A> {
     pub fn child_named(&self, parent: u32, name: &str) -> Option<u32>
         requires parent { IsReachedStorage self.now.cases self.now.entries parent }
         ensures found { (list : List ℕ) → HasChildren self.now.cases self.now.entries parent list
-            → MatchOption result (IsAbsent self.now.cases self.now.entries (chars name.now) list) (λ k. IsChildNamed self.now.cases self.now.entries (chars name.now) list k) }
-        ensures reached { (o : Outline) → IsOutline self.now.cases self.now.entries o → IfSome result (λ k. Contains (numbers o) k) }
+            → MatchOption result (IsAbsent self.now.cases self.now.entries (chars name.now) list)
+            (λ k. IsChildNamed self.now.cases self.now.entries (chars name.now) list k) }
+        ensures reached { (o : Outline) → IsOutline self.now.cases self.now.entries o
+            → IfSome result (λ k. Contains (numbers o) k) }
     {
         self.entries.child_named(parent, name)
     }
@@ -272,7 +295,8 @@ impl<F: ReadMedium, A: Heap> Directory<F, A> {
     /// Lends the allocator of the file's sectors. The directory's sectors and entries are as before whatever is done with it.
     pub fn allocator_mut(&mut self) -> &mut Allocator<F, A>
         ensures value { result.now ≡ self.old.table }
-        ensures* writes_back { sem 𝓛 (directory_lends F.row A.row F.ReadMedium A.Allocator self.entry result) }
+        ensures* writes_back { sem 𝓛
+            (directory_lends F.row A.row F.ReadMedium A.Allocator self.entry result) }
     {
         &mut self.allocator
     }
@@ -295,27 +319,41 @@ impl<F: Medium, A: Heap + Clone> Directory<F, A> {
     ) -> Result<u32, Error>
         requires parent { IsReachedStorage self.old.cases self.old.entries parent }
         requires valid { IsTrue (is_valid_name (chars name.now)) }
-        requires absent { (list : List ℕ) → HasChildren self.old.cases self.old.entries parent list → IsAbsent self.old.cases self.old.entries (chars name.now) list }
+        requires absent { (list : List ℕ) → HasChildren self.old.cases self.old.entries parent list
+            → IsAbsent self.old.cases self.old.entries (chars name.now) list }
         requires kind { (kind ≡ Storage) ⊎ (kind ≡ Stream) }
-        ensures inserted { IfOk result (λ n. InsertsEntry self.old.cases (with_room self.old) self.new.entries parent n (new_entry (chars name.now) kind moment)) }
+        ensures inserted { IfOk result (λ n. InsertsEntry self.old.cases (with_room self.old)
+            self.new.entries parent n (new_entry (chars name.now) kind moment)) }
         ensures balanced { OnOk result (KeepsBalance self.old.entries self.new.entries parent) }
         ensures red_apart { OnOk result (StaysRedApart self.old self.new parent) }
-        ensures kept { has_free self.old.entries ≡ true → (self.new.sectors ≡ self.old.sectors) × (tables_in self.new ≡ tables_in self.old) }
-        ensures lengthened { has_free self.old.entries ≡ false → OnOk result (Lengthens 1 self.old.sectors self.new.sectors (tables_in self.old) (tables_in self.new)) }
-        ensures chain { IsListedChain (tables_in self.old) self.old.sectors → OnOk result (IsListedChain (tables_in self.new) self.new.sectors) }
-        ensures holds { IsTrue F.tells → (validation : Validation) → HoldsDirectory validation self.old → OnOk result (HoldsDirectory validation self.new) }
+        ensures kept { has_free self.old.entries ≡ true → (self.new.sectors ≡ self.old.sectors)
+            × (directory_tables self.new ≡ directory_tables self.old) }
+        ensures lengthened { has_free self.old.entries ≡ false
+            → OnOk result (Lengthens 1 self.old.sectors self.new.sectors
+            (directory_tables self.old) (directory_tables self.new)) }
+        ensures chain { IsListedChain (directory_tables self.old) self.old.sectors
+            → OnOk result (IsListedChain (directory_tables self.new) self.new.sectors) }
+        ensures holds { IsTrue F.tells
+            → (validation : Validation) → HoldsDirectory validation self.old
+            → OnOk result (HoldsDirectory validation self.new) }
         ensures spares { IsTrue F.tells → Spares self.old.sectors self.old.table self.new.table }
-        ensures header { IsTrue F.tells → KeepsHeader self.old self.new }
+        ensures header { IsTrue F.tells → KeepsDirectoryHeader self.old self.new }
         ensures header_kept { IsTrue F.tells → has_free self.old.entries ≡ true
-            → (i : ℕ) → i < 512 → i < length (bytes_of self.old) → slice_index (bytes_of self.new) i ≡ slice_index (bytes_of self.old) i }
-        ensures count { IsTrue F.tells → version_of self.old ≡ V4 → has_free self.old.entries ≡ false → OnOk result (word_at (bytes_of self.new) 40 ≡ length self.new.sectors) }
-        ensures slots { IsTrue F.tells → (validation : Validation) → HoldsDirectory validation self.old → KeepsOtherSlots parent self.old self.new }
-        ensures limits { KeepsLimits self.old self.new }
+            → (i : ℕ) → i < 512 → i < length (directory_bytes self.old)
+            → slice_index (directory_bytes self.new) i ≡ slice_index (directory_bytes self.old) i }
+        ensures count { IsTrue F.tells
+            → directory_version self.old ≡ V4 → has_free self.old.entries ≡ false
+            → OnOk result (word_at (directory_bytes self.new) 40 ≡ length self.new.sectors) }
+        ensures slots { IsTrue F.tells → (validation : Validation)
+            → HoldsDirectory validation self.old → KeepsOtherSlots parent self.old self.new }
+        ensures limits { KeepsDirectoryLimits self.old self.new }
         ensures begun { OnOk result (self.new.table.file.begun ≡ true) }
         ensures enough { OnOk result (IsFullForEntry self.old → ⊥) }
-        ensures refused { IfErr result (StopsShort self.old self.new) }
-        ensures err { IfErr result (ChangeRefused (IsNotHeld self.old) (IsFullForEntry self.old → ⊥) (IsFullForEntry self.old) Unit) }
-        ensures counts { IsTrue F.tells → CountsFailure F.write_faults result self.old.table.file.failures self.new.table.file.failures }
+        ensures refused { IfErr result (DirectoryStopsShort self.old self.new) }
+        ensures err { IfErr result (ChangeRefused (IsDirectoryNotHeld self.old)
+            (IsFullForEntry self.old → ⊥) (IsFullForEntry self.old) Unit) }
+        ensures counts { IsTrue F.tells → CountsFailure
+            F.write_faults result self.old.table.file.failures self.new.table.file.failures }
     {
         insert_entry(
             &mut self.allocator,
@@ -341,19 +379,26 @@ impl<F: Medium, A: Heap + Clone> Directory<F, A> {
     pub fn remove_dir_entry(&mut self, parent: u32, name: &str) -> Result<(), Error>
         requires parent { IsReachedStorage self.old.cases self.old.entries parent }
         requires there { (list : List ℕ) → HasChildren self.old.cases self.old.entries parent list
-            → (n : ℕ) × IsChildNamed self.old.cases self.old.entries (chars name.now) list n × ((entry_at self.old.entries n).child ≡ no_stream) }
-        ensures removed { OnOk result ((r : RemovesEntry self.old.cases self.old.entries self.new.entries parent (chars name.now)) × KeepsColors self.old.entries self.new.entries r.freed) }
+            → (n : ℕ) × IsChildNamed self.old.cases self.old.entries (chars name.now) list n
+            × ((entry_at self.old.entries n).child ≡ no_stream) }
+        ensures removed { OnOk result (RemovesEntry self.old.cases self.old.entries self.new.entries
+            parent (chars name.now)) }
         ensures red_apart { OnOk result (StaysRedApart self.old self.new parent) }
-        ensures kept { (self.new.sectors ≡ self.old.sectors) × (tables_in self.new ≡ tables_in self.old) }
-        ensures holds { IsTrue F.tells → (validation : Validation) → HoldsDirectory validation self.old → OnOk result (HoldsDirectory validation self.new) }
+        ensures kept { (self.new.sectors ≡ self.old.sectors)
+            × (directory_tables self.new ≡ directory_tables self.old) }
+        ensures holds { IsTrue F.tells
+            → (validation : Validation) → HoldsDirectory validation self.old
+            → OnOk result (HoldsDirectory validation self.new) }
         ensures spares { IsTrue F.tells → Spares self.old.sectors self.old.table self.new.table }
         ensures header { IsTrue F.tells → KeepsWholeHeader self.old self.new }
-        ensures slots { IsTrue F.tells → (validation : Validation) → HoldsDirectory validation self.old → KeepsOtherSlots parent self.old self.new }
-        ensures limits { KeepsLimits self.old self.new }
+        ensures slots { IsTrue F.tells → (validation : Validation)
+            → HoldsDirectory validation self.old → KeepsOtherSlots parent self.old self.new }
+        ensures limits { KeepsDirectoryLimits self.old self.new }
         ensures begun { OnOk result (self.new.table.file.begun ≡ true) }
-        ensures refused { IfErr result (StopsShort self.old self.new) }
-        ensures err { IfErr result (ChangeRefused (IsNotHeld self.old) Unit ⊥ Unit) }
-        ensures counts { IsTrue F.tells → CountsFailure F.write_faults result self.old.table.file.failures self.new.table.file.failures }
+        ensures refused { IfErr result (DirectoryStopsShort self.old self.new) }
+        ensures err { IfErr result (ChangeRefused (IsDirectoryNotHeld self.old) Unit ⊥ Unit) }
+        ensures counts { IsTrue F.tells → CountsFailure
+            F.write_faults result self.old.table.file.failures self.new.table.file.failures }
     {
         remove_entry(
             &mut self.allocator,
@@ -381,24 +426,32 @@ impl<F: Medium, A: Heap> Directory<F, A> {
     ) -> Result<(), Error>
         requires inside { number < length self.old.entries }
         requires callable { W.IsAlwaysCallable change }
-        requires root_len { number ≡ 0 → (f : Fields) → W.post change (fields_in (entry_at self.old.entries 0)) f → f.stream_len % 64 ≡ 0 }
-        ensures changed { OnOk result ((f : Fields) × W.post change (fields_in (entry_at self.old.entries number)) f
+        requires root_len { number ≡ 0 → (f : Fields)
+            → W.post change (fields_in (entry_at self.old.entries 0)) f → f.stream_len % 64 ≡ 0 }
+        ensures changed { OnOk result ((f : Fields)
+            × W.post change (fields_in (entry_at self.old.entries number)) f
             × (self.new.entries ≡ entries_with_fields self.old.entries number f)) }
         ensures entries { (self.new.entries ≡ self.old.entries)
-            ⊎ ((f : Fields) × W.post change (fields_in (entry_at self.old.entries number)) f × (self.new.entries ≡ entries_with_fields self.old.entries number f)) }
-        ensures kept { (self.new.sectors ≡ self.old.sectors) × (tables_in self.new ≡ tables_in self.old) }
-        ensures holds { IsTrue F.tells → (validation : Validation) → HoldsDirectory validation self.old
-            → ((f : Fields) → W.post change (fields_in (entry_at self.old.entries number)) f → IsValidEntry (version_of self.old) (entry_with_fields (entry_at self.old.entries number) f))
+            ⊎ ((f : Fields) × W.post change (fields_in (entry_at self.old.entries number)) f
+            × (self.new.entries ≡ entries_with_fields self.old.entries number f)) }
+        ensures kept { (self.new.sectors ≡ self.old.sectors)
+            × (directory_tables self.new ≡ directory_tables self.old) }
+        ensures holds { IsTrue F.tells
+            → (validation : Validation) → HoldsDirectory validation self.old → ((f : Fields)
+            → W.post change (fields_in (entry_at self.old.entries number)) f → IsValidEntry
+            (directory_version self.old) (entry_with_fields (entry_at self.old.entries number) f))
             → OnOk result (HoldsDirectory validation self.new) }
         ensures spares { IsTrue F.tells → Spares self.old.sectors self.old.table self.new.table }
         ensures header { IsTrue F.tells → KeepsWholeHeader self.old self.new }
-        ensures slots { IsTrue F.tells → (validation : Validation) → HoldsDirectory validation self.old → KeepsSlotsBut number self.old self.new }
-        ensures limits { KeepsLimits self.old self.new }
+        ensures slots { IsTrue F.tells → (validation : Validation)
+            → HoldsDirectory validation self.old → KeepsSlotsBut number self.old self.new }
+        ensures limits { KeepsDirectoryLimits self.old self.new }
         ensures begun { OnOk result (self.new.table.file.begun ≡ true) }
-        ensures refused { IfErr result (StopsShort self.old self.new) }
-        ensures err { IfErr result (ChangeRefused (IsNotHeld self.old) ⊥ ⊥ Unit) }
+        ensures refused { IfErr result (DirectoryStopsShort self.old self.new) }
+        ensures err { IfErr result (ChangeRefused (IsDirectoryNotHeld self.old) ⊥ ⊥ Unit) }
         ensures placed { ArePlaced self.old → IfErr result IsMediumError }
-        ensures counts { IsTrue F.tells → CountsFailure F.write_faults result self.old.table.file.failures self.new.table.file.failures }
+        ensures counts { IsTrue F.tells → CountsFailure
+            F.write_faults result self.old.table.file.failures self.new.table.file.failures }
     {
         change_fields(
             &mut self.allocator,
@@ -416,26 +469,34 @@ impl<F: Medium, A: Heap> Directory<F, A> {
         change: W,
     ) -> Result<(), Error>
         requires callable { W.IsAlwaysCallable change }
-        requires root_len { (f : Fields) → W.post change (fields_in (entry_at self.old.entries 0)) f → f.stream_len % 64 ≡ 0 }
-        ensures changed { OnOk result ((f : Fields) × W.post change (fields_in (entry_at self.old.entries 0)) f
+        requires root_len { (f : Fields)
+            → W.post change (fields_in (entry_at self.old.entries 0)) f → f.stream_len % 64 ≡ 0 }
+        ensures changed { OnOk result ((f : Fields)
+            × W.post change (fields_in (entry_at self.old.entries 0)) f
             × (self.new.entries ≡ entries_with_fields self.old.entries 0 f)) }
         ensures entries { (self.new.entries ≡ self.old.entries)
-            ⊎ ((f : Fields) × W.post change (fields_in (entry_at self.old.entries 0)) f × (self.new.entries ≡ entries_with_fields self.old.entries 0 f)) }
-        ensures kept { (self.new.sectors ≡ self.old.sectors) × (tables_in self.new ≡ tables_in self.old) }
-        ensures holds { IsTrue F.tells → (validation : Validation) → HoldsDirectory validation self.old
-            → ((f : Fields) → W.post change (fields_in (entry_at self.old.entries 0)) f → IsValidEntry (version_of self.old) (entry_with_fields (entry_at self.old.entries 0) f))
+            ⊎ ((f : Fields) × W.post change (fields_in (entry_at self.old.entries 0)) f
+            × (self.new.entries ≡ entries_with_fields self.old.entries 0 f)) }
+        ensures kept { (self.new.sectors ≡ self.old.sectors)
+            × (directory_tables self.new ≡ directory_tables self.old) }
+        ensures holds { IsTrue F.tells
+            → (validation : Validation) → HoldsDirectory validation self.old → ((f : Fields)
+            → W.post change (fields_in (entry_at self.old.entries 0)) f → IsValidEntry
+            (directory_version self.old) (entry_with_fields (entry_at self.old.entries 0) f))
             → OnOk result (HoldsDirectory validation self.new) }
         ensures spares { IsTrue F.tells → Spares self.old.sectors self.old.table self.new.table }
         ensures header { IsTrue F.tells → KeepsWholeHeader self.old self.new }
-        ensures slots { IsTrue F.tells → (validation : Validation) → HoldsDirectory validation self.old → KeepsSlotsBut 0 self.old self.new }
-        ensures limits { KeepsLimits self.old self.new }
+        ensures slots { IsTrue F.tells → (validation : Validation)
+            → HoldsDirectory validation self.old → KeepsSlotsBut 0 self.old self.new }
+        ensures limits { KeepsDirectoryLimits self.old self.new }
         ensures begun { OnOk result (self.new.table.file.begun ≡ true) }
-        ensures refused { IfErr result (StopsShort self.old self.new) }
-        ensures err { IfErr result (ChangeRefused (IsNotHeld self.old) ⊥ ⊥ Unit) }
+        ensures refused { IfErr result (DirectoryStopsShort self.old self.new) }
+        ensures err { IfErr result (ChangeRefused (IsDirectoryNotHeld self.old) ⊥ ⊥ Unit) }
         ensures placed { ArePlaced self.old → IfErr result IsMediumError }
-        ensures counts { IsTrue F.tells → CountsFailure F.write_faults result self.old.table.file.failures self.new.table.file.failures }
+        ensures counts { IsTrue F.tells → CountsFailure
+            F.write_faults result self.old.table.file.failures self.new.table.file.failures }
     {
-        let _root = self.root_dir_entry();
+        let _fact = self.root_dir_entry();
         self.with_dir_entry_mut(0, change)
     }
 }
@@ -447,36 +508,45 @@ impl<F: Medium, A: Heap> Directory<F, A> {
     /// fails, the tables in memory have the sector, and of the file's bytes no sector in use has changed but the table sectors. The
     /// directory itself stays in any case.
     pub fn begin_chain(&mut self, init: SectorInit) -> Result<u32, Error>
-        ensures taken { IfOk result (λ x. HasTaken (tables_in self.old) (tables_in self.new) [] (x ∷ [])) }
-        ensures chain { IfOk result (λ x. IsChain (tables_in self.new).fat x (x ∷ [])) }
-        ensures filled { IsTrue F.tells → (validation : Validation) → HoldsTables validation self.old.table
-            → IfOk result (λ x. IsFilled (version_of self.new) init (bytes_of self.new) x) }
-        ensures holds { IsTrue F.tells → (validation : Validation) → HoldsTables validation self.old.table → OnOk result (HoldsTables validation self.new.table) }
+        ensures taken { IfOk result (λ x.
+            HasTaken (directory_tables self.old) (directory_tables self.new) [] (x ∷ [])) }
+        ensures chain { IfOk result (λ x. IsChain (directory_tables self.new).fat x (x ∷ [])) }
+        ensures filled { IsTrue F.tells
+            → (validation : Validation) → HoldsTables validation self.old.table → IfOk result (λ x.
+            IsFilled (directory_version self.new) init (directory_bytes self.new) x) }
+        ensures holds { IsTrue F.tells
+            → (validation : Validation) → HoldsTables validation self.old.table
+            → OnOk result (HoldsTables validation self.new.table) }
         ensures others { IsTrue F.tells → OthersStay self.old.table self.new.table }
         ensures spares { IsTrue F.tells → Spares [] self.old.table self.new.table }
         ensures rest { self.new ≡ record self.old { table = self.new.table } }
-        ensures enough { OnOk result (IsTooFew (tables_in self.old) 1 → ⊥) }
+        ensures enough { OnOk result (IsTooFew (directory_tables self.old) 1 → ⊥) }
         ensures begun { OnOk result (self.new.table.file.begun ≡ true) }
         ensures refused { IfErr result (BreaksOff (TakesFor []) self.old.table self.new.table) }
-        ensures err { IfErr result (ChangeRefused (IsUsable (tables_in self.old) → ⊥) (IsTooFew (tables_in self.old) 1 → ⊥) (IsTooFew (tables_in self.old) 1) Unit) }
-        ensures counts { IsTrue F.tells → CountsFailure F.write_faults result self.old.table.file.failures self.new.table.file.failures }
+        ensures err { IfErr result (ChangeRefused (IsUsable (directory_tables self.old)
+            → ⊥) (IsTooFew (directory_tables self.old) 1
+            → ⊥) (IsTooFew (directory_tables self.old) 1) Unit) }
+        ensures counts { IsTrue F.tells → CountsFailure
+            F.write_faults result self.old.table.file.failures self.new.table.file.failures }
     {
         self.allocator.begin_chain(init)
     }
 
     /// Has the medium hand on what was written. `Medium` where it fails. No byte changes, nor anything in memory.
     pub fn flush(&mut self) -> Result<(), Error>
-        ensures tables { tables_in self.new ≡ tables_in self.old }
-        ensures ok { IsTrue F.tells → OnOk result (self.new.table.file ≡ record self.old.table.file { begun = true }) }
+        ensures tables { directory_tables self.new ≡ directory_tables self.old }
+        ensures ok { IsTrue F.tells
+            → OnOk result (self.new.table.file ≡ record self.old.table.file { begun = true }) }
         ensures kept { self.new.table.file ≡ record self.old.table.file {
           bytes = self.new.table.file.bytes;
           failures = self.new.table.file.failures;
           begun = true;
         } }
-        ensures bytes { IsTrue F.tells → bytes_of self.new ≡ bytes_of self.old }
+        ensures bytes { IsTrue F.tells → directory_bytes self.new ≡ directory_bytes self.old }
         ensures rest { self.new ≡ record self.old { table = self.new.table } }
         ensures err { IfErr result IsMediumError }
-        ensures counts { IsTrue F.tells → CountsFailure F.write_faults result self.old.table.file.failures self.new.table.file.failures }
+        ensures counts { IsTrue F.tells → CountsFailure
+            F.write_faults result self.old.table.file.failures self.new.table.file.failures }
     {
         self.allocator.flush()
     }
@@ -488,19 +558,28 @@ impl<F: Medium, A: Heap + Clone> Directory<F, A> {
     /// `InvalidData` where there is no such chain, where it is empty, and where the FAT sectors do not cover the file; `Medium`,
     /// `Memory` and `Full` as in `begin_chain`. The directory itself stays in any case, so `start` is not to be that of its own chain.
     pub fn extend_chain(&mut self, start: u32, init: SectorInit) -> Result<u32, Error>
-        ensures extended { IfOk result (λ x. Extended (tables_in self.old) (tables_in self.new) start (x ∷ [])) }
-        ensures filled { IsTrue F.tells → (validation : Validation) → HoldsTables validation self.old.table
-            → IfOk result (λ x. IsFilled (version_of self.new) init (bytes_of self.new) x) }
-        ensures holds { IsTrue F.tells → (validation : Validation) → HoldsTables validation self.old.table → OnOk result (HoldsTables validation self.new.table) }
+        ensures extended { IfOk result (λ x.
+            Extended (directory_tables self.old) (directory_tables self.new) start (x ∷ [])) }
+        ensures filled { IsTrue F.tells
+            → (validation : Validation) → HoldsTables validation self.old.table → IfOk result (λ x.
+            IsFilled (directory_version self.new) init (directory_bytes self.new) x) }
+        ensures holds { IsTrue F.tells
+            → (validation : Validation) → HoldsTables validation self.old.table
+            → OnOk result (HoldsTables validation self.new.table) }
         ensures others { IsTrue F.tells → OthersStay self.old.table self.new.table }
-        ensures spares { IsTrue F.tells → (list : List ℕ) → IsChain (tables_in self.old).fat start list → Spares list self.old.table self.new.table }
+        ensures spares { IsTrue F.tells
+            → (list : List ℕ) → IsChain (directory_tables self.old).fat start list
+            → Spares list self.old.table self.new.table }
         ensures rest { self.new ≡ record self.old { table = self.new.table } }
-        ensures enough { OnOk result (IsTooFew (tables_in self.old) 1 → ⊥) }
+        ensures enough { OnOk result (IsTooFew (directory_tables self.old) 1 → ⊥) }
         ensures begun { OnOk result (self.new.table.file.begun ≡ true) }
-        ensures refused { IfErr result (BreaksOff (ExtendsFrom start) self.old.table self.new.table) }
-        ensures err { IfErr result (ChangeRefused ((IsUsable (tables_in self.old) → ⊥) ⊎ NoLast (tables_in self.old).fat start)
-            (IsTooFew (tables_in self.old) 1 → ⊥) (IsTooFew (tables_in self.old) 1) Unit) }
-        ensures counts { IsTrue F.tells → CountsFailure F.write_faults result self.old.table.file.failures self.new.table.file.failures }
+        ensures refused { IfErr result
+            (BreaksOff (ExtendsFrom start) self.old.table self.new.table) }
+        ensures err { IfErr result (ChangeRefused ((IsUsable (directory_tables self.old) → ⊥)
+            ⊎ NoLast (directory_tables self.old).fat start) (IsTooFew (directory_tables self.old) 1
+            → ⊥) (IsTooFew (directory_tables self.old) 1) Unit) }
+        ensures counts { IsTrue F.tells → CountsFailure
+            F.write_faults result self.old.table.file.failures self.new.table.file.failures }
     {
         self.allocator.extend_chain(start, init)
     }
@@ -512,17 +591,27 @@ impl<F: Medium, A: Heap + Clone> Directory<F, A> {
     /// file's bytes the FAT sectors alone have changed. The directory itself stays in any case, so `start` is not to be that of its own
     /// chain.
     pub fn free_chain(&mut self, start: u32) -> Result<(), Error>
-        ensures freed { OnOk result (GivesBackChain [] start (tables_in self.old) (tables_in self.new)) }
+        ensures freed { OnOk result
+            (GivesBackChain [] start (directory_tables self.old) (directory_tables self.new)) }
         ensures none { start ≡ end_of_chain → self.new ≡ self.old }
-        ensures holds { IsTrue F.tells → (validation : Validation) → HoldsTables validation self.old.table → IsUnnamed (tables_in self.old).fat start
+        ensures holds { IsTrue F.tells
+            → (validation : Validation) → HoldsTables validation self.old.table
+            → IsUnnamed (directory_tables self.old).fat start
             → OnOk result (HoldsTables validation self.new.table) }
-        ensures changes { IsTrue F.tells → ChangesSectors (tables_in self.old).fat_sectors (version_of self.old) (bytes_of self.old) (bytes_of self.new) }
-        ensures spares { IsTrue F.tells → (list : List ℕ) → IsChain (tables_in self.old).fat start list → Spares list self.old.table self.new.table }
+        ensures changes { IsTrue F.tells → ChangesSectors (directory_tables self.old).fat_sectors
+            (directory_version self.old) (directory_bytes self.old) (directory_bytes self.new) }
+        ensures spares { IsTrue F.tells
+            → (list : List ℕ) → IsChain (directory_tables self.old).fat start list
+            → Spares list self.old.table self.new.table }
         ensures rest { self.new ≡ record self.old { table = self.new.table } }
-        ensures begun { OnOk result (IsRaised (start ≢ end_of_chain) self.old.table.file self.new.table.file) }
-        ensures refused { IfErr result (BreaksOff (GivesBackChain [] start) self.old.table self.new.table) }
-        ensures err { IfErr result (ChangeRefused ((IsUsable (tables_in self.old) → ⊥) ⊎ NoChain (tables_in self.old).fat start) Unit ⊥ Unit) }
-        ensures counts { IsTrue F.tells → CountsFailure F.write_faults result self.old.table.file.failures self.new.table.file.failures }
+        ensures begun { OnOk result (IsRaised (start
+            ≢ end_of_chain) self.old.table.file self.new.table.file) }
+        ensures refused { IfErr result
+            (BreaksOff (GivesBackChain [] start) self.old.table self.new.table) }
+        ensures err { IfErr result (ChangeRefused ((IsUsable (directory_tables self.old) → ⊥)
+            ⊎ NoChain (directory_tables self.old).fat start) Unit ⊥ Unit) }
+        ensures counts { IsTrue F.tells → CountsFailure
+            F.write_faults result self.old.table.file.failures self.new.table.file.failures }
     {
         self.allocator.free_chain(start)
     }

@@ -25,8 +25,8 @@ ghost use Rattle.cfb_entries.specs.EntryList.{InsertsEntry, has_free};
 ghost use Rattle.cfb_entries.specs.Insertions.{IsInsertionOf, name_in};
 ghost use Rattle.cfb_directory.specs.Growing.{ArePlaced, AreSectorsOf, IsListedChain, KeepsBounds, KeepsSlots};
 ghost use Rattle.cfb_directory.specs.Slots.{IsLeastAbove};
-ghost use Rattle.cfb_directory.specs.State.{HoldsDirectory, IsFullForEntry, KeepsHeader, KeepsLimits, bytes_of, directory_of, version_of, with_room};
-ghost use Rattle.cfb_directory.specs.Steps.{IsNotHeld, KeepsOtherSlots, StaysRedApart, StopsShort};
+ghost use Rattle.cfb_directory.specs.State.{HoldsDirectory, IsFullForEntry, KeepsDirectoryHeader, KeepsDirectoryLimits, directory_bytes, directory_of, directory_version, with_room};
+ghost use Rattle.cfb_directory.specs.Steps.{IsDirectoryNotHeld, KeepsOtherSlots, StaysRedApart, DirectoryStopsShort};
 
 use crate::bounds::least_above;
 use crate::slots::{are_placed, write_entries};
@@ -35,12 +35,12 @@ use cfb_codecs::timestamp::Timestamp;
 use cfb_entries::entries::Entries;
 use cfb_entries::fresh::fresh_entries;
 use cfb_entries::insertion::Insertion;
-use cfb_format::consts::END_OF_CHAIN;
 use cfb_format::error::{Detail, Error};
 use cfb_format::medium::{Medium, ReadMedium};
 use cfb_format::objtype::ObjType;
 use cfb_format::version::Version;
 use cfb_sectors::sector::SectorInit;
+use cfb_tables::ends::last_number;
 use std::alloc::Allocator as Heap;
 
 /// How many entries a directory may have.
@@ -56,9 +56,11 @@ fn check_room<F: ReadMedium, A: Heap>(
 ) -> Result<(), Error>
     requires above { IsLeastAbove sectors.now above }
     ensures placed { OnOk result (ArePlaced (directory_of allocator.now sectors.now entries.now)) }
-    ensures enough { OnOk result (IsFullForEntry (directory_of allocator.now sectors.now entries.now) → ⊥) }
-    ensures err { IfErr result (TableRefused (ArePlaced (directory_of allocator.now sectors.now entries.now) → ⊥) ⊥
-        (IsFullForEntry (directory_of allocator.now sectors.now entries.now))) }
+    ensures enough { OnOk result
+        (IsFullForEntry (directory_of allocator.now sectors.now entries.now) → ⊥) }
+    ensures err { IfErr result
+        (TableRefused (ArePlaced (directory_of allocator.now sectors.now entries.now)
+        → ⊥) ⊥ (IsFullForEntry (directory_of allocator.now sectors.now entries.now))) }
 {
     let count = entries.list().len();
     if !are_placed(allocator, sectors, above, count) {
@@ -75,13 +77,6 @@ fn check_room<F: ReadMedium, A: Heap>(
         return Err(Error::Full);
     }
     Ok(())
-}
-
-/// The last number of a list, or END.
-fn last_number(numbers: &[u32]) -> u32
-    ensures { result ≡ last_or_end numbers.now }
-{
-    numbers.last().copied().unwrap_or(END_OF_CHAIN)
 }
 
 /// Appends numbers to a list that has room for them.
@@ -102,24 +97,37 @@ fn lengthen<F: Medium, A: Heap + Clone>(
     above: &mut usize,
 ) -> Result<(), Error>
     requires room { vec_len sectors.old + 1 ≤ vec_capacity sectors.old }
-    ensures lengthened { OnOk result (Lengthens 1 sectors.old.items sectors.new.items allocator.old.tables allocator.new.tables) }
+    ensures lengthened { OnOk result (Lengthens
+        1 sectors.old.items sectors.new.items allocator.old.tables allocator.new.tables) }
     ensures kept { OnErr result (sectors.new.items ≡ sectors.old.items) }
-    ensures above { IsLeastAbove sectors.old.items above.old → IsLeastAbove sectors.new.items above.new }
-    ensures chain { IsListedChain allocator.old.tables sectors.old.items → OnOk result (IsListedChain allocator.new.tables sectors.new.items) }
-    ensures within { AreSectorsOf allocator.old.tables sectors.old.items → OnOk result (AreSectorsOf allocator.new.tables sectors.new.items) }
-    ensures sizes { OnOk result (AreSizes allocator.new.tables.version (sizes_of allocator.new.tables)) }
-    ensures filled { IsTrue F.tells → (validation : Validation) → HoldsTables validation allocator.old
-        → OnOk result ((i : ℕ) → Contains (gained sectors.old.items sectors.new.items) i → IsFilled allocator.new.tables.version Dir allocator.new.file.bytes i) }
-    ensures holds { IsTrue F.tells → (validation : Validation) → HoldsTables validation allocator.old → OnOk result (HoldsTables validation allocator.new) }
+    ensures above { IsLeastAbove sectors.old.items above.old
+        → IsLeastAbove sectors.new.items above.new }
+    ensures chain { IsListedChain allocator.old.tables sectors.old.items
+        → OnOk result (IsListedChain allocator.new.tables sectors.new.items) }
+    ensures within { AreSectorsOf allocator.old.tables sectors.old.items
+        → OnOk result (AreSectorsOf allocator.new.tables sectors.new.items) }
+    ensures sizes { OnOk result
+        (AreSizes allocator.new.tables.version (sizes_of allocator.new.tables)) }
+    ensures filled { IsTrue F.tells
+        → (validation : Validation) → HoldsTables validation allocator.old
+        → OnOk result ((i : ℕ) → Contains (gained sectors.old.items sectors.new.items) i
+        → IsFilled allocator.new.tables.version Dir allocator.new.file.bytes i) }
+    ensures holds { IsTrue F.tells
+        → (validation : Validation) → HoldsTables validation allocator.old
+        → OnOk result (HoldsTables validation allocator.new) }
     ensures others { IsTrue F.tells → OthersStay allocator.old allocator.new }
-    ensures spares { IsTrue F.tells → Spares (ends_of sectors.old.items) allocator.old allocator.new }
+    ensures spares { IsTrue F.tells
+        → Spares (ends_of sectors.old.items) allocator.old allocator.new }
     ensures bounds { KeepsBounds allocator.old.tables allocator.new.tables }
     ensures begun { OnOk result (allocator.new.file.begun ≡ true) }
-    ensures refused { IfErr result (AfterMedium (allocator.new.file.begun ≡ true) (allocator.new ≡ allocator.old)) }
-    ensures err { IfErr result (ChangeRefused
-        ((IsUsable allocator.old.tables → ⊥) ⊎ ((last_or_end sectors.old.items ≢ end_of_chain) × (value allocator.old.tables.fat (last_or_end sectors.old.items) ≢ end_of_chain)))
-        Unit (IsTooFew allocator.old.tables 1) Unit) }
-    ensures counts { IsTrue F.tells → CountsFailure F.write_faults result allocator.old.file.failures allocator.new.file.failures }
+    ensures refused { IfErr result (AfterMedium (allocator.new.file.begun
+        ≡ true) (allocator.new ≡ allocator.old)) }
+    ensures err { IfErr result (ChangeRefused ((IsUsable allocator.old.tables → ⊥)
+        ⊎ ((last_or_end sectors.old.items ≢ end_of_chain)
+        × (value allocator.old.tables.fat (last_or_end sectors.old.items)
+        ≢ end_of_chain))) Unit (IsTooFew allocator.old.tables 1) Unit) }
+    ensures counts { IsTrue F.tells → CountsFailure
+        F.write_faults result allocator.old.file.failures allocator.new.file.failures }
 {
     let last = last_number(sectors);
     let more = match allocator.extend_chain_by(last, 1, SectorInit::Dir) {
@@ -129,7 +137,7 @@ fn lengthen<F: Medium, A: Heap + Clone>(
     append_reserved(sectors, &more);
     *above = least_above(*above, &more);
     let len = allocator.file_len();
-    let _met = len;
+    let _fact = len;
     Ok(())
 }
 
@@ -140,15 +148,22 @@ fn count_sectors<F: Medium, A: Heap>(
 ) -> Result<(), Error>
     requires few { count < 2 ^ 32 }
     ensures tables { allocator.new.tables ≡ allocator.old.tables }
-    ensures same { allocator.old.tables.version ≡ V3 → (allocator.new ≡ allocator.old) × OnErr result ⊥ }
+    ensures same { allocator.old.tables.version ≡ V3
+        → (allocator.new ≡ allocator.old) × OnErr result ⊥ }
     ensures begun { (allocator.old.file.begun ≡ true) → allocator.new.file.begun ≡ true }
-    ensures count { IsTrue F.tells → allocator.old.tables.version ≡ V4 → OnOk result (word_at allocator.new.file.bytes 40 ≡ count) }
-    ensures long { IsTrue F.tells → allocator.old.tables.version ≡ V4 → OnOk result (44 ≤ length allocator.new.file.bytes) }
-    ensures holds { IsTrue F.tells → (validation : Validation) → HoldsTables validation allocator.old → OnOk result (HoldsTables validation allocator.new) }
-    ensures others { IsTrue F.tells → ChangesOnlyBytes 40 4 allocator.old.file.bytes allocator.new.file.bytes }
+    ensures count { IsTrue F.tells → allocator.old.tables.version ≡ V4
+        → OnOk result (word_at allocator.new.file.bytes 40 ≡ count) }
+    ensures long { IsTrue F.tells
+        → allocator.old.tables.version ≡ V4 → OnOk result (44 ≤ length allocator.new.file.bytes) }
+    ensures holds { IsTrue F.tells
+        → (validation : Validation) → HoldsTables validation allocator.old
+        → OnOk result (HoldsTables validation allocator.new) }
+    ensures others { IsTrue F.tells
+        → ChangesOnlyBytes 40 4 allocator.old.file.bytes allocator.new.file.bytes }
     ensures spares { IsTrue F.tells → Spares [] allocator.old allocator.new }
     ensures err { IfErr result IsMediumError }
-    ensures counts { IsTrue F.tells → CountsFailure F.write_faults result allocator.old.file.failures allocator.new.file.failures }
+    ensures counts { IsTrue F.tells → CountsFailure
+        F.write_faults result allocator.old.file.failures allocator.new.file.failures }
 {
     match allocator.version() {
         Version::V3 => Ok(()),
@@ -166,26 +181,44 @@ fn grow<F: Medium, A: Heap + Clone>(
     entries: &mut Entries<A>,
     heap: &A,
 ) -> Result<(), Error>
-    requires few { length entries.old.entries + entries_per_sector allocator.old.tables.version ≤ max_entries }
+    requires few { length entries.old.entries + entries_per_sector allocator.old.tables.version
+        ≤ max_entries }
     requires placed { ArePlaced (directory_of allocator.old sectors.old.items entries.old) }
-    ensures above { IsLeastAbove sectors.old.items above.old → IsLeastAbove sectors.new.items above.new }
-    ensures entries { OnOk result (entries.new.entries ≡ grown_by entries.old.entries (entries_per_sector allocator.old.tables.version)) }
-    ensures placed { OnOk result (ArePlaced (directory_of allocator.new sectors.new.items entries.new)) }
-    ensures lengthened { OnOk result (Lengthens 1 sectors.old.items sectors.new.items allocator.old.tables allocator.new.tables) }
-    ensures chain { IsListedChain allocator.old.tables sectors.old.items → OnOk result (IsListedChain allocator.new.tables sectors.new.items) }
-    ensures holds { IsTrue F.tells → (validation : Validation) → HoldsDirectory validation (directory_of allocator.old sectors.old.items entries.old)
-        → OnOk result (HoldsDirectory validation (directory_of allocator.new sectors.new.items entries.new)) }
+    ensures above { IsLeastAbove sectors.old.items above.old
+        → IsLeastAbove sectors.new.items above.new }
+    ensures entries { OnOk result (entries.new.entries
+        ≡ grown_by entries.old.entries (entries_per_sector allocator.old.tables.version)) }
+    ensures placed { OnOk result
+        (ArePlaced (directory_of allocator.new sectors.new.items entries.new)) }
+    ensures lengthened { OnOk result (Lengthens
+        1 sectors.old.items sectors.new.items allocator.old.tables allocator.new.tables) }
+    ensures chain { IsListedChain allocator.old.tables sectors.old.items
+        → OnOk result (IsListedChain allocator.new.tables sectors.new.items) }
+    ensures holds { IsTrue F.tells → (validation : Validation)
+        → HoldsDirectory validation (directory_of allocator.old sectors.old.items entries.old)
+        → OnOk result
+        (HoldsDirectory validation (directory_of allocator.new sectors.new.items entries.new)) }
     ensures spares { IsTrue F.tells → Spares sectors.old.items allocator.old allocator.new }
-    ensures header { IsTrue F.tells → KeepsHeader (directory_of allocator.old sectors.old.items entries.old) (directory_of allocator.new sectors.new.items entries.new) }
-    ensures count { IsTrue F.tells → allocator.old.tables.version ≡ V4 → OnOk result (word_at allocator.new.file.bytes 40 ≡ length sectors.new.items) }
-    ensures long { IsTrue F.tells → allocator.old.tables.version ≡ V4 → OnOk result (44 ≤ length allocator.new.file.bytes) }
-    ensures slots { IsTrue F.tells → (validation : Validation) → HoldsDirectory validation (directory_of allocator.old sectors.old.items entries.old)
-        → KeepsSlots (directory_of allocator.old sectors.old.items entries.old) (directory_of allocator.new sectors.new.items entries.new) }
-    ensures limits { KeepsLimits (directory_of allocator.old sectors.old.items entries.old) (directory_of allocator.new sectors.new.items entries.new) }
+    ensures header { IsTrue F.tells
+        → KeepsDirectoryHeader (directory_of allocator.old sectors.old.items entries.old)
+        (directory_of allocator.new sectors.new.items entries.new) }
+    ensures count { IsTrue F.tells → allocator.old.tables.version ≡ V4
+        → OnOk result (word_at allocator.new.file.bytes 40 ≡ length sectors.new.items) }
+    ensures long { IsTrue F.tells
+        → allocator.old.tables.version ≡ V4 → OnOk result (44 ≤ length allocator.new.file.bytes) }
+    ensures slots { IsTrue F.tells → (validation : Validation)
+        → HoldsDirectory validation (directory_of allocator.old sectors.old.items entries.old)
+        → KeepsSlots (directory_of allocator.old sectors.old.items entries.old)
+        (directory_of allocator.new sectors.new.items entries.new) }
+    ensures limits { KeepsDirectoryLimits (directory_of allocator.old sectors.old.items entries.old)
+        (directory_of allocator.new sectors.new.items entries.new) }
     ensures begun { OnOk result (allocator.new.file.begun ≡ true) }
-    ensures refused { IfErr result (StopsShort (directory_of allocator.old sectors.old.items entries.old) (directory_of allocator.new sectors.new.items entries.new)) }
-    ensures err { IfErr result (ChangeRefused (IsNotHeld (directory_of allocator.old sectors.old.items entries.old)) Unit (IsTooFew allocator.old.tables 1) Unit) }
-    ensures counts { IsTrue F.tells → CountsFailure F.write_faults result allocator.old.file.failures allocator.new.file.failures }
+    ensures refused { IfErr result (DirectoryStopsShort (directory_of allocator.old
+        sectors.old.items entries.old) (directory_of allocator.new sectors.new.items entries.new)) }
+    ensures err { IfErr result (ChangeRefused (IsDirectoryNotHeld (directory_of
+        allocator.old sectors.old.items entries.old)) Unit (IsTooFew allocator.old.tables 1) Unit) }
+    ensures counts { IsTrue F.tells → CountsFailure
+        F.write_faults result allocator.old.file.failures allocator.new.file.failures }
 {
     let per = allocator.version().dir_entries_per_sector();
     let fresh = fresh_entries(heap, per)?;
@@ -208,27 +241,47 @@ fn make_room<F: Medium, A: Heap + Clone>(
     heap: &A,
 ) -> Result<(), Error>
     requires placed { ArePlaced (directory_of allocator.old sectors.old.items entries.old) }
-    requires enough { IsFullForEntry (directory_of allocator.old sectors.old.items entries.old) → ⊥ }
-    ensures above { IsLeastAbove sectors.old.items above.old → IsLeastAbove sectors.new.items above.new }
-    ensures entries { OnOk result (entries.new.entries ≡ with_room (directory_of allocator.old sectors.old.items entries.old)) }
+    requires enough { IsFullForEntry (directory_of allocator.old sectors.old.items entries.old)
+        → ⊥ }
+    ensures above { IsLeastAbove sectors.old.items above.old
+        → IsLeastAbove sectors.new.items above.new }
+    ensures entries { OnOk result (entries.new.entries
+        ≡ with_room (directory_of allocator.old sectors.old.items entries.old)) }
     ensures free { OnOk result (has_free entries.new.entries ≡ true) }
-    ensures placed { OnOk result (ArePlaced (directory_of allocator.new sectors.new.items entries.new)) }
-    ensures kept { has_free entries.old.entries ≡ true → (sectors.new.items ≡ sectors.old.items) × (allocator.new ≡ allocator.old) }
-    ensures lengthened { has_free entries.old.entries ≡ false → OnOk result (Lengthens 1 sectors.old.items sectors.new.items allocator.old.tables allocator.new.tables) }
-    ensures chain { IsListedChain allocator.old.tables sectors.old.items → OnOk result (IsListedChain allocator.new.tables sectors.new.items) }
-    ensures holds { IsTrue F.tells → (validation : Validation) → HoldsDirectory validation (directory_of allocator.old sectors.old.items entries.old)
-        → OnOk result (HoldsDirectory validation (directory_of allocator.new sectors.new.items entries.new)) }
+    ensures placed { OnOk result
+        (ArePlaced (directory_of allocator.new sectors.new.items entries.new)) }
+    ensures kept { has_free entries.old.entries ≡ true
+        → (sectors.new.items ≡ sectors.old.items) × (allocator.new ≡ allocator.old) }
+    ensures lengthened { has_free entries.old.entries ≡ false → OnOk result (Lengthens
+        1 sectors.old.items sectors.new.items allocator.old.tables allocator.new.tables) }
+    ensures chain { IsListedChain allocator.old.tables sectors.old.items
+        → OnOk result (IsListedChain allocator.new.tables sectors.new.items) }
+    ensures holds { IsTrue F.tells → (validation : Validation)
+        → HoldsDirectory validation (directory_of allocator.old sectors.old.items entries.old)
+        → OnOk result
+        (HoldsDirectory validation (directory_of allocator.new sectors.new.items entries.new)) }
     ensures spares { IsTrue F.tells → Spares sectors.old.items allocator.old allocator.new }
-    ensures header { IsTrue F.tells → KeepsHeader (directory_of allocator.old sectors.old.items entries.old) (directory_of allocator.new sectors.new.items entries.new) }
-    ensures count { IsTrue F.tells → allocator.old.tables.version ≡ V4 → has_free entries.old.entries ≡ false
+    ensures header { IsTrue F.tells
+        → KeepsDirectoryHeader (directory_of allocator.old sectors.old.items entries.old)
+        (directory_of allocator.new sectors.new.items entries.new) }
+    ensures count { IsTrue F.tells
+        → allocator.old.tables.version ≡ V4 → has_free entries.old.entries ≡ false
         → OnOk result (word_at allocator.new.file.bytes 40 ≡ length sectors.new.items) }
-    ensures long { IsTrue F.tells → allocator.old.tables.version ≡ V4 → has_free entries.old.entries ≡ false → OnOk result (44 ≤ length allocator.new.file.bytes) }
-    ensures slots { IsTrue F.tells → (validation : Validation) → HoldsDirectory validation (directory_of allocator.old sectors.old.items entries.old)
-        → KeepsSlots (directory_of allocator.old sectors.old.items entries.old) (directory_of allocator.new sectors.new.items entries.new) }
-    ensures limits { KeepsLimits (directory_of allocator.old sectors.old.items entries.old) (directory_of allocator.new sectors.new.items entries.new) }
-    ensures refused { IfErr result (StopsShort (directory_of allocator.old sectors.old.items entries.old) (directory_of allocator.new sectors.new.items entries.new)) }
-    ensures err { IfErr result (ChangeRefused (IsNotHeld (directory_of allocator.old sectors.old.items entries.old)) Unit (IsFullForEntry (directory_of allocator.old sectors.old.items entries.old)) Unit) }
-    ensures counts { IsTrue F.tells → CountsFailure F.write_faults result allocator.old.file.failures allocator.new.file.failures }
+    ensures long { IsTrue F.tells → allocator.old.tables.version ≡ V4 → has_free entries.old.entries
+        ≡ false → OnOk result (44 ≤ length allocator.new.file.bytes) }
+    ensures slots { IsTrue F.tells → (validation : Validation)
+        → HoldsDirectory validation (directory_of allocator.old sectors.old.items entries.old)
+        → KeepsSlots (directory_of allocator.old sectors.old.items entries.old)
+        (directory_of allocator.new sectors.new.items entries.new) }
+    ensures limits { KeepsDirectoryLimits (directory_of allocator.old sectors.old.items entries.old)
+        (directory_of allocator.new sectors.new.items entries.new) }
+    ensures refused { IfErr result (DirectoryStopsShort (directory_of allocator.old
+        sectors.old.items entries.old) (directory_of allocator.new sectors.new.items entries.new)) }
+    ensures err { IfErr result (ChangeRefused
+        (IsDirectoryNotHeld (directory_of allocator.old sectors.old.items entries.old)) Unit
+        (IsFullForEntry (directory_of allocator.old sectors.old.items entries.old)) Unit) }
+    ensures counts { IsTrue F.tells → CountsFailure
+        F.write_faults result allocator.old.file.failures allocator.new.file.failures }
 {
     if !entries.is_full() {
         return Ok(());
@@ -248,26 +301,35 @@ fn put<F: Medium, A: Heap>(
 ) -> Result<u32, Error>
     requires placed { ArePlaced (directory_of allocator.old sectors.now entries.old) }
     requires parent { IsReachedStorage entries.old.cases entries.old.entries parent }
-    requires prepared { IsInsertionOf (name_in insertion) entries.old.cases entries.old.entries parent insertion }
+    requires prepared { IsInsertionOf
+        (name_in insertion) entries.old.cases entries.old.entries parent insertion }
     requires valid { IsTrue (is_valid_name (name_in insertion)) }
     requires kind { (kind ≡ Storage) ⊎ (kind ≡ Stream) }
     requires free { has_free entries.old.entries ≡ true }
     ensures cases { entries.new.cases ≡ entries.old.cases }
     ensures tables { allocator.new.tables ≡ allocator.old.tables }
-    ensures inserted { IfOk result (λ n. InsertsEntry entries.old.cases entries.old.entries entries.new.entries parent n (new_entry (name_in insertion) kind moment)) }
+    ensures inserted { IfOk result (λ n. InsertsEntry entries.old.cases entries.old.entries
+        entries.new.entries parent n (new_entry (name_in insertion) kind moment)) }
     ensures balanced { OnOk result (KeepsBalance entries.old.entries entries.new.entries parent) }
-    ensures red_apart { OnOk result (StaysRedApart (directory_of allocator.old sectors.now entries.old) (directory_of allocator.new sectors.now entries.new) parent) }
-    ensures holds { IsTrue F.tells → (validation : Validation) → HoldsDirectory validation (directory_of allocator.old sectors.now entries.old)
-        → OnOk result (HoldsDirectory validation (directory_of allocator.new sectors.now entries.new)) }
+    ensures red_apart { OnOk result (StaysRedApart (directory_of allocator.old
+        sectors.now entries.old) (directory_of allocator.new sectors.now entries.new) parent) }
+    ensures holds { IsTrue F.tells → (validation : Validation)
+        → HoldsDirectory validation (directory_of allocator.old sectors.now entries.old)
+        → OnOk result
+        (HoldsDirectory validation (directory_of allocator.new sectors.now entries.new)) }
     ensures spares { IsTrue F.tells → Spares sectors.now allocator.old allocator.new }
-    ensures header { IsTrue F.tells → (i : ℕ) → i < 512 → i < length allocator.old.file.bytes → slice_index allocator.new.file.bytes i ≡ slice_index allocator.old.file.bytes i }
-    ensures slots { IsTrue F.tells → (validation : Validation) → HoldsDirectory validation (directory_of allocator.old sectors.now entries.old)
-        → KeepsOtherSlots parent (directory_of allocator.old sectors.now entries.old) (directory_of allocator.new sectors.now entries.new) }
+    ensures header { IsTrue F.tells → (i : ℕ) → i < 512 → i < length allocator.old.file.bytes
+        → slice_index allocator.new.file.bytes i ≡ slice_index allocator.old.file.bytes i }
+    ensures slots { IsTrue F.tells → (validation : Validation)
+        → HoldsDirectory validation (directory_of allocator.old sectors.now entries.old)
+        → KeepsOtherSlots parent (directory_of allocator.old sectors.now entries.old)
+        (directory_of allocator.new sectors.now entries.new) }
     ensures begun { allocator.new.file.begun ≡ true }
     ensures err { IfErr result IsMediumError }
-    ensures counts { IsTrue F.tells → CountsFailure F.write_faults result allocator.old.file.failures allocator.new.file.failures }
+    ensures counts { IsTrue F.tells → CountsFailure
+        F.write_faults result allocator.old.file.failures allocator.new.file.failures }
 {
-    let _units = moment.value();
+    let _fact = moment.value();
     let (number, touched) = entries.insert(insertion, parent, kind, moment);
     write_entries(allocator, sectors, entries.list(), &touched)?;
     Ok(number)
@@ -292,33 +354,54 @@ pub(crate) fn insert_entry<F: Medium, A: Heap + Clone>(
     requires above { IsLeastAbove sectors.old.items above.old }
     requires parent { IsReachedStorage entries.old.cases entries.old.entries parent }
     requires valid { IsTrue (is_valid_name (chars name.now)) }
-    requires absent { (list : List ℕ) → HasChildren entries.old.cases entries.old.entries parent list → IsAbsent entries.old.cases entries.old.entries (chars name.now) list }
+    requires absent { (list : List ℕ)
+        → HasChildren entries.old.cases entries.old.entries parent list
+        → IsAbsent entries.old.cases entries.old.entries (chars name.now) list }
     requires kind { (kind ≡ Storage) ⊎ (kind ≡ Stream) }
     ensures above { IsLeastAbove sectors.new.items above.new }
-    ensures inserted { IfOk result (λ n. InsertsEntry entries.old.cases (with_room (directory_of allocator.old sectors.old.items entries.old)) entries.new.entries parent n (new_entry (chars name.now) kind moment)) }
+    ensures inserted { IfOk result (λ n. InsertsEntry entries.old.cases
+        (with_room (directory_of allocator.old sectors.old.items entries.old))
+        entries.new.entries parent n (new_entry (chars name.now) kind moment)) }
     ensures balanced { OnOk result (KeepsBalance entries.old.entries entries.new.entries parent) }
-    ensures red_apart { OnOk result (StaysRedApart (directory_of allocator.old sectors.old.items entries.old) (directory_of allocator.new sectors.new.items entries.new) parent) }
-    ensures kept { has_free entries.old.entries ≡ true → (sectors.new.items ≡ sectors.old.items) × (allocator.new.tables ≡ allocator.old.tables) }
-    ensures lengthened { has_free entries.old.entries ≡ false → OnOk result (Lengthens 1 sectors.old.items sectors.new.items allocator.old.tables allocator.new.tables) }
-    ensures chain { IsListedChain allocator.old.tables sectors.old.items → OnOk result (IsListedChain allocator.new.tables sectors.new.items) }
-    ensures holds { IsTrue F.tells → (validation : Validation) → HoldsDirectory validation (directory_of allocator.old sectors.old.items entries.old)
-        → OnOk result (HoldsDirectory validation (directory_of allocator.new sectors.new.items entries.new)) }
+    ensures red_apart { OnOk result (StaysRedApart (directory_of allocator.old sectors.old.items
+        entries.old) (directory_of allocator.new sectors.new.items entries.new) parent) }
+    ensures kept { has_free entries.old.entries ≡ true
+        → (sectors.new.items ≡ sectors.old.items) × (allocator.new.tables ≡ allocator.old.tables) }
+    ensures lengthened { has_free entries.old.entries ≡ false → OnOk result (Lengthens
+        1 sectors.old.items sectors.new.items allocator.old.tables allocator.new.tables) }
+    ensures chain { IsListedChain allocator.old.tables sectors.old.items
+        → OnOk result (IsListedChain allocator.new.tables sectors.new.items) }
+    ensures holds { IsTrue F.tells → (validation : Validation)
+        → HoldsDirectory validation (directory_of allocator.old sectors.old.items entries.old)
+        → OnOk result
+        (HoldsDirectory validation (directory_of allocator.new sectors.new.items entries.new)) }
     ensures spares { IsTrue F.tells → Spares sectors.old.items allocator.old allocator.new }
-    ensures header { IsTrue F.tells → KeepsHeader (directory_of allocator.old sectors.old.items entries.old) (directory_of allocator.new sectors.new.items entries.new) }
-    ensures count { IsTrue F.tells → allocator.old.tables.version ≡ V4 → has_free entries.old.entries ≡ false
+    ensures header { IsTrue F.tells
+        → KeepsDirectoryHeader (directory_of allocator.old sectors.old.items entries.old)
+        (directory_of allocator.new sectors.new.items entries.new) }
+    ensures count { IsTrue F.tells
+        → allocator.old.tables.version ≡ V4 → has_free entries.old.entries ≡ false
         → OnOk result (word_at allocator.new.file.bytes 40 ≡ length sectors.new.items) }
     ensures header_kept { IsTrue F.tells → has_free entries.old.entries ≡ true
-        → (i : ℕ) → i < 512 → i < length allocator.old.file.bytes → slice_index allocator.new.file.bytes i ≡ slice_index allocator.old.file.bytes i }
-    ensures slots { IsTrue F.tells → (validation : Validation) → HoldsDirectory validation (directory_of allocator.old sectors.old.items entries.old)
-        → KeepsOtherSlots parent (directory_of allocator.old sectors.old.items entries.old) (directory_of allocator.new sectors.new.items entries.new) }
-    ensures limits { KeepsLimits (directory_of allocator.old sectors.old.items entries.old) (directory_of allocator.new sectors.new.items entries.new) }
+        → (i : ℕ) → i < 512 → i < length allocator.old.file.bytes
+        → slice_index allocator.new.file.bytes i ≡ slice_index allocator.old.file.bytes i }
+    ensures slots { IsTrue F.tells → (validation : Validation)
+        → HoldsDirectory validation (directory_of allocator.old sectors.old.items entries.old)
+        → KeepsOtherSlots parent (directory_of allocator.old sectors.old.items entries.old)
+        (directory_of allocator.new sectors.new.items entries.new) }
+    ensures limits { KeepsDirectoryLimits (directory_of allocator.old sectors.old.items entries.old)
+        (directory_of allocator.new sectors.new.items entries.new) }
     ensures begun { OnOk result (allocator.new.file.begun ≡ true) }
-    ensures enough { OnOk result (IsFullForEntry (directory_of allocator.old sectors.old.items entries.old) → ⊥) }
-    ensures refused { IfErr result (StopsShort (directory_of allocator.old sectors.old.items entries.old) (directory_of allocator.new sectors.new.items entries.new)) }
-    ensures err { IfErr result (ChangeRefused (IsNotHeld (directory_of allocator.old sectors.old.items entries.old))
-        (IsFullForEntry (directory_of allocator.old sectors.old.items entries.old) → ⊥)
-        (IsFullForEntry (directory_of allocator.old sectors.old.items entries.old)) Unit) }
-    ensures counts { IsTrue F.tells → CountsFailure F.write_faults result allocator.old.file.failures allocator.new.file.failures }
+    ensures enough { OnOk result
+        (IsFullForEntry (directory_of allocator.old sectors.old.items entries.old) → ⊥) }
+    ensures refused { IfErr result (DirectoryStopsShort (directory_of allocator.old
+        sectors.old.items entries.old) (directory_of allocator.new sectors.new.items entries.new)) }
+    ensures err { IfErr result (ChangeRefused
+        (IsDirectoryNotHeld (directory_of allocator.old sectors.old.items entries.old))
+        (IsFullForEntry (directory_of allocator.old sectors.old.items entries.old)
+        → ⊥) (IsFullForEntry (directory_of allocator.old sectors.old.items entries.old)) Unit) }
+    ensures counts { IsTrue F.tells → CountsFailure
+        F.write_faults result allocator.old.file.failures allocator.new.file.failures }
 {
     check_room(allocator, sectors, *above, entries)?;
     let insertion = entries.prepare(heap, parent, name)?;

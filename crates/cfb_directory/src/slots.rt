@@ -18,12 +18,11 @@ ghost use Rattle.cfb_directory.specs.Slots.{ChangesSlots, HavePlaces, HoldSlotsB
 
 use cfb_alloc::alloc::Allocator;
 use cfb_codecs::direntry::DirEntry;
-use cfb_codecs::timestamp::Timestamp;
+use cfb_codecs::widths::entry_fits;
 use cfb_format::consts::DIR_ENTRY_LEN;
 use cfb_format::error::Error;
 use cfb_format::medium::{Medium, ReadMedium};
 use std::alloc::Allocator as Heap;
-use uuid::Uuid;
 
 /// Whether these sectors, above which that is the least number, are in the file and have a slot for each of so many entries, and no
 /// more.
@@ -34,7 +33,8 @@ pub(crate) fn are_placed<F: ReadMedium, A: Heap>(
     entries: usize,
 ) -> bool
     requires { IsLeastAbove sectors.now above }
-    ensures { IsTrue result ↔ HavePlaces allocator.now.tables.version sectors.now entries (length allocator.now.tables.fat) }
+    ensures { IsTrue result ↔ HavePlaces allocator.now.tables.version sectors.now entries
+        (length allocator.now.tables.fat) }
 {
     let per = allocator.version().dir_entries_per_sector();
     entries % per == 0 && entries / per == sectors.len() && above <= allocator.fat().len()
@@ -57,44 +57,26 @@ fn write_slot<F: Medium, A: Heap>(
       begun = allocator.new.file.begun;
     } }
     ensures ok { IsTrue F.tells → OnOk result (allocator.new.file.bytes
-        ≡ written allocator.old.file.bytes (sector_start allocator.old.tables.version sector + index * 128) slot.now) }
+        ≡ written allocator.old.file.bytes (sector_start allocator.old.tables.version sector
+        + index * 128) slot.now) }
     ensures begun { allocator.new.file.begun ≡ true }
-    ensures err { IfErr result (HasReason (record no_error { medium = λ f. allocator.new.file.begun ≡ true })) }
-    ensures holds { IsTrue F.tells → (validation : Validation) → HoldsTables validation allocator.old → IsNoTableSector allocator.old.tables sector
+    ensures err { IfErr result (HasReason (record no_error {
+      medium = λ f. allocator.new.file.begun
+          ≡ true;
+    })) }
+    ensures holds { IsTrue F.tells → (validation : Validation)
+        → HoldsTables validation allocator.old → IsNoTableSector allocator.old.tables sector
         → OnOk result (HoldsTables validation allocator.new) }
     ensures spares { IsTrue F.tells → Spares (sector ∷ []) allocator.old allocator.new }
-    ensures others { IsTrue F.tells → ChangesOnlyBytes (sector_start allocator.old.tables.version sector + index * 128) 128
-        allocator.old.file.bytes allocator.new.file.bytes }
-    ensures counts { IsTrue F.tells → CountsFailure F.write_faults result allocator.old.file.failures allocator.new.file.failures }
+    ensures others { IsTrue F.tells
+        → ChangesOnlyBytes (sector_start allocator.old.tables.version sector
+        + index * 128) 128 allocator.old.file.bytes allocator.new.file.bytes }
+    ensures counts { IsTrue F.tells → CountsFailure
+        F.write_faults result allocator.old.file.failures allocator.new.file.failures }
 {
     let len = allocator.file_len();
-    let _met = len;
+    let _fact = len;
     allocator.write_contiguous(sector, index * DIR_ENTRY_LEN, slot)
-}
-
-/// A class id has its 16 bytes.
-fn class_id_is_whole(id: Uuid)
-    ensures { length id ≡ 16 }
-{
-    let _bytes = id;
-}
-
-/// A moment is a number of 64 bits.
-fn moment_fits(moment: Timestamp)
-    ensures { moment < 2 ^ 64 }
-{
-    let _units = moment.value();
-}
-
-/// An entry's fields have their widths, and its name is of characters.
-fn entry_fits<A: Heap>(entry: &DirEntry<A>)
-    ensures { EntryFits (entry_of entry.now) }
-{
-    let (_left, _right, _child) = (entry.left_sibling, entry.right_sibling, entry.child);
-    let (_bits, _start, _len) = (entry.state_bits, entry.start_sector, entry.stream_len);
-    class_id_is_whole(entry.clsid);
-    moment_fits(entry.creation_time);
-    moment_fits(entry.modified_time);
 }
 
 /// The fields of the entry of that number have their widths, and its name is of characters.
@@ -113,8 +95,10 @@ pub(crate) fn write_entry<F: Medium, A: Heap>(
     number: u32,
 ) -> Result<(), Error>
     requires inside { number < length entries.now }
-    requires name { length (utf16_units (entry_at (entries_of entries.now) number).name) ≤ max_name_len }
-    requires places { HavePlaces allocator.old.tables.version sectors.now (length entries.now) (length allocator.old.tables.fat) }
+    requires name { length (utf16_units (entry_at (entries_of entries.now) number).name)
+        ≤ max_name_len }
+    requires places { HavePlaces allocator.old.tables.version sectors.now
+        (length entries.now) (length allocator.old.tables.fat) }
     ensures tables { allocator.new.tables ≡ allocator.old.tables }
     ensures kept { allocator.new.file ≡ record allocator.old.file {
       len = allocator.new.file.len;
@@ -123,19 +107,30 @@ pub(crate) fn write_entry<F: Medium, A: Heap>(
       begun = allocator.new.file.begun;
     } }
     ensures ok { IsTrue F.tells → OnOk result (allocator.new.file.bytes
-        ≡ written allocator.old.file.bytes (slot_place allocator.old.tables.version sectors.now number) (entry_bytes (entry_at (entries_of entries.now) number))) }
+        ≡ written allocator.old.file.bytes (slot_place allocator.old.tables.version
+        sectors.now number) (entry_bytes (entry_at (entries_of entries.now) number))) }
     ensures begun { allocator.new.file.begun ≡ true }
-    ensures err { IfErr result (HasReason (record no_error { medium = λ f. allocator.new.file.begun ≡ true })) }
-    ensures holds { IsTrue F.tells → (validation : Validation) → HoldsTables validation allocator.old
-        → ((i : ℕ) → Contains sectors.now i → IsNoTableSector allocator.old.tables i) → OnOk result (HoldsTables validation allocator.new) }
-    ensures slots { IsTrue F.tells → (validation : Validation) → (late : List ℕ)
-        → HoldSlotsBut (number ∷ late) validation allocator.old.tables.version allocator.old.file.bytes sectors.now (entries_of entries.now)
+    ensures err { IfErr result (HasReason (record no_error {
+      medium = λ f. allocator.new.file.begun
+          ≡ true;
+    })) }
+    ensures holds { IsTrue F.tells
+        → (validation : Validation) → HoldsTables validation allocator.old
+        → ((i : ℕ) → Contains sectors.now i → IsNoTableSector allocator.old.tables i)
+        → OnOk result (HoldsTables validation allocator.new) }
+    ensures slots { IsTrue F.tells
+        → (validation : Validation) → (late : List ℕ) → HoldSlotsBut (number ∷ late) validation
+        allocator.old.tables.version allocator.old.file.bytes sectors.now (entries_of entries.now)
         → IsValidEntry allocator.old.tables.version (entry_at (entries_of entries.now) number)
-        → HasSectors allocator.old.tables.version allocator.old.file.bytes sectors.now → IsDistinct nat_eq sectors.now
-        → OnOk result (HoldSlotsBut late validation allocator.old.tables.version allocator.new.file.bytes sectors.now (entries_of entries.now)) }
+        → HasSectors allocator.old.tables.version allocator.old.file.bytes sectors.now
+        → IsDistinct nat_eq sectors.now
+        → OnOk result (HoldSlotsBut late validation allocator.old.tables.version
+        allocator.new.file.bytes sectors.now (entries_of entries.now)) }
     ensures spares { IsTrue F.tells → Spares sectors.now allocator.old allocator.new }
-    ensures others { IsTrue F.tells → ChangesSlots (number ∷ []) allocator.old.tables.version sectors.now allocator.old.file.bytes allocator.new.file.bytes }
-    ensures counts { IsTrue F.tells → CountsFailure F.write_faults result allocator.old.file.failures allocator.new.file.failures }
+    ensures others { IsTrue F.tells → ChangesSlots (number ∷ [])
+        allocator.old.tables.version sectors.now allocator.old.file.bytes allocator.new.file.bytes }
+    ensures counts { IsTrue F.tells → CountsFailure
+        F.write_faults result allocator.old.file.failures allocator.new.file.failures }
 {
     let entry = &entries[number as usize];
     entry_fits(entry);
@@ -155,8 +150,10 @@ pub(crate) fn write_entries<F: Medium, A: Heap>(
     touched: &[u32],
 ) -> Result<(), Error>
     requires inside { (k : ℕ) → Contains touched.now k → k < length entries.now }
-    requires names { (k : ℕ) → Contains touched.now k → length (utf16_units (entry_at (entries_of entries.now) k).name) ≤ max_name_len }
-    requires places { HavePlaces allocator.old.tables.version sectors.now (length entries.now) (length allocator.old.tables.fat) }
+    requires names { (k : ℕ) → Contains touched.now k
+        → length (utf16_units (entry_at (entries_of entries.now) k).name) ≤ max_name_len }
+    requires places { HavePlaces allocator.old.tables.version sectors.now
+        (length entries.now) (length allocator.old.tables.fat) }
     ensures tables { allocator.new.tables ≡ allocator.old.tables }
     ensures kept { allocator.new.file ≡ record allocator.old.file {
       len = allocator.new.file.len;
@@ -164,18 +161,30 @@ pub(crate) fn write_entries<F: Medium, A: Heap>(
       failures = allocator.new.file.failures;
       begun = allocator.new.file.begun;
     } }
-    ensures begun { OnOk result (IsRaised (0 < length touched.now) allocator.old.file allocator.new.file) }
-    ensures err { IfErr result (HasReason (record no_error { medium = λ f. allocator.new.file.begun ≡ true })) }
-    ensures holds { IsTrue F.tells → (validation : Validation) → HoldsTables validation allocator.old
-        → ((i : ℕ) → Contains sectors.now i → IsNoTableSector allocator.old.tables i) → OnOk result (HoldsTables validation allocator.new) }
-    ensures slots { IsTrue F.tells → (validation : Validation) → (late : List ℕ)
-        → HoldSlotsBut (touched.now ++ late) validation allocator.old.tables.version allocator.old.file.bytes sectors.now (entries_of entries.now)
-        → ((k : ℕ) → Contains touched.now k → IsValidEntry allocator.old.tables.version (entry_at (entries_of entries.now) k))
-        → HasSectors allocator.old.tables.version allocator.old.file.bytes sectors.now → IsDistinct nat_eq sectors.now
-        → OnOk result (HoldSlotsBut late validation allocator.old.tables.version allocator.new.file.bytes sectors.now (entries_of entries.now)) }
+    ensures begun { OnOk result (IsRaised (0
+        < length touched.now) allocator.old.file allocator.new.file) }
+    ensures err { IfErr result (HasReason (record no_error {
+      medium = λ f. allocator.new.file.begun
+          ≡ true;
+    })) }
+    ensures holds { IsTrue F.tells
+        → (validation : Validation) → HoldsTables validation allocator.old
+        → ((i : ℕ) → Contains sectors.now i → IsNoTableSector allocator.old.tables i)
+        → OnOk result (HoldsTables validation allocator.new) }
+    ensures slots { IsTrue F.tells
+        → (validation : Validation) → (late : List ℕ) → HoldSlotsBut (touched.now
+        ++ late) validation allocator.old.tables.version allocator.old.file.bytes sectors.now
+        (entries_of entries.now) → ((k : ℕ) → Contains touched.now k
+        → IsValidEntry allocator.old.tables.version (entry_at (entries_of entries.now) k))
+        → HasSectors allocator.old.tables.version allocator.old.file.bytes sectors.now
+        → IsDistinct nat_eq sectors.now
+        → OnOk result (HoldSlotsBut late validation allocator.old.tables.version
+        allocator.new.file.bytes sectors.now (entries_of entries.now)) }
     ensures spares { IsTrue F.tells → Spares sectors.now allocator.old allocator.new }
-    ensures others { IsTrue F.tells → ChangesSlots touched.now allocator.old.tables.version sectors.now allocator.old.file.bytes allocator.new.file.bytes }
-    ensures counts { IsTrue F.tells → CountsFailure F.write_faults result allocator.old.file.failures allocator.new.file.failures }
+    ensures others { IsTrue F.tells → ChangesSlots touched.now
+        allocator.old.tables.version sectors.now allocator.old.file.bytes allocator.new.file.bytes }
+    ensures counts { IsTrue F.tells → CountsFailure
+        F.write_faults result allocator.old.file.failures allocator.new.file.failures }
 {
     for number in touched {
         write_entry(allocator, sectors, entries, *number)?;

@@ -9,7 +9,7 @@ use Rattle.cfb_format.specs.DirectoryEntry.{Entry}
 use Rattle.cfb_format.specs.Siblings.{entry_at}
 use Rattle.cfb_format.proofs.Unique.{Below-unique}
 use Rattle.cfb_outline.specs.Outlines.{IsReachedStorage}
-use Rattle.cfb_siblings.specs.Children.{HasChildren, Inserts, Removes, IsAbsent, KeepsColors}
+use Rattle.cfb_siblings.specs.Children.{HasChildren, Inserts, Removes, IsAbsent}
 use Rattle.cfb_siblings.proofs.Tallies.{all-at, counted, present}
 use Rattle.cfb_trees.specs.Reached.{IsObject}
 use Rattle.cfb_entries.specs.EntryList.{AreInOrder, ListsFreeSlots, InsertsEntry, RemovesEntry, IsChildless}
@@ -50,18 +50,17 @@ not-absent cases entries parent name list (n, old, h, named, childless) now abse
 
 -- what the removal of the child leaves
 abbrev pub IsRemoval : Cases → List Entry → List Entry → ℕ → List ℕ → ℕ → Type 0
-IsRemoval cases old new parent name freed = (r : RemovesEntry cases old new parent name) × (r.freed ≡ freed) × KeepsColors old new r.freed
+IsRemoval cases old new parent name freed = (r : RemovesEntry cases old new parent name) × (r.freed ≡ freed)
 
 pub is-removal : (cases : Cases) (old new : List Entry) (parent : ℕ) (name : List ℕ) (freed : ℕ) → IsChildless cases old parent name
-    → ((list : List ℕ) → HasChildren cases old parent list → (after : List ℕ) × Removes cases old new parent name freed list after) → KeepsColors old new freed → IsRemoval cases old new parent name freed
-is-removal cases old new parent name freed (n, list, h, named, childless) f colors =
+    → ((list : List ℕ) → HasChildren cases old parent list → (after : List ℕ) × Removes cases old new parent name freed list after) → IsRemoval cases old new parent name freed
+is-removal cases old new parent name freed (n, list, h, named, childless) f =
     let (after, taken) = f list h in
     let (m, xs, ys, e, same, has) = taken in
     let there : Contains list m = subst (λ (l : List ℕ). Contains l m) (sym e) (present m (xs ++ m ∷ ys) (in-middle m xs ys)) in
     let one : n ≡ m = one-named cases old name list n m h.below.rises named.0 there named.1 same in (
       record { number = m; freed = freed; before = xs; behind = ys; after = after; removed = has; named = same; childless = ap (λ (k : ℕ). (entry_at old k).child) (sym one) ∙ childless },
       refl,
-      colors,
     )
 
 pub removal-in-order : (cases : Cases) (old new : List Entry) (parent : ℕ) (name : List ℕ) → IsReachedStorage cases old parent → AreInOrder cases old → RemovesEntry cases old new parent name → AreInOrder cases new
@@ -91,13 +90,12 @@ listed-more free old new x y a b e = a ∙ (ap (λ (l : List ℕ). l ++ x ∷ []
 
 -- the removal that a call through a lent list made
 pub removal-through : (cases : Cases) (old lent new back : List Entry) (parent : ℕ) (name : List ℕ) (freed : ℕ) (free reserved pushed : List ℕ) → lent ≡ old → back ≡ new → IsChildless cases old parent name
-    → ((list : List ℕ) → HasChildren cases lent parent list → (after : List ℕ) × Removes cases lent new parent name freed list after) → KeepsColors lent new freed
+    → ((list : List ℕ) → HasChildren cases lent parent list → (after : List ℕ) × Removes cases lent new parent name freed list after)
     → pushed ≡ reserved ++ freed ∷ [] → reserved ≡ free
-    → (r : RemovesEntry cases old back parent name) × (pushed ≡ free ++ r.freed ∷ []) × KeepsColors old back r.freed
-removal-through cases old lent new back parent name freed free reserved pushed e b there removes colors p q =
+    → (r : RemovesEntry cases old back parent name) × (pushed ≡ free ++ r.freed ∷ [])
+removal-through cases old lent new back parent name freed free reserved pushed e b there removes p q =
     let removes-old : (list : List ℕ) → HasChildren cases old parent list → (after : List ℕ) × Removes cases old new parent name freed list after =
     subst (λ (es : List Entry). (list : List ℕ) → HasChildren cases es parent list → (after : List ℕ) × Removes cases es new parent name freed list after) e removes in
-    let colors-old : KeepsColors old new freed = subst (λ (es : List Entry). KeepsColors es new freed) e colors in
-    let (r, f, k) = is-removal cases old new parent name freed there removes-old colors-old in
-    subst (λ (es : List Entry). (r : RemovesEntry cases old es parent name) × (pushed ≡ free ++ r.freed ∷ []) × KeepsColors old es r.freed) (sym b)
-    (r, listed-more free reserved pushed freed r.freed p q f, k)
+    let (r, f) = is-removal cases old new parent name freed there removes-old in
+    subst (λ (es : List Entry). (r : RemovesEntry cases old es parent name) × (pushed ≡ free ++ r.freed ∷ [])) (sym b)
+    (r, listed-more free reserved pushed freed r.freed p q f)

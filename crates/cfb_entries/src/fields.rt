@@ -60,7 +60,8 @@ pub(crate) fn change_fields<A: Allocator, W: FnOnce(Fields) -> Fields>(
 )
     requires inside { number < length list.old }
     requires callable { W.IsAlwaysCallable change }
-    ensures { (f : Fields) × W.post change (fields_in (entry_at (entries_of list.old) number)) f × (entries_of list.new ≡ entries_with_fields (entries_of list.old) number f) }
+    ensures { (f : Fields) × W.post change (fields_in (entry_at (entries_of list.old) number)) f
+        × (entries_of list.new ≡ entries_with_fields (entries_of list.old) number f) }
 {
     let entry = &mut list[number as usize];
     let changed = change(fields_of(entry));

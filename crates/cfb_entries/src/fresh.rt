@@ -15,13 +15,14 @@ pub fn fresh_entries<A: Allocator + Clone>(
     count: usize,
 ) -> Result<Vec<DirEntry<A>, A>, Error>
     ensures count { IfOk result (λ list. vec_len list ≡ count) }
-    ensures unused { IfOk result (λ list. entries_of list.items ≡ replicate count unallocated_entry) }
+    ensures unused { IfOk result (λ list. entries_of list.items
+        ≡ replicate count unallocated_entry) }
     ensures refused { IfErr result IsMemory }
 {
     let mut list = Vec::new(heap.clone()?);
     list.reserve(count)?;
     for turn in 0..count {
-        let _ = turn;
+        let _fact = turn;
         list.push_reserved(DirEntry::unallocated(heap.clone()?));
     }
     Ok(list)

@@ -28,8 +28,11 @@ pub(crate) fn insertion_of<A: Allocator + Clone>(
 ) -> Result<Insertion<A>, AllocError>
     requires few { length (entries_of list.now) ≤ NO_STREAM }
     requires stands { IsParent letters.now (entries_of list.now) parent }
-    requires absent { (children : List ℕ) → HasChildren letters.now (entries_of list.now) parent children → IsAbsent letters.now (entries_of list.now) (chars name.now) children }
-    ensures { IfOk result (λ insertion. IsInsertionOf (chars name.now) letters.now (entries_of list.now) parent insertion) }
+    requires absent { (children : List ℕ)
+        → HasChildren letters.now (entries_of list.now) parent children
+        → IsAbsent letters.now (entries_of list.now) (chars name.now) children }
+    ensures { IfOk result (λ insertion.
+        IsInsertionOf (chars name.now) letters.now (entries_of list.now) parent insertion) }
 {
     let place = place_for(heap.clone()?, letters, list, parent, name)?;
     let name = String::from_str(heap.clone()?, name)?;

@@ -1,6 +1,6 @@
 -- What a write into a list of bytes leaves, byte by byte and part by part.
 use Rattle.std.proofs.Common.{refl, add-zero, zero-add, zero, suc, inl, inr, ◌≡◌, ℕ, ◌+◌, ◌-◌, ◌<◌, ◌≤◌, min, max, List, ◌++◌, length, take, drop, replicate, slice_index, sym, ◌∙◌, ap, arith, length-append, length-drop, length-take, get_or-take, get_or-drop}
-use Rattle.std.proofs.lemmas.List.{take-replicate, take_rest, get_or_append_left, get_or-append_right, length-replicate, get_or_past, ext_get_or, take-append-le, append_assoc, drop-drop}
+use Rattle.std.proofs.lemmas.List.{take_rest, get_or_append_left, get_or-append_right, length-replicate, get_or_past, ext_get_or, take-append-le, append_assoc, drop-drop}
 use Rattle.std.proofs.Math.Seq.{take-add, take-append-add}
 use borrow.Rule.Slice.PartMut.{put_mid}
 use Rattle.std.proofs.lemmas.Bool.{cases_lt}
@@ -239,5 +239,3 @@ part-written_apart b at f p m within apart = part_apart at (length f) p m b _ (C
 
 -- changes put together
 pub ruleset changes = (ChangesOnly_refl, ChangesOnly_trans, ChangesOnly_wider, ChangesOnly_after)
-
-pub ruleset zeros = (take-replicate, length-replicate)

@@ -258,3 +258,7 @@ empty_root_entry = record {
   start_sector = end_of_chain;
   stream_len = 0;
 }
+
+-- but for its start and its length an entry stays
+abbrev pub ButContent : Entry → Entry → Type 0
+ButContent old new = new ≡ record old { start_sector = new.start_sector; stream_len = new.stream_len }

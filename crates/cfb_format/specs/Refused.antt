@@ -5,7 +5,7 @@ use Rattle.cfb_format.specs.declared.error.Detail.{Detail}
 use Rattle.cfb_format.specs.declared.error.Numbers.TheVariants.{Empty, One, Two}
 use Rattle.cfb_format.specs.declared.error.Numbers.{Numbers}
 use Rattle.cfb_format.specs.declared.error.Error.{Error}
-use Rattle.cfb_format.specs.declared.error.Error.TheVariants.{NotFound, AlreadyExists, InvalidInput, InvalidData, Medium, Memory, Full, Unsound, Failed, Unsupported}
+use Rattle.cfb_format.specs.declared.error.Error.TheVariants.{NotFound, AlreadyExists, InvalidInput, InvalidData, Medium, Memory, Full, Unsound, Failed}
 use Rattle.cfb_format.specs.declared.medium.MediumFault.{MediumFault}
 
 -- the numbers of the kinds
@@ -19,7 +19,6 @@ number_of Memory = 6
 number_of Full = 7
 number_of Unsound = 8
 number_of Failed = 9
-number_of Unsupported = 10
 
 -- the text of a detail
 abbrev pub text_of : Detail → List ℕ
@@ -46,7 +45,6 @@ pub record Reasons : Type 1 where
   pub full : Type 0
   pub unsound : Type 0
   pub failed : Type 0
-  pub unsupported : Type 0
 
 -- so much holds at this error
 abbrev pub HasReason : Reasons → Error → Type 0
@@ -59,15 +57,18 @@ HasReason reasons Memory = reasons.memory
 HasReason reasons Full = reasons.full
 HasReason reasons Unsound = reasons.unsound
 HasReason reasons Failed = reasons.failed
-HasReason reasons Unsupported = reasons.unsupported
 
 -- the same at every error
 abbrev pub at_every_error : Type 0 → Reasons
-at_every_error P = record { not_found = P; already_exists = P; invalid_input = P; invalid_data = P; medium = λ f. P; memory = P; full = P; unsound = P; failed = P; unsupported = P }
+at_every_error P = record { not_found = P; already_exists = P; invalid_input = P; invalid_data = P; medium = λ f. P; memory = P; full = P; unsound = P; failed = P }
 
 -- no error comes, but those of which more is said
 abbrev pub no_error : Reasons
 no_error = at_every_error ⊥
+
+-- the medium or memory refused, or numbers lack, and then so much holds
+abbrev pub IsBreak : Type 0 → Error → Type 0
+IsBreak full = HasReason (record no_error { medium = λ f. ⊤; memory = ⊤; full = full })
 
 -- after the medium's error so much holds, and after any other so much
 abbrev pub AfterMedium : Type 0 → Type 0 → Error → Type 0

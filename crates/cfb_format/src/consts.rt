@@ -144,9 +144,11 @@ pub fn prettify<A: Allocator>(alloc: A, words: &[u32]) -> Result<Vec<Run, A>, Er
 
 /// Puts a word behind the last run, or into it.
 fn push_word<A: Allocator>(runs: &mut Vec<Run, A>, word: u32) -> Result<(), AllocError>
-    ensures words { OnOk result (flat_map run_words runs.new.items ≡ flat_map run_words runs.old.items ++ word ∷ []) }
+    ensures words { OnOk result (flat_map run_words runs.new.items
+        ≡ flat_map run_words runs.old.items ++ word ∷ []) }
     ensures longest { AreLongest runs.old.items → OnOk result (AreLongest runs.new.items) }
-    ensures numbers { All StaysBelowMarks runs.old.items → OnOk result (All StaysBelowMarks runs.new.items) }
+    ensures numbers { All StaysBelowMarks runs.old.items
+        → OnOk result (All StaysBelowMarks runs.new.items) }
 {
     match runs.pop() {
         Some(last) => push_behind(runs, last, word),
@@ -156,9 +158,12 @@ fn push_word<A: Allocator>(runs: &mut Vec<Run, A>, word: u32) -> Result<(), Allo
 
 /// Puts back the last run: a word longer, or as it was with a run of the word behind it.
 fn push_behind<A: Allocator>(runs: &mut Vec<Run, A>, last: Run, word: u32) -> Result<(), AllocError>
-    ensures words { OnOk result (flat_map run_words runs.new.items ≡ flat_map run_words (runs.old.items ++ last ∷ []) ++ word ∷ []) }
-    ensures longest { AreLongest (runs.old.items ++ last ∷ []) → OnOk result (AreLongest runs.new.items) }
-    ensures numbers { All StaysBelowMarks (runs.old.items ++ last ∷ []) → OnOk result (All StaysBelowMarks runs.new.items) }
+    ensures words { OnOk result (flat_map run_words runs.new.items
+        ≡ flat_map run_words (runs.old.items ++ last ∷ []) ++ word ∷ []) }
+    ensures longest { AreLongest (runs.old.items ++ last ∷ [])
+        → OnOk result (AreLongest runs.new.items) }
+    ensures numbers { All StaysBelowMarks (runs.old.items ++ last ∷ [])
+        → OnOk result (All StaysBelowMarks runs.new.items) }
 {
     let Some(longer) = longer_run(last, word) else {
         runs.push(last)?;
@@ -210,7 +215,8 @@ fn longer_count(mark: u32, count: u32, word: u32) -> Option<u32>
 }
 
 fn longer_numbers(first: u32, more: u32, word: u32) -> Option<Run>
-    ensures words { IfSome result (λ longer. run_words longer ≡ run_words (Run.Numbers first more) ++ word ∷ []) }
+    ensures words { IfSome result (λ longer. run_words longer
+        ≡ run_words (Run.Numbers first more) ++ word ∷ []) }
     ensures first { IfSome result (λ longer. first_word longer ≡ first) }
     ensures numbers { IfSome result StaysBelowMarks }
     ensures longest { IfNone result (goes_on (Run.Numbers first more) word ≡ false) }

@@ -100,9 +100,6 @@ pub enum Error {
     /// An earlier change broke off.
     #[error("file failed earlier")]
     Failed,
-    /// What this version of the library cannot do yet.
-    #[error("not supported yet")]
-    Unsupported,
 }
 
 impl From<AllocError> for Error {
@@ -130,7 +127,7 @@ impl From<MediumFault> for Error {
 }
 
 impl Error {
-    /// The number of the kind, from 1 to 10.
+    /// The number of the kind, from 1 to 9.
     pub fn number(&self) -> u8
         ensures { result ≡ number_of self.now }
     {
@@ -144,7 +141,6 @@ impl Error {
             Error::Full => 7,
             Error::Unsound => 8,
             Error::Failed => 9,
-            Error::Unsupported => 10,
         }
     }
 }

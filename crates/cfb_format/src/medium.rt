@@ -49,8 +49,8 @@ pub trait ReadMedium: Drop {
     fn read_at(&mut self, at: u64, into: &mut [u8]) -> Result<usize, MediumFault>
         ensures bound { IfOk result (λ n. n ≤ length into.new) }
         ensures same { IsTrue tells → bytes self.new ≡ bytes self.old }
-        ensures honest { IsTrue tells → MatchResult result
-            (ReadsAt read_faults (bytes self.old) (failures self.old) (failures self.new) at into.new)
+        ensures honest { IsTrue tells → MatchResult result (ReadsAt read_faults
+            (bytes self.old) (failures self.old) (failures self.new) at into.new)
             (FailsBy read_faults (failures self.old) (failures self.new)) };
 }
 
@@ -65,9 +65,11 @@ pub trait Medium: ReadMedium {
     /// of 0 to a write that is not empty counts as the failure `Stuck`.
     fn write_at(&mut self, at: u64, from: &[u8]) -> Result<usize, MediumFault>
         ensures bound { IfOk result (λ n. n ≤ length from.now) }
-        ensures honest { IsTrue Self.tells → MatchResult result
-            (WritesAt write_faults (Self.bytes self.old) (Self.bytes self.new) (Self.failures self.old) (Self.failures self.new) at from.now)
-            (FailsToWriteAt write_faults (Self.bytes self.old) (Self.bytes self.new) (Self.failures self.old) (Self.failures self.new) at from.now) };
+        ensures honest { IsTrue Self.tells
+            → MatchResult result (WritesAt write_faults (Self.bytes self.old)
+            (Self.bytes self.new) (Self.failures self.old) (Self.failures self.new) at from.now)
+            (FailsToWriteAt write_faults (Self.bytes self.old)
+            (Self.bytes self.new) (Self.failures self.old) (Self.failures self.new) at from.now) };
 
     /// Hands on what was written. No byte changes.
     fn flush(&mut self) -> Result<(), MediumFault>

@@ -76,8 +76,10 @@ impl<A: Allocator> ReadMedium for MemoryMedium<A> {
     /// All bytes from `at` on that `into` has room for. Never refused.
     fn read_at(&mut self, at: u64, into: &mut [u8]) -> Result<usize, MediumFault>
         ensures same { self.new ≡ self.old }
-        ensures answer { IsOkAnd result (λ n. n ≡ min (length into.old) (length self.old.bytes - at)) }
-        ensures honest { IfOk result (λ n. ReadsAt (λ _. false) self.old.bytes self.old.failures self.new.failures at into.new n) }
+        ensures answer { IsOkAnd result (λ n. n
+            ≡ min (length into.old) (length self.old.bytes - at)) }
+        ensures honest { IfOk result (λ n.
+            ReadsAt (λ _. false) self.old.bytes self.old.failures self.new.failures at into.new n) }
     {
         let len = self.bytes.len() as u64;
         if at >= len {
@@ -96,11 +98,13 @@ impl<A: Allocator> Medium for MemoryMedium<A> {
     /// Writes all of `from`. Refused only where the bytes must grow, and then they stay as before.
     fn write_at(&mut self, at: u64, from: &[u8]) -> Result<usize, MediumFault>
         ensures whole { IfOk result (λ n. n ≡ length from.now) }
-        ensures room { OnErr result ((0 < length from.now) × (length self.old.bytes < at + length from.now)) }
+        ensures room { OnErr result ((0 < length from.now)
+            × (length self.old.bytes < at + length from.now)) }
         ensures refused { OnErr result (self.new.bytes ≡ self.old.bytes) }
         ensures honest { MatchResult result
-            (WritesAt is_refused_growth self.old.bytes self.new.bytes self.old.failures self.new.failures at from.now)
-            (FailsToWriteAt is_refused_growth self.old.bytes self.new.bytes self.old.failures self.new.failures at from.now) }
+            (WritesAt is_refused_growth self.old.bytes self.new.bytes
+            self.old.failures self.new.failures at from.now) (FailsToWriteAt is_refused_growth
+            self.old.bytes self.new.bytes self.old.failures self.new.failures at from.now) }
     {
         if from.is_empty() {
             return Ok(0);

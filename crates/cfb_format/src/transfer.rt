@@ -1,5 +1,5 @@
 //! Whole reads and writes, out of beginnings.
-ghost use Rattle.std.specs.Prelude.{◌≡◌, ◌+◌, ◌^◌, ◌<◌, ◌≤◌, length, replicate, IsTrue, OnOk, IfErr};
+ghost use Rattle.std.specs.Prelude.{◌≡◌, ◌+◌, ◌^◌, ◌<◌, ◌≤◌, length, IsTrue, OnOk, IfErr};
 ghost use Rattle.cfb_format.specs.Medium.{part, written, ChangesOnlyBytes, FailsBy};
 
 use crate::medium::{Medium, MediumFault, ReadMedium};
@@ -15,9 +15,11 @@ pub fn read_exact_at<F: ReadMedium>(
     requires fits { at + length into.old < 2 ^ 64 }
     requires inside { IsTrue F.tells → at + length into.old ≤ length (F.bytes medium.old) }
     ensures same { IsTrue F.tells → F.bytes medium.new ≡ F.bytes medium.old }
-    ensures ok { IsTrue F.tells → OnOk result (into.new ≡ part (F.bytes medium.old) at (length into.old)) }
+    ensures ok { IsTrue F.tells
+        → OnOk result (into.new ≡ part (F.bytes medium.old) at (length into.old)) }
     ensures calm { IsTrue F.tells → OnOk result (F.failures medium.new ≡ F.failures medium.old) }
-    ensures err { IsTrue F.tells → IfErr result (FailsBy F.read_faults (F.failures medium.old) (F.failures medium.new)) }
+    ensures err { IsTrue F.tells
+        → IfErr result (FailsBy F.read_faults (F.failures medium.old) (F.failures medium.new)) }
 {
     let mut done = 0;
     while done < into.len() {
@@ -36,10 +38,13 @@ pub fn read_exact_at<F: ReadMedium>(
 pub fn write_all_at<F: Medium>(medium: &mut F, at: u64, from: &[u8]) -> Result<(), MediumFault>
     requires fits { at + length from.now < 2 ^ 64 }
     requires some { 0 < length from.now }
-    ensures ok { IsTrue F.tells → OnOk result (F.bytes medium.new ≡ written (F.bytes medium.old) at from.now) }
-    ensures others { IsTrue F.tells → ChangesOnlyBytes at (length from.now) (F.bytes medium.old) (F.bytes medium.new) }
+    ensures ok { IsTrue F.tells
+        → OnOk result (F.bytes medium.new ≡ written (F.bytes medium.old) at from.now) }
+    ensures others { IsTrue F.tells
+        → ChangesOnlyBytes at (length from.now) (F.bytes medium.old) (F.bytes medium.new) }
     ensures calm { IsTrue F.tells → OnOk result (F.failures medium.new ≡ F.failures medium.old) }
-    ensures err { IsTrue F.tells → IfErr result (FailsBy F.write_faults (F.failures medium.old) (F.failures medium.new)) }
+    ensures err { IsTrue F.tells
+        → IfErr result (FailsBy F.write_faults (F.failures medium.old) (F.failures medium.new)) }
 {
     let mut done = 0;
     while done < from.len() {
@@ -50,19 +55,4 @@ pub fn write_all_at<F: Medium>(medium: &mut F, at: u64, from: &[u8]) -> Result<(
         done += count;
     }
     Ok(())
-}
-
-/// Writes `len` zeros at byte `at`, at most 4096, as `write_all_at` does.
-#[tactic(auto, using(crate::proofs::ByteLemmas::zeros))]
-pub fn write_zeros_at<F: Medium>(medium: &mut F, at: u64, len: usize) -> Result<(), MediumFault>
-    requires some { 0 < len }
-    requires block { len ≤ 4096 }
-    requires fits { at + len < 2 ^ 64 }
-    ensures ok { IsTrue F.tells → OnOk result (F.bytes medium.new ≡ written (F.bytes medium.old) at (replicate len 0)) }
-    ensures others { IsTrue F.tells → ChangesOnlyBytes at len (F.bytes medium.old) (F.bytes medium.new) }
-    ensures calm { IsTrue F.tells → OnOk result (F.failures medium.new ≡ F.failures medium.old) }
-    ensures err { IsTrue F.tells → IfErr result (FailsBy F.write_faults (F.failures medium.old) (F.failures medium.new)) }
-{
-    let zeros = [0u8; 4096];
-    write_all_at(medium, at, &zeros[..len])
 }

@@ -11,7 +11,8 @@ use Rattle.cfb_format.proofs.Unique.{IsOutline-unique}
 use Rattle.cfb_codecs.specs.EntryModel.{new_entry}
 use Rattle.cfb_rules.specs.Finding.{last_name, parent_names}
 use Rattle.cfb_rules.proofs.CreatedFound.{same_itself}
-use Rattle.cfb_siblings.specs.Children.{ButLinks, HasChildren}
+use Rattle.std.proofs.lemmas.Bool.{cases_eq}
+use Rattle.cfb_siblings.specs.Children.{ButLinks, HasChildren, KeepsBalance}
 use Rattle.cfb_siblings.specs.Way.{unlinked}
 use Rattle.cfb_siblings.specs.Paths.{number_from}
 use Rattle.cfb_siblings.proofs.Grown.{children-back, red-apart-same}
@@ -24,7 +25,7 @@ use Rattle.cfb_trees.proofs.Colored.{growth-keeps-colors}
 use Rattle.cfb_trees.proofs.Joined.{insertion-keeps-outline}
 use Rattle.cfb_trees.proofs.Members.{streams-are-by-kind}
 use Rattle.cfb_trees.proofs.Recolored.{insertion-keeps-colors}
-use Rattle.cfb_trees.proofs.Same.{growth-keeps-outline}
+use Rattle.cfb_trees.proofs.Same.{growth-keeps-outline, same-fields}
 use Rattle.cfb_trees.proofs.Standing.{reached-is-parent}
 use Rattle.cfb_trees.proofs.Streams.{insertion-keeps-streams}
 use Rattle.cfb_entries.specs.EntryList.{has_free}
@@ -34,8 +35,10 @@ use Rattle.cfb_directory.proofs.NamesFound.{inserted-is-found}
 use Rattle.cfb_mini.proofs.RootStays.{inserted-root}
 use Rattle.cfb_mini_sectors.specs.State.{MiniState, cases_of, entries_of, version_of}
 use Rattle.cfb_content.specs.Contents.{len_of}
+use Rattle.cfb_insertion.specs.Balance.{IsBalanced, StayBalanced}
 use Rattle.cfb_insertion.specs.Putting.{PutsObject}
-use Rattle.cfb_insertion.specs.Laws.{PutHasOutline, PutIsColored, PutIsExact, PutIsFound, PutIsNew, PutKeepsRoot, PutLeavesNoneFree}
+use Rattle.cfb_insertion.proofs.Balance.{fields-keep-balance, insertion-keeps-balance}
+use Rattle.cfb_insertion.specs.Laws.{PutHasOutline, PutIsBalanced, PutIsColored, PutIsExact, PutObjectIsFound, PutIsNew, PutKeepsRoot, PutLeavesNoneFree}
 
 -- the names before the last, and the last, are all
 all-names : (first : List ℕ) (names : List (List ℕ)) → parent_names (first ∷ names) ++ last_name (first ∷ names) ∷ [] ≡ first ∷ names
@@ -126,6 +129,20 @@ module _ (old new : MiniState) (parent n : ℕ) (name : List ℕ) (kind : ObjTyp
           (has-room (λ es. AreColored es o) (has_free (entries_of old)) (entries_of old) (entries_per_sector (version_of old)) was
           (growth-keeps-colors (cases_of old) (entries_of old) (entries_per_sector (version_of old)) o is was))
 
+      -- ---- balance
+
+      pub balanced : KeepsBalance (entries_of old) (entries_of new) parent → StayBalanced (entries_of old) o (entries_of new) after
+      balanced keeps_own k there ns was = elim (cases_eq k parent) [
+        | inl e ↦
+            let own : IsBalanced (entries_of old) parent = subst (λ (j : ℕ). IsBalanced (entries_of old) j) e
+            (was (subst (λ (j : ℕ). IsReached o j) (sym e) reached) (λ s. put.storage.kind (ap (λ (j : ℕ). (entry_at (entries_of old) j).obj_type) (sym e) ∙ s))) in
+            subst (λ (j : ℕ). IsBalanced (entries_of new) j) (sym e) (keeps_own own.0 own.1)
+        | inr ne ↦ insertion-keeps-balance (cases_of old) room (entries_of new) o after parent n entry put.entry.before put.entry.behind roomy now reached no-stream put.entry.was_free
+            put.kinds refl put.entry.inserted k ne there ns
+            (λ r kind. fields-keep-balance (entries_of old) room k (roomy-longer old.directory room refl) (λ j. same-fields (entry_at (entries_of old) j) (entry_at room j) (same j))
+            (was r (λ s. kind (ap (λ (x : Entry). x.obj_type) (same k) ∙ s))))
+      ]
+
 -- ---- the laws
 
 pub put-has-outline : PutHasOutline
@@ -144,7 +161,7 @@ put-is-new old new parent n name kind moment put = record {
   empty = len-is old new parent n name kind moment put;
 }
 
-pub put-is-found : PutIsFound
+pub put-is-found : PutObjectIsFound
 put-is-found old new parent n name kind moment put first names before after is new_is there last =
     let finds = inserted-is-found old.directory new.directory parent n (new_entry name kind moment) before after (parent_names (first ∷ names)) put.entry put.storage.kind refl is
     (subst (λ c. IsOutline c (entries_of new) after) put.limits.cases new_is) there in
@@ -173,3 +190,6 @@ pub put-is-colored : PutIsColored
 put-is-colored old new parent n name kind moment put was o is =
     let p = put.storage.outline in
     colored old new parent n name kind moment put p put.storage.is o is (was p put.storage.is)
+
+pub put-is-balanced : PutIsBalanced
+put-is-balanced old new parent n name kind moment put keeps before after is new_is = balanced old new parent n name kind moment put before is after new_is keeps

@@ -1,4 +1,5 @@
 pub mod Spared
+pub mod Balance
 pub mod Entries
 pub mod SameUse
 pub mod Streams

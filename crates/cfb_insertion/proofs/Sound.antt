@@ -13,17 +13,18 @@ use Rattle.cfb_format.specs.Siblings.{entry_at}
 use Rattle.cfb_format.specs.Soundness.{IsSound, used_mini_sectors, used_sectors}
 use Rattle.cfb_tables.specs.Owners.{Uses}
 use Rattle.cfb_tables.proofs.UseLemmas.{nothing-loose, uses-kept}
-use Rattle.cfb_alloc.specs.Agreement.{Agrees}
+use Rattle.cfb_alloc.specs.Agreement.{WordsAgree}
 use Rattle.cfb_siblings.specs.Children.{ButLinks}
 use Rattle.cfb_sound_changes.specs.Kept.{IsReady}
 use Rattle.cfb_sound_changes.proofs.Kept.{used-sound}
 use Rattle.cfb_mini_sectors.specs.State.{MiniState, bytes_of, cases_of, content_of, entries_of, parts_of, reading_of, tables_in}
-use Rattle.cfb_content.specs.Contents.{len_of, parts_with}
+use Rattle.cfb_content.specs.Contents.{IsSnug, len_of, parts_with}
 use Rattle.cfb_content.proofs.Apart.{content-is, sound-at, version-is}
 use Rattle.cfb_content.proofs.Owned.{empty-owns-nothing}
 use Rattle.cfb_content.proofs.Readable.{kept-is-readable}
+use Rattle.cfb_content.proofs.Snug.{empty-is-snug, kept-is-snug}
 use Rattle.cfb_insertion.specs.Putting.{WritesObject}
-use Rattle.cfb_insertion.specs.Laws.{PutIsAllUsed, PutIsChangeable}
+use Rattle.cfb_insertion.specs.Laws.{PutIsAllUsed, PutIsChangeable, PutIsSnug}
 use Rattle.cfb_insertion.proofs.Entries.{kept-links, len-is, streams}
 use Rattle.cfb_insertion.proofs.Streams.{content-kept, minis-change, sectors-change, uses}
 
@@ -87,7 +88,7 @@ module _ (v : Validation) (old new : MiniState) (parent n : ℕ) (name : List �
     sound-now h is_h =
         let version = version-is v new h writes.held is_h in
         let ready : IsReady (bytes_of new) (reading_of h new after) = record {
-          agrees = subst (λ w. Agrees w (bytes_of new) (tables_in new).fat_sectors (tables_in new).difat_sectors (tables_in new).fat) (sym version) writes.held.directory.tables.holds.agrees;
+          agrees = subst (λ w. WordsAgree w (bytes_of new) (tables_in new).fat_sectors (tables_in new).difat_sectors (tables_in new).fat) (sym version) writes.held.directory.tables.holds.agrees;
           mini_stream = subst (λ (w : Option (List ℕ)). IsSome w) (sym writes.held.mini_stream.chain) refl;
           chains = chain-at;
           mini_room = subst (λ (w : Option (List ℕ)). length new.minifat * mini_sector_len ≤ length (unwrap_or w []) * sector_len h.version) (sym writes.held.mini_stream.chain)
@@ -112,3 +113,18 @@ put-is-all-used v old new parent n name kind moment writes all =
       mini_sectors = λ after new_is. nothing-loose old.minifat (used_mini_sectors (parts_with old o)) new.minifat (used_mini_sectors (parts_with new after))
           (minis-change v old new parent n name kind moment writes o is after new_is) (all.mini_sectors o is);
     }
+
+pub put-is-snug : PutIsSnug
+put-is-snug v old new parent n name kind moment writes snug k now =
+    let o = writes.put.storage.outline in
+    let is = writes.put.storage.is in
+    elim ((streams old new parent n name kind moment writes.put o is now.outline now.is k).0 now.reached) [
+      | inl w ↦ empty-is-snug new (entry_at (entries_of new) k)
+          (ap (λ j. len_of new j) w.0 ∙ len-is old new parent n name kind moment writes.put)
+      | inr c ↦
+          let links = kept-links old new parent n name kind moment writes.put o is k c in
+          kept-is-snug old new (entry_at (entries_of old) k) (entry_at (entries_of new) k) writes.put.limits.version
+          (content-kept v old new parent n name kind moment writes o is k c)
+          (ap (λ (x : Entry). x.start_sector) links) (ap (λ (x : Entry). x.stream_len) links)
+          (snug k (record { outline = o; is = is; reached = c }))
+    ]

@@ -8,6 +8,7 @@ use Rattle.cfb_format.specs.Reading.{IsOutline, Outline, stream_numbers}
 use Rattle.cfb_format.specs.Siblings.{entry_at}
 use Rattle.cfb_rules.specs.CallChanges.{storage_added_at, stream_added_at}
 use Rattle.cfb_rules.specs.Finding.{last_name, parent_names}
+use Rattle.cfb_siblings.specs.Children.{KeepsBalance}
 use Rattle.cfb_siblings.specs.Paths.{number_from}
 use Rattle.cfb_tables.specs.Changes.{NoneFree}
 use Rattle.cfb_tables.specs.Tables.{AreExactTables}
@@ -17,7 +18,8 @@ use Rattle.cfb_directory.specs.State.{IsFullForEntry}
 use Rattle.cfb_mini_sectors.specs.State.{IsChangeable, MiniState, bytes_of, cases_of, entries_of, parts_of, root_len_of, table_of, tables_in}
 use Rattle.cfb_mini_sectors.specs.Steps.{KeepsMini}
 use Rattle.cfb_objects.specs.Laws.{BecomesTree}
-use Rattle.cfb_content.specs.Contents.{AreAllUsed, KeepsContent}
+use Rattle.cfb_content.specs.Contents.{AreAllUsed, KeepsContent, AreSnug}
+use Rattle.cfb_insertion.specs.Balance.{StayBalanced}
 use Rattle.cfb_insertion.specs.Putting.{IsNewObject, PutsObject, WritesObject}
 
 -- ---- in memory
@@ -33,8 +35,8 @@ PutIsNew = (old new : MiniState) (parent n : ℕ) (name : List ℕ) (kind : ObjT
     → IsNewObject new n kind
 
 -- it stands at its name in its storage
-abbrev pub PutIsFound : Type 0
-PutIsFound = (old new : MiniState) (parent n : ℕ) (name : List ℕ) (kind : ObjType) (moment : ℕ) → PutsObject old new parent n name kind moment
+abbrev pub PutObjectIsFound : Type 0
+PutObjectIsFound = (old new : MiniState) (parent n : ℕ) (name : List ℕ) (kind : ObjType) (moment : ℕ) → PutsObject old new parent n name kind moment
     → (first : List ℕ) (names : List (List ℕ)) (before after : Outline) → IsOutline (cases_of old) (entries_of old) before
     → IsOutline (cases_of new) (entries_of new) after
     → number_from (cases_of old) (entries_of old) 0 before (parent_names (first ∷ names)) ≡ Some parent → last_name (first ∷ names) ≡ name
@@ -61,6 +63,12 @@ PutIsColored = (old new : MiniState) (parent n : ℕ) (name : List ℕ) (kind : 
     → ((o : Outline) → IsOutline (cases_of old) (entries_of old) o → AreColored (entries_of old) o)
     → (o : Outline) → IsOutline (cases_of new) (entries_of new) o → AreColored (entries_of new) o
 
+-- where the storage that it came into is in balance if it was, so is each storage, and the new one
+abbrev pub PutIsBalanced : Type 0
+PutIsBalanced = (old new : MiniState) (parent n : ℕ) (name : List ℕ) (kind : ObjType) (moment : ℕ) → PutsObject old new parent n name kind moment
+    → KeepsBalance (entries_of old) (entries_of new) parent → (before after : Outline) → IsOutline (cases_of old) (entries_of old) before
+    → IsOutline (cases_of new) (entries_of new) after → StayBalanced (entries_of old) before (entries_of new) after
+
 -- one more entry can't be had only where sectors or entries are at their limit
 abbrev pub FullForEntryIsFull : Type 0
 FullForEntryIsFull = (s : MiniState) → IsFullForEntry s.directory → IsFull (tables_in s).max_sectors (parts_of s)
@@ -82,6 +90,11 @@ PutIsChangeable = (validation : Validation) (old new : MiniState) (parent n : �
 abbrev pub PutIsAllUsed : Type 0
 PutIsAllUsed = (validation : Validation) (old new : MiniState) (parent n : ℕ) (name : List ℕ) (kind : ObjType) (moment : ℕ)
     → WritesObject validation old new parent n name kind moment → AreAllUsed old → AreAllUsed new
+
+-- and each stream has exactly what its length needs, if each had
+abbrev pub PutIsSnug : Type 0
+PutIsSnug = (validation : Validation) (old new : MiniState) (parent n : ℕ) (name : List ℕ) (kind : ObjType) (moment : ℕ)
+    → WritesObject validation old new parent n name kind moment → AreSnug old → AreSnug new
 
 -- its bytes mean the tree with a new storage at its names, or with a new stream
 abbrev pub PutStorageJoinsTree : Type 0

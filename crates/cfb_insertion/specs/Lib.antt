@@ -1,2 +1,3 @@
+pub mod Balance
 pub mod Putting
 pub mod Laws

@@ -1,11 +1,12 @@
 //! What a new object in the directory makes of a file. None of these functions does anything: each has a law as its contract.
-ghost use Rattle.cfb_insertion.specs.Laws.{PutHasOutline, PutIsAllUsed, PutIsChangeable, PutIsColored, PutIsExact, PutIsFound, PutIsNew, PutKeepsRoot, PutKeepsStreams, PutLeavesNoneFree, PutStorageJoinsTree, PutStreamJoinsTree, FullForEntryIsFull};
+ghost use Rattle.cfb_insertion.specs.Balance.{FieldsKeepBalance, InsertionKeepsBalance};
+ghost use Rattle.cfb_insertion.specs.Laws.{PutHasOutline, PutIsAllUsed, PutIsBalanced, PutIsChangeable, PutIsColored, PutIsExact, PutObjectIsFound, PutIsNew, PutKeepsRoot, PutKeepsStreams, PutLeavesNoneFree, PutStorageJoinsTree, PutStreamJoinsTree, FullForEntryIsFull, PutIsSnug};
 
 /// The new object is one of the tree, empty and of its kind, and stands at its names; the mini stream keeps its length (MS-CFB 2.6).
 pub fn new_objects_are_in_the_tree()
     ensures outline { PutHasOutline }
     ensures new { PutIsNew }
-    ensures found { PutIsFound }
+    ensures found { PutObjectIsFound }
     ensures root { PutKeepsRoot }
 {}
 
@@ -15,17 +16,25 @@ pub fn insertions_keep_streams()
 {}
 
 /// A sound file is sound again: what the directory took had been free, and the new object uses nothing. Nothing is loose in it and its
-/// tables are exact, if it was so before, and where the file went on none of its sectors is free.
+/// tables are exact and its chains as long as they need to be, if it was so before, and where the file went on none of its sectors is free.
 pub fn insertions_keep_files_sound()
     ensures changeable { PutIsChangeable }
     ensures all_used { PutIsAllUsed }
     ensures exact { PutIsExact }
+    ensures snug { PutIsSnug }
     ensures grows { PutLeavesNoneFree }
 {}
 
 /// A black top, and no red child under a red one, stay with the children of all storages.
 pub fn insertions_keep_colors()
     ensures { PutIsColored }
+{}
+
+/// So does the balance of all storages: an insertion changes that of none but its own.
+pub fn insertions_keep_balance()
+    ensures fields { FieldsKeepBalance }
+    ensures others { InsertionKeepsBalance }
+    ensures all { PutIsBalanced }
 {}
 
 /// The bytes mean the tree with the new object.

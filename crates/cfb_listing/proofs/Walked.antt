@@ -7,7 +7,8 @@ use Rattle.cfb_format.specs.Siblings.{entry_at}
 use Rattle.cfb_format.specs.Meaning.{objects_from}
 use Rattle.cfb_rules.specs.Calls.{EntryInfo}
 use Rattle.cfb_rules.specs.CallReplies.{walked}
-use Rattle.cfb_listing.specs.Told.{entry_info, is_stream_kind}
+use Rattle.cfb_outline.specs.Families.{is_stream_kind}
+use Rattle.cfb_listing.specs.Told.{entry_info}
 use Rattle.cfb_listing.specs.Listings.{OfInside, Walks}
 use Rattle.cfb_listing.proofs.Telling.{storage-told, stream-told, root-told}
 

@@ -5,12 +5,6 @@ use Rattle.cfb_format.specs.declared.objtype.ObjType.TheVariants.{Unallocated, S
 use Rattle.cfb_format.specs.DirectoryEntry.{Entry, name_for, nil_clsid, unless_storage, unless_stream}
 use Rattle.cfb_rules.specs.Calls.{EntryInfo}
 
-abbrev pub is_stream_kind : ObjType → Bool
-is_stream_kind Unallocated = false
-is_stream_kind Storage = false
-is_stream_kind Stream = true
-is_stream_kind Root = false
-
 -- what an object of the entry's kind has, under this path
 abbrev pub entry_info : List ℕ → Entry → EntryInfo
 entry_info path e = record {

@@ -4,8 +4,8 @@ ghost use Rattle.cfb_codecs.specs.EntryModel.{entries_of};
 ghost use Rattle.cfb_format.specs.DirectoryEntry.{name_for, nil_clsid, unless_storage, unless_stream};
 ghost use Rattle.cfb_format.specs.Siblings.{entry_at};
 ghost use Rattle.cfb_format.specs.Refused.{IsMemory};
-ghost use Rattle.cfb_outline.specs.Families.{is_storage_kind, is_root_kind};
-ghost use Rattle.cfb_listing.specs.Told.{entry_info, is_stream_kind};
+ghost use Rattle.cfb_outline.specs.Families.{is_storage_kind, is_root_kind, is_stream_kind};
+ghost use Rattle.cfb_listing.specs.Told.{entry_info};
 
 use cfb_codecs::direntry::DirEntry;
 use cfb_codecs::timestamp::Timestamp;
@@ -143,7 +143,8 @@ pub fn entry_of<A: Allocator>(
     path: String<A>,
 ) -> Result<Entry<A>, Error>
     requires { number < length entries.now }
-    ensures ok { IfOk result (λ told. told ≡ entry_info (chars (string_bytes path)) (entry_at (entries_of entries.now) number)) }
+    ensures ok { IfOk result (λ told. told
+        ≡ entry_info (chars (string_bytes path)) (entry_at (entries_of entries.now) number)) }
     ensures refused { IfErr result IsMemory }
 {
     let entry = &entries[number as usize];

@@ -14,10 +14,12 @@ ghost use Rattle.cfb_listing.specs.Listings.{listed_by, OfInside, ListsInside, L
 ghost use Rattle.cfb_listing.specs.Waiting.{waits_in, path_at, is_entered};
 
 use crate::entry::{Entry, entry_of};
-use crate::links::{child_link, is_storage, is_stream, left_link, right_link};
+use crate::links::is_stream;
 use cfb_codecs::direntry::DirEntry;
+use cfb_codecs::links::{child_link, left_link, right_link};
 use cfb_format::consts::NO_STREAM;
 use cfb_format::error::Error;
+use cfb_outline::links::is_storage;
 use cfb_trees::laws::reached_entries_are_in_use;
 use std::alloc::Allocator;
 
@@ -46,9 +48,12 @@ fn push_siblings<A: Allocator>(
     stack: &mut Vec<u32, A>,
     pending: &mut Vec<Waiting, A>,
 ) -> Result<(), Error>
-    requires listed { (cases : Cases) × (list : List ℕ) × Below cases (entries_of entries.now) top list }
+    requires listed { (cases : Cases)
+        × (list : List ℕ) × Below cases (entries_of entries.now) top list }
     requires empty { stack.old.items ≡ [] }
-    ensures ok { OnOk result ((cases : Cases) (list : List ℕ) → Below cases (entries_of entries.now) top list → pending.new.items ≡ pending.old.items ++ map (waits_in parent) (reverse list)) }
+    ensures ok { OnOk result ((cases : Cases) (list : List ℕ)
+        → Below cases (entries_of entries.now) top list
+        → pending.new.items ≡ pending.old.items ++ map (waits_in parent) (reverse list)) }
     ensures emptied { OnOk result (stack.new.items ≡ []) }
     ensures refused { IfErr result IsMemory }
 {
@@ -84,14 +89,16 @@ fn parent_path<'a, A: Allocator>(
 
 /// What stands between this path and a name: a `/`, unless the path ends with one.
 fn separator(path: &str) -> &str
-    ensures { (name : List ℕ) → child_path (chars path.now) name ≡ chars path.now ++ chars result.now ++ name }
+    ensures { (name : List ℕ)
+        → child_path (chars path.now) name ≡ chars path.now ++ chars result.now ++ name }
 {
     if path.ends_with('/') { "" } else { "/" }
 }
 
 /// The path of what has this name in the storage with this path. `Memory`, and no other error.
 pub fn path_below<A: Allocator>(alloc: A, parent: &str, name: &str) -> Result<String<A>, Error>
-    ensures ok { IfOk result (λ path. chars (string_bytes path) ≡ child_path (chars parent.now) (chars name.now)) }
+    ensures ok { IfOk result (λ path. chars (string_bytes path)
+        ≡ child_path (chars parent.now) (chars name.now)) }
     ensures refused { IfErr result IsMemory }
 {
     let mut path = String::from_str(alloc, parent)?;
@@ -108,7 +115,9 @@ fn entry_below<A: Allocator + Clone>(
     parent: &str,
 ) -> Result<Entry<A>, Error>
     requires { number < length entries.now }
-    ensures ok { IfOk result (λ told. told ≡ entry_info (child_path (chars parent.now) (entry_at (entries_of entries.now) number).name) (entry_at (entries_of entries.now) number)) }
+    ensures ok { IfOk result (λ told. told
+        ≡ entry_info (child_path (chars parent.now) (entry_at (entries_of entries.now) number).name)
+        (entry_at (entries_of entries.now) number)) }
     ensures refused { IfErr result IsMemory }
 {
     let path = path_below(alloc.clone()?, parent, &entries[number as usize].name)?;
@@ -136,7 +145,8 @@ fn push_inside<A: Allocator + Clone>(
     list: &mut Vec<Entry<A>, A>,
 ) -> Result<(), Error>
     requires { (cases : Cases) × IsReachedStorage cases (entries_of entries.now) number }
-    ensures ok { OnOk result (OfInside (entries_of entries.now) number (λ objects. list.new.items ≡ list.old.items ++ listed_by order (chars path.now) objects)) }
+    ensures ok { OnOk result (OfInside (entries_of entries.now) number (λ objects. list.new.items
+        ≡ list.old.items ++ listed_by order (chars path.now) objects)) }
     ensures refused { IfErr result IsMemory }
 {
     let mut stack = Vec::new(alloc.clone()?);
@@ -168,7 +178,8 @@ pub fn list_inside<A: Allocator + Clone>(
     number: u32,
 ) -> Result<Vec<Entry<A>, A>, Error>
     requires { (cases : Cases) × IsReachedStorage cases (entries_of entries.now) number }
-    ensures ok { IfOk result (λ list. ListsInside order (entries_of entries.now) (chars path.now) number list.items) }
+    ensures ok { IfOk result (λ list.
+        ListsInside order (entries_of entries.now) (chars path.now) number list.items) }
     ensures refused { IfErr result IsMemory }
 {
     let mut list = Vec::new(alloc.clone()?);
@@ -186,7 +197,8 @@ pub fn list_children<A: Allocator + Clone>(
     number: u32,
 ) -> Result<Vec<Entry<A>, A>, Error>
     requires { (cases : Cases) × IsReachedStorage cases (entries_of entries.now) number }
-    ensures ok { IfOk result (λ list. ListsChildren (entries_of entries.now) (chars path.now) number list.items) }
+    ensures ok { IfOk result (λ list.
+        ListsChildren (entries_of entries.now) (chars path.now) number list.items) }
     ensures refused { IfErr result IsMemory }
 {
     list_inside(alloc, entries, EntriesOrder::Nonrecursive, path, number)
@@ -202,8 +214,10 @@ pub fn walk_from<A: Allocator + Clone>(
     path: &str,
     number: u32,
 ) -> Result<Vec<Entry<A>, A>, Error>
-    requires { (cases : Cases) × (o : Outline) × IsOutline cases (entries_of entries.now) o × IsReached o number }
-    ensures ok { IfOk result (λ list. Walks (entries_of entries.now) (chars path.now) number list.items) }
+    requires { (cases : Cases)
+        × (o : Outline) × IsOutline cases (entries_of entries.now) o × IsReached o number }
+    ensures ok { IfOk result (λ list.
+        Walks (entries_of entries.now) (chars path.now) number list.items) }
     ensures refused { IfErr result IsMemory }
 {
     reached_entries_are_in_use();

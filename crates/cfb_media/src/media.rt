@@ -102,8 +102,10 @@ impl Plan {
     fn strikes(&mut self, kind: Kind) -> bool
         ensures now { IsTrue result ↔ ((kind ≡ self.old.kind) × (self.old.left ≡ 1)) }
         ensures other { kind ≢ self.old.kind → self.new ≡ self.old }
-        ensures waits { OnFalse result (kind ≡ self.old.kind → self.new ≡ record self.old { left = self.old.left - 1 }) }
-        ensures once { OnTrue result (self.old.stays ≡ false → self.new ≡ record self.old { left = 0 }) }
+        ensures waits { OnFalse result (kind ≡ self.old.kind
+            → self.new ≡ record self.old { left = self.old.left - 1 }) }
+        ensures once { OnTrue result (self.old.stays ≡ false
+            → self.new ≡ record self.old { left = 0 }) }
         ensures onwards { OnTrue result (self.old.stays ≡ true → self.new ≡ self.old) }
         ensures failures { self.new.failures ≡ self.old.failures }
     {
@@ -118,7 +120,8 @@ impl Plan {
     }
 
     fn count_failure(&mut self)
-        ensures count { self.new ≡ record self.old { failures = min (self.old.failures + 1) (2 ^ 64 - 1) } }
+        ensures count { self.new
+            ≡ record self.old { failures = min (self.old.failures + 1) (2 ^ 64 - 1) } }
         ensures rises { Rises self.old.failures self.new.failures }
     {
         self.failures = self.failures.saturating_add(1);
@@ -127,7 +130,8 @@ impl Plan {
     /// Counts a call, and where it is to go wrong the failure too.
     fn fails(&mut self, kind: Kind) -> bool
         ensures now { IsTrue result ↔ ((kind ≡ self.old.kind) × (self.old.left ≡ 1)) }
-        ensures failed { OnTrue result (self.new.failures ≡ min (self.old.failures + 1) (2 ^ 64 - 1)) }
+        ensures failed { OnTrue result (self.new.failures
+            ≡ min (self.old.failures + 1) (2 ^ 64 - 1)) }
         ensures rises { OnTrue result (Rises self.old.failures self.new.failures) }
         ensures calm { OnFalse result (self.new.failures ≡ self.old.failures) }
     {
@@ -151,7 +155,10 @@ pub struct Failing<F: ReadMedium> {
 impl<F: ReadMedium> Failing<F> {
     /// Fails at the `nth` call of this kind alone; at 0 never.
     pub fn once(inner: F, kind: Kind, nth: u64) -> Failing<F>
-        ensures { result ≡ record { inner = inner; plan = record { kind = kind; left = nth; stays = false; failures = 0 } } }
+        ensures { result ≡ record {
+          inner = inner;
+          plan = record { kind = kind; left = nth; stays = false; failures = 0 };
+        } }
     {
         Failing {
             inner,
@@ -161,7 +168,10 @@ impl<F: ReadMedium> Failing<F> {
 
     /// Fails at the `nth` call of this kind and at each later one; at 0 never.
     pub fn onwards(inner: F, kind: Kind, nth: u64) -> Failing<F>
-        ensures { result ≡ record { inner = inner; plan = record { kind = kind; left = nth; stays = true; failures = 0 } } }
+        ensures { result ≡ record {
+          inner = inner;
+          plan = record { kind = kind; left = nth; stays = true; failures = 0 };
+        } }
     {
         Failing {
             inner,
@@ -235,7 +245,8 @@ impl<F: Medium> Medium for Failing<F> {
 /// Writes the byte 0xee over a range, as far as it goes.
 #[tactic(auto, using(cfb_format::proofs::ByteLemmas::changes))]
 fn spoil<F: Medium>(medium: &mut F, at: u64, len: usize)
-    ensures others { IsTrue F.tells → ChangesOnlyBytes at len (F.bytes medium.old) (F.bytes medium.new) }
+    ensures others { IsTrue F.tells
+        → ChangesOnlyBytes at len (F.bytes medium.old) (F.bytes medium.new) }
     ensures failures { IsTrue F.tells → F.failures medium.old ≤ F.failures medium.new }
 {
     for i in 0..len {
@@ -248,7 +259,8 @@ fn spoil<F: Medium>(medium: &mut F, at: u64, len: usize)
 
 #[tactic(auto, using(cfb_format::proofs::ByteLemmas::changes))]
 fn spoil_byte<F: Medium>(medium: &mut F, at: u64)
-    ensures others { IsTrue F.tells → ChangesOnlyBytes at 1 (F.bytes medium.old) (F.bytes medium.new) }
+    ensures others { IsTrue F.tells
+        → ChangesOnlyBytes at 1 (F.bytes medium.old) (F.bytes medium.new) }
     ensures failures { IsTrue F.tells → F.failures medium.old ≤ F.failures medium.new }
 {
     // Where the medium takes nothing, nothing is spoiled.
@@ -266,7 +278,10 @@ pub struct Stuck<F: ReadMedium> {
 impl<F: ReadMedium> Stuck<F> {
     /// Sticks at the `nth` call of this kind alone; at 0 never.
     pub fn once(inner: F, kind: Kind, nth: u64) -> Stuck<F>
-        ensures { result ≡ record { inner = inner; plan = record { kind = kind; left = nth; stays = false; failures = 0 } } }
+        ensures { result ≡ record {
+          inner = inner;
+          plan = record { kind = kind; left = nth; stays = false; failures = 0 };
+        } }
     {
         Stuck {
             inner,
@@ -276,7 +291,10 @@ impl<F: ReadMedium> Stuck<F> {
 
     /// Sticks at the `nth` call of this kind and at each later one; at 0 never.
     pub fn onwards(inner: F, kind: Kind, nth: u64) -> Stuck<F>
-        ensures { result ≡ record { inner = inner; plan = record { kind = kind; left = nth; stays = true; failures = 0 } } }
+        ensures { result ≡ record {
+          inner = inner;
+          plan = record { kind = kind; left = nth; stays = true; failures = 0 };
+        } }
     {
         Stuck {
             inner,
@@ -356,7 +374,14 @@ pub struct Counting<F: ReadMedium> {
 impl<F: ReadMedium> Counting<F> {
     /// Counts the calls that touch bytes from `start` up to `end`, and each flush.
     pub fn within(inner: F, start: u64, end: u64) -> Counting<F>
-        ensures { result ≡ record { inner = inner; start = start; end = end; reads = 0; writes = 0; flushes = 0 } }
+        ensures { result ≡ record {
+          inner = inner;
+          start = start;
+          end = end;
+          reads = 0;
+          writes = 0;
+          flushes = 0;
+        } }
     {
         Counting {
             inner,
@@ -405,7 +430,8 @@ impl<F: ReadMedium> Counting<F> {
     }
 
     fn touches(&self, at: u64, len: usize) -> bool
-        ensures { IsTrue result ↔ (max at self.now.start < min (min (at + len) (2 ^ 64 - 1)) self.now.end) }
+        ensures { IsTrue result
+            ↔ (max at self.now.start < min (min (at + len) (2 ^ 64 - 1)) self.now.end) }
     {
         at.max(self.start) < at.saturating_add(len as u64).min(self.end)
     }

@@ -27,7 +27,8 @@ impl Requests {
         ensures never { self.old.refused ≡ Never → (result ≡ false) × (self.new.refused ≡ Never) }
         ensures always { self.old.refused ≡ Always → (result ≡ true) × (self.new.refused ≡ Always) }
         ensures now { self.old.refused ≡ After 0 → (result ≡ true) × (self.new.refused ≡ Never) }
-        ensures later { (n : ℕ) → self.old.refused ≡ After (n + 1) → (result ≡ false) × (self.new.refused ≡ After n) }
+        ensures later { (n : ℕ)
+            → self.old.refused ≡ After (n + 1) → (result ≡ false) × (self.new.refused ≡ After n) }
     {
         self.asked = self.asked.saturating_add(1);
         match self.refused {

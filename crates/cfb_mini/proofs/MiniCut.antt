@@ -8,7 +8,7 @@ use Rattle.cfb_format.specs.declared.validate.Validation.{Validation}
 use Rattle.cfb_format.specs.Bytes.{end_of_chain, free_sector}
 use Rattle.cfb_format.specs.Chain.{IsChain, value}
 use Rattle.cfb_format.specs.Content.{mini_sector_len}
-use Rattle.cfb_sectors.specs.Words.{Stays}
+use Rattle.cfb_sectors.specs.Words.{RangeStays}
 use Rattle.cfb_tables.specs.Clean.{IsUnnamed}
 use Rattle.cfb_tables.specs.Listed.{ends_of, last_or_end}
 use Rattle.cfb_tables.specs.Tables.{first_or_end}
@@ -73,9 +73,9 @@ cut-held validation ids left minifat s h chain fewer cut unnamed =
 module _ (ids : List ℕ) (left : ℕ) (a c : MiniState) (chain : IsChain a.minifat (first_or_end ids) ids) (fewer : left < length ids)
     (cut : MiniGivesBack (ends_of (take left ids)) (drop left ids) a.minifat c.minifat) (places : HasMiniPlaces a) (within : AreSectorsOf (tables_in a) (mini_stream_of a))
     (stream : mini_stream_of c ≡ mini_stream_of a)
-    (others : (m : ℕ) → HasMiniSector a m → (Contains (drop left ids) m → ⊥) → Stays (mini_place a m) (mini_place a m + mini_sector_len) (bytes_of a) (bytes_of c)) where
+    (others : (m : ℕ) → HasMiniSector a m → (Contains (drop left ids) m → ⊥) → RangeStays (mini_place a m) (mini_place a m + mini_sector_len) (bytes_of a) (bytes_of c)) where
   -- each mini sector in use that is not given back keeps its bytes
-  pub cut-bytes : (m : ℕ) → value a.minifat m ≢ free_sector → (Contains (drop left ids) m → ⊥) → Stays (mini_place a m) (mini_place a m + mini_sector_len) (bytes_of a) (bytes_of c)
+  pub cut-bytes : (m : ℕ) → value a.minifat m ≢ free_sector → (Contains (drop left ids) m → ⊥) → RangeStays (mini_place a m) (mini_place a m + mini_sector_len) (bytes_of a) (bytes_of c)
   cut-bytes m busy out = others m (mini-there a m places within (value-below a.minifat m busy)) out
 
   pub cut-spares : SparesMini ids a c

@@ -13,7 +13,6 @@ use Rattle.cfb_format.specs.Reading.{minifat_words}
 use Rattle.cfb_format.specs.DirectoryEntry.{Entry}
 use Rattle.cfb_format.specs.Siblings.{entry_at}
 use Rattle.cfb_outline.specs.Outlines.{IsReachedStorage}
-use Rattle.cfb_siblings.specs.Children.{KeepsColors}
 use Rattle.cfb_entries.specs.declared.fields.Fields.{Fields}
 use Rattle.cfb_entries.specs.Fields.{entries_with_fields, entry_with_fields}
 use Rattle.cfb_entries.specs.EntryList.{InsertsEntry, RemovesEntry, has_free}
@@ -28,7 +27,7 @@ use Rattle.cfb_alloc.specs.Frame.{Spares}
 use Rattle.cfb_alloc.specs.ListedChain.{Lengthens}
 use Rattle.cfb_alloc.proofs.Frames.{other-chains-spared}
 use Rattle.cfb_sectors.proofs.WordLemmas.{word_same}
-use Rattle.cfb_directory.specs.State.{DirectoryState, HoldsDirectory, IsKeptHeaderByte, KeepsHeader, with_room}
+use Rattle.cfb_directory.specs.State.{DirectoryState, HoldsDirectory, IsKeptHeaderByte, KeepsDirectoryHeader, with_room}
 use Rattle.cfb_directory.specs.Steps.{KeepsWholeHeader}
 use Rattle.cfb_directory.proofs.ChangedFields.{changed_beside, changed_here}
 use Rattle.cfb_directory.proofs.InsertWhole.{roomy-same}
@@ -142,7 +141,7 @@ kept-byte : (v : Version) (i : ℕ) → 48 ≤ i → i < 68 → IsKeptHeaderByte
 kept-byte V3 i low high = inr (low, high)
 kept-byte V4 i low high = inr (low, high)
 
-pub kept-word : (validation : Validation) (s : MiniState) (d : DirectoryState) → HoldsMini validation s → KeepsHeader s.directory d
+pub kept-word : (validation : Validation) (s : MiniState) (d : DirectoryState) → HoldsMini validation s → KeepsDirectoryHeader s.directory d
     → (p : ℕ) → 48 ≤ p → p + 4 ≤ 68 → word_at d.table.file.bytes p ≡ word_at (bytes_of s) p
 kept-word validation s d h header p low high =
     let long = (header_there (version_of s) (bytes_of s) s.directory.sectors h.directory.some h.directory.whole).0 in
@@ -152,7 +151,7 @@ kept-word validation s d h header p low high =
 
 -- an entry came
 pub held-inserted : (validation : Validation) (s : MiniState) (d : DirectoryState) → HoldsMini validation s → HoldsDirectory validation d
-    → Spares s.directory.sectors (table_of s) d.table → KeepsHeader s.directory d → SameContent (entry_at (entries_of s) 0) (entry_at d.entries 0)
+    → Spares s.directory.sectors (table_of s) d.table → KeepsDirectoryHeader s.directory d → SameContent (entry_at (entries_of s) 0) (entry_at d.entries 0)
     → (d.sectors ≡ s.directory.sectors) ⊎ Lengthens 1 s.directory.sectors d.sectors (tables_in s) d.table.tables → HoldsMini validation (with_directory s d)
 held-inserted validation s d h held spares header root sectors =
     held-directory validation s d h held spares (kept-word validation s d h header 60 (omega arith) (omega arith)) (kept-word validation s d h header 64 (omega arith) (omega arith)) root
@@ -173,7 +172,7 @@ held-rewritten validation s d h held spares header root same =
 -- a new entry came: what the calls of the directory say of it is enough
 pub inserted-holds : {E : Type 0} (r : Result ℕ E) (validation : Validation) (s : MiniState) (d : DirectoryState) (parent : ℕ) (entry : Entry) → HoldsMini validation s
     → IsReachedStorage s.directory.cases s.directory.entries parent → OnOk r (HoldsDirectory validation d)
-    → Spares s.directory.sectors (table_of s) d.table → KeepsHeader s.directory d
+    → Spares s.directory.sectors (table_of s) d.table → KeepsDirectoryHeader s.directory d
     → IfOk r (λ n. InsertsEntry s.directory.cases (with_room s.directory) d.entries parent n entry)
     → (has_free s.directory.entries ≡ true → (d.sectors ≡ s.directory.sectors) × (d.table.tables ≡ tables_in s))
     → (has_free s.directory.entries ≡ false → OnOk r (Lengthens 1 s.directory.sectors d.sectors (tables_in s) d.table.tables))
@@ -196,11 +195,10 @@ inserted-holds (Ok n) validation s d parent entry h p held spares header inserts
 pub removed-holds : {T E : Type 0} (r : Result T E) (validation : Validation) (s : MiniState) (d : DirectoryState) (parent : ℕ) (name : List ℕ) → HoldsMini validation s
     → IsReachedStorage s.directory.cases s.directory.entries parent → OnOk r (HoldsDirectory validation d)
     → Spares s.directory.sectors (table_of s) d.table → KeepsWholeHeader s.directory d
-    → OnOk r ((w : RemovesEntry s.directory.cases s.directory.entries d.entries parent name) × KeepsColors s.directory.entries d.entries w.freed)
+    → OnOk r (RemovesEntry s.directory.cases s.directory.entries d.entries parent name)
     → d.sectors ≡ s.directory.sectors → OnOk r (HoldsMini validation (with_directory s d))
 removed-holds (Err e) validation s d parent name h p held spares header removes same = tt
-removed-holds (Ok x) validation s d parent name h p held spares header removes same =
-    let w = removes.0 in
+removed-holds (Ok x) validation s d parent name h p held spares header w same =
     held-rewritten validation s d h held spares header
     (removed-root s.directory.cases s.directory.entries d.entries parent w.number w.freed w.before w.behind w.after w.removed p) same
 

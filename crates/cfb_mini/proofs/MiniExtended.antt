@@ -3,18 +3,18 @@ use Rattle.std.proofs.Common.{◌≡◌, ◌≢◌, ◌⊎◌, ◌≤◌, ◌<�
 use Rattle.std.specs.Prelude.{Contains, Option, Some, option_map, slice_index}
 use Rattle.std.proofs.lemmas.List.Elements.{Contains-append_cases, Contains-get_or}
 use Rattle.cfb_format.specs.declared.error.Error.{Error}
-use Rattle.cfb_format.specs.declared.error.Error.TheVariants.{NotFound, AlreadyExists, InvalidInput, InvalidData, Medium, Memory, Full, Unsound, Failed, Unsupported}
+use Rattle.cfb_format.specs.declared.error.Error.TheVariants.{NotFound, AlreadyExists, InvalidInput, InvalidData, Medium, Memory, Full, Unsound, Failed}
 use Rattle.cfb_format.specs.declared.version.Version.{Version}
 use Rattle.cfb_format.specs.declared.version.Version.TheVariants.{V3, V4}
 use Rattle.cfb_format.specs.Bytes.{free_sector, sector_len}
 use Rattle.cfb_format.specs.Chain.{value}
 use Rattle.cfb_format.specs.Content.{mini_sector_len}
-use Rattle.cfb_format.specs.DirectoryEntry.{Entry}
+use Rattle.cfb_format.specs.DirectoryEntry.{Entry, ButContent}
 use Rattle.cfb_format.specs.Siblings.{entry_at}
 use Rattle.cfb_format.specs.declared.medium.MediumFault.{MediumFault}
 use Rattle.cfb_format.specs.Refused.{AfterMedium, CountsError, IsInvalidData}
 use Rattle.cfb_sectors.specs.Sectors.{IsMediumError}
-use Rattle.cfb_sectors.specs.Words.{Stays}
+use Rattle.cfb_sectors.specs.Words.{RangeStays}
 use Rattle.cfb_sectors.proofs.SectorLemmas.{Stays_trans}
 use Rattle.cfb_tables.specs.Listed.{gained}
 use Rattle.cfb_tables.specs.Refused.{ChangeRefused}
@@ -28,7 +28,7 @@ use Rattle.cfb_directory.specs.Growing.{AreSectorsOf}
 use Rattle.cfb_directory.specs.Steps.{KeepsWholeHeader}
 use Rattle.cfb_mini_table.specs.MiniTable.{IsTooFewMini, MiniTableState, TakesMini}
 use Rattle.cfb_mini_sectors.specs.State.{MiniState, bytes_of, entries_of, mini_place, mini_stream_of, root_len_of, table_of, tables_in, version_of}
-use Rattle.cfb_mini_sectors.specs.Steps.{ButContent, GrowsFor, KeepsHeader, KeepsLimits, MovesRoot, SparesMini, StopsShortOrFull, mini_stream_lacks, minifat_lacks, system_sectors}
+use Rattle.cfb_mini_sectors.specs.Steps.{GrowsFor, KeepsHeader, KeepsLimits, MovesRoot, SparesMini, StopsShortOrFull, mini_stream_lacks, minifat_lacks, system_sectors}
 use Rattle.cfb_mini_sectors.specs.Held.{HasMiniPlaces}
 use Rattle.cfb_mini_sectors.proofs.MiniFrames.{place-stays}
 use Rattle.cfb_mini.specs.MiniSectors.{HasMiniSector}
@@ -94,14 +94,14 @@ mini-there s m room within lt =
 module _ (ends more : List ℕ) (limit : ℕ) (a b c : MiniState) (places : HasMiniPlaces a) (grown : SparesMini [] a b) (minifat : b.minifat ≡ a.minifat)
     (version : version_of b ≡ version_of a) (taken : TakesMini limit a.minifat c.minifat ends more) (room : HasMiniPlaces b) (within : AreSectorsOf (tables_in b) (mini_stream_of b))
     (stream : mini_stream_of c ≡ mini_stream_of b)
-    (others : (m : ℕ) → HasMiniSector b m → (Contains more m → ⊥) → Stays (mini_place b m) (mini_place b m + mini_sector_len) (bytes_of b) (bytes_of c)) where
+    (others : (m : ℕ) → HasMiniSector b m → (Contains more m → ⊥) → RangeStays (mini_place b m) (mini_place b m + mini_sector_len) (bytes_of b) (bytes_of c)) where
   -- each that was in use keeps its bytes
-  pub taken-bytes : (m : ℕ) → value a.minifat m ≢ free_sector → Stays (mini_place a m) (mini_place a m + mini_sector_len) (bytes_of a) (bytes_of c)
+  pub taken-bytes : (m : ℕ) → value a.minifat m ≢ free_sector → RangeStays (mini_place a m) (mini_place a m + mini_sector_len) (bytes_of a) (bytes_of c)
   taken-bytes m busy =
       let low : m < length b.minifat = subst (λ (l : List ℕ). m < length l) (sym minifat) (value-below a.minifat m busy) in
       let here : mini_place b m ≡ mini_place a m = place-stays a b m (gained (mini_stream_of a) (mini_stream_of b)) places version grown.mini_stream busy in
       Stays_trans (mini_place a m) (mini_place a m + mini_sector_len) (bytes_of a) (bytes_of b) (bytes_of c) (grown.bytes m busy (λ n. not_in_nil m n))
-      (subst (λ p. Stays p (p + mini_sector_len) (bytes_of b) (bytes_of c)) here (others m (mini-there b m room within low) (λ n. busy (taken.fresh m n))))
+      (subst (λ p. RangeStays p (p + mini_sector_len) (bytes_of b) (bytes_of c)) here (others m (mini-there b m room within low) (λ n. busy (taken.fresh m n))))
 
   pub taken-spares : SparesMini ends a c
   taken-spares = record {
@@ -137,7 +137,6 @@ medium-stops count a b Memory is begun = absurd (omega (arith, is))
 medium-stops count a b Full is begun = absurd (omega (arith, is))
 medium-stops count a b Unsound is begun = absurd (omega (arith, is))
 medium-stops count a b Failed is begun = absurd (omega (arith, is))
-medium-stops count a b Unsupported is begun = absurd (omega (arith, is))
 
 -- nothing has changed, and there are too few numbers where that is said
 pub unchanged-stops : (count : ℕ) (a b : MiniState) (invalid memory medium : Type 0) (e : Error) → b ≡ a
@@ -151,7 +150,6 @@ unchanged-stops count a b invalid memory medium (AlreadyExists d) same r = same
 unchanged-stops count a b invalid memory medium (InvalidInput d) same r = same
 unchanged-stops count a b invalid memory medium Unsound same r = same
 unchanged-stops count a b invalid memory medium Failed same r = same
-unchanged-stops count a b invalid memory medium Unsupported same r = same
 
 -- such bytes are refused
 pub invalid-refused : (invalid memory full medium : Type 0) (e : Error) → IsInvalidData e → invalid → ChangeRefused invalid memory full medium e
@@ -164,7 +162,6 @@ invalid-refused invalid memory full medium Memory is why = absurd (omega (arith,
 invalid-refused invalid memory full medium Full is why = absurd (omega (arith, is))
 invalid-refused invalid memory full medium Unsound is why = absurd (omega (arith, is))
 invalid-refused invalid memory full medium Failed is why = absurd (omega (arith, is))
-invalid-refused invalid memory full medium Unsupported is why = absurd (omega (arith, is))
 
 -- what holds either way
 pub after-both : (broken kept : Type 0) (e : Error) → broken → kept → AfterMedium broken kept e
@@ -177,7 +174,6 @@ after-both broken kept Memory b k = k
 after-both broken kept Full b k = k
 after-both broken kept Unsound b k = k
 after-both broken kept Failed b k = k
-after-both broken kept Unsupported b k = k
 
 -- a refusal without the medium's error, among others
 pub refused-among : (invalid memory full full' medium : Type 0) (e : Error) → (full → full') → ChangeRefused invalid memory full ⊥ e → ChangeRefused invalid memory full' medium e
@@ -190,7 +186,6 @@ refused-among invalid memory full full' medium (InvalidData d) more r = r
 refused-among invalid memory full full' medium Memory more r = r
 refused-among invalid memory full full' medium Unsound more r = r
 refused-among invalid memory full full' medium Failed more r = r
-refused-among invalid memory full full' medium Unsupported more r = r
 
 -- it counts no failure
 pub refused-counts : (can_give : MediumFault → Bool) (invalid memory full : Type 0) (n : ℕ) (e : Error) → ChangeRefused invalid memory full ⊥ e → CountsError can_give n n e
@@ -203,7 +198,6 @@ refused-counts can_give invalid memory full n Memory r = refl
 refused-counts can_give invalid memory full n Full r = refl
 refused-counts can_give invalid memory full n Unsound r = refl
 refused-counts can_give invalid memory full n Failed r = refl
-refused-counts can_give invalid memory full n Unsupported r = refl
 
 -- ---- the same of equal parts
 

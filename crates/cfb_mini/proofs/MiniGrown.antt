@@ -3,7 +3,7 @@ use Rattle.std.proofs.Common.{◌≡◌, ◌⊎◌, ◌≤◌, ◌<◌, ◌+◌,
 use Rattle.std.specs.Prelude.{Contains, unwrap_or}
 use Rattle.std.proofs.lemmas.List.Elements.{Contains-append_cases, Contains-append_left, Contains-append_right}
 use Rattle.cfb_format.specs.declared.error.Error.{Error}
-use Rattle.cfb_format.specs.declared.error.Error.TheVariants.{NotFound, AlreadyExists, InvalidInput, InvalidData, Medium, Memory, Full, Unsound, Failed, Unsupported}
+use Rattle.cfb_format.specs.declared.error.Error.TheVariants.{NotFound, AlreadyExists, InvalidInput, InvalidData, Medium, Memory, Full, Unsound, Failed}
 use Rattle.cfb_format.specs.declared.version.Version.{Version}
 use Rattle.cfb_format.specs.declared.version.Version.TheVariants.{V3, V4}
 use Rattle.cfb_format.specs.declared.validate.Validation.{Validation}
@@ -208,7 +208,6 @@ both-refused s few few' (AlreadyExists d) f r = r
 both-refused s few few' (InvalidInput d) f r = r
 both-refused s few few' Unsound f r = r
 both-refused s few few' Failed f r = r
-both-refused s few few' Unsupported f r = r
 
 pub both-stops : (count : ℕ) (a b : MiniState) (same : Type 0) (e : Error) → (same → b ≡ a) → BothBreakOff same (table_of a) (table_of b) e → StopsShortOrFull count a b e
 both-stops count a b same (Medium m) f r = r
@@ -220,4 +219,3 @@ both-stops count a b same (AlreadyExists d) f r = f r
 both-stops count a b same (InvalidInput d) f r = f r
 both-stops count a b same Unsound f r = f r
 both-stops count a b same Failed f r = f r
-both-stops count a b same Unsupported f r = f r

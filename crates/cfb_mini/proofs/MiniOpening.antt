@@ -3,7 +3,7 @@ use Rattle.std.proofs.Common.{◌≡◌, ◌<◌, inr, ℕ, List, [], Bool, true
 use Rattle.std.specs.Prelude.{Option, Some, None, if◌then◌else◌, not, ◌&&◌, ◌==◌}
 use Rattle.std.proofs.lemmas.Bool.{eqb-true}
 use Rattle.cfb_format.specs.declared.error.Error.{Error}
-use Rattle.cfb_format.specs.declared.error.Error.TheVariants.{NotFound, AlreadyExists, InvalidInput, InvalidData, Medium, Memory, Full, Unsound, Failed, Unsupported}
+use Rattle.cfb_format.specs.declared.error.Error.TheVariants.{NotFound, AlreadyExists, InvalidInput, InvalidData, Medium, Memory, Full, Unsound, Failed}
 use Rattle.cfb_format.specs.Bytes.{is_regular, max_regular_sector}
 use Rattle.cfb_format.specs.Chain.{chain_from}
 use Rattle.cfb_format.specs.DirectoryEntry.{Entry}
@@ -47,4 +47,3 @@ invalid-because P p (Medium f) r = absurd r
 invalid-because P p Full r = absurd r
 invalid-because P p Unsound r = absurd r
 invalid-because P p Failed r = absurd r
-invalid-because P p Unsupported r = absurd r

@@ -4,7 +4,7 @@ use Rattle.std.specs.Prelude.{Contains, Err, IfErr, IfOk, IsErrAnd, Ok, OnOk, Re
 use Rattle.std.proofs.lemmas.Bool.{cases_lt}
 use Rattle.std.proofs.lemmas.List.{drop-append-le, take-append-drop}
 use Rattle.cfb_format.specs.declared.error.Error.{Error}
-use Rattle.cfb_format.specs.declared.error.Error.TheVariants.{NotFound, AlreadyExists, InvalidInput, InvalidData, Medium, Memory, Full, Unsound, Failed, Unsupported}
+use Rattle.cfb_format.specs.declared.error.Error.TheVariants.{NotFound, AlreadyExists, InvalidInput, InvalidData, Medium, Memory, Full, Unsound, Failed}
 use Rattle.cfb_format.specs.declared.version.Version.{Version}
 use Rattle.cfb_format.specs.declared.version.Version.TheVariants.{V3, V4}
 use Rattle.cfb_format.specs.declared.validate.Validation.{Validation}
@@ -146,7 +146,6 @@ after-invalid broken kept Memory is k = k
 after-invalid broken kept Full is k = k
 after-invalid broken kept Unsound is k = k
 after-invalid broken kept Failed is k = k
-after-invalid broken kept Unsupported is k = k
 
 -- a refusal comes before anything changed, or is the medium's
 pub write-stops : {T : Type 0} (r : Result T Error) (s : MiniState) (a b : AllocatorState) (stream : List ℕ) (mini : ℕ) → a ≡ table_of s → stream ≡ mini_stream_of s

@@ -3,7 +3,7 @@ use Rattle.std.proofs.Common.{◌≡◌, ◌+◌, ◌-◌, ◌⊎◌, inl, inr, 
 use Rattle.std.specs.Prelude.{IsTrue, ◌↔◌}
 use Rattle.std.proofs.lemmas.Bool.{cases_lt}
 use Rattle.cfb_format.specs.declared.error.Error.{Error}
-use Rattle.cfb_format.specs.declared.error.Error.TheVariants.{NotFound, AlreadyExists, InvalidInput, InvalidData, Medium, Memory, Full, Unsound, Failed, Unsupported}
+use Rattle.cfb_format.specs.declared.error.Error.TheVariants.{NotFound, AlreadyExists, InvalidInput, InvalidData, Medium, Memory, Full, Unsound, Failed}
 use Rattle.cfb_format.specs.declared.version.Version.{Version}
 use Rattle.cfb_format.specs.Full.{free_count}
 use Rattle.cfb_tables.specs.declared.lists.Sizes.{Sizes}
@@ -66,4 +66,3 @@ refused-as P P' memory memory' full full' f g h (InvalidInput d) r = absurd r
 refused-as P P' memory memory' full full' f g h (Medium m) r = absurd r
 refused-as P P' memory memory' full full' f g h Unsound r = absurd r
 refused-as P P' memory memory' full full' f g h Failed r = absurd r
-refused-as P P' memory memory' full full' f g h Unsupported r = absurd r

@@ -9,10 +9,10 @@ use Rattle.cfb_format.specs.declared.validate.Validation.{Validation}
 use Rattle.cfb_format.specs.Bytes.{free_sector, sector_len, sector_start, word_at, words_per_sector}
 use Rattle.cfb_format.specs.Chain.{IsChain, value}
 use Rattle.cfb_format.specs.Content.{mini_sector_len}
-use Rattle.cfb_format.specs.DirectoryEntry.{Entry}
+use Rattle.cfb_format.specs.DirectoryEntry.{Entry, ButContent}
 use Rattle.cfb_format.specs.Full.{max_mini_sectors}
 use Rattle.cfb_format.specs.Siblings.{entry_at}
-use Rattle.cfb_sectors.specs.Words.{Stays}
+use Rattle.cfb_sectors.specs.Words.{RangeStays}
 use Rattle.cfb_sectors.specs.Sectors.{SectorStays}
 use Rattle.cfb_tables.specs.Changes.{AreDisjoint}
 use Rattle.cfb_tables.specs.Tables.{AreSizes, TableState, first_or_end, sizes_of}
@@ -31,7 +31,7 @@ use Rattle.cfb_directory.proofs.Rewritten.{word_left}
 use Rattle.cfb_soundness.specs.Places.{mini_start}
 use Rattle.cfb_mini_table.specs.MiniTable.{EndsBusy}
 use Rattle.cfb_mini_sectors.specs.State.{MiniState, HoldWordsBut, HoldsMini, bytes_of, entries_of, mini_place, mini_stream_of, table_of, tables_in, version_of}
-use Rattle.cfb_mini_sectors.specs.Steps.{ButContent, IsZeroMini, MovesRoot, system_sectors}
+use Rattle.cfb_mini_sectors.specs.Steps.{IsZeroMini, MovesRoot, system_sectors}
 use Rattle.cfb_mini_sectors.specs.Held.{HoldsMiniBut, IsFreeBehind, with_directory, with_table}
 use Rattle.cfb_mini_sectors.specs.Pieces.{AreZeros}
 use Rattle.cfb_mini_sectors.proofs.HeldMini.{if-strict, no-tables}
@@ -88,18 +88,18 @@ but-words validation late s a h same tables spares word mine other =
 -- ---- mini sectors in sectors that stay
 
 -- the bytes of a mini sector are those of its sector
-sector_stretch : (v : Version) (x offset n : ℕ) (a b : List ℕ) → SectorStays v x a b → offset + n ≤ sector_len v → Stays (sector_start v x + offset) (sector_start v x + offset + n) a b
+sector_stretch : (v : Version) (x offset n : ℕ) (a b : List ℕ) → SectorStays v x a b → offset + n ≤ sector_len v → RangeStays (sector_start v x + offset) (sector_start v x + offset + n) a b
 unfolding SectorStays
 sector_stretch V3 x offset n a b stays fits = record { no_shorter = stays.no_shorter; each = λ i lt from to. stays.each i lt (omega (arith, from)) (omega (arith, to, fits)) }
 sector_stretch V4 x offset n a b stays fits = record { no_shorter = stays.no_shorter; each = λ i lt from to. stays.each i lt (omega (arith, from)) (omega (arith, to, fits)) }
 
 pub mini-in-sector : (v : Version) (stream a b : List ℕ) (m : ℕ) → SectorStays v (slice_index stream (mini_sector_len * m / sector_len v)) a b
-    → Stays (mini_start v stream m) (mini_start v stream m + mini_sector_len) a b
+    → RangeStays (mini_start v stream m) (mini_start v stream m + mini_sector_len) a b
 mini-in-sector v stream a b m stays =
     sector_stretch v (slice_index stream (mini_sector_len * m / sector_len v)) (mini_sector_len * m % sector_len v) mini_sector_len a b stays (mini_fits v m)
 
 -- zeros that stay are zeros
-pub zeros-kept : (a b : List ℕ) (at : ℕ) → Stays at (at + mini_sector_len) a b → AreZeros a at → AreZeros b at
+pub zeros-kept : (a b : List ℕ) (at : ℕ) → RangeStays at (at + mini_sector_len) a b → AreZeros a at → AreZeros b at
 zeros-kept a b at stays zeros =
     let there = zeros.there in
     let longer = stays.no_shorter in
@@ -108,7 +108,7 @@ zeros-kept a b at stays zeros =
       zeros = λ i lt. stays.each (at + i) (omega (arith, there, lt)) (omega arith) (omega (arith, lt)) ∙ zeros.zeros i lt;
     }
 
-pub stays-then : (from to : ℕ) (a b c : List ℕ) → Stays from to a b → Stays from to b c → Stays from to a c
+pub stays-then : (from to : ℕ) (a b c : List ℕ) → RangeStays from to a b → RangeStays from to b c → RangeStays from to a c
 stays-then from to a b c first second =
     let one = first.no_shorter in
     let two = second.no_shorter in
@@ -156,9 +156,9 @@ zero-mini s a b m once lt version zeros stays =
 
 -- and another one that was left stays behind them too
 pub other-left : (s : MiniState) (a b : AllocatorState) (m : ℕ) → IsDistinct nat_eq (system_sectors s) → mini_sector_len * m / sector_len (version_of s) < length (mini_stream_of s)
-    → Stays (mini_place s m) (mini_place s m + mini_sector_len) (bytes_of s) a.file.bytes
+    → RangeStays (mini_place s m) (mini_place s m + mini_sector_len) (bytes_of s) a.file.bytes
     → ((i : ℕ) → (Contains s.minifat_sectors i → ⊥) → SectorStays (version_of s) i a.file.bytes b.file.bytes)
-    → Stays (mini_place s m) (mini_place s m + mini_sector_len) (bytes_of s) b.file.bytes
+    → RangeStays (mini_place s m) (mini_place s m + mini_sector_len) (bytes_of s) b.file.bytes
 other-left s a b m once lt first stays =
     let v = version_of s in
     let stream = mini_stream_of s in
@@ -179,7 +179,7 @@ stream-no_tables validation late s h i m =
 -- where the directory's sectors alone are written, the mini stream's stay
 pub named-stays : (validation : Validation) (late : List ℕ) (s : MiniState) (b c : AllocatorState) → HoldsMiniBut late validation s → b.tables ≡ tables_in s
     → Spares s.directory.sectors b c → (m : ℕ) → mini_sector_len * m / sector_len (version_of s) < length (mini_stream_of s)
-    → Stays (mini_place s m) (mini_place s m + mini_sector_len) b.file.bytes c.file.bytes
+    → RangeStays (mini_place s m) (mini_place s m + mini_sector_len) b.file.bytes c.file.bytes
 named-stays validation late s b c h same spares m lt =
     let v = version_of s in
     let stream = mini_stream_of s in
@@ -195,7 +195,7 @@ named-stays validation late s b c h same spares m lt =
     (subst (λ (t : TableState). SectorStays t.version x b.file.bytes c.file.bytes) same (keeps x (mini-sector-of v stream m lt)))
 
 -- and zeros in them
-pub named-zero : (s : MiniState) (d : DirectoryState) (b : AllocatorState) (m : ℕ) → version_of s ≡ d.table.tables.version → Stays (mini_place s m) (mini_place s m + mini_sector_len) b.file.bytes d.table.file.bytes
+pub named-zero : (s : MiniState) (d : DirectoryState) (b : AllocatorState) (m : ℕ) → version_of s ≡ d.table.tables.version → RangeStays (mini_place s m) (mini_place s m + mini_sector_len) b.file.bytes d.table.file.bytes
     → AreZeros b.file.bytes (mini_place s m) → IsZeroMini (with_directory s d) m
 named-zero s d b m version stays zeros =
     let stream = mini_stream_of s in

@@ -3,7 +3,7 @@ use Rattle.std.specs.Prelude.{ℕ, ◌≡◌, ◌≢◌, ◌+◌, ◌*◌, ◌/�
 use Rattle.cfb_format.specs.Bytes.{sector_len, free_sector}
 use Rattle.cfb_format.specs.Chain.{value}
 use Rattle.cfb_format.specs.Content.{mini_sector_len, place_in_chain}
-use Rattle.cfb_sectors.specs.Words.{Stays}
+use Rattle.cfb_sectors.specs.Words.{RangeStays}
 use Rattle.cfb_tables.specs.Listed.{ends_of, gained}
 use Rattle.cfb_mini_table.specs.MiniTable.{TakesMini, MiniGivesBack}
 use Rattle.cfb_mini_sectors.specs.State.{MiniState, bytes_of, mini_place, mini_stream_of, table_of, tables_in, version_of}
@@ -56,7 +56,7 @@ ChangesFileOnly old new = new ≡ record old {
 -- every mini sector in use but these keeps its bytes
 abbrev pub KeepsMiniBytesBut : List ℕ → MiniState → MiniState → Type 0
 KeepsMiniBytesBut own old new = (m : ℕ) → value old.minifat m ≢ free_sector → (Contains own m → ⊥)
-    → Stays (mini_place old m) (mini_place old m + mini_sector_len) (bytes_of old) (bytes_of new)
+    → RangeStays (mini_place old m) (mini_place old m + mini_sector_len) (bytes_of old) (bytes_of new)
 
 -- ---- mini chains whose mini sectors the caller has listed
 

@@ -10,7 +10,7 @@ ghost use Rattle.cfb_format.specs.Full.{free_count, max_mini_sectors};
 ghost use Rattle.cfb_format.specs.Refused.{AfterMedium, CountsFailure, IsInvalidData};
 ghost use Rattle.cfb_format.specs.Siblings.{entry_at};
 ghost use Rattle.cfb_sectors.specs.Sectors.{IsMediumError, IsRaised};
-ghost use Rattle.cfb_sectors.specs.Words.{Stays};
+ghost use Rattle.cfb_sectors.specs.Words.{RangeStays};
 ghost use Rattle.cfb_tables.specs.Clean.{IsUnnamed};
 ghost use Rattle.cfb_tables.specs.Listed.{ends_of, gained, last_or_end};
 ghost use Rattle.cfb_tables.specs.Refused.{ChangeRefused};
@@ -19,7 +19,7 @@ ghost use Rattle.cfb_alloc.specs.Frame.{Spares};
 ghost use Rattle.cfb_directory.specs.Growing.{ArePlaced, AreSectorsOf};
 ghost use Rattle.cfb_directory.specs.Slots.{IsLeastAbove};
 ghost use Rattle.cfb_directory.specs.State.{HoldsDirectory};
-ghost use Rattle.cfb_directory.specs.State.{KeepsLimits as KeepsDirectoryLimits};
+ghost use Rattle.cfb_directory.specs.State.{KeepsDirectoryLimits};
 ghost use Rattle.cfb_directory.specs.Steps.{KeepsWholeHeader};
 ghost use Rattle.cfb_mini_table.specs.MiniTable.{EndsBusy, IsPreparedMini, IsTooFewMini, MiniGivesBack, TakesMini};
 ghost use Rattle.cfb_mini_sectors.specs.State.{HoldsMini, bytes_of, mini_place};
@@ -38,6 +38,7 @@ use cfb_format::medium::{Medium, ReadMedium};
 use cfb_mini_sectors::growing::{grow_both, lacks_for};
 use cfb_mini_sectors::pieces::{are_known_minis, are_known_words, wipe, write_words};
 use cfb_mini_table::mini_table::MiniTable;
+use cfb_tables::ends::first_number;
 use std::alloc::Allocator as Heap;
 
 /// Whether each mini sector of the MiniFAT has its word and its bytes in sectors of the file, and each entry its slot. That is the least
@@ -50,7 +51,8 @@ fn have_sectors<F: ReadMedium, A: Heap>(
     above: usize,
 ) -> bool
     requires { IsLeastAbove (minifat_sectors.now ++ stream.now) above }
-    ensures { IsTrue result ↔ HaveSectors (mini_of directory.now table.now minifat_sectors.now (Some stream.now)) }
+    ensures { IsTrue result
+        ↔ HaveSectors (mini_of directory.now table.now minifat_sectors.now (Some stream.now)) }
 {
     let lacks = lacks_for(
         directory.version(),
@@ -66,19 +68,13 @@ fn have_sectors<F: ReadMedium, A: Heap>(
 
 /// Whether a mini chain ends at the last of these, if there are any.
 fn end_chain<A: Heap>(table: &MiniTable<A>, ids: &[u32]) -> bool
-    ensures { IsTrue result ↔ (0 < length ids.now → value table.now.minifat (last_or_end ids.now) ≡ end_of_chain) }
+    ensures { IsTrue result
+        ↔ (0 < length ids.now → value table.now.minifat (last_or_end ids.now) ≡ end_of_chain) }
 {
     let Some(last) = ids.last() else {
         return true;
     };
     table.values().get(*last as usize).copied() == Some(END_OF_CHAIN)
-}
-
-/// The first number of a list, or END.
-fn first_number(numbers: &[u32]) -> u32
-    ensures { result ≡ first_or_end numbers.now }
-{
-    numbers.first().copied().unwrap_or(END_OF_CHAIN)
 }
 
 /// A refusal to go on behind a mini sector that ends no chain.
@@ -104,20 +100,34 @@ fn name_mini_stream<F: Medium, A: Heap>(
 ) -> Result<(), Error>
     requires placed { ArePlaced directory.old }
     requires few { len ≤ max_regular_sector }
-    ensures kept { (directory.new.sectors ≡ directory.old.sectors) × (directory.new.table.tables ≡ directory.old.table.tables) }
+    ensures kept { (directory.new.sectors ≡ directory.old.sectors)
+        × (directory.new.table.tables ≡ directory.old.table.tables) }
     ensures same_length { length directory.new.entries ≡ length directory.old.entries }
-    ensures named { OnOk result (entry_at directory.new.entries 0 ≡ record (entry_at directory.old.entries 0) { start_sector = first_or_end stream.now; stream_len = mini_sector_len * len }) }
+    ensures named { OnOk result (entry_at directory.new.entries 0
+        ≡ record (entry_at directory.old.entries 0) {
+          start_sector = first_or_end stream.now;
+          stream_len = mini_sector_len * len;
+        }) }
     ensures entries { (directory.new.entries ≡ directory.old.entries)
-        ⊎ (entry_at directory.new.entries 0 ≡ record (entry_at directory.old.entries 0) { start_sector = first_or_end stream.now; stream_len = mini_sector_len * len }) }
-    ensures others { (k : ℕ) → k ≢ 0 → entry_at directory.new.entries k ≡ entry_at directory.old.entries k }
-    ensures holds { IsTrue F.tells → (validation : Validation) → HoldsDirectory validation directory.old → len ≤ max_mini_sectors directory.old.table.tables.version
+        ⊎ (entry_at directory.new.entries 0
+        ≡ record (entry_at directory.old.entries 0) {
+          start_sector = first_or_end stream.now;
+          stream_len = mini_sector_len * len;
+        }) }
+    ensures others { (k : ℕ)
+        → k ≢ 0 → entry_at directory.new.entries k ≡ entry_at directory.old.entries k }
+    ensures holds { IsTrue F.tells
+        → (validation : Validation) → HoldsDirectory validation directory.old
+        → len ≤ max_mini_sectors directory.old.table.tables.version
         → OnOk result (HoldsDirectory validation directory.new) }
-    ensures spares { IsTrue F.tells → Spares directory.old.sectors directory.old.table directory.new.table }
+    ensures spares { IsTrue F.tells
+        → Spares directory.old.sectors directory.old.table directory.new.table }
     ensures header { IsTrue F.tells → KeepsWholeHeader directory.old directory.new }
     ensures limits { KeepsDirectoryLimits directory.old directory.new }
     ensures begun { directory.old.table.file.begun ≡ true → directory.new.table.file.begun ≡ true }
     ensures err { IfErr result IsMediumError }
-    ensures counts { IsTrue F.tells → CountsFailure F.write_faults result directory.old.table.file.failures directory.new.table.file.failures }
+    ensures counts { IsTrue F.tells → CountsFailure
+        F.write_faults result directory.old.table.file.failures directory.new.table.file.failures }
 {
     let start = first_number(stream);
     let stream_len = (MINI_SECTOR_LEN * len) as u64;
@@ -141,21 +151,37 @@ fn write_sectors<F: Medium, A: Heap>(
     minis: &[u32],
     numbers: &[u32],
 ) -> Result<(), Error>
-    requires words { HaveWords directory.old.table.tables.version minifat_sectors.now (length directory.old.table.tables.fat) numbers.now }
-    requires minis { HaveMinis directory.old.table.tables.version stream.now (length directory.old.table.tables.fat) minis.now }
+    requires words { HaveWords directory.old.table.tables.version minifat_sectors.now
+        (length directory.old.table.tables.fat) numbers.now }
+    requires minis { HaveMinis directory.old.table.tables.version stream.now
+        (length directory.old.table.tables.fat) minis.now }
     ensures rest { directory.new ≡ record directory.old { table = directory.new.table } }
     ensures tables { directory.new.table.tables ≡ directory.old.table.tables }
-    ensures holds { IsTrue F.tells → (validation : Validation) → HoldsMiniBut numbers.now validation (mini_of directory.old table.now minifat_sectors.now (Some stream.now))
-        → OnOk result (HoldsMiniBut [] validation (mini_of directory.new table.now minifat_sectors.now (Some stream.now))) }
-    ensures zeros { IsTrue F.tells → IsDistinct nat_eq (system_sectors (mini_of directory.old table.now minifat_sectors.now (Some stream.now)))
-        → OnOk result ((m : ℕ) → Contains minis.now m → IsZeroMini (mini_of directory.new table.now minifat_sectors.now (Some stream.now)) m) }
-    ensures other_minis { IsTrue F.tells → IsDistinct nat_eq (system_sectors (mini_of directory.old table.now minifat_sectors.now (Some stream.now))) → (m : ℕ) → HasMiniSector (mini_of directory.old table.now minifat_sectors.now (Some stream.now)) m → (Contains minis.now m → ⊥)
-        → Stays (mini_place (mini_of directory.old table.now minifat_sectors.now (Some stream.now)) m) (mini_place (mini_of directory.old table.now minifat_sectors.now (Some stream.now)) m + mini_sector_len) (bytes_of (mini_of directory.old table.now minifat_sectors.now (Some stream.now))) (bytes_of (mini_of directory.new table.now minifat_sectors.now (Some stream.now))) }
-    ensures spares { IsTrue F.tells → Spares (minifat_sectors.now ++ stream.now) directory.old.table directory.new.table }
+    ensures holds { IsTrue F.tells → (validation : Validation) → HoldsMiniBut numbers.now validation
+        (mini_of directory.old table.now minifat_sectors.now (Some stream.now))
+        → OnOk result (HoldsMiniBut [] validation
+        (mini_of directory.new table.now minifat_sectors.now (Some stream.now))) }
+    ensures zeros { IsTrue F.tells → IsDistinct nat_eq
+        (system_sectors (mini_of directory.old table.now minifat_sectors.now (Some stream.now)))
+        → OnOk result ((m : ℕ) → Contains minis.now m
+        → IsZeroMini (mini_of directory.new table.now minifat_sectors.now (Some stream.now)) m) }
+    ensures other_minis { IsTrue F.tells → IsDistinct nat_eq
+        (system_sectors (mini_of directory.old table.now minifat_sectors.now (Some stream.now)))
+        → (m : ℕ)
+        → HasMiniSector (mini_of directory.old table.now minifat_sectors.now (Some stream.now)) m
+        → (Contains minis.now m → ⊥) → RangeStays
+        (mini_place (mini_of directory.old table.now minifat_sectors.now (Some stream.now)) m)
+        (mini_place (mini_of directory.old table.now minifat_sectors.now (Some stream.now)) m
+        + mini_sector_len)
+        (bytes_of (mini_of directory.old table.now minifat_sectors.now (Some stream.now)))
+        (bytes_of (mini_of directory.new table.now minifat_sectors.now (Some stream.now))) }
+    ensures spares { IsTrue F.tells
+        → Spares (minifat_sectors.now ++ stream.now) directory.old.table directory.new.table }
     ensures header { IsTrue F.tells → KeepsWholeHeader directory.old directory.new }
     ensures begun { directory.new.table.file.begun ≡ true }
     ensures err { IfErr result IsMediumError }
-    ensures counts { IsTrue F.tells → CountsFailure F.write_faults result directory.old.table.file.failures directory.new.table.file.failures }
+    ensures counts { IsTrue F.tells → CountsFailure
+        F.write_faults result directory.old.table.file.failures directory.new.table.file.failures }
 {
     let allocator = directory.allocator_mut();
     allocator.begin_change();
@@ -174,23 +200,46 @@ fn settle<F: Medium, A: Heap>(
     numbers: &[u32],
 ) -> Result<(), Error>
     requires placed { ArePlaced directory.old }
-    requires words { HaveWords directory.old.table.tables.version minifat_sectors.now (length directory.old.table.tables.fat) numbers.now }
-    requires minis { HaveMinis directory.old.table.tables.version stream.now (length directory.old.table.tables.fat) minis.now }
-    ensures kept { (directory.new.sectors ≡ directory.old.sectors) × (directory.new.table.tables ≡ directory.old.table.tables) }
-    ensures measured { OnOk result (IsMeasuredMini (mini_of directory.new table.now minifat_sectors.now (Some stream.now))) }
-    ensures entries { MovesRoot (mini_of directory.old table.now minifat_sectors.now (Some stream.now)) (mini_of directory.new table.now minifat_sectors.now (Some stream.now)) }
-    ensures holds { IsTrue F.tells → (validation : Validation) → EndsBusy table.now.minifat → HoldsMiniBut numbers.now validation (mini_of directory.old table.now minifat_sectors.now (Some stream.now))
-        → OnOk result (HoldsMini validation (mini_of directory.new table.now minifat_sectors.now (Some stream.now))) }
-    ensures zeros { IsTrue F.tells → (validation : Validation) (late minifat : List ℕ) → HoldsMiniBut late validation (with_minifat (mini_of directory.old table.now minifat_sectors.now (Some stream.now)) minifat)
-        → OnOk result ((m : ℕ) → Contains minis.now m → IsZeroMini (mini_of directory.new table.now minifat_sectors.now (Some stream.now)) m) }
-    ensures other_minis { IsTrue F.tells → (validation : Validation) (late minifat : List ℕ) → HoldsMiniBut late validation (with_minifat (mini_of directory.old table.now minifat_sectors.now (Some stream.now)) minifat) → (m : ℕ) → HasMiniSector (mini_of directory.old table.now minifat_sectors.now (Some stream.now)) m → (Contains minis.now m → ⊥)
-        → Stays (mini_place (mini_of directory.old table.now minifat_sectors.now (Some stream.now)) m) (mini_place (mini_of directory.old table.now minifat_sectors.now (Some stream.now)) m + mini_sector_len) (bytes_of (mini_of directory.old table.now minifat_sectors.now (Some stream.now))) (bytes_of (mini_of directory.new table.now minifat_sectors.now (Some stream.now))) }
-    ensures spares { IsTrue F.tells → Spares (system_sectors (mini_of directory.old table.now minifat_sectors.now (Some stream.now))) directory.old.table directory.new.table }
+    requires words { HaveWords directory.old.table.tables.version minifat_sectors.now
+        (length directory.old.table.tables.fat) numbers.now }
+    requires minis { HaveMinis directory.old.table.tables.version stream.now
+        (length directory.old.table.tables.fat) minis.now }
+    ensures kept { (directory.new.sectors ≡ directory.old.sectors)
+        × (directory.new.table.tables ≡ directory.old.table.tables) }
+    ensures measured { OnOk result
+        (IsMeasuredMini (mini_of directory.new table.now minifat_sectors.now (Some stream.now))) }
+    ensures entries { MovesRoot (mini_of directory.old table.now minifat_sectors.now
+        (Some stream.now)) (mini_of directory.new table.now minifat_sectors.now (Some stream.now)) }
+    ensures holds { IsTrue F.tells → (validation : Validation)
+        → EndsBusy table.now.minifat → HoldsMiniBut numbers.now validation
+        (mini_of directory.old table.now minifat_sectors.now (Some stream.now))
+        → OnOk result (HoldsMini validation
+        (mini_of directory.new table.now minifat_sectors.now (Some stream.now))) }
+    ensures zeros { IsTrue F.tells → (validation : Validation) (late minifat : List ℕ)
+        → HoldsMiniBut late validation (with_minifat
+        (mini_of directory.old table.now minifat_sectors.now (Some stream.now)) minifat)
+        → OnOk result ((m : ℕ) → Contains minis.now m
+        → IsZeroMini (mini_of directory.new table.now minifat_sectors.now (Some stream.now)) m) }
+    ensures other_minis { IsTrue F.tells → (validation : Validation) (late minifat : List ℕ)
+        → HoldsMiniBut late validation (with_minifat
+        (mini_of directory.old table.now minifat_sectors.now (Some stream.now)) minifat) → (m : ℕ)
+        → HasMiniSector (mini_of directory.old table.now minifat_sectors.now (Some stream.now)) m
+        → (Contains minis.now m → ⊥) → RangeStays
+        (mini_place (mini_of directory.old table.now minifat_sectors.now (Some stream.now)) m)
+        (mini_place (mini_of directory.old table.now minifat_sectors.now (Some stream.now)) m
+        + mini_sector_len)
+        (bytes_of (mini_of directory.old table.now minifat_sectors.now (Some stream.now)))
+        (bytes_of (mini_of directory.new table.now minifat_sectors.now (Some stream.now))) }
+    ensures spares { IsTrue F.tells
+        → Spares (system_sectors (mini_of directory.old table.now minifat_sectors.now
+        (Some stream.now))) directory.old.table directory.new.table }
     ensures header { IsTrue F.tells → KeepsWholeHeader directory.old directory.new }
-    ensures limits { KeepsLimits (mini_of directory.old table.now minifat_sectors.now (Some stream.now)) (mini_of directory.new table.now minifat_sectors.now (Some stream.now)) }
+    ensures limits { KeepsLimits (mini_of directory.old table.now minifat_sectors.now
+        (Some stream.now)) (mini_of directory.new table.now minifat_sectors.now (Some stream.now)) }
     ensures begun { directory.new.table.file.begun ≡ true }
     ensures err { IfErr result IsMediumError }
-    ensures counts { IsTrue F.tells → CountsFailure F.write_faults result directory.old.table.file.failures directory.new.table.file.failures }
+    ensures counts { IsTrue F.tells → CountsFailure
+        F.write_faults result directory.old.table.file.failures directory.new.table.file.failures }
 {
     write_sectors(directory, table, minifat_sectors, stream, minis, numbers)?;
     name_mini_stream(directory, stream, table.len())
@@ -206,35 +255,60 @@ fn take_prepared<F: Medium, A: Heap>(
     count: usize,
 ) -> Result<(), Error>
     requires prepared { IsPreparedMini table.old count }
-    requires ended { 0 < vec_len ids.old → value table.old.minifat (last_or_end ids.old.items) ≡ end_of_chain }
+    requires ended { 0 < vec_len ids.old
+        → value table.old.minifat (last_or_end ids.old.items) ≡ end_of_chain }
     requires room { vec_len ids.old + count ≤ vec_capacity ids.old }
     requires some { 0 < count }
     requires placed { ArePlaced directory.old }
-    requires words { length table.old.minifat + (count - free_count table.old.minifat) ≤ length minifat_sectors.now * words_per_sector directory.old.table.tables.version }
-    requires minis { (length table.old.minifat + (count - free_count table.old.minifat)) * mini_sector_len ≤ length stream.now * sector_len directory.old.table.tables.version }
+    requires words { length table.old.minifat + (count - free_count table.old.minifat)
+        ≤ length minifat_sectors.now * words_per_sector directory.old.table.tables.version }
+    requires minis { (length table.old.minifat + (count - free_count table.old.minifat))
+        * mini_sector_len ≤ length stream.now * sector_len directory.old.table.tables.version }
     requires minifat { AreSectorsOf directory.old.table.tables minifat_sectors.now }
     requires mini_stream { AreSectorsOf directory.old.table.tables stream.now }
     ensures listed { ids.new.items ≡ ids.old.items ++ gained ids.old.items ids.new.items }
     ensures count { length (gained ids.old.items ids.new.items) ≡ count }
-    ensures taken { TakesMini table.old.limit table.old.minifat table.new.minifat (ends_of ids.old.items) (gained ids.old.items ids.new.items) }
-    ensures added { IsChain table.new.minifat (first_or_end (ends_of ids.old.items ++ gained ids.old.items ids.new.items))
-        (ends_of ids.old.items ++ gained ids.old.items ids.new.items) }
-    ensures chain { IsChain table.old.minifat (first_or_end ids.old.items) ids.old.items → IsChain table.new.minifat (first_or_end ids.new.items) ids.new.items }
+    ensures taken { TakesMini table.old.limit table.old.minifat table.new.minifat
+        (ends_of ids.old.items) (gained ids.old.items ids.new.items) }
+    ensures added { IsChain table.new.minifat (first_or_end (ends_of ids.old.items
+        ++ gained ids.old.items ids.new.items)) (ends_of ids.old.items
+        ++ gained ids.old.items ids.new.items) }
+    ensures chain { IsChain table.old.minifat (first_or_end ids.old.items) ids.old.items
+        → IsChain table.new.minifat (first_or_end ids.new.items) ids.new.items }
     ensures rest { table.new ≡ record table.old { minifat = table.new.minifat } }
-    ensures kept { (directory.new.sectors ≡ directory.old.sectors) × (directory.new.table.tables ≡ directory.old.table.tables) }
-    ensures measured { OnOk result (IsMeasuredMini (mini_of directory.new table.new minifat_sectors.now (Some stream.now))) }
-    ensures entries { MovesRoot (mini_of directory.old table.old minifat_sectors.now (Some stream.now)) (mini_of directory.new table.new minifat_sectors.now (Some stream.now)) }
-    ensures holds { IsTrue F.tells → (validation : Validation) → HoldsMiniBut [] validation (mini_of directory.old table.old minifat_sectors.now (Some stream.now)) → OnOk result (HoldsMini validation (mini_of directory.new table.new minifat_sectors.now (Some stream.now))) }
-    ensures filled { IsTrue F.tells → (validation : Validation) → HoldsMiniBut [] validation (mini_of directory.old table.old minifat_sectors.now (Some stream.now))
-        → OnOk result ((m : ℕ) → Contains (gained ids.old.items ids.new.items) m → IsZeroMini (mini_of directory.new table.new minifat_sectors.now (Some stream.now)) m) }
-    ensures other_minis { IsTrue F.tells → (validation : Validation) → HoldsMiniBut [] validation (mini_of directory.old table.old minifat_sectors.now (Some stream.now)) → (m : ℕ) → HasMiniSector (mini_of directory.old table.old minifat_sectors.now (Some stream.now)) m → (Contains (gained ids.old.items ids.new.items) m → ⊥)
-        → Stays (mini_place (mini_of directory.old table.old minifat_sectors.now (Some stream.now)) m) (mini_place (mini_of directory.old table.old minifat_sectors.now (Some stream.now)) m + mini_sector_len) (bytes_of (mini_of directory.old table.old minifat_sectors.now (Some stream.now))) (bytes_of (mini_of directory.new table.new minifat_sectors.now (Some stream.now))) }
-    ensures spares { IsTrue F.tells → Spares (system_sectors (mini_of directory.old table.old minifat_sectors.now (Some stream.now))) directory.old.table directory.new.table }
+    ensures kept { (directory.new.sectors ≡ directory.old.sectors)
+        × (directory.new.table.tables ≡ directory.old.table.tables) }
+    ensures measured { OnOk result
+        (IsMeasuredMini (mini_of directory.new table.new minifat_sectors.now (Some stream.now))) }
+    ensures entries { MovesRoot (mini_of directory.old table.old minifat_sectors.now
+        (Some stream.now)) (mini_of directory.new table.new minifat_sectors.now (Some stream.now)) }
+    ensures holds { IsTrue F.tells → (validation : Validation) → HoldsMiniBut [] validation
+        (mini_of directory.old table.old minifat_sectors.now (Some stream.now))
+        → OnOk result (HoldsMini validation
+        (mini_of directory.new table.new minifat_sectors.now (Some stream.now))) }
+    ensures filled { IsTrue F.tells → (validation : Validation) → HoldsMiniBut [] validation
+        (mini_of directory.old table.old minifat_sectors.now (Some stream.now))
+        → OnOk result ((m : ℕ) → Contains (gained ids.old.items ids.new.items) m
+        → IsZeroMini (mini_of directory.new table.new minifat_sectors.now (Some stream.now)) m) }
+    ensures other_minis { IsTrue F.tells → (validation : Validation) → HoldsMiniBut [] validation
+        (mini_of directory.old table.old minifat_sectors.now (Some stream.now)) → (m : ℕ)
+        → HasMiniSector (mini_of directory.old table.old minifat_sectors.now (Some stream.now)) m
+        → (Contains (gained ids.old.items ids.new.items) m → ⊥) → RangeStays
+        (mini_place (mini_of directory.old table.old minifat_sectors.now (Some stream.now)) m)
+        (mini_place (mini_of directory.old table.old minifat_sectors.now (Some stream.now)) m
+        + mini_sector_len)
+        (bytes_of (mini_of directory.old table.old minifat_sectors.now (Some stream.now)))
+        (bytes_of (mini_of directory.new table.new minifat_sectors.now (Some stream.now))) }
+    ensures spares { IsTrue F.tells
+        → Spares (system_sectors (mini_of directory.old table.old minifat_sectors.now
+        (Some stream.now))) directory.old.table directory.new.table }
     ensures header { IsTrue F.tells → KeepsWholeHeader directory.old directory.new }
-    ensures limits { KeepsLimits (mini_of directory.old table.old minifat_sectors.now (Some stream.now)) (mini_of directory.new table.new minifat_sectors.now (Some stream.now)) }
+    ensures limits { KeepsLimits (mini_of directory.old table.old minifat_sectors.now
+        (Some stream.now)) (mini_of directory.new table.new minifat_sectors.now (Some stream.now)) }
     ensures begun { directory.new.table.file.begun ≡ true }
     ensures err { IfErr result IsMediumError }
-    ensures counts { IsTrue F.tells → CountsFailure F.write_faults result directory.old.table.file.failures directory.new.table.file.failures }
+    ensures counts { IsTrue F.tells → CountsFailure
+        F.write_faults result directory.old.table.file.failures directory.new.table.file.failures }
 {
     let before = ids.len();
     table.extend_prepared(ids, count);
@@ -266,9 +340,14 @@ fn prepare_extension<F: ReadMedium, A: Heap>(
     ensures ids { ids.new.items ≡ ids.old.items }
     ensures prepared { OnOk result (IsPreparedMini table.new count) }
     ensures room { OnOk result (vec_len ids.new + count ≤ vec_capacity ids.new) }
-    ensures ended { OnOk result (0 < vec_len ids.new → value table.new.minifat (last_or_end ids.new.items) ≡ end_of_chain) }
-    ensures sectors { OnOk result (HaveSectors (mini_of directory.now table.new minifat_sectors.now (Some stream.now))) }
-    ensures err { IfErr result (ChangeRefused (IsNotHeld (mini_of directory.now table.old minifat_sectors.now (Some stream.now)) ⊎ EndsNoChain table.old.minifat ids.old.items) Unit (IsTooFewMini table.old.limit table.old.minifat count) ⊥) }
+    ensures ended { OnOk result (0 < vec_len ids.new
+        → value table.new.minifat (last_or_end ids.new.items) ≡ end_of_chain) }
+    ensures sectors { OnOk result
+        (HaveSectors (mini_of directory.now table.new minifat_sectors.now (Some stream.now))) }
+    ensures err { IfErr result (ChangeRefused
+        (IsNotHeld (mini_of directory.now table.old minifat_sectors.now (Some stream.now))
+        ⊎ EndsNoChain table.old.minifat ids.old.items) Unit
+        (IsTooFewMini table.old.limit table.old.minifat count) ⊥) }
 {
     if !table.can_take(count) {
         return Err(Error::Full);
@@ -293,7 +372,8 @@ fn above_both(
 ) -> usize
     requires words { words ≤ length minifat_sectors.now }
     requires minis { minis ≤ length stream.now }
-    ensures { IsLeastAbove (take words minifat_sectors.now ++ take minis stream.now) above → IsLeastAbove (minifat_sectors.now ++ stream.now) result }
+    ensures { IsLeastAbove (take words minifat_sectors.now ++ take minis stream.now) above
+        → IsLeastAbove (minifat_sectors.now ++ stream.now) result }
 {
     let above_minifat = least_above(above, &minifat_sectors[words..]);
     least_above(above_minifat, &stream[minis..])
@@ -311,25 +391,54 @@ fn grow_sectors<F: Medium, A: Heap>(
     above: &mut usize,
     count: usize,
 ) -> Result<(), Error>
-    requires numbers { length table.now.minifat + (count - free_count table.now.minifat) ≤ table.now.limit }
-    requires sectors { HaveSectors (mini_of directory.old table.now minifat_sectors.old.items (Some stream.old.items)) }
-    ensures grown { OnOk result (GrowsFor count (mini_of directory.old table.now minifat_sectors.old.items (Some stream.old.items)) (mini_of directory.new table.now minifat_sectors.new.items (Some stream.new.items))) }
-    ensures above { IsLeastAbove (minifat_sectors.old.items ++ stream.old.items) above.old → IsLeastAbove (minifat_sectors.new.items ++ stream.new.items) above.new }
+    requires numbers { length table.now.minifat + (count - free_count table.now.minifat)
+        ≤ table.now.limit }
+    requires sectors { HaveSectors
+        (mini_of directory.old table.now minifat_sectors.old.items (Some stream.old.items)) }
+    ensures grown { OnOk result (GrowsFor count
+        (mini_of directory.old table.now minifat_sectors.old.items (Some stream.old.items))
+        (mini_of directory.new table.now minifat_sectors.new.items (Some stream.new.items))) }
+    ensures above { IsLeastAbove (minifat_sectors.old.items ++ stream.old.items) above.old
+        → IsLeastAbove (minifat_sectors.new.items ++ stream.new.items) above.new }
     ensures rest { directory.new ≡ record directory.old { table = directory.new.table } }
     ensures placed { OnOk result (ArePlaced directory.new) }
-    ensures words { OnOk result (length table.now.minifat + (count - free_count table.now.minifat) ≤ length minifat_sectors.new.items * words_per_sector directory.new.table.tables.version) }
-    ensures minis { OnOk result ((length table.now.minifat + (count - free_count table.now.minifat)) * mini_sector_len ≤ length stream.new.items * sector_len directory.new.table.tables.version) }
-    ensures minifat { OnOk result (AreSectorsOf directory.new.table.tables minifat_sectors.new.items) }
+    ensures words { OnOk result (length table.now.minifat + (count - free_count table.now.minifat)
+        ≤ length minifat_sectors.new.items * words_per_sector directory.new.table.tables.version) }
+    ensures minis { OnOk result ((length table.now.minifat + (count - free_count table.now.minifat))
+        * mini_sector_len
+        ≤ length stream.new.items * sector_len directory.new.table.tables.version) }
+    ensures minifat { OnOk result
+        (AreSectorsOf directory.new.table.tables minifat_sectors.new.items) }
     ensures mini_stream { OnOk result (AreSectorsOf directory.new.table.tables stream.new.items) }
-    ensures held { IsTrue F.tells → (validation : Validation) → HoldsMini validation (mini_of directory.old table.now minifat_sectors.old.items (Some stream.old.items)) → OnOk result (HoldsMiniBut [] validation (mini_of directory.new table.now minifat_sectors.new.items (Some stream.new.items))) }
-    ensures spares { IsTrue F.tells → Spares (system_sectors (mini_of directory.old table.now minifat_sectors.old.items (Some stream.old.items))) directory.old.table directory.new.table }
-    ensures mini_spares { IsTrue F.tells → (validation : Validation) → HoldsMini validation (mini_of directory.old table.now minifat_sectors.old.items (Some stream.old.items)) → SparesMini [] (mini_of directory.old table.now minifat_sectors.old.items (Some stream.old.items)) (mini_of directory.new table.now minifat_sectors.new.items (Some stream.new.items)) }
-    ensures header { IsTrue F.tells → KeepsHeader (mini_of directory.old table.now minifat_sectors.old.items (Some stream.old.items)) (mini_of directory.new table.now minifat_sectors.new.items (Some stream.new.items)) }
-    ensures limits { KeepsLimits (mini_of directory.old table.now minifat_sectors.old.items (Some stream.old.items)) (mini_of directory.new table.now minifat_sectors.new.items (Some stream.new.items)) }
-    ensures enough { OnOk result (IsTooFewFor (mini_of directory.old table.now minifat_sectors.old.items (Some stream.old.items)) count → ⊥) }
-    ensures refused { IfErr result (StopsShortOrFull count (mini_of directory.old table.now minifat_sectors.old.items (Some stream.old.items)) (mini_of directory.new table.now minifat_sectors.new.items (Some stream.new.items))) }
-    ensures err { IfErr result (ChangeRefused (IsNotHeld (mini_of directory.old table.now minifat_sectors.old.items (Some stream.old.items))) Unit (IsTooFewFor (mini_of directory.old table.now minifat_sectors.old.items (Some stream.old.items)) count) Unit) }
-    ensures counts { IsTrue F.tells → CountsFailure F.write_faults result directory.old.table.file.failures directory.new.table.file.failures }
+    ensures held { IsTrue F.tells → (validation : Validation) → HoldsMini validation
+        (mini_of directory.old table.now minifat_sectors.old.items (Some stream.old.items))
+        → OnOk result (HoldsMiniBut [] validation
+        (mini_of directory.new table.now minifat_sectors.new.items (Some stream.new.items))) }
+    ensures spares { IsTrue F.tells
+        → Spares (system_sectors (mini_of directory.old table.now minifat_sectors.old.items
+        (Some stream.old.items))) directory.old.table directory.new.table }
+    ensures mini_spares { IsTrue F.tells → (validation : Validation) → HoldsMini validation
+        (mini_of directory.old table.now minifat_sectors.old.items (Some stream.old.items))
+        → SparesMini []
+        (mini_of directory.old table.now minifat_sectors.old.items (Some stream.old.items))
+        (mini_of directory.new table.now minifat_sectors.new.items (Some stream.new.items)) }
+    ensures header { IsTrue F.tells → KeepsHeader
+        (mini_of directory.old table.now minifat_sectors.old.items (Some stream.old.items))
+        (mini_of directory.new table.now minifat_sectors.new.items (Some stream.new.items)) }
+    ensures limits { KeepsLimits
+        (mini_of directory.old table.now minifat_sectors.old.items (Some stream.old.items))
+        (mini_of directory.new table.now minifat_sectors.new.items (Some stream.new.items)) }
+    ensures enough { OnOk result (IsTooFewFor
+        (mini_of directory.old table.now minifat_sectors.old.items (Some stream.old.items)) count
+        → ⊥) }
+    ensures refused { IfErr result (StopsShortOrFull count
+        (mini_of directory.old table.now minifat_sectors.old.items (Some stream.old.items))
+        (mini_of directory.new table.now minifat_sectors.new.items (Some stream.new.items))) }
+    ensures err { IfErr result (ChangeRefused (IsNotHeld (mini_of directory.old
+        table.now minifat_sectors.old.items (Some stream.old.items))) Unit (IsTooFewFor (mini_of
+        directory.old table.now minifat_sectors.old.items (Some stream.old.items)) count) Unit) }
+    ensures counts { IsTrue F.tells → CountsFailure
+        F.write_faults result directory.old.table.file.failures directory.new.table.file.failures }
 {
     let len = table.len() + count.saturating_sub(table.free_len());
     let lacks = lacks_for(
@@ -360,29 +469,66 @@ pub(crate) fn extend_listed<F: Medium, A: Heap>(
     ensures above { IsLeastAbove (minifat_sectors.new.items ++ stream.new.items) above.new }
     ensures listed { ids.new.items ≡ ids.old.items ++ gained ids.old.items ids.new.items }
     ensures count { OnOk result (length (gained ids.old.items ids.new.items) ≡ count) }
-    ensures taken { OnOk result (TakesMini table.old.limit table.old.minifat table.new.minifat (ends_of ids.old.items) (gained ids.old.items ids.new.items)) }
-    ensures added { OnOk result (IsChain table.new.minifat (first_or_end (ends_of ids.old.items ++ gained ids.old.items ids.new.items))
-        (ends_of ids.old.items ++ gained ids.old.items ids.new.items)) }
-    ensures chain { IsChain table.old.minifat (first_or_end ids.old.items) ids.old.items → IsChain table.new.minifat (first_or_end ids.new.items) ids.new.items }
-    ensures grown { OnOk result (GrowsFor count (mini_of directory.old table.old minifat_sectors.old.items (Some stream.old.items)) (mini_of directory.new table.new minifat_sectors.new.items (Some stream.new.items))) }
-    ensures measured { OnOk result (IsMeasuredMini (mini_of directory.new table.new minifat_sectors.new.items (Some stream.new.items))) }
+    ensures taken { OnOk result (TakesMini table.old.limit table.old.minifat table.new.minifat
+        (ends_of ids.old.items) (gained ids.old.items ids.new.items)) }
+    ensures added { OnOk result (IsChain table.new.minifat (first_or_end (ends_of ids.old.items
+        ++ gained ids.old.items ids.new.items)) (ends_of ids.old.items
+        ++ gained ids.old.items ids.new.items)) }
+    ensures chain { IsChain table.old.minifat (first_or_end ids.old.items) ids.old.items
+        → IsChain table.new.minifat (first_or_end ids.new.items) ids.new.items }
+    ensures grown { OnOk result (GrowsFor count
+        (mini_of directory.old table.old minifat_sectors.old.items (Some stream.old.items))
+        (mini_of directory.new table.new minifat_sectors.new.items (Some stream.new.items))) }
+    ensures measured { OnOk result (IsMeasuredMini
+        (mini_of directory.new table.new minifat_sectors.new.items (Some stream.new.items))) }
     ensures directory { directory.new.sectors ≡ directory.old.sectors }
-    ensures entries { MovesRoot (mini_of directory.old table.old minifat_sectors.old.items (Some stream.old.items)) (mini_of directory.new table.new minifat_sectors.new.items (Some stream.new.items)) }
-    ensures holds { IsTrue F.tells → (validation : Validation) → HoldsMini validation (mini_of directory.old table.old minifat_sectors.old.items (Some stream.old.items)) → OnOk result (HoldsMini validation (mini_of directory.new table.new minifat_sectors.new.items (Some stream.new.items))) }
-    ensures filled { IsTrue F.tells → (validation : Validation) → HoldsMini validation (mini_of directory.old table.old minifat_sectors.old.items (Some stream.old.items))
-        → OnOk result ((m : ℕ) → Contains (gained ids.old.items ids.new.items) m → IsZeroMini (mini_of directory.new table.new minifat_sectors.new.items (Some stream.new.items)) m) }
-    ensures room { OnOk result ((m : ℕ) → m < length table.new.minifat → HasMiniSector (mini_of directory.new table.new minifat_sectors.new.items (Some stream.new.items)) m) }
-    ensures spares { IsTrue F.tells → Spares (system_sectors (mini_of directory.old table.old minifat_sectors.old.items (Some stream.old.items))) directory.old.table directory.new.table }
-    ensures mini_spares { IsTrue F.tells → (validation : Validation) → HoldsMini validation (mini_of directory.old table.old minifat_sectors.old.items (Some stream.old.items)) → SparesMini (ends_of ids.old.items) (mini_of directory.old table.old minifat_sectors.old.items (Some stream.old.items)) (mini_of directory.new table.new minifat_sectors.new.items (Some stream.new.items)) }
-    ensures bytes { IsTrue F.tells → (validation : Validation) → HoldsMini validation (mini_of directory.old table.old minifat_sectors.old.items (Some stream.old.items)) → KeepsMiniBytesBut [] (mini_of directory.old table.old minifat_sectors.old.items (Some stream.old.items)) (mini_of directory.new table.new minifat_sectors.new.items (Some stream.new.items)) }
-    ensures header { IsTrue F.tells → KeepsHeader (mini_of directory.old table.old minifat_sectors.old.items (Some stream.old.items)) (mini_of directory.new table.new minifat_sectors.new.items (Some stream.new.items)) }
-    ensures limits { KeepsLimits (mini_of directory.old table.old minifat_sectors.old.items (Some stream.old.items)) (mini_of directory.new table.new minifat_sectors.new.items (Some stream.new.items)) }
-    ensures enough { OnOk result (IsTooFewFor (mini_of directory.old table.old minifat_sectors.old.items (Some stream.old.items)) count → ⊥) }
-    ensures begun { OnOk result (IsRaised (0 < count) directory.old.table.file directory.new.table.file) }
-    ensures refused { IfErr result (StopsShortOrFull count (mini_of directory.old table.old minifat_sectors.old.items (Some stream.old.items)) (mini_of directory.new table.new minifat_sectors.new.items (Some stream.new.items))) }
+    ensures entries { MovesRoot
+        (mini_of directory.old table.old minifat_sectors.old.items (Some stream.old.items))
+        (mini_of directory.new table.new minifat_sectors.new.items (Some stream.new.items)) }
+    ensures holds { IsTrue F.tells → (validation : Validation) → HoldsMini validation
+        (mini_of directory.old table.old minifat_sectors.old.items (Some stream.old.items))
+        → OnOk result (HoldsMini validation
+        (mini_of directory.new table.new minifat_sectors.new.items (Some stream.new.items))) }
+    ensures filled { IsTrue F.tells → (validation : Validation) → HoldsMini validation
+        (mini_of directory.old table.old minifat_sectors.old.items (Some stream.old.items))
+        → OnOk result ((m : ℕ) → Contains (gained ids.old.items ids.new.items) m → IsZeroMini
+        (mini_of directory.new table.new minifat_sectors.new.items (Some stream.new.items)) m) }
+    ensures room { OnOk result ((m : ℕ) → m < length table.new.minifat → HasMiniSector
+        (mini_of directory.new table.new minifat_sectors.new.items (Some stream.new.items)) m) }
+    ensures spares { IsTrue F.tells
+        → Spares (system_sectors (mini_of directory.old table.old minifat_sectors.old.items
+        (Some stream.old.items))) directory.old.table directory.new.table }
+    ensures mini_spares { IsTrue F.tells → (validation : Validation) → HoldsMini validation
+        (mini_of directory.old table.old minifat_sectors.old.items (Some stream.old.items))
+        → SparesMini (ends_of ids.old.items)
+        (mini_of directory.old table.old minifat_sectors.old.items (Some stream.old.items))
+        (mini_of directory.new table.new minifat_sectors.new.items (Some stream.new.items)) }
+    ensures bytes { IsTrue F.tells → (validation : Validation) → HoldsMini validation
+        (mini_of directory.old table.old minifat_sectors.old.items (Some stream.old.items))
+        → KeepsMiniBytesBut []
+        (mini_of directory.old table.old minifat_sectors.old.items (Some stream.old.items))
+        (mini_of directory.new table.new minifat_sectors.new.items (Some stream.new.items)) }
+    ensures header { IsTrue F.tells → KeepsHeader
+        (mini_of directory.old table.old minifat_sectors.old.items (Some stream.old.items))
+        (mini_of directory.new table.new minifat_sectors.new.items (Some stream.new.items)) }
+    ensures limits { KeepsLimits
+        (mini_of directory.old table.old minifat_sectors.old.items (Some stream.old.items))
+        (mini_of directory.new table.new minifat_sectors.new.items (Some stream.new.items)) }
+    ensures enough { OnOk result (IsTooFewFor
+        (mini_of directory.old table.old minifat_sectors.old.items (Some stream.old.items)) count
+        → ⊥) }
+    ensures begun { OnOk result (IsRaised (0
+        < count) directory.old.table.file directory.new.table.file) }
+    ensures refused { IfErr result (StopsShortOrFull count
+        (mini_of directory.old table.old minifat_sectors.old.items (Some stream.old.items))
+        (mini_of directory.new table.new minifat_sectors.new.items (Some stream.new.items))) }
     ensures kept { IfErr result (AfterMedium Unit (ids.new.items ≡ ids.old.items)) }
-    ensures err { IfErr result (ChangeRefused (IsNotHeld (mini_of directory.old table.old minifat_sectors.old.items (Some stream.old.items)) ⊎ EndsNoChain table.old.minifat ids.old.items) Unit (IsTooFewFor (mini_of directory.old table.old minifat_sectors.old.items (Some stream.old.items)) count) Unit) }
-    ensures counts { IsTrue F.tells → CountsFailure F.write_faults result directory.old.table.file.failures directory.new.table.file.failures }
+    ensures err { IfErr result (ChangeRefused (IsNotHeld
+        (mini_of directory.old table.old minifat_sectors.old.items (Some stream.old.items))
+        ⊎ EndsNoChain table.old.minifat ids.old.items) Unit (IsTooFewFor (mini_of
+        directory.old table.old minifat_sectors.old.items (Some stream.old.items)) count) Unit) }
+    ensures counts { IsTrue F.tells → CountsFailure
+        F.write_faults result directory.old.table.file.failures directory.new.table.file.failures }
 {
     prepare_extension(
         directory,
@@ -406,10 +552,15 @@ fn are_held<F: ReadMedium, A: Heap>(
     numbers: &[u32],
 ) -> bool
     ensures placed { IsTrue result → ArePlaced directory.now }
-    ensures words { IsTrue result → HaveWords directory.now.table.tables.version minifat_sectors.now (length directory.now.table.tables.fat) numbers.now }
-    ensures minis { IsTrue result → HaveMinis directory.now.table.tables.version stream.now (length directory.now.table.tables.fat) minis.now }
-    ensures held { ArePlaced directory.now → HaveWords directory.now.table.tables.version minifat_sectors.now (length directory.now.table.tables.fat) numbers.now
-        → HaveMinis directory.now.table.tables.version stream.now (length directory.now.table.tables.fat) minis.now → IsTrue result }
+    ensures words { IsTrue result → HaveWords directory.now.table.tables.version minifat_sectors.now
+        (length directory.now.table.tables.fat) numbers.now }
+    ensures minis { IsTrue result → HaveMinis directory.now.table.tables.version stream.now
+        (length directory.now.table.tables.fat) minis.now }
+    ensures held { ArePlaced directory.now
+        → HaveWords directory.now.table.tables.version minifat_sectors.now
+        (length directory.now.table.tables.fat) numbers.now
+        → HaveMinis directory.now.table.tables.version stream.now
+        (length directory.now.table.tables.fat) minis.now → IsTrue result }
 {
     if !directory.is_placed() {
         return false;
@@ -435,23 +586,50 @@ pub(crate) fn cut_listed<F: Medium, A: Heap>(
     ensures chain { IsChain table.new.minifat (first_or_end ids.new.items) ids.new.items }
     ensures listed { OnOk result (ids.new.items ≡ take left ids.old.items) }
     ensures shorter { length ids.new.items ≤ length ids.old.items }
-    ensures given_back { OnOk result (MiniGivesBack (ends_of (take left ids.old.items)) (drop left ids.old.items) table.old.minifat table.new.minifat) }
-    ensures system { KeepsSystem (mini_of directory.old table.old minifat_sectors.now (Some stream.now)) (mini_of directory.new table.new minifat_sectors.now (Some stream.now)) }
-    ensures measured { OnOk result (IsMeasuredMini (mini_of directory.new table.new minifat_sectors.now (Some stream.now))) }
-    ensures entries { MovesRoot (mini_of directory.old table.old minifat_sectors.now (Some stream.now)) (mini_of directory.new table.new minifat_sectors.now (Some stream.now)) }
-    ensures holds { IsTrue F.tells → (validation : Validation) → HoldsMini validation (mini_of directory.old table.old minifat_sectors.now (Some stream.now))
-        → (left ≡ 0 → IsUnnamed table.old.minifat (first_or_end ids.old.items)) → OnOk result (HoldsMini validation (mini_of directory.new table.new minifat_sectors.now (Some stream.now))) }
-    ensures wiped { IsTrue F.tells → (validation : Validation) → HoldsMini validation (mini_of directory.old table.old minifat_sectors.now (Some stream.now)) → OnOk result ((m : ℕ) → Contains (drop left ids.old.items) m → IsZeroMini (mini_of directory.new table.new minifat_sectors.now (Some stream.now)) m) }
-    ensures spares { IsTrue F.tells → Spares (system_sectors (mini_of directory.old table.old minifat_sectors.now (Some stream.now))) directory.old.table directory.new.table }
-    ensures mini_spares { IsTrue F.tells → (validation : Validation) → HoldsMini validation (mini_of directory.old table.old minifat_sectors.now (Some stream.now)) → SparesMini ids.old.items (mini_of directory.old table.old minifat_sectors.now (Some stream.now)) (mini_of directory.new table.new minifat_sectors.now (Some stream.now)) }
-    ensures bytes { IsTrue F.tells → (validation : Validation) → HoldsMini validation (mini_of directory.old table.old minifat_sectors.now (Some stream.now)) → KeepsMiniBytesBut (drop left ids.old.items) (mini_of directory.old table.old minifat_sectors.now (Some stream.now)) (mini_of directory.new table.new minifat_sectors.now (Some stream.now)) }
-    ensures header { IsTrue F.tells → KeepsHeader (mini_of directory.old table.old minifat_sectors.now (Some stream.now)) (mini_of directory.new table.new minifat_sectors.now (Some stream.now)) }
-    ensures limits { KeepsLimits (mini_of directory.old table.old minifat_sectors.now (Some stream.now)) (mini_of directory.new table.new minifat_sectors.now (Some stream.now)) }
-    ensures begun { OnOk result (IsRaised (left < length ids.old.items) directory.old.table.file directory.new.table.file) }
-    ensures refused { IfErr result (StopsShort (mini_of directory.old table.old minifat_sectors.now (Some stream.now)) (mini_of directory.new table.new minifat_sectors.now (Some stream.now))) }
+    ensures given_back { OnOk result (MiniGivesBack (ends_of (take left ids.old.items))
+        (drop left ids.old.items) table.old.minifat table.new.minifat) }
+    ensures system { KeepsSystem (mini_of directory.old table.old minifat_sectors.now
+        (Some stream.now)) (mini_of directory.new table.new minifat_sectors.now (Some stream.now)) }
+    ensures measured { OnOk result
+        (IsMeasuredMini (mini_of directory.new table.new minifat_sectors.now (Some stream.now))) }
+    ensures entries { MovesRoot (mini_of directory.old table.old minifat_sectors.now
+        (Some stream.now)) (mini_of directory.new table.new minifat_sectors.now (Some stream.now)) }
+    ensures holds { IsTrue F.tells → (validation : Validation) → HoldsMini validation
+        (mini_of directory.old table.old minifat_sectors.now (Some stream.now))
+        → (left ≡ 0 → IsUnnamed table.old.minifat (first_or_end ids.old.items))
+        → OnOk result (HoldsMini validation
+        (mini_of directory.new table.new minifat_sectors.now (Some stream.now))) }
+    ensures wiped { IsTrue F.tells → (validation : Validation) → HoldsMini validation
+        (mini_of directory.old table.old minifat_sectors.now (Some stream.now))
+        → OnOk result ((m : ℕ) → Contains (drop left ids.old.items) m
+        → IsZeroMini (mini_of directory.new table.new minifat_sectors.now (Some stream.now)) m) }
+    ensures spares { IsTrue F.tells
+        → Spares (system_sectors (mini_of directory.old table.old minifat_sectors.now
+        (Some stream.now))) directory.old.table directory.new.table }
+    ensures mini_spares { IsTrue F.tells → (validation : Validation) → HoldsMini validation
+        (mini_of directory.old table.old minifat_sectors.now (Some stream.now))
+        → SparesMini ids.old.items (mini_of directory.old table.old minifat_sectors.now
+        (Some stream.now)) (mini_of directory.new table.new minifat_sectors.now (Some stream.now)) }
+    ensures bytes { IsTrue F.tells → (validation : Validation) → HoldsMini validation
+        (mini_of directory.old table.old minifat_sectors.now (Some stream.now))
+        → KeepsMiniBytesBut (drop left ids.old.items)
+        (mini_of directory.old table.old minifat_sectors.now (Some stream.now))
+        (mini_of directory.new table.new minifat_sectors.now (Some stream.now)) }
+    ensures header { IsTrue F.tells
+        → KeepsHeader (mini_of directory.old table.old minifat_sectors.now (Some stream.now))
+        (mini_of directory.new table.new minifat_sectors.now (Some stream.now)) }
+    ensures limits { KeepsLimits (mini_of directory.old table.old minifat_sectors.now
+        (Some stream.now)) (mini_of directory.new table.new minifat_sectors.now (Some stream.now)) }
+    ensures begun { OnOk result (IsRaised (left
+        < length ids.old.items) directory.old.table.file directory.new.table.file) }
+    ensures refused { IfErr result
+        (StopsShort (mini_of directory.old table.old minifat_sectors.now (Some stream.now))
+        (mini_of directory.new table.new minifat_sectors.now (Some stream.now))) }
     ensures kept { IfErr result (AfterMedium Unit (ids.new.items ≡ ids.old.items)) }
-    ensures err { IfErr result (ChangeRefused (IsNotHeld (mini_of directory.old table.old minifat_sectors.now (Some stream.now))) ⊥ ⊥ Unit) }
-    ensures counts { IsTrue F.tells → CountsFailure F.write_faults result directory.old.table.file.failures directory.new.table.file.failures }
+    ensures err { IfErr result (ChangeRefused (IsNotHeld
+        (mini_of directory.old table.old minifat_sectors.now (Some stream.now))) ⊥ ⊥ Unit) }
+    ensures counts { IsTrue F.tells → CountsFailure
+        F.write_faults result directory.old.table.file.failures directory.new.table.file.failures }
 {
     if !are_held(
         directory,

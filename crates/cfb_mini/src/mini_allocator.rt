@@ -18,7 +18,7 @@ ghost use Rattle.cfb_format.specs.Siblings.{entry_at};
 ghost use Rattle.cfb_codecs.specs.EntryModel.{entry_of, new_entry};
 ghost use Rattle.cfb_codecs.specs.EntryModel.{entries_of as entries_in};
 ghost use Rattle.cfb_outline.specs.Outlines.{IsReachedStorage};
-ghost use Rattle.cfb_siblings.specs.Children.{HasChildren, IsAbsent, IsChildNamed, KeepsBalance, KeepsColors};
+ghost use Rattle.cfb_siblings.specs.Children.{HasChildren, IsAbsent, IsChildNamed, KeepsBalance};
 ghost use Rattle.cfb_siblings.specs.Paths.{number_from};
 ghost use Rattle.cfb_sectors.specs.Sectors.{IsMediumError, IsRaised};
 ghost use Rattle.cfb_tables.specs.Changes.{AreDisjoint, IsNextOf, NoChain};
@@ -36,9 +36,9 @@ ghost use Rattle.cfb_entries.specs.Fields.{fields_in, entry_with_fields, entries
 ghost use Rattle.cfb_directory.specs.Growing.{ArePlaced, IsListedChain};
 ghost use Rattle.cfb_directory.specs.Slots.{IsLeastAbove};
 ghost use Rattle.cfb_directory.specs.State.{HoldsDirectory, IsFullForEntry, with_room};
-ghost use Rattle.cfb_directory.specs.State.{KeepsHeader as KeepsDirectoryHeader};
+ghost use Rattle.cfb_directory.specs.State.{KeepsDirectoryHeader};
 ghost use Rattle.cfb_directory.specs.Steps.{KeepsOtherSlots, KeepsSlotsBut, KeepsWholeHeader, StaysRedApart};
-ghost use Rattle.cfb_directory.specs.Steps.{IsNotHeld as IsDirectoryNotHeld};
+ghost use Rattle.cfb_directory.specs.Steps.{IsDirectoryNotHeld};
 ghost use Rattle.cfb_mini_table.specs.MiniTable.{AcceptsMini, IsTooFewMini, MiniGivesBack, TakesMini, read_entries};
 ghost use Rattle.cfb_mini_sectors.specs.State.{MiniState, HoldsMini, bytes_of, cases_of, entries_of, mini_place, mini_stream_of, parts_of, root_len_of, table_of, tables_in, version_of};
 ghost use Rattle.cfb_mini_sectors.specs.Steps.{EndsNoChain, GrowsFor, IsMeasuredMini, IsNotHeld, IsTooFewAfterFor, IsTooFewFor, IsZeroMini, KeepsHeader, KeepsLimits, KeepsMini, KeepsSystem, MovesRoot, SparesMini, StopsShort, StopsShortOrFull, mini_stream_lacks, minifat_lacks, system_sectors};
@@ -90,7 +90,8 @@ impl<F: ReadMedium, A: Heap> Model for MiniAllocator<F, A> {
       mini_stream = option_map (λ v. v.items) m.mini_stream;
     } };
 
-    ghost invariant = { λ m. IsLeastAbove (m.minifat_sectors.items ++ unwrap_or (option_map (λ v. v.items) m.mini_stream) []) m.above };
+    ghost invariant = { λ m. IsLeastAbove (m.minifat_sectors.items
+        ++ unwrap_or (option_map (λ v. v.items) m.mini_stream) []) m.above };
 }
 
 impl<F: ReadMedium, A: Heap + Clone> MiniAllocator<F, A> {
@@ -111,14 +112,21 @@ impl<F: ReadMedium, A: Heap + Clone> MiniAllocator<F, A> {
         validation: Validation,
     ) -> Result<MiniAllocator<F, A>, Error>
         ensures directory { IfOk result (λ m. m.directory ≡ directory) }
-        ensures limit { IfOk result (λ m. m.max_mini_sectors ≡ max_mini_sectors directory.table.tables.version) }
-        ensures minifat { IfOk result (λ m. m.minifat ≡ read_entries (root_len_in directory / mini_sector_len) words.items) }
-        ensures sectors { IfOk result (λ m. AreMinifatSectors directory words.items start m.minifat_sectors) }
+        ensures limit { IfOk result (λ m. m.max_mini_sectors
+            ≡ max_mini_sectors directory.table.tables.version) }
+        ensures minifat { IfOk result (λ m. m.minifat
+            ≡ read_entries (root_len_in directory / mini_sector_len) words.items) }
+        ensures sectors { IfOk result (λ m.
+            AreMinifatSectors directory words.items start m.minifat_sectors) }
         ensures mini_stream { IfOk result (λ m. m.mini_stream ≡ mini_stream_chain (parts_of m)) }
-        ensures accepted { OnOk result (AcceptsMini validation (max_mini_sectors directory.table.tables.version) (root_len_in directory / mini_sector_len) words.items) }
-        ensures counted { IfOk result (λ m. IfStrict validation (counted ≡ length m.minifat_sectors)) }
-        ensures refused { IfErr result (IsInvalidOrMemory ((list : List ℕ) → AreMinifatSectors directory words.items start list
-            → AcceptsMini validation (max_mini_sectors directory.table.tables.version) (root_len_in directory / mini_sector_len) words.items
+        ensures accepted { OnOk result (AcceptsMini validation (max_mini_sectors
+            directory.table.tables.version) (root_len_in directory / mini_sector_len) words.items) }
+        ensures counted { IfOk result (λ m.
+            IfStrict validation (counted ≡ length m.minifat_sectors)) }
+        ensures refused { IfErr result (IsInvalidOrMemory ((list : List ℕ)
+            → AreMinifatSectors directory words.items start list
+            → AcceptsMini validation (max_mini_sectors directory.table.tables.version)
+            (root_len_in directory / mini_sector_len) words.items
             → IfStrict validation (counted ≡ length list) → ⊥)) }
     {
         let minifat_sectors = minifat_sectors_from(
@@ -212,14 +220,18 @@ impl<F: ReadMedium, A: Heap> MiniAllocator<F, A> {
 
     /// Says that the change that was begun, if one was, has ended well.
     pub fn end_change(&mut self)
-        ensures { self.new ≡ with_table self.old (record (table_of self.old) { file = record (table_of self.old).file { begun = false } }) }
+        ensures { self.new ≡ with_table self.old (record
+            (table_of self.old) { file = record (table_of self.old).file { begun = false } }) }
     {
         self.directory.end_change();
     }
 
     /// Lets the file grow to so many sectors, and to no more. No number above the greatest regular one is taken.
     pub fn set_max_sectors(&mut self, max_sectors: u32)
-        ensures { self.new ≡ with_table self.old (record (table_of self.old) { tables = record (tables_in self.old) { max_sectors = min max_sectors max_regular_sector } }) }
+        ensures { self.new ≡ with_table self.old (record (table_of self.old) {
+          tables
+              = record (tables_in self.old) { max_sectors = min max_sectors max_regular_sector };
+        }) }
     {
         self.directory.set_max_sectors(max_sectors);
     }
@@ -267,8 +279,10 @@ impl<F: ReadMedium, A: Heap> MiniAllocator<F, A> {
     /// takes no memory.
     pub fn stream_id_for_name_chain(&self, names: &[&str]) -> Option<u32>
         ensures found { (o : Outline) → IsOutline (cases_of self.now) (entries_of self.now) o
-            → result ≡ number_from (cases_of self.now) (entries_of self.now) 0 o (map (λ name. chars name.now) names.now) }
-        ensures reached { (o : Outline) → IsOutline (cases_of self.now) (entries_of self.now) o → IfSome result (λ k. Contains (0 ∷ numbers o) k) }
+            → result ≡ number_from (cases_of self.now) (entries_of self.now) 0 o (map (λ name.
+            chars name.now) names.now) }
+        ensures reached { (o : Outline) → IsOutline (cases_of self.now) (entries_of self.now) o
+            → IfSome result (λ k. Contains (0 ∷ numbers o) k) }
     {
         self.directory.stream_id_for_name_chain(names)
     }
@@ -276,10 +290,12 @@ impl<F: ReadMedium, A: Heap> MiniAllocator<F, A> {
     /// The child of that name in the storage `parent`, or `None` where it has none (MS-CFB 2.6.4). It takes no memory.
     pub fn child_named(&self, parent: u32, name: &str) -> Option<u32>
         requires parent { IsReachedStorage (cases_of self.now) (entries_of self.now) parent }
-        ensures found { (list : List ℕ) → HasChildren (cases_of self.now) (entries_of self.now) parent list
-            → MatchOption result (IsAbsent (cases_of self.now) (entries_of self.now) (chars name.now) list)
-            (λ k. IsChildNamed (cases_of self.now) (entries_of self.now) (chars name.now) list k) }
-        ensures reached { (o : Outline) → IsOutline (cases_of self.now) (entries_of self.now) o → IfSome result (λ k. Contains (numbers o) k) }
+        ensures found { (list : List ℕ)
+            → HasChildren (cases_of self.now) (entries_of self.now) parent list → MatchOption result
+            (IsAbsent (cases_of self.now) (entries_of self.now) (chars name.now) list) (λ k.
+            IsChildNamed (cases_of self.now) (entries_of self.now) (chars name.now) list k) }
+        ensures reached { (o : Outline) → IsOutline (cases_of self.now) (entries_of self.now) o
+            → IfSome result (λ k. Contains (numbers o) k) }
     {
         self.directory.child_named(parent, name)
     }
@@ -381,7 +397,8 @@ impl<F: ReadMedium, A: Heap> MiniAllocator<F, A> {
     /// Lends the allocator of the file's sectors. All else is as before whatever is done with it.
     pub fn allocator_mut(&mut self) -> &mut Allocator<F, A>
         ensures value { result.now ≡ table_of self.old }
-        ensures* writes_back { sem 𝓛 (mini_lends F.row A.row F.ReadMedium A.Allocator self.entry result) }
+        ensures* writes_back { sem 𝓛
+            (mini_lends F.row A.row F.ReadMedium A.Allocator self.entry result) }
     {
         self.directory.allocator_mut()
     }
@@ -395,7 +412,9 @@ impl<F: ReadMedium, A: Heap> MiniAllocator<F, A> {
     pub fn reserve(&mut self, count: usize, given_back: usize) -> Result<(), Error>
         ensures unchanged { self.new ≡ self.old }
         ensures enough { OnOk result (IsTooFewAfterFor self.old given_back count → ⊥) }
-        ensures err { IfErr result (ChangeRefused (IsNotHeld self.old) (IsTooFewAfterFor self.old given_back count → ⊥) (IsTooFewAfterFor self.old given_back count) ⊥) }
+        ensures err { IfErr result
+            (ChangeRefused (IsNotHeld self.old) (IsTooFewAfterFor self.old given_back count
+            → ⊥) (IsTooFewAfterFor self.old given_back count) ⊥) }
     {
         if !self.can_take(count, given_back) {
             return Err(Error::Full);
@@ -417,16 +436,21 @@ impl<F: ReadMedium, A: Heap> MiniAllocator<F, A> {
     pub fn read_mini(&mut self, mini: u32, offset: usize, into: &mut [u8]) -> Result<usize, Error>
         requires { offset ≤ mini_sector_len }
         ensures kept { IsStill self.old self.new }
-        ensures count { IfOk result (λ n. n ≡ min (min (length into.old) (mini_sector_len - offset)) ((table_of self.old).file.len - (mini_place self.old mini + offset))) }
-        ensures ok { IsTrue F.tells → IfOk result (λ n. take n into.new ≡ part (bytes_of self.old) (mini_place self.old mini + offset) n) }
+        ensures count { IfOk result (λ n. n ≡ min (min (length into.old) (mini_sector_len
+            - offset)) ((table_of self.old).file.len - (mini_place self.old mini + offset))) }
+        ensures ok { IsTrue F.tells → IfOk result (λ n. take n into.new
+            ≡ part (bytes_of self.old) (mini_place self.old mini + offset) n) }
         ensures rest { IfOk result (λ n. drop n into.new ≡ drop n into.old) }
         ensures there { IfOk result (λ n. 0 < n → HasMiniByte self.old mini offset) }
-        ensures cut { 0 < min (length into.old) (mini_sector_len - offset) → (HasMiniByte self.old mini offset → ⊥) → IsErrAnd result IsInvalidData }
-        ensures none { min (length into.old) (mini_sector_len - offset) ≡ 0 → OnErr result ⊥ × (self.new ≡ self.old) }
+        ensures cut { 0 < min (length into.old) (mini_sector_len - offset)
+            → (HasMiniByte self.old mini offset → ⊥) → IsErrAnd result IsInvalidData }
+        ensures none { min (length into.old) (mini_sector_len - offset) ≡ 0
+            → OnErr result ⊥ × (self.new ≡ self.old) }
         ensures err { HasMiniByte self.old mini offset → IfErr result IsMediumError }
         ensures same { IsTrue F.tells → OnOk result (self.new ≡ self.old) }
         ensures bytes { IsTrue F.tells → bytes_of self.new ≡ bytes_of self.old }
-        ensures counts { IsTrue F.tells → CountsFailure F.read_faults result (table_of self.old).file.failures (table_of self.new).file.failures }
+        ensures counts { IsTrue F.tells → CountsFailure F.read_faults result
+            (table_of self.old).file.failures (table_of self.new).file.failures }
     {
         let len = into.len().min(MINI_SECTOR_LEN - offset);
         if len == 0 {
@@ -453,20 +477,30 @@ impl<F: Medium, A: Heap> MiniAllocator<F, A> {
         requires some { 0 < length from.now }
         requires within { offset + length from.now ≤ mini_sector_len }
         ensures kept { ChangesFileOnly self.old self.new }
-        ensures ok { IsTrue F.tells → OnOk result ((table_of self.new).file ≡ record (table_of self.old).file {
-          bytes = written (bytes_of self.old) (mini_place self.old mini + offset) from.now;
-          len = max (table_of self.old).file.len (mini_place self.old mini + offset + length from.now);
-          begun = true;
-        }) }
+        ensures ok { IsTrue F.tells → OnOk result ((table_of self.new).file ≡ record
+            (table_of self.old).file {
+              bytes = written (bytes_of self.old) (mini_place self.old mini
+                  + offset) from.now;
+              len = max (table_of self.old).file.len (mini_place self.old mini
+                  + offset + length from.now);
+              begun = true;
+            }) }
         ensures there { OnOk result (HasMiniSector self.old mini) }
-        ensures cut { (HasMiniSector self.old mini → ⊥) → IsErrAnd result IsInvalidData × (self.new ≡ self.old) }
-        ensures err { HasMiniSector self.old mini → IfErr result IsMediumError × ((table_of self.new).file.begun ≡ true) }
-        ensures others { IsTrue F.tells → ChangesOnlyBytes (mini_place self.old mini + offset) (length from.now) (bytes_of self.old) (bytes_of self.new) }
-        ensures spares { IsTrue F.tells → Spares (mini_stream_of self.old) (table_of self.old) (table_of self.new) }
-        ensures mini_spares { IsTrue F.tells → (validation : Validation) → HoldsMini validation self.old → SparesMini (mini ∷ []) self.old self.new }
-        ensures holds { IsTrue F.tells → (validation : Validation) → HoldsMini validation self.old → OnOk result (HoldsMini validation self.new) }
+        ensures cut { (HasMiniSector self.old mini → ⊥)
+            → IsErrAnd result IsInvalidData × (self.new ≡ self.old) }
+        ensures err { HasMiniSector self.old mini
+            → IfErr result IsMediumError × ((table_of self.new).file.begun ≡ true) }
+        ensures others { IsTrue F.tells → ChangesOnlyBytes (mini_place self.old mini
+            + offset) (length from.now) (bytes_of self.old) (bytes_of self.new) }
+        ensures spares { IsTrue F.tells
+            → Spares (mini_stream_of self.old) (table_of self.old) (table_of self.new) }
+        ensures mini_spares { IsTrue F.tells → (validation : Validation)
+            → HoldsMini validation self.old → SparesMini (mini ∷ []) self.old self.new }
+        ensures holds { IsTrue F.tells → (validation : Validation)
+            → HoldsMini validation self.old → OnOk result (HoldsMini validation self.new) }
         ensures refused { IfErr result (StopsShort self.old self.new) }
-        ensures counts { IsTrue F.tells → CountsFailure F.write_faults result (table_of self.old).file.failures (table_of self.new).file.failures }
+        ensures counts { IsTrue F.tells → CountsFailure F.write_faults result
+            (table_of self.old).file.failures (table_of self.new).file.failures }
     {
         let Some(stream) = &self.mini_stream else {
             return Err(no_mini_stream());
@@ -487,30 +521,45 @@ impl<F: Medium, A: Heap> MiniAllocator<F, A> {
     pub fn extend_mini_listed(&mut self, ids: &mut Vec<u32, A>, count: usize) -> Result<(), Error>
         ensures listed { ids.new.items ≡ ids.old.items ++ gained ids.old.items ids.new.items }
         ensures count { OnOk result (length (gained ids.old.items ids.new.items) ≡ count) }
-        ensures taken { 0 < count → OnOk result (TakesMini self.old.max_mini_sectors self.old.minifat self.new.minifat (ends_of ids.old.items) (gained ids.old.items ids.new.items)) }
-        ensures added { 0 < count → OnOk result (IsChain self.new.minifat (first_or_end (ends_of ids.old.items ++ gained ids.old.items ids.new.items))
-            (ends_of ids.old.items ++ gained ids.old.items ids.new.items)) }
-        ensures chain { IsChain self.old.minifat (first_or_end ids.old.items) ids.old.items → IsChain self.new.minifat (first_or_end ids.new.items) ids.new.items }
-        ensures none { count ≡ 0 → OnErr result ⊥ × (self.new ≡ self.old) × (ids.new.items ≡ ids.old.items) }
+        ensures taken { 0 < count
+            → OnOk result (TakesMini self.old.max_mini_sectors self.old.minifat self.new.minifat
+            (ends_of ids.old.items) (gained ids.old.items ids.new.items)) }
+        ensures added { 0 < count
+            → OnOk result (IsChain self.new.minifat (first_or_end (ends_of ids.old.items
+            ++ gained ids.old.items ids.new.items)) (ends_of ids.old.items
+            ++ gained ids.old.items ids.new.items)) }
+        ensures chain { IsChain self.old.minifat (first_or_end ids.old.items) ids.old.items
+            → IsChain self.new.minifat (first_or_end ids.new.items) ids.new.items }
+        ensures none { count ≡ 0
+            → OnErr result ⊥ × (self.new ≡ self.old) × (ids.new.items ≡ ids.old.items) }
         ensures grown { 0 < count → OnOk result (GrowsFor count self.old self.new) }
         ensures measured { 0 < count → OnOk result (IsMeasuredMini self.new) }
         ensures directory { self.new.directory.sectors ≡ self.old.directory.sectors }
         ensures entries { MovesRoot self.old self.new }
-        ensures holds { IsTrue F.tells → (validation : Validation) → HoldsMini validation self.old → OnOk result (HoldsMini validation self.new) }
-        ensures filled { IsTrue F.tells → (validation : Validation) → HoldsMini validation self.old
-            → OnOk result ((m : ℕ) → Contains (gained ids.old.items ids.new.items) m → IsZeroMini self.new m) }
-        ensures room { 0 < count → OnOk result ((m : ℕ) → m < length self.new.minifat → HasMiniSector self.new m) }
-        ensures spares { IsTrue F.tells → Spares (system_sectors self.old) (table_of self.old) (table_of self.new) }
-        ensures mini_spares { IsTrue F.tells → (validation : Validation) → HoldsMini validation self.old → SparesMini (ends_of ids.old.items) self.old self.new }
-        ensures bytes { IsTrue F.tells → (validation : Validation) → HoldsMini validation self.old → KeepsMiniBytesBut [] self.old self.new }
+        ensures holds { IsTrue F.tells → (validation : Validation)
+            → HoldsMini validation self.old → OnOk result (HoldsMini validation self.new) }
+        ensures filled { IsTrue F.tells
+            → (validation : Validation) → HoldsMini validation self.old → OnOk result ((m : ℕ)
+            → Contains (gained ids.old.items ids.new.items) m → IsZeroMini self.new m) }
+        ensures room { 0 < count
+            → OnOk result ((m : ℕ) → m < length self.new.minifat → HasMiniSector self.new m) }
+        ensures spares { IsTrue F.tells
+            → Spares (system_sectors self.old) (table_of self.old) (table_of self.new) }
+        ensures mini_spares { IsTrue F.tells → (validation : Validation)
+            → HoldsMini validation self.old → SparesMini (ends_of ids.old.items) self.old self.new }
+        ensures bytes { IsTrue F.tells → (validation : Validation)
+            → HoldsMini validation self.old → KeepsMiniBytesBut [] self.old self.new }
         ensures header { IsTrue F.tells → KeepsHeader self.old self.new }
         ensures limits { KeepsLimits self.old self.new }
         ensures enough { 0 < count → OnOk result (IsTooFewFor self.old count → ⊥) }
-        ensures begun { OnOk result (IsRaised (0 < count) (table_of self.old).file (table_of self.new).file) }
+        ensures begun { OnOk result (IsRaised (0
+            < count) (table_of self.old).file (table_of self.new).file) }
         ensures refused { IfErr result (StopsShortOrFull count self.old self.new) }
         ensures kept { IfErr result (AfterMedium Unit (ids.new.items ≡ ids.old.items)) }
-        ensures err { IfErr result (ChangeRefused (IsNotHeld self.old ⊎ EndsNoChain self.old.minifat ids.old.items) Unit (IsTooFewFor self.old count) Unit) }
-        ensures counts { IsTrue F.tells → CountsFailure F.write_faults result (table_of self.old).file.failures (table_of self.new).file.failures }
+        ensures err { IfErr result (ChangeRefused (IsNotHeld self.old
+            ⊎ EndsNoChain self.old.minifat ids.old.items) Unit (IsTooFewFor self.old count) Unit) }
+        ensures counts { IsTrue F.tells → CountsFailure F.write_faults result
+            (table_of self.old).file.failures (table_of self.new).file.failures }
     {
         if count == 0 {
             return Ok(());
@@ -540,24 +589,33 @@ impl<F: Medium, A: Heap> MiniAllocator<F, A> {
         ensures chain { IsChain self.new.minifat (first_or_end ids.new.items) ids.new.items }
         ensures listed { OnOk result (ids.new.items ≡ take left ids.old.items) }
         ensures shorter { length ids.new.items ≤ length ids.old.items }
-        ensures none { length ids.old.items ≤ left → OnErr result ⊥ × (self.new ≡ self.old) × (ids.new.items ≡ ids.old.items) }
-        ensures given_back { OnOk result (MiniGivesBack (ends_of (take left ids.old.items)) (drop left ids.old.items) self.old.minifat self.new.minifat) }
+        ensures none { length ids.old.items ≤ left
+            → OnErr result ⊥ × (self.new ≡ self.old) × (ids.new.items ≡ ids.old.items) }
+        ensures given_back { OnOk result (MiniGivesBack (ends_of (take left ids.old.items))
+            (drop left ids.old.items) self.old.minifat self.new.minifat) }
         ensures system { KeepsSystem self.old self.new }
         ensures measured { left < length ids.old.items → OnOk result (IsMeasuredMini self.new) }
         ensures entries { MovesRoot self.old self.new }
         ensures holds { IsTrue F.tells → (validation : Validation) → HoldsMini validation self.old
-            → (left ≡ 0 → IsUnnamed self.old.minifat (first_or_end ids.old.items)) → OnOk result (HoldsMini validation self.new) }
-        ensures wiped { IsTrue F.tells → (validation : Validation) → HoldsMini validation self.old → OnOk result ((m : ℕ) → Contains (drop left ids.old.items) m → IsZeroMini self.new m) }
-        ensures spares { IsTrue F.tells → Spares (system_sectors self.old) (table_of self.old) (table_of self.new) }
-        ensures mini_spares { IsTrue F.tells → (validation : Validation) → HoldsMini validation self.old → SparesMini ids.old.items self.old self.new }
-        ensures bytes { IsTrue F.tells → (validation : Validation) → HoldsMini validation self.old → KeepsMiniBytesBut (drop left ids.old.items) self.old self.new }
+            → (left ≡ 0 → IsUnnamed self.old.minifat (first_or_end ids.old.items))
+            → OnOk result (HoldsMini validation self.new) }
+        ensures wiped { IsTrue F.tells → (validation : Validation) → HoldsMini validation self.old
+            → OnOk result ((m : ℕ) → Contains (drop left ids.old.items) m → IsZeroMini self.new m) }
+        ensures spares { IsTrue F.tells
+            → Spares (system_sectors self.old) (table_of self.old) (table_of self.new) }
+        ensures mini_spares { IsTrue F.tells → (validation : Validation)
+            → HoldsMini validation self.old → SparesMini ids.old.items self.old self.new }
+        ensures bytes { IsTrue F.tells → (validation : Validation) → HoldsMini validation self.old
+            → KeepsMiniBytesBut (drop left ids.old.items) self.old self.new }
         ensures header { IsTrue F.tells → KeepsHeader self.old self.new }
         ensures limits { KeepsLimits self.old self.new }
-        ensures begun { OnOk result (IsRaised (left < length ids.old.items) (table_of self.old).file (table_of self.new).file) }
+        ensures begun { OnOk result (IsRaised (left
+            < length ids.old.items) (table_of self.old).file (table_of self.new).file) }
         ensures refused { IfErr result (StopsShort self.old self.new) }
         ensures kept { IfErr result (AfterMedium Unit (ids.new.items ≡ ids.old.items)) }
         ensures err { IfErr result (ChangeRefused (IsNotHeld self.old) ⊥ ⊥ Unit) }
-        ensures counts { IsTrue F.tells → CountsFailure F.write_faults result (table_of self.old).file.failures (table_of self.new).file.failures }
+        ensures counts { IsTrue F.tells → CountsFailure F.write_faults result
+            (table_of self.old).file.failures (table_of self.new).file.failures }
     {
         if left >= ids.len() {
             return Ok(());
@@ -584,27 +642,37 @@ impl<F: Medium, A: Heap + Clone> MiniAllocator<F, A> {
     /// `Memory`, `Full` and `Medium` as in `extend_mini_listed`.
     pub fn extend_mini_chain_by(&mut self, last: u32, count: usize) -> Result<Vec<u32, A>, Error>
         ensures count { IfOk result (λ list. vec_len list ≡ count) }
-        ensures taken { 0 < count → IfOk result (λ list. TakesMini self.old.max_mini_sectors self.old.minifat self.new.minifat (ending last) list.items) }
-        ensures added { 0 < count → IfOk result (λ list. IsChain self.new.minifat (first_or_end (ending last ++ list.items)) (ending last ++ list.items)) }
+        ensures taken { 0 < count → IfOk result (λ list. TakesMini
+            self.old.max_mini_sectors self.old.minifat self.new.minifat (ending last) list.items) }
+        ensures added { 0 < count
+            → IfOk result (λ list. IsChain self.new.minifat (first_or_end (ending last
+            ++ list.items)) (ending last ++ list.items)) }
         ensures none { count ≡ 0 → self.new ≡ self.old }
         ensures grown { 0 < count → OnOk result (GrowsFor count self.old self.new) }
         ensures measured { 0 < count → OnOk result (IsMeasuredMini self.new) }
         ensures directory { self.new.directory.sectors ≡ self.old.directory.sectors }
         ensures entries { MovesRoot self.old self.new }
-        ensures holds { IsTrue F.tells → (validation : Validation) → HoldsMini validation self.old → OnOk result (HoldsMini validation self.new) }
+        ensures holds { IsTrue F.tells → (validation : Validation)
+            → HoldsMini validation self.old → OnOk result (HoldsMini validation self.new) }
         ensures filled { IsTrue F.tells → (validation : Validation) → HoldsMini validation self.old
             → IfOk result (λ list. (m : ℕ) → Contains list.items m → IsZeroMini self.new m) }
-        ensures spares { IsTrue F.tells → Spares (system_sectors self.old) (table_of self.old) (table_of self.new) }
-        ensures mini_spares { IsTrue F.tells → (validation : Validation) → HoldsMini validation self.old → SparesMini (ending last) self.old self.new }
-        ensures bytes { IsTrue F.tells → (validation : Validation) → HoldsMini validation self.old → KeepsMiniBytesBut [] self.old self.new }
+        ensures spares { IsTrue F.tells
+            → Spares (system_sectors self.old) (table_of self.old) (table_of self.new) }
+        ensures mini_spares { IsTrue F.tells → (validation : Validation)
+            → HoldsMini validation self.old → SparesMini (ending last) self.old self.new }
+        ensures bytes { IsTrue F.tells → (validation : Validation)
+            → HoldsMini validation self.old → KeepsMiniBytesBut [] self.old self.new }
         ensures header { IsTrue F.tells → KeepsHeader self.old self.new }
         ensures limits { KeepsLimits self.old self.new }
         ensures enough { 0 < count → OnOk result (IsTooFewFor self.old count → ⊥) }
-        ensures begun { OnOk result (IsRaised (0 < count) (table_of self.old).file (table_of self.new).file) }
+        ensures begun { OnOk result (IsRaised (0
+            < count) (table_of self.old).file (table_of self.new).file) }
         ensures refused { IfErr result (StopsShortOrFull count self.old self.new) }
-        ensures err { IfErr result (ChangeRefused (IsNotHeld self.old ⊎ ((last ≢ end_of_chain) × (value self.old.minifat last ≢ end_of_chain)))
-            Unit (IsTooFewFor self.old count) Unit) }
-        ensures counts { IsTrue F.tells → CountsFailure F.write_faults result (table_of self.old).file.failures (table_of self.new).file.failures }
+        ensures err { IfErr result (ChangeRefused (IsNotHeld self.old
+            ⊎ ((last ≢ end_of_chain) × (value self.old.minifat last
+            ≢ end_of_chain))) Unit (IsTooFewFor self.old count) Unit) }
+        ensures counts { IsTrue F.tells → CountsFailure F.write_faults result
+            (table_of self.old).file.failures (table_of self.new).file.failures }
     {
         let mut ids = Vec::new(self.heap.clone()?);
         if last == END_OF_CHAIN {
@@ -622,26 +690,34 @@ impl<F: Medium, A: Heap + Clone> MiniAllocator<F, A> {
     /// `InvalidData` where there is no such chain, and where the bytes do not hold the mini sectors; and `Memory`: then nothing has
     /// changed. `Medium` as in `cut_mini_listed`.
     pub fn free_mini_chain(&mut self, start: u32) -> Result<(), Error>
-        ensures freed { OnOk result ((list : List ℕ) × IsChain self.old.minifat start list × MiniGivesBack [] list self.old.minifat self.new.minifat) }
+        ensures freed { OnOk result ((list : List ℕ) × IsChain self.old.minifat start list
+            × MiniGivesBack [] list self.old.minifat self.new.minifat) }
         ensures none { start ≡ end_of_chain → OnErr result ⊥ × (self.new ≡ self.old) }
         ensures system { KeepsSystem self.old self.new }
         ensures measured { start ≢ end_of_chain → OnOk result (IsMeasuredMini self.new) }
         ensures entries { MovesRoot self.old self.new }
-        ensures holds { IsTrue F.tells → (validation : Validation) → HoldsMini validation self.old → IsUnnamed self.old.minifat start
-            → OnOk result (HoldsMini validation self.new) }
-        ensures wiped { IsTrue F.tells → (validation : Validation) → HoldsMini validation self.old
-            → (list : List ℕ) → IsChain self.old.minifat start list → OnOk result ((m : ℕ) → Contains list m → IsZeroMini self.new m) }
-        ensures spares { IsTrue F.tells → Spares (system_sectors self.old) (table_of self.old) (table_of self.new) }
-        ensures mini_spares { IsTrue F.tells → (validation : Validation) → HoldsMini validation self.old
-            → (list : List ℕ) → IsChain self.old.minifat start list → SparesMini list self.old self.new }
-        ensures bytes { IsTrue F.tells → (validation : Validation) → HoldsMini validation self.old
-            → (list : List ℕ) → IsChain self.old.minifat start list → KeepsMiniBytesBut list self.old self.new }
+        ensures holds { IsTrue F.tells → (validation : Validation) → HoldsMini validation self.old
+            → IsUnnamed self.old.minifat start → OnOk result (HoldsMini validation self.new) }
+        ensures wiped { IsTrue F.tells → (validation : Validation)
+            → HoldsMini validation self.old → (list : List ℕ) → IsChain self.old.minifat start list
+            → OnOk result ((m : ℕ) → Contains list m → IsZeroMini self.new m) }
+        ensures spares { IsTrue F.tells
+            → Spares (system_sectors self.old) (table_of self.old) (table_of self.new) }
+        ensures mini_spares { IsTrue F.tells
+            → (validation : Validation) → HoldsMini validation self.old → (list : List ℕ)
+            → IsChain self.old.minifat start list → SparesMini list self.old self.new }
+        ensures bytes { IsTrue F.tells
+            → (validation : Validation) → HoldsMini validation self.old → (list : List ℕ)
+            → IsChain self.old.minifat start list → KeepsMiniBytesBut list self.old self.new }
         ensures header { IsTrue F.tells → KeepsHeader self.old self.new }
         ensures limits { KeepsLimits self.old self.new }
-        ensures begun { OnOk result (IsRaised (start ≢ end_of_chain) (table_of self.old).file (table_of self.new).file) }
+        ensures begun { OnOk result (IsRaised (start
+            ≢ end_of_chain) (table_of self.old).file (table_of self.new).file) }
         ensures refused { IfErr result (StopsShort self.old self.new) }
-        ensures err { IfErr result (ChangeRefused (IsNotHeld self.old ⊎ NoChain self.old.minifat start) Unit ⊥ Unit) }
-        ensures counts { IsTrue F.tells → CountsFailure F.write_faults result (table_of self.old).file.failures (table_of self.new).file.failures }
+        ensures err { IfErr result (ChangeRefused (IsNotHeld self.old
+            ⊎ NoChain self.old.minifat start) Unit ⊥ Unit) }
+        ensures counts { IsTrue F.tells → CountsFailure F.write_faults result
+            (table_of self.old).file.failures (table_of self.new).file.failures }
     {
         if start == END_OF_CHAIN {
             return Ok(());
@@ -656,26 +732,35 @@ impl<F: Medium, A: Heap + Clone> MiniAllocator<F, A> {
     /// `InvalidData` where no mini chain goes on from the mini sector or ends there, and where the bytes do not hold the mini sectors; and
     /// `Memory`: then nothing has changed. `Medium` as in `cut_mini_listed`.
     pub fn free_mini_chain_after(&mut self, mini: u32) -> Result<(), Error>
-        ensures cut { OnOk result ((list : List ℕ) × IsChain self.old.minifat mini (mini ∷ list) × MiniGivesBack (mini ∷ []) list self.old.minifat self.new.minifat) }
+        ensures cut { OnOk result ((list : List ℕ) × IsChain self.old.minifat mini (mini ∷ list)
+            × MiniGivesBack (mini ∷ []) list self.old.minifat self.new.minifat) }
         ensures none { value self.old.minifat mini ≡ end_of_chain → self.new ≡ self.old }
         ensures system { KeepsSystem self.old self.new }
-        ensures measured { value self.old.minifat mini ≢ end_of_chain → OnOk result (IsMeasuredMini self.new) }
+        ensures measured { value self.old.minifat mini ≢ end_of_chain
+            → OnOk result (IsMeasuredMini self.new) }
         ensures entries { MovesRoot self.old self.new }
-        ensures holds { IsTrue F.tells → (validation : Validation) → HoldsMini validation self.old → OnOk result (HoldsMini validation self.new) }
+        ensures holds { IsTrue F.tells → (validation : Validation)
+            → HoldsMini validation self.old → OnOk result (HoldsMini validation self.new) }
         ensures wiped { IsTrue F.tells → (validation : Validation) → HoldsMini validation self.old
             → (list : List ℕ) → IsChain self.old.minifat mini (mini ∷ list)
             → OnOk result ((m : ℕ) → Contains list m → IsZeroMini self.new m) }
-        ensures spares { IsTrue F.tells → Spares (system_sectors self.old) (table_of self.old) (table_of self.new) }
-        ensures mini_spares { IsTrue F.tells → (validation : Validation) → HoldsMini validation self.old
-            → (list : List ℕ) → IsChain self.old.minifat mini (mini ∷ list) → SparesMini (mini ∷ list) self.old self.new }
+        ensures spares { IsTrue F.tells
+            → Spares (system_sectors self.old) (table_of self.old) (table_of self.new) }
+        ensures mini_spares { IsTrue F.tells → (validation : Validation)
+            → HoldsMini validation self.old → (list : List ℕ) → IsChain self.old.minifat mini (mini
+            ∷ list) → SparesMini (mini ∷ list) self.old self.new }
         ensures bytes { IsTrue F.tells → (validation : Validation) → HoldsMini validation self.old
-            → (list : List ℕ) → IsChain self.old.minifat mini (mini ∷ list) → KeepsMiniBytesBut list self.old self.new }
+            → (list : List ℕ) → IsChain self.old.minifat mini (mini ∷ list)
+            → KeepsMiniBytesBut list self.old self.new }
         ensures header { IsTrue F.tells → KeepsHeader self.old self.new }
         ensures limits { KeepsLimits self.old self.new }
-        ensures begun { OnOk result (IsRaised (value self.old.minifat mini ≢ end_of_chain) (table_of self.old).file (table_of self.new).file) }
+        ensures begun { OnOk result (IsRaised (value self.old.minifat mini
+            ≢ end_of_chain) (table_of self.old).file (table_of self.new).file) }
         ensures refused { IfErr result (StopsShort self.old self.new) }
-        ensures err { IfErr result (ChangeRefused (IsNotHeld self.old ⊎ NoLast self.old.minifat mini) Unit ⊥ Unit) }
-        ensures counts { IsTrue F.tells → CountsFailure F.write_faults result (table_of self.old).file.failures (table_of self.new).file.failures }
+        ensures err { IfErr result (ChangeRefused (IsNotHeld self.old
+            ⊎ NoLast self.old.minifat mini) Unit ⊥ Unit) }
+        ensures counts { IsTrue F.tells → CountsFailure F.write_faults result
+            (table_of self.old).file.failures (table_of self.new).file.failures }
     {
         if mini == END_OF_CHAIN {
             return Err(no_mini_chain(mini));
@@ -702,28 +787,48 @@ impl<F: Medium, A: Heap + Clone> MiniAllocator<F, A> {
     ) -> Result<u32, Error>
         requires parent { IsReachedStorage self.old.directory.cases self.old.directory.entries parent }
         requires valid { IsTrue (is_valid_name (chars name.now)) }
-        requires absent { (list : List ℕ) → HasChildren self.old.directory.cases self.old.directory.entries parent list → IsAbsent self.old.directory.cases self.old.directory.entries (chars name.now) list }
+        requires absent { (list : List ℕ)
+            → HasChildren self.old.directory.cases self.old.directory.entries parent list
+            → IsAbsent self.old.directory.cases self.old.directory.entries (chars name.now) list }
         requires kind { (kind ≡ Storage) ⊎ (kind ≡ Stream) }
-        ensures inserted { IfOk result (λ n. InsertsEntry self.old.directory.cases (with_room self.old.directory) self.new.directory.entries parent n (new_entry (chars name.now) kind moment)) }
-        ensures balanced { OnOk result (KeepsBalance self.old.directory.entries self.new.directory.entries parent) }
-        ensures red_apart { OnOk result (StaysRedApart self.old.directory self.new.directory parent) }
-        ensures kept { has_free self.old.directory.entries ≡ true → (self.new.directory.sectors ≡ self.old.directory.sectors) × (tables_in self.new ≡ tables_in self.old) }
-        ensures lengthened { has_free self.old.directory.entries ≡ false → OnOk result (Lengthens 1 self.old.directory.sectors self.new.directory.sectors (tables_in self.old) (tables_in self.new)) }
-        ensures chain { IsListedChain (tables_in self.old) self.old.directory.sectors → OnOk result (IsListedChain (tables_in self.new) self.new.directory.sectors) }
-        ensures holds { IsTrue F.tells → (validation : Validation) → HoldsMini validation self.old → OnOk result (HoldsMini validation self.new) }
-        ensures spares { IsTrue F.tells → Spares self.old.directory.sectors (table_of self.old) (table_of self.new) }
-        ensures header { IsTrue F.tells → KeepsDirectoryHeader self.old.directory self.new.directory }
+        ensures inserted { IfOk result (λ n.
+            InsertsEntry self.old.directory.cases (with_room self.old.directory)
+            self.new.directory.entries parent n (new_entry (chars name.now) kind moment)) }
+        ensures balanced { OnOk result
+            (KeepsBalance self.old.directory.entries self.new.directory.entries parent) }
+        ensures red_apart { OnOk result
+            (StaysRedApart self.old.directory self.new.directory parent) }
+        ensures kept { has_free self.old.directory.entries ≡ true → (self.new.directory.sectors
+            ≡ self.old.directory.sectors) × (tables_in self.new ≡ tables_in self.old) }
+        ensures lengthened { has_free self.old.directory.entries ≡ false
+            → OnOk result (Lengthens 1 self.old.directory.sectors self.new.directory.sectors
+            (tables_in self.old) (tables_in self.new)) }
+        ensures chain { IsListedChain (tables_in self.old) self.old.directory.sectors
+            → OnOk result (IsListedChain (tables_in self.new) self.new.directory.sectors) }
+        ensures holds { IsTrue F.tells → (validation : Validation)
+            → HoldsMini validation self.old → OnOk result (HoldsMini validation self.new) }
+        ensures spares { IsTrue F.tells
+            → Spares self.old.directory.sectors (table_of self.old) (table_of self.new) }
+        ensures header { IsTrue F.tells
+            → KeepsDirectoryHeader self.old.directory self.new.directory }
         ensures header_kept { IsTrue F.tells → has_free self.old.directory.entries ≡ true
-            → (i : ℕ) → i < 512 → i < length (bytes_of self.old) → slice_index (bytes_of self.new) i ≡ slice_index (bytes_of self.old) i }
-        ensures count { IsTrue F.tells → version_of self.old ≡ V4 → has_free self.old.directory.entries ≡ false → OnOk result (word_at (bytes_of self.new) 40 ≡ length self.new.directory.sectors) }
-        ensures slots { IsTrue F.tells → (validation : Validation) → HoldsDirectory validation self.old.directory → KeepsOtherSlots parent self.old.directory self.new.directory }
+            → (i : ℕ) → i < 512 → i < length (bytes_of self.old)
+            → slice_index (bytes_of self.new) i ≡ slice_index (bytes_of self.old) i }
+        ensures count { IsTrue F.tells
+            → version_of self.old ≡ V4 → has_free self.old.directory.entries ≡ false
+            → OnOk result (word_at (bytes_of self.new) 40 ≡ length self.new.directory.sectors) }
+        ensures slots { IsTrue F.tells
+            → (validation : Validation) → HoldsDirectory validation self.old.directory
+            → KeepsOtherSlots parent self.old.directory self.new.directory }
         ensures limits { KeepsLimits self.old self.new }
         ensures mini { KeepsMini self.old self.new }
         ensures begun { OnOk result ((table_of self.new).file.begun ≡ true) }
         ensures enough { OnOk result (IsFullForEntry self.old.directory → ⊥) }
         ensures refused { IfErr result (StopsShort self.old self.new) }
-        ensures err { IfErr result (ChangeRefused (IsDirectoryNotHeld self.old.directory) (IsFullForEntry self.old.directory → ⊥) (IsFullForEntry self.old.directory) Unit) }
-        ensures counts { IsTrue F.tells → CountsFailure F.write_faults result (table_of self.old).file.failures (table_of self.new).file.failures }
+        ensures err { IfErr result (ChangeRefused (IsDirectoryNotHeld self.old.directory)
+            (IsFullForEntry self.old.directory → ⊥) (IsFullForEntry self.old.directory) Unit) }
+        ensures counts { IsTrue F.tells → CountsFailure F.write_faults result
+            (table_of self.old).file.failures (table_of self.new).file.failures }
     {
         self.directory.insert_dir_entry(parent, name, kind, moment)
     }
@@ -736,21 +841,32 @@ impl<F: Medium, A: Heap + Clone> MiniAllocator<F, A> {
     /// alone may have changed.
     pub fn remove_dir_entry(&mut self, parent: u32, name: &str) -> Result<(), Error>
         requires parent { IsReachedStorage self.old.directory.cases self.old.directory.entries parent }
-        requires there { (list : List ℕ) → HasChildren self.old.directory.cases self.old.directory.entries parent list
-            → (n : ℕ) × IsChildNamed self.old.directory.cases self.old.directory.entries (chars name.now) list n × ((entry_at self.old.directory.entries n).child ≡ no_stream) }
-        ensures removed { OnOk result ((r : RemovesEntry self.old.directory.cases self.old.directory.entries self.new.directory.entries parent (chars name.now)) × KeepsColors self.old.directory.entries self.new.directory.entries r.freed) }
-        ensures red_apart { OnOk result (StaysRedApart self.old.directory self.new.directory parent) }
-        ensures kept { (self.new.directory.sectors ≡ self.old.directory.sectors) × (tables_in self.new ≡ tables_in self.old) }
-        ensures holds { IsTrue F.tells → (validation : Validation) → HoldsMini validation self.old → OnOk result (HoldsMini validation self.new) }
-        ensures spares { IsTrue F.tells → Spares self.old.directory.sectors (table_of self.old) (table_of self.new) }
+        requires there { (list : List ℕ)
+            → HasChildren self.old.directory.cases self.old.directory.entries parent list
+            → (n : ℕ) × IsChildNamed self.old.directory.cases self.old.directory.entries
+            (chars name.now) list n × ((entry_at self.old.directory.entries n).child ≡ no_stream) }
+        ensures removed { OnOk result (RemovesEntry self.old.directory.cases
+            self.old.directory.entries self.new.directory.entries parent (chars name.now)) }
+        ensures red_apart { OnOk result
+            (StaysRedApart self.old.directory self.new.directory parent) }
+        ensures kept { (self.new.directory.sectors ≡ self.old.directory.sectors)
+            × (tables_in self.new ≡ tables_in self.old) }
+        ensures holds { IsTrue F.tells → (validation : Validation)
+            → HoldsMini validation self.old → OnOk result (HoldsMini validation self.new) }
+        ensures spares { IsTrue F.tells
+            → Spares self.old.directory.sectors (table_of self.old) (table_of self.new) }
         ensures header { IsTrue F.tells → KeepsWholeHeader self.old.directory self.new.directory }
-        ensures slots { IsTrue F.tells → (validation : Validation) → HoldsDirectory validation self.old.directory → KeepsOtherSlots parent self.old.directory self.new.directory }
+        ensures slots { IsTrue F.tells
+            → (validation : Validation) → HoldsDirectory validation self.old.directory
+            → KeepsOtherSlots parent self.old.directory self.new.directory }
         ensures limits { KeepsLimits self.old self.new }
         ensures mini { KeepsMini self.old self.new }
         ensures begun { OnOk result ((table_of self.new).file.begun ≡ true) }
         ensures refused { IfErr result (StopsShort self.old self.new) }
-        ensures err { IfErr result (ChangeRefused (IsDirectoryNotHeld self.old.directory) Unit ⊥ Unit) }
-        ensures counts { IsTrue F.tells → CountsFailure F.write_faults result (table_of self.old).file.failures (table_of self.new).file.failures }
+        ensures err { IfErr result
+            (ChangeRefused (IsDirectoryNotHeld self.old.directory) Unit ⊥ Unit) }
+        ensures counts { IsTrue F.tells → CountsFailure F.write_faults result
+            (table_of self.old).file.failures (table_of self.new).file.failures }
     {
         self.directory.remove_dir_entry(parent, name)
     }
@@ -760,23 +876,32 @@ impl<F: Medium, A: Heap + Clone> MiniAllocator<F, A> {
     /// `InvalidData` where there is no such chain, where it is empty, and where the FAT sectors do not cover the file; `Medium`,
     /// `Memory` and `Full` as in `begin_chain`. The directory itself stays in any case, so `start` is not to be that of its own chain.
     pub fn extend_chain(&mut self, start: u32, init: SectorInit) -> Result<u32, Error>
-        ensures extended { IfOk result (λ x. Extended (tables_in self.old) (tables_in self.new) start (x ∷ [])) }
-        ensures filled { IsTrue F.tells → (validation : Validation) → HoldsTables validation (table_of self.old)
+        ensures extended { IfOk result (λ x.
+            Extended (tables_in self.old) (tables_in self.new) start (x ∷ [])) }
+        ensures filled { IsTrue F.tells
+            → (validation : Validation) → HoldsTables validation (table_of self.old)
             → IfOk result (λ x. IsFilled (version_of self.new) init (bytes_of self.new) x) }
         ensures holds { IsTrue F.tells → (validation : Validation) → HoldsMini validation self.old
-            → (list : List ℕ) → IsChain (tables_in self.old).fat start list → AreDisjoint (system_sectors self.old) list → OnOk result (HoldsMini validation self.new) }
+            → (list : List ℕ) → IsChain (tables_in self.old).fat start list
+            → AreDisjoint (system_sectors self.old) list
+            → OnOk result (HoldsMini validation self.new) }
         ensures others { IsTrue F.tells → OthersStay (table_of self.old) (table_of self.new) }
-        ensures spares { IsTrue F.tells → (list : List ℕ) → IsChain (tables_in self.old).fat start list → Spares list (table_of self.old) (table_of self.new) }
+        ensures spares { IsTrue F.tells
+            → (list : List ℕ) → IsChain (tables_in self.old).fat start list
+            → Spares list (table_of self.old) (table_of self.new) }
         ensures rest { self.new ≡ with_table self.old (table_of self.new) }
         ensures enough { OnOk result (IsTooFew (tables_in self.old) 1 → ⊥) }
         ensures begun { OnOk result ((table_of self.new).file.begun ≡ true) }
-        ensures refused { IfErr result (BreaksOff (ExtendsFrom start) (table_of self.old) (table_of self.new)) }
-        ensures err { IfErr result (ChangeRefused ((IsUsable (tables_in self.old) → ⊥) ⊎ NoLast (tables_in self.old).fat start)
-            (IsTooFew (tables_in self.old) 1 → ⊥) (IsTooFew (tables_in self.old) 1) Unit) }
-        ensures counts { IsTrue F.tells → CountsFailure F.write_faults result (table_of self.old).file.failures (table_of self.new).file.failures }
+        ensures refused { IfErr result
+            (BreaksOff (ExtendsFrom start) (table_of self.old) (table_of self.new)) }
+        ensures err { IfErr result (ChangeRefused ((IsUsable (tables_in self.old) → ⊥)
+            ⊎ NoLast (tables_in self.old).fat start) (IsTooFew (tables_in self.old) 1
+            → ⊥) (IsTooFew (tables_in self.old) 1) Unit) }
+        ensures counts { IsTrue F.tells → CountsFailure F.write_faults result
+            (table_of self.old).file.failures (table_of self.new).file.failures }
     {
         let extended = self.directory.extend_chain(start, init);
-        let _len = self.directory.allocator().file_len();
+        let _fact = self.directory.allocator().file_len();
         extended
     }
 
@@ -787,21 +912,30 @@ impl<F: Medium, A: Heap + Clone> MiniAllocator<F, A> {
     /// file's bytes the FAT sectors alone have changed. The directory itself stays in any case, so `start` is not to be that of its own
     /// chain.
     pub fn free_chain(&mut self, start: u32) -> Result<(), Error>
-        ensures freed { OnOk result (GivesBackChain [] start (tables_in self.old) (tables_in self.new)) }
+        ensures freed { OnOk result
+            (GivesBackChain [] start (tables_in self.old) (tables_in self.new)) }
         ensures none { start ≡ end_of_chain → self.new ≡ self.old }
         ensures holds { IsTrue F.tells → (validation : Validation) → HoldsMini validation self.old
-            → (list : List ℕ) → IsChain (tables_in self.old).fat start list → AreDisjoint (system_sectors self.old) list → IsUnnamed (tables_in self.old).fat start
+            → (list : List ℕ) → IsChain (tables_in self.old).fat start list
+            → AreDisjoint (system_sectors self.old) list → IsUnnamed (tables_in self.old).fat start
             → OnOk result (HoldsMini validation self.new) }
-        ensures changes { IsTrue F.tells → ChangesSectors (tables_in self.old).fat_sectors (version_of self.old) (bytes_of self.old) (bytes_of self.new) }
-        ensures spares { IsTrue F.tells → (list : List ℕ) → IsChain (tables_in self.old).fat start list → Spares list (table_of self.old) (table_of self.new) }
+        ensures changes { IsTrue F.tells → ChangesSectors (tables_in self.old).fat_sectors
+            (version_of self.old) (bytes_of self.old) (bytes_of self.new) }
+        ensures spares { IsTrue F.tells
+            → (list : List ℕ) → IsChain (tables_in self.old).fat start list
+            → Spares list (table_of self.old) (table_of self.new) }
         ensures rest { self.new ≡ with_table self.old (table_of self.new) }
-        ensures begun { OnOk result (IsRaised (start ≢ end_of_chain) (table_of self.old).file (table_of self.new).file) }
-        ensures refused { IfErr result (BreaksOff (GivesBackChain [] start) (table_of self.old) (table_of self.new)) }
-        ensures err { IfErr result (ChangeRefused ((IsUsable (tables_in self.old) → ⊥) ⊎ NoChain (tables_in self.old).fat start) Unit ⊥ Unit) }
-        ensures counts { IsTrue F.tells → CountsFailure F.write_faults result (table_of self.old).file.failures (table_of self.new).file.failures }
+        ensures begun { OnOk result (IsRaised (start
+            ≢ end_of_chain) (table_of self.old).file (table_of self.new).file) }
+        ensures refused { IfErr result
+            (BreaksOff (GivesBackChain [] start) (table_of self.old) (table_of self.new)) }
+        ensures err { IfErr result (ChangeRefused ((IsUsable (tables_in self.old) → ⊥)
+            ⊎ NoChain (tables_in self.old).fat start) Unit ⊥ Unit) }
+        ensures counts { IsTrue F.tells → CountsFailure F.write_faults result
+            (table_of self.old).file.failures (table_of self.new).file.failures }
     {
         let freed = self.directory.free_chain(start);
-        let _len = self.directory.allocator().file_len();
+        let _fact = self.directory.allocator().file_len();
         freed
     }
 }
@@ -820,28 +954,42 @@ impl<F: Medium, A: Heap> MiniAllocator<F, A> {
     ) -> Result<(), Error>
         requires inside { number < length self.old.directory.entries }
         requires callable { W.IsAlwaysCallable change }
-        requires root_len { number ≡ 0 → (f : Fields) → W.post change (fields_in (entry_at self.old.directory.entries 0)) f → f.stream_len % 64 ≡ 0 }
-        ensures changed { OnOk result ((f : Fields) × W.post change (fields_in (entry_at self.old.directory.entries number)) f
-            × (self.new.directory.entries ≡ entries_with_fields self.old.directory.entries number f)) }
-        ensures entries { (self.new.directory.entries ≡ self.old.directory.entries)
-            ⊎ ((f : Fields) × W.post change (fields_in (entry_at self.old.directory.entries number)) f × (self.new.directory.entries ≡ entries_with_fields self.old.directory.entries number f)) }
-        ensures kept { (self.new.directory.sectors ≡ self.old.directory.sectors) × (tables_in self.new ≡ tables_in self.old) }
-        ensures holds { IsTrue F.tells → (validation : Validation) → HoldsMini validation self.old
-            → ((f : Fields) → W.post change (fields_in (entry_at self.old.directory.entries number)) f
-            → IsValidEntry (version_of self.old) (entry_with_fields (entry_at self.old.directory.entries number) f))
-            → (number ≡ 0 → (f : Fields) → W.post change (fields_in (entry_at self.old.directory.entries 0)) f
-            → (f.start_sector ≡ (entry_at self.old.directory.entries 0).start_sector) × (f.stream_len ≡ root_len_of self.old))
-            → OnOk result (HoldsMini validation self.new) }
-        ensures spares { IsTrue F.tells → Spares self.old.directory.sectors (table_of self.old) (table_of self.new) }
+        requires root_len { number ≡ 0
+            → (f : Fields) → W.post change (fields_in (entry_at self.old.directory.entries 0)) f
+            → f.stream_len % 64 ≡ 0 }
+        ensures changed { OnOk result ((f : Fields)
+            × W.post change (fields_in (entry_at self.old.directory.entries number)) f
+            × (self.new.directory.entries
+            ≡ entries_with_fields self.old.directory.entries number f)) }
+        ensures entries { (self.new.directory.entries ≡ self.old.directory.entries) ⊎ ((f : Fields)
+            × W.post change (fields_in (entry_at self.old.directory.entries number)) f
+            × (self.new.directory.entries
+            ≡ entries_with_fields self.old.directory.entries number f)) }
+        ensures kept { (self.new.directory.sectors ≡ self.old.directory.sectors)
+            × (tables_in self.new ≡ tables_in self.old) }
+        ensures holds { IsTrue F.tells
+            → (validation : Validation) → HoldsMini validation self.old → ((f : Fields)
+            → W.post change (fields_in (entry_at self.old.directory.entries number)) f
+            → IsValidEntry (version_of self.old)
+            (entry_with_fields (entry_at self.old.directory.entries number) f)) → (number ≡ 0
+            → (f : Fields) → W.post change (fields_in (entry_at self.old.directory.entries 0)) f
+            → (f.start_sector ≡ (entry_at self.old.directory.entries 0).start_sector)
+            × (f.stream_len ≡ root_len_of self.old)) → OnOk result (HoldsMini validation self.new) }
+        ensures spares { IsTrue F.tells
+            → Spares self.old.directory.sectors (table_of self.old) (table_of self.new) }
         ensures header { IsTrue F.tells → KeepsWholeHeader self.old.directory self.new.directory }
-        ensures slots { IsTrue F.tells → (validation : Validation) → HoldsDirectory validation self.old.directory → KeepsSlotsBut number self.old.directory self.new.directory }
+        ensures slots { IsTrue F.tells
+            → (validation : Validation) → HoldsDirectory validation self.old.directory
+            → KeepsSlotsBut number self.old.directory self.new.directory }
         ensures limits { KeepsLimits self.old self.new }
         ensures mini { KeepsMini self.old self.new }
         ensures begun { OnOk result ((table_of self.new).file.begun ≡ true) }
         ensures refused { IfErr result (StopsShort self.old self.new) }
-        ensures err { IfErr result (ChangeRefused (IsDirectoryNotHeld self.old.directory) ⊥ ⊥ Unit) }
+        ensures err { IfErr result
+            (ChangeRefused (IsDirectoryNotHeld self.old.directory) ⊥ ⊥ Unit) }
         ensures placed { ArePlaced self.old.directory → IfErr result IsMediumError }
-        ensures counts { IsTrue F.tells → CountsFailure F.write_faults result (table_of self.old).file.failures (table_of self.new).file.failures }
+        ensures counts { IsTrue F.tells → CountsFailure F.write_faults result
+            (table_of self.old).file.failures (table_of self.new).file.failures }
     {
         self.directory.with_dir_entry_mut(number, change)
     }
@@ -852,29 +1000,36 @@ impl<F: Medium, A: Heap> MiniAllocator<F, A> {
     /// fails, the tables in memory have the sector, and of the file's bytes no sector in use has changed but the table sectors. The
     /// directory itself stays in any case.
     pub fn begin_chain(&mut self, init: SectorInit) -> Result<u32, Error>
-        ensures taken { IfOk result (λ x. HasTaken (tables_in self.old) (tables_in self.new) [] (x ∷ [])) }
+        ensures taken { IfOk result (λ x.
+            HasTaken (tables_in self.old) (tables_in self.new) [] (x ∷ [])) }
         ensures chain { IfOk result (λ x. IsChain (tables_in self.new).fat x (x ∷ [])) }
-        ensures filled { IsTrue F.tells → (validation : Validation) → HoldsTables validation (table_of self.old)
+        ensures filled { IsTrue F.tells
+            → (validation : Validation) → HoldsTables validation (table_of self.old)
             → IfOk result (λ x. IsFilled (version_of self.new) init (bytes_of self.new) x) }
-        ensures holds { IsTrue F.tells → (validation : Validation) → HoldsMini validation self.old → OnOk result (HoldsMini validation self.new) }
+        ensures holds { IsTrue F.tells → (validation : Validation)
+            → HoldsMini validation self.old → OnOk result (HoldsMini validation self.new) }
         ensures others { IsTrue F.tells → OthersStay (table_of self.old) (table_of self.new) }
         ensures spares { IsTrue F.tells → Spares [] (table_of self.old) (table_of self.new) }
         ensures rest { self.new ≡ with_table self.old (table_of self.new) }
         ensures enough { OnOk result (IsTooFew (tables_in self.old) 1 → ⊥) }
         ensures begun { OnOk result ((table_of self.new).file.begun ≡ true) }
-        ensures refused { IfErr result (BreaksOff (TakesFor []) (table_of self.old) (table_of self.new)) }
-        ensures err { IfErr result (ChangeRefused (IsUsable (tables_in self.old) → ⊥) (IsTooFew (tables_in self.old) 1 → ⊥) (IsTooFew (tables_in self.old) 1) Unit) }
-        ensures counts { IsTrue F.tells → CountsFailure F.write_faults result (table_of self.old).file.failures (table_of self.new).file.failures }
+        ensures refused { IfErr result
+            (BreaksOff (TakesFor []) (table_of self.old) (table_of self.new)) }
+        ensures err { IfErr result (ChangeRefused (IsUsable (tables_in self.old)
+            → ⊥) (IsTooFew (tables_in self.old) 1 → ⊥) (IsTooFew (tables_in self.old) 1) Unit) }
+        ensures counts { IsTrue F.tells → CountsFailure F.write_faults result
+            (table_of self.old).file.failures (table_of self.new).file.failures }
     {
         let begun = self.directory.begin_chain(init);
-        let _len = self.directory.allocator().file_len();
+        let _fact = self.directory.allocator().file_len();
         begun
     }
 
     /// Has the medium hand on what was written. `Medium` where it fails. No byte changes, nor anything in memory.
     pub fn flush(&mut self) -> Result<(), Error>
         ensures tables { tables_in self.new ≡ tables_in self.old }
-        ensures ok { IsTrue F.tells → OnOk result ((table_of self.new).file ≡ record (table_of self.old).file { begun = true }) }
+        ensures ok { IsTrue F.tells → OnOk result ((table_of self.new).file
+            ≡ record (table_of self.old).file { begun = true }) }
         ensures kept { (table_of self.new).file ≡ record (table_of self.old).file {
           bytes = (table_of self.new).file.bytes;
           failures = (table_of self.new).file.failures;
@@ -883,7 +1038,8 @@ impl<F: Medium, A: Heap> MiniAllocator<F, A> {
         ensures bytes { IsTrue F.tells → bytes_of self.new ≡ bytes_of self.old }
         ensures rest { self.new ≡ with_table self.old (table_of self.new) }
         ensures err { IfErr result IsMediumError }
-        ensures counts { IsTrue F.tells → CountsFailure F.write_faults result (table_of self.old).file.failures (table_of self.new).file.failures }
+        ensures counts { IsTrue F.tells → CountsFailure F.write_faults result
+            (table_of self.old).file.failures (table_of self.new).file.failures }
     {
         self.directory.flush()
     }

@@ -25,9 +25,11 @@ pub(crate) fn minifat_sectors_from<F: ReadMedium, A: Heap + Clone>(
     counted: u32,
     validation: Validation,
 ) -> Result<Vec<u32, A>, Error>
-    ensures sectors { IfOk result (λ list. (all : List ℕ) → length all ≡ words → AreMinifatSectors directory.now all start list.items) }
+    ensures sectors { IfOk result (λ list. (all : List ℕ)
+        → length all ≡ words → AreMinifatSectors directory.now all start list.items) }
     ensures counted { IfOk result (λ list. IfStrict validation (counted ≡ length list.items)) }
-    ensures refused { IfErr result (IsInvalidOrMemory ((all list : List ℕ) → length all ≡ words → AreMinifatSectors directory.now all start list
+    ensures refused { IfErr result (IsInvalidOrMemory ((all list : List ℕ)
+        → length all ≡ words → AreMinifatSectors directory.now all start list
         → IfStrict validation (counted ≡ length list) → ⊥)) }
 {
     let sectors = directory.allocator().chain(start)?;
@@ -62,7 +64,8 @@ pub(crate) fn mini_stream_sectors<F: ReadMedium, A: Heap + Clone>(
     heap: &A,
     directory: &Directory<F, A>,
 ) -> Result<Option<Vec<u32, A>>, Error>
-    ensures stream { IfOk result (λ stream. option_map (λ v. v.items) stream ≡ mini_stream_in directory.now) }
+    ensures stream { IfOk result (λ stream. option_map (λ v. v.items) stream
+        ≡ mini_stream_in directory.now) }
     ensures err { IfErr result (TableRefused ⊥ Unit ⊥) }
 {
     let root = directory.root_dir_entry();
@@ -81,7 +84,8 @@ pub(crate) fn above_all<A: Heap>(
     minifat_sectors: &[u32],
     mini_stream: &Option<Vec<u32, A>>,
 ) -> usize
-    ensures { IsLeastAbove (minifat_sectors.now ++ unwrap_or (option_map (λ v. v.items) mini_stream.now) []) result }
+    ensures { IsLeastAbove (minifat_sectors.now
+        ++ unwrap_or (option_map (λ v. v.items) mini_stream.now) []) result }
 {
     let above = least_above(0, minifat_sectors);
     match mini_stream {

@@ -3,7 +3,7 @@ use Rattle.std.proofs.Common.{◌≡◌, ◌⊎◌, inl, inr, ℕ, Bool, refl, a
 use Rattle.std.specs.Prelude.{Result, Ok, Err, IfErr, IsErrAnd}
 use Rattle.cfb_format.specs.Refused.{AfterMedium, CountsError, HasReason, IsInvalidData, Reasons}
 use Rattle.cfb_format.specs.declared.error.Error.{Error}
-use Rattle.cfb_format.specs.declared.error.Error.TheVariants.{NotFound, AlreadyExists, InvalidInput, InvalidData, Medium, Memory, Full, Unsound, Failed, Unsupported}
+use Rattle.cfb_format.specs.declared.error.Error.TheVariants.{NotFound, AlreadyExists, InvalidInput, InvalidData, Medium, Memory, Full, Unsound, Failed}
 use Rattle.cfb_format.specs.declared.medium.MediumFault.{MediumFault}
 use Rattle.cfb_sectors.specs.Sectors.{IsMediumError}
 use Rattle.cfb_tables.specs.Refused.{ChangeRefused}
@@ -29,7 +29,6 @@ medium_reason reasons Memory is holds = absurd (omega (arith, is))
 medium_reason reasons Full is holds = absurd (omega (arith, is))
 medium_reason reasons Unsound is holds = absurd (omega (arith, is))
 medium_reason reasons Failed is holds = absurd (omega (arith, is))
-medium_reason reasons Unsupported is holds = absurd (omega (arith, is))
 
 broken_medium : (broken kept : Type 0) (e : Error) → IsMediumError e → AfterMedium broken kept e → broken
 broken_medium broken kept (Medium f) is r = r
@@ -41,7 +40,6 @@ broken_medium broken kept Memory is r = absurd (omega (arith, is))
 broken_medium broken kept Full is r = absurd (omega (arith, is))
 broken_medium broken kept Unsound is r = absurd (omega (arith, is))
 broken_medium broken kept Failed is r = absurd (omega (arith, is))
-broken_medium broken kept Unsupported is r = absurd (omega (arith, is))
 
 invalid_reason : (P : Type 0) (e : Error) → IsInvalidData e → (P → ⊥) → ChangeRefused (P → ⊥) ⊥ ⊥ Unit e
 invalid_reason P (InvalidData d) is none = none
@@ -53,7 +51,6 @@ invalid_reason P Memory is none = absurd (omega (arith, is))
 invalid_reason P Full is none = absurd (omega (arith, is))
 invalid_reason P Unsound is none = absurd (omega (arith, is))
 invalid_reason P Failed is none = absurd (omega (arith, is))
-invalid_reason P Unsupported is none = absurd (omega (arith, is))
 
 -- a call that refuses exactly where P does not hold
 pub refused_either : {T : Type 0} (P : Type 0) (r : Result T Error) → P ⊎ (P → ⊥) → (P → IfErr r IsMediumError) → ((P → ⊥) → IsErrAnd r IsInvalidData)
@@ -73,7 +70,6 @@ invalid_stops P count s Memory why = absurd why
 invalid_stops P count s Full why = absurd why
 invalid_stops P count s Unsound why = absurd why
 invalid_stops P count s Failed why = absurd why
-invalid_stops P count s Unsupported why = absurd why
 
 pub invalid_counts : (P : Type 0) (can : MediumFault → Bool) (n : ℕ) (e : Error) → ChangeRefused P ⊥ ⊥ ⊥ e → CountsError can n n e
 invalid_counts P can n (InvalidData d) why = refl
@@ -85,7 +81,6 @@ invalid_counts P can n Memory why = absurd why
 invalid_counts P can n Full why = absurd why
 invalid_counts P can n Unsound why = absurd why
 invalid_counts P can n Failed why = absurd why
-invalid_counts P can n Unsupported why = absurd why
 
 pub invalid_for : (P Q memory full : Type 0) → (P → Q) → (e : Error) → ChangeRefused P ⊥ ⊥ ⊥ e → ChangeRefused Q memory full Unit e
 invalid_for P Q memory full f (InvalidData d) why = f why
@@ -97,7 +92,6 @@ invalid_for P Q memory full f Memory why = absurd why
 invalid_for P Q memory full f Full why = absurd why
 invalid_for P Q memory full f Unsound why = absurd why
 invalid_for P Q memory full f Failed why = absurd why
-invalid_for P Q memory full f Unsupported why = absurd why
 
 -- a call that stopped by the medium's error stops short of more than its own change
 pub medium_stops : (count : ℕ) (old mid new : MiniState) (e : Error) → IsMediumError e → StopsShort mid new e → StopsShortOrFull count old new e
@@ -115,4 +109,3 @@ stops_or_full count old new invalid memory medium Memory stops why = inl stops
 stops_or_full count old new invalid memory medium Full stops why = absurd why
 stops_or_full count old new invalid memory medium Unsound stops why = stops
 stops_or_full count old new invalid memory medium Failed stops why = stops
-stops_or_full count old new invalid memory medium Unsupported stops why = stops

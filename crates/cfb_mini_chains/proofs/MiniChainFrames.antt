@@ -7,7 +7,7 @@ use Rattle.cfb_format.specs.declared.validate.Validation.{Validation}
 use Rattle.cfb_format.specs.Bytes.{free_sector}
 use Rattle.cfb_format.specs.Chain.{value}
 use Rattle.cfb_format.specs.Medium.{ChangesOnlyBytes}
-use Rattle.cfb_sectors.specs.Words.{Stays}
+use Rattle.cfb_sectors.specs.Words.{RangeStays}
 use Rattle.cfb_sectors.proofs.SectorLemmas.{Stays_trans}
 use Rattle.cfb_tables.specs.Listed.{gained}
 use Rattle.cfb_tables.specs.Tables.{HasTaken, TableState}
@@ -37,7 +37,7 @@ pub bytes_then : (validation : Validation) (own own' : List ℕ) (a b c : MiniSt
 bytes_then validation own own' a b c h version stream still among first second m busy out =
     let at = place-stays a b m [] (held-places a h.mini_stream) version (stream ∙ sym (append-nil (mini_stream_of a))) busy in
     Stays_trans (mini_place a m) (mini_place a m + 64) (bytes_of a) (bytes_of b) (bytes_of c) (first m busy out)
-    (subst (λ p. Stays p (p + 64) (bytes_of b) (bytes_of c)) at (second.bytes m (still m busy out) (λ member. out (among m member))))
+    (subst (λ p. RangeStays p (p + 64) (bytes_of b) (bytes_of c)) at (second.bytes m (still m busy out) (λ member. out (among m member))))
 
 -- ---- the directory, the entries and the limits
 

@@ -4,14 +4,14 @@ use Rattle.std.specs.Prelude.{Result, Ok, Err, OnOk, OnErr, IfOk, IfErr, Contain
 use Rattle.std.proofs.lemmas.List.{append-nil}
 use Rattle.std.proofs.lemmas.List.Elements.{Contains-append_cases}
 use Rattle.cfb_format.specs.declared.error.Error.{Error}
-use Rattle.cfb_format.specs.declared.error.Error.TheVariants.{NotFound, AlreadyExists, InvalidInput, InvalidData, Medium, Memory, Full, Unsound, Failed, Unsupported}
+use Rattle.cfb_format.specs.declared.error.Error.TheVariants.{NotFound, AlreadyExists, InvalidInput, InvalidData, Medium, Memory, Full, Unsound, Failed}
 use Rattle.cfb_format.specs.declared.validate.Validation.{Validation}
 use Rattle.cfb_format.specs.declared.medium.ReadMedium as medium
 use Rattle.cfb_format.specs.Bytes.{free_sector}
 use Rattle.cfb_format.specs.Chain.{value}
 use Rattle.cfb_format.specs.Full.{rounded_up}
 use Rattle.cfb_format.specs.Refused.{AfterMedium}
-use Rattle.cfb_sectors.specs.Words.{Stays}
+use Rattle.cfb_sectors.specs.Words.{RangeStays}
 use Rattle.cfb_sectors.specs.Sectors.{IsMediumError}
 use Rattle.cfb_sectors.proofs.SectorLemmas.{Stays_trans}
 use Rattle.cfb_tables.specs.Listed.{gained}
@@ -63,7 +63,6 @@ after_kept kept k Memory = k
 after_kept kept k Full = k
 after_kept kept k Unsound = k
 after_kept kept k Failed = k
-after_kept kept k Unsupported = k
 
 pub begun_of : {E : Type 0} (r : Result ℕ E) (wanted begun : Type 0) → IfOk r (λ n. wanted → 0 < n) → wanted → IfOk r (λ n. 0 < n → begun) → OnOk r begun
 begun_of (Ok n) wanted begun some is then = then (some is)
@@ -80,7 +79,6 @@ after_both broken kept kept' kept'' f Memory first second = f first second
 after_both broken kept kept' kept'' f Full first second = f first second
 after_both broken kept kept' kept'' f Unsound first second = f first second
 after_both broken kept kept' kept'' f Failed first second = f first second
-after_both broken kept kept' kept'' f Unsupported first second = f first second
 
 -- where P holds no refusal comes for want of it
 pub only_medium : (P : Type 0) → P → (e : Error) → ChangeRefused (P → ⊥) ⊥ ⊥ Unit e → IsMediumError e
@@ -93,7 +91,6 @@ only_medium P p Memory why = absurd why
 only_medium P p Full why = absurd why
 only_medium P p Unsound why = absurd why
 only_medium P p Failed why = absurd why
-only_medium P p Unsupported why = absurd why
 
 -- more may be said of each refusal
 pub refused_for : (invalid invalid' memory full : Type 0) → (invalid → invalid') → (e : Error) → ChangeRefused invalid ⊥ ⊥ Unit e → ChangeRefused invalid' memory full Unit e
@@ -106,7 +103,6 @@ refused_for invalid invalid' memory full f Memory why = absurd why
 refused_for invalid invalid' memory full f Full why = absurd why
 refused_for invalid invalid' memory full f Unsound why = absurd why
 refused_for invalid invalid' memory full f Failed why = absurd why
-refused_for invalid invalid' memory full f Unsupported why = absurd why
 
 -- what is said of refusals for want of memory and of numbers comes with what else is known
 pub only_when : (invalid more full : Type 0) → more → (e : Error) → ChangeRefused invalid Unit full Unit e → ChangeRefused invalid more (more × full) Unit e
@@ -119,7 +115,6 @@ only_when invalid more full m Memory why = m
 only_when invalid more full m Full why = (m, why)
 only_when invalid more full m Unsound why = absurd why
 only_when invalid more full m Failed why = absurd why
-only_when invalid more full m Unsupported why = absurd why
 
 -- a position inside stays where the list does
 pub position_stays : (position position' : ℕ) (ids ids' : List ℕ) → position' ≡ min position (length ids' * 64) → ids' ≡ ids → position ≤ length ids * 64 → position' ≡ position
@@ -240,7 +235,7 @@ module _ {F A : Type 0} {g : medium.Ghosts F} {l : numbers.Ghosts (Vec ℕ A)} w
       let at = place-stays (state_of old) (state_of grown) m sectors (held-places (state_of old) h.mini_stream) version stream busy in
       Stays_trans (mini_place (state_of old) m) (mini_place (state_of old) m + 64) (file_bytes_of old) (file_bytes_of grown) (file_bytes_of new)
       (keeps m busy (Contains-nil m))
-      (subst (λ p. Stays p (p + 64) (file_bytes_of grown) (file_bytes_of new)) at
+      (subst (λ p. RangeStays p (p + 64) (file_bytes_of grown) (file_bytes_of new)) at
       (second m (still m busy) (was_wanted old grown more count m position listed fresh busy other)))
 
   -- ---- mini sectors of the own list, as it is cut and ends in zeros

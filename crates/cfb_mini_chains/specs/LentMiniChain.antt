@@ -9,7 +9,7 @@ use Rattle.cfb_format.specs.Full.{rounded_up}
 use Rattle.cfb_format.specs.declared.error.Error.{Error}
 use Rattle.cfb_format.specs.declared.medium.ReadMedium as medium
 use Rattle.cfb_tables.specs.Listed.{gained}
-use Rattle.cfb_sectors.specs.Words.{Stays}
+use Rattle.cfb_sectors.specs.Words.{RangeStays}
 use Rattle.cfb_chains.specs.declared.chain.Numbers as numbers
 use Rattle.cfb_mini_sectors.specs.State.{MiniState, bytes_of, mini_place, table_of}
 use Rattle.cfb_mini.specs.MiniSectors.{HasMiniByte, HasMiniSector}
@@ -91,7 +91,7 @@ module _ {F A : Type 0} {g : medium.Ghosts F} {n : numbers.Ghosts (Vec ℕ A)} w
   -- every mini sector in use that holds none of so many bytes from the position on keeps its bytes
   abbrev pub OthersStay : ℕ → MiniChain F A (Vec ℕ A) g n → MiniChain F A (Vec ℕ A) g n → Type 0
   OthersStay count old new = (m : ℕ) → value (state_of old).minifat m ≢ free_sector → (HoldsWanted count old m → ⊥)
-      → Stays (mini_place (state_of old) m) (mini_place (state_of old) m + mini_sector_len) (file_bytes_of old) (file_bytes_of new)
+      → RangeStays (mini_place (state_of old) m) (mini_place (state_of old) m + mini_sector_len) (file_bytes_of old) (file_bytes_of new)
 
   -- so many of these bytes were written at the position; the mini chain may have gained mini sectors for all of them first
   pub record HasWritten (count : ℕ) (from : List ℕ) (old new : MiniChain F A (Vec ℕ A) g n) : Type 0 where

@@ -12,17 +12,17 @@ ghost use Rattle.cfb_sectors.specs.Sectors.{IsRaised};
 ghost use Rattle.cfb_tables.specs.Clean.{IsUnnamed};
 ghost use Rattle.cfb_tables.specs.Listed.{gained};
 ghost use Rattle.cfb_tables.specs.Refused.{ChangeRefused, WalkRefused};
-ghost use Rattle.cfb_tables.specs.Tables.{first_or_end};
 ghost use Rattle.cfb_mini_sectors.specs.State.{HoldsMini, bytes_of, mini_place, mini_stream_of, table_of};
 ghost use Rattle.cfb_mini_sectors.specs.Steps.{IsNotHeld, IsTooFewFor, IsZeroMini, KeepsHeader, SparesMini, StopsShort, StopsShortOrFull, system_sectors};
 ghost use Rattle.cfb_mini.specs.MiniSectors.{ChangesFileOnly, HasMiniByte, HasMiniSector, IsStill, KeepsDirectory, KeepsMiniBytesBut, LengthensMini, ShortensMini, place_in_mini_sectors};
 
 use cfb_chains::chain::Numbers;
-use cfb_format::consts::{END_OF_CHAIN, MINI_SECTOR_LEN};
+use cfb_format::consts::MINI_SECTOR_LEN;
 use cfb_format::error::{Detail, Error};
 use cfb_format::medium::{Medium, ReadMedium};
 use cfb_mini::mini_allocator::MiniAllocator;
 use cfb_mini_sectors::pieces::are_known_minis;
+use cfb_tables::ends::first_number;
 use std::alloc::{Allocator as Heap, Global};
 
 /// A chain of mini sectors, which lie anywhere in the mini stream, as one list of bytes that is read and written from a position on. It
@@ -46,8 +46,10 @@ impl<'a, F: ReadMedium, A: Heap + Clone> MiniChain<'a, F, A> {
         minialloc: &'a mut MiniAllocator<F, A>,
         start: u32,
     ) -> Result<MiniChain<'a, F, A>, Error>
-        ensures* refused { sem 𝓛 (minialloc_rests F.row A.row F.ReadMedium A.Allocator minialloc.entry result) }
-        ensures same_minialloc { IfOk result (λ c. (minialloc_of c).ghost_name ≡ minialloc.entry.ghost_name) }
+        ensures* refused { sem 𝓛
+            (minialloc_rests F.row A.row F.ReadMedium A.Allocator minialloc.entry result) }
+        ensures same_minialloc { IfOk result (λ c. (minialloc_of c).ghost_name
+            ≡ minialloc.entry.ghost_name) }
         ensures minialloc { IfOk result (λ c. state_of c ≡ minialloc.old) }
         ensures chain { IfOk result (λ c. IsChain minialloc.old.minifat start (ids_of c)) }
         ensures there { IfOk result (λ c. (start_sector_of c ≡ start) × (position_of c ≡ 0)) }
@@ -76,7 +78,8 @@ impl<'a, F: ReadMedium, A: Heap> MiniChain<'a, F, A> {
     /// The numbers of its mini sectors, in order.
     pub fn mini_sector_ids(&self) -> &[u32]
         ensures ids { result.now ≡ ids_of self.now }
-        ensures chained { IsChain (state_of self.now).minifat (start_sector_of self.now) (ids_of self.now) }
+        ensures chained { IsChain
+            (state_of self.now).minifat (start_sector_of self.now) (ids_of self.now) }
     {
         self.ids.numbers()
     }
@@ -104,11 +107,15 @@ impl<'a, F: ReadMedium, A: Heap> MiniChain<'a, F, A> {
 
     /// Goes to a byte, or to the end. `InvalidInput` exactly past the end: then nothing has changed.
     pub fn seek(&mut self, position: u64) -> Result<(), Error>
-        ensures same_minialloc { (minialloc_of self.new).ghost_name ≡ (minialloc_of self.old).ghost_name }
+        ensures same_minialloc { (minialloc_of self.new).ghost_name
+            ≡ (minialloc_of self.old).ghost_name }
         ensures minialloc { state_of self.new ≡ state_of self.old }
-        ensures chain { (ids_of self.new ≡ ids_of self.old) × (start_sector_of self.new ≡ start_sector_of self.old) }
-        ensures inside { position ≤ len_of self.old → OnOk result (position_of self.new ≡ position) × OnErr result ⊥ }
-        ensures past { len_of self.old < position → IsErrAnd result IsInvalidInput × (position_of self.new ≡ position_of self.old) }
+        ensures chain { (ids_of self.new ≡ ids_of self.old)
+            × (start_sector_of self.new ≡ start_sector_of self.old) }
+        ensures inside { position ≤ len_of self.old
+            → OnOk result (position_of self.new ≡ position) × OnErr result ⊥ }
+        ensures past { len_of self.old < position
+            → IsErrAnd result IsInvalidInput × (position_of self.new ≡ position_of self.old) }
     {
         if position > self.len() {
             return Err(past_end(position, self.len()));
@@ -138,7 +145,8 @@ impl<'a, F: ReadMedium, A: Heap> MiniChain<'a, F, A> {
     fn room_here(&self) -> usize
         ensures room { result ≡ room_of self.now }
         ensures inside { 0 < result → position_of self.now < len_of self.now }
-        ensures within { 0 < result → position_of self.now % mini_sector_len + result ≤ mini_sector_len }
+        ensures within { 0 < result
+            → position_of self.now % mini_sector_len + result ≤ mini_sector_len }
     {
         if self.position >= self.len() {
             return 0;
@@ -151,22 +159,32 @@ impl<'a, F: ReadMedium, A: Heap> MiniChain<'a, F, A> {
     /// `InvalidData` exactly where the byte at the position is not there: the mini stream has no such mini sector, or the file ends
     /// before it; and `Medium` where the medium fails. The position then stays.
     pub fn read(&mut self, into: &mut [u8]) -> Result<usize, Error>
-        ensures same_minialloc { (minialloc_of self.new).ghost_name ≡ (minialloc_of self.old).ghost_name }
+        ensures same_minialloc { (minialloc_of self.new).ghost_name
+            ≡ (minialloc_of self.old).ghost_name }
         ensures kept { IsStill (state_of self.old) (state_of self.new) }
-        ensures chain { (ids_of self.new ≡ ids_of self.old) × (start_sector_of self.new ≡ start_sector_of self.old) }
+        ensures chain { (ids_of self.new ≡ ids_of self.old)
+            × (start_sector_of self.new ≡ start_sector_of self.old) }
         ensures count { IfOk result (λ n. n ≤ min (length into.old) (left_of self.old)) }
         ensures some { IfOk result (λ n. 0 < min (length into.old) (left_of self.old) → 0 < n) }
-        ensures within { IfOk result (λ n. (j : ℕ) → j < n → IsThere self.old (position_of self.old + j)) }
-        ensures position { MatchResult result (λ n. position_of self.new ≡ position_of self.old + n) (λ _. position_of self.new ≡ position_of self.old) }
+        ensures within { IfOk result (λ n. (j : ℕ)
+            → j < n → IsThere self.old (position_of self.old + j)) }
+        ensures position { MatchResult result (λ n. position_of self.new
+            ≡ position_of self.old + n) (λ _. position_of self.new ≡ position_of self.old) }
         ensures ok { IsTrue F.tells → IfOk result (λ n. take n into.new
-            ≡ placed_from (file_bytes_of self.old) (place_in_mini_sectors (state_of self.old) (ids_of self.old)) (position_of self.old) n) }
+            ≡ placed_from (file_bytes_of self.old) (place_in_mini_sectors
+            (state_of self.old) (ids_of self.old)) (position_of self.old) n) }
         ensures rest { IfOk result (λ n. drop n into.new ≡ drop n into.old) }
-        ensures cut { 0 < min (length into.old) (left_of self.old) → (IsThere self.old (position_of self.old) → ⊥) → IsErrAnd result IsInvalidData }
-        ensures none { min (length into.old) (left_of self.old) ≡ 0 → OnErr result ⊥ × (state_of self.new ≡ state_of self.old) }
-        ensures err { IfErr result (ChangeRefused (IsThere self.old (position_of self.old) → ⊥) ⊥ ⊥ Unit) }
+        ensures cut { 0 < min (length into.old) (left_of self.old)
+            → (IsThere self.old (position_of self.old) → ⊥) → IsErrAnd result IsInvalidData }
+        ensures none { min (length into.old) (left_of self.old) ≡ 0
+            → OnErr result ⊥ × (state_of self.new ≡ state_of self.old) }
+        ensures err { IfErr result (ChangeRefused (IsThere self.old (position_of self.old)
+            → ⊥) ⊥ ⊥ Unit) }
         ensures same { IsTrue F.tells → OnOk result (state_of self.new ≡ state_of self.old) }
         ensures bytes { IsTrue F.tells → file_bytes_of self.new ≡ file_bytes_of self.old }
-        ensures counts { IsTrue F.tells → CountsFailure F.read_faults result (table_of (state_of self.old)).file.failures (table_of (state_of self.new)).file.failures }
+        ensures counts { IsTrue F.tells
+            → CountsFailure F.read_faults result (table_of (state_of self.old)).file.failures
+            (table_of (state_of self.new)).file.failures }
     {
         if into.is_empty() || self.position >= self.len() {
             return Ok(0);
@@ -178,21 +196,30 @@ impl<'a, F: ReadMedium, A: Heap> MiniChain<'a, F, A> {
     fn read_here(&mut self, into: &mut [u8]) -> Result<usize, Error>
         requires some { 0 < length into.old }
         requires inside { position_of self.old < len_of self.old }
-        ensures same_minialloc { (minialloc_of self.new).ghost_name ≡ (minialloc_of self.old).ghost_name }
+        ensures same_minialloc { (minialloc_of self.new).ghost_name
+            ≡ (minialloc_of self.old).ghost_name }
         ensures kept { IsStill (state_of self.old) (state_of self.new) }
-        ensures chain { (ids_of self.new ≡ ids_of self.old) × (start_sector_of self.new ≡ start_sector_of self.old) }
+        ensures chain { (ids_of self.new ≡ ids_of self.old)
+            × (start_sector_of self.new ≡ start_sector_of self.old) }
         ensures count { IfOk result (λ n. n ≤ min (length into.old) (left_of self.old)) }
         ensures some { IfOk result (λ n. 0 < n) }
-        ensures within { IfOk result (λ n. (j : ℕ) → j < n → IsThere self.old (position_of self.old + j)) }
-        ensures position { MatchResult result (λ n. position_of self.new ≡ position_of self.old + n) (λ _. position_of self.new ≡ position_of self.old) }
+        ensures within { IfOk result (λ n. (j : ℕ)
+            → j < n → IsThere self.old (position_of self.old + j)) }
+        ensures position { MatchResult result (λ n. position_of self.new
+            ≡ position_of self.old + n) (λ _. position_of self.new ≡ position_of self.old) }
         ensures ok { IsTrue F.tells → IfOk result (λ n. take n into.new
-            ≡ placed_from (file_bytes_of self.old) (place_in_mini_sectors (state_of self.old) (ids_of self.old)) (position_of self.old) n) }
+            ≡ placed_from (file_bytes_of self.old) (place_in_mini_sectors
+            (state_of self.old) (ids_of self.old)) (position_of self.old) n) }
         ensures rest { IfOk result (λ n. drop n into.new ≡ drop n into.old) }
-        ensures cut { (IsThere self.old (position_of self.old) → ⊥) → IsErrAnd result IsInvalidData }
-        ensures err { IfErr result (ChangeRefused (IsThere self.old (position_of self.old) → ⊥) ⊥ ⊥ Unit) }
+        ensures cut { (IsThere self.old (position_of self.old) → ⊥)
+            → IsErrAnd result IsInvalidData }
+        ensures err { IfErr result (ChangeRefused (IsThere self.old (position_of self.old)
+            → ⊥) ⊥ ⊥ Unit) }
         ensures same { IsTrue F.tells → OnOk result (state_of self.new ≡ state_of self.old) }
         ensures bytes { IsTrue F.tells → file_bytes_of self.new ≡ file_bytes_of self.old }
-        ensures counts { IsTrue F.tells → CountsFailure F.read_faults result (table_of (state_of self.old)).file.failures (table_of (state_of self.new)).file.failures }
+        ensures counts { IsTrue F.tells
+            → CountsFailure F.read_faults result (table_of (state_of self.old)).file.failures
+            (table_of (state_of self.new)).file.failures }
     {
         let mini = self.mini_sector_at(self.position);
         let offset = self.offset_here();
@@ -222,30 +249,49 @@ impl<'a, F: Medium, A: Heap> MiniChain<'a, F, A> {
     /// for the byte at the position: nothing has changed then. `Medium` where the medium fails: the position then stays, and no byte of
     /// the file has changed but where `from` was to stand.
     pub fn write_within(&mut self, from: &[u8]) -> Result<usize, Error>
-        ensures same_minialloc { (minialloc_of self.new).ghost_name ≡ (minialloc_of self.old).ghost_name }
+        ensures same_minialloc { (minialloc_of self.new).ghost_name
+            ≡ (minialloc_of self.old).ghost_name }
         ensures kept { ChangesFileOnly (state_of self.old) (state_of self.new) }
-        ensures chain { (ids_of self.new ≡ ids_of self.old) × (start_sector_of self.new ≡ start_sector_of self.old) }
+        ensures chain { (ids_of self.new ≡ ids_of self.old)
+            × (start_sector_of self.new ≡ start_sector_of self.old) }
         ensures count { IfOk result (λ n. n ≤ min (length from.now) (left_of self.old)) }
         ensures some { IfOk result (λ n. 0 < min (length from.now) (left_of self.old) → 0 < n) }
-        ensures none { min (length from.now) (left_of self.old) ≡ 0 → OnErr result ⊥ × (state_of self.new ≡ state_of self.old) }
-        ensures position { MatchResult result (λ n. position_of self.new ≡ position_of self.old + n) (λ _. position_of self.new ≡ position_of self.old) }
-        ensures ok { IsTrue F.tells → IfOk result (λ n. 0 < n → (table_of (state_of self.new)).file ≡ record (table_of (state_of self.old)).file {
-          bytes = written (file_bytes_of self.old) (place_of self.old) (take n from.now);
-          len = max (table_of (state_of self.old)).file.len (place_of self.old + n);
-          begun = true;
-        }) }
+        ensures none { min (length from.now) (left_of self.old) ≡ 0
+            → OnErr result ⊥ × (state_of self.new ≡ state_of self.old) }
+        ensures position { MatchResult result (λ n. position_of self.new
+            ≡ position_of self.old + n) (λ _. position_of self.new ≡ position_of self.old) }
+        ensures ok { IsTrue F.tells → IfOk result (λ n. 0 < n
+            → (table_of (state_of self.new)).file ≡ record (table_of (state_of self.old)).file {
+              bytes = written (file_bytes_of self.old) (place_of self.old) (take n from.now);
+              len = max (table_of (state_of self.old)).file.len (place_of self.old + n);
+              begun = true;
+            }) }
         ensures there { IfOk result (λ n. 0 < n → IsPlaced self.old (position_of self.old)) }
-        ensures cut { 0 < min (length from.now) (left_of self.old) → (IsPlaced self.old (position_of self.old) → ⊥) → IsErrAnd result IsInvalidData }
-        ensures err { IfErr result (ChangeRefused (IsPlaced self.old (position_of self.old) → ⊥) ⊥ ⊥ Unit) }
-        ensures places { IsTrue F.tells → (validation : Validation) → HoldsMini validation (state_of self.old) → IfOk result (λ n. HasWritten n from.now self.old self.new) }
-        ensures holds { IsTrue F.tells → (validation : Validation) → HoldsMini validation (state_of self.old) → OnOk result (HoldsMini validation (state_of self.new)) }
+        ensures cut { 0 < min (length from.now) (left_of self.old)
+            → (IsPlaced self.old (position_of self.old) → ⊥) → IsErrAnd result IsInvalidData }
+        ensures err { IfErr result (ChangeRefused (IsPlaced self.old (position_of self.old)
+            → ⊥) ⊥ ⊥ Unit) }
+        ensures places { IsTrue F.tells
+            → (validation : Validation) → HoldsMini validation (state_of self.old)
+            → IfOk result (λ n. HasWritten n from.now self.old self.new) }
+        ensures holds { IsTrue F.tells
+            → (validation : Validation) → HoldsMini validation (state_of self.old)
+            → OnOk result (HoldsMini validation (state_of self.new)) }
         ensures others { IsTrue F.tells → ChangesOnlyWanted (length from.now) self.old self.new }
-        ensures other_mini { IsTrue F.tells → (validation : Validation) → HoldsMini validation (state_of self.old) → OthersStay (length from.now) self.old self.new }
-        ensures spares { IsTrue F.tells → Spares (mini_stream_of (state_of self.old)) (table_of (state_of self.old)) (table_of (state_of self.new)) }
-        ensures mini_spares { IsTrue F.tells → (validation : Validation) → HoldsMini validation (state_of self.old) → SparesMini (ids_of self.old) (state_of self.old) (state_of self.new) }
-        ensures begun { 0 < length from.now → IfOk result (λ n. 0 < n → (table_of (state_of self.new)).file.begun ≡ true) }
+        ensures other_mini { IsTrue F.tells
+            → (validation : Validation) → HoldsMini validation (state_of self.old)
+            → OthersStay (length from.now) self.old self.new }
+        ensures spares { IsTrue F.tells → Spares (mini_stream_of (state_of self.old))
+            (table_of (state_of self.old)) (table_of (state_of self.new)) }
+        ensures mini_spares { IsTrue F.tells
+            → (validation : Validation) → HoldsMini validation (state_of self.old)
+            → SparesMini (ids_of self.old) (state_of self.old) (state_of self.new) }
+        ensures begun { 0 < length from.now
+            → IfOk result (λ n. 0 < n → (table_of (state_of self.new)).file.begun ≡ true) }
         ensures refused { IfErr result (StopsShort (state_of self.old) (state_of self.new)) }
-        ensures counts { IsTrue F.tells → CountsFailure F.write_faults result (table_of (state_of self.old)).file.failures (table_of (state_of self.new)).file.failures }
+        ensures counts { IsTrue F.tells
+            → CountsFailure F.write_faults result (table_of (state_of self.old)).file.failures
+            (table_of (state_of self.new)).file.failures }
     {
         let room = from.len().min(self.room_here());
         if room == 0 {
@@ -259,27 +305,42 @@ impl<'a, F: Medium, A: Heap> MiniChain<'a, F, A> {
     fn write_here(&mut self, from: &[u8]) -> Result<(), Error>
         requires some { 0 < length from.now }
         requires inside { position_of self.old < len_of self.old }
-        requires within { position_of self.old % mini_sector_len + length from.now ≤ mini_sector_len }
-        ensures same_minialloc { (minialloc_of self.new).ghost_name ≡ (minialloc_of self.old).ghost_name }
+        requires within { position_of self.old % mini_sector_len + length from.now
+            ≤ mini_sector_len }
+        ensures same_minialloc { (minialloc_of self.new).ghost_name
+            ≡ (minialloc_of self.old).ghost_name }
         ensures kept { ChangesFileOnly (state_of self.old) (state_of self.new) }
-        ensures chain { (ids_of self.new ≡ ids_of self.old) × (start_sector_of self.new ≡ start_sector_of self.old) }
-        ensures position { MatchResult result (λ _. position_of self.new ≡ position_of self.old + length from.now) (λ _. position_of self.new ≡ position_of self.old) }
-        ensures ok { IsTrue F.tells → OnOk result ((table_of (state_of self.new)).file ≡ record (table_of (state_of self.old)).file {
-          bytes = written (file_bytes_of self.old) (place_of self.old) from.now;
-          len = max (table_of (state_of self.old)).file.len (place_of self.old + length from.now);
-          begun = true;
-        }) }
+        ensures chain { (ids_of self.new ≡ ids_of self.old)
+            × (start_sector_of self.new ≡ start_sector_of self.old) }
+        ensures position { MatchResult result (λ _. position_of self.new ≡ position_of self.old
+            + length from.now) (λ _. position_of self.new ≡ position_of self.old) }
+        ensures ok { IsTrue F.tells → OnOk result ((table_of (state_of self.new)).file
+            ≡ record (table_of (state_of self.old)).file {
+              bytes = written (file_bytes_of self.old) (place_of self.old) from.now;
+              len = max (table_of (state_of self.old)).file.len (place_of self.old + length from.now);
+              begun = true;
+            }) }
         ensures there { OnOk result (IsPlaced self.old (position_of self.old)) }
-        ensures cut { (IsPlaced self.old (position_of self.old) → ⊥) → IsErrAnd result IsInvalidData }
-        ensures err { IfErr result (ChangeRefused (IsPlaced self.old (position_of self.old) → ⊥) ⊥ ⊥ Unit) }
-        ensures holds { IsTrue F.tells → (validation : Validation) → HoldsMini validation (state_of self.old) → OnOk result (HoldsMini validation (state_of self.new)) }
-        ensures others { IsTrue F.tells → ChangesOnlyBytes (place_of self.old) (length from.now) (file_bytes_of self.old) (file_bytes_of self.new) }
-        ensures spares { IsTrue F.tells → Spares (mini_stream_of (state_of self.old)) (table_of (state_of self.old)) (table_of (state_of self.new)) }
-        ensures mini_spares { IsTrue F.tells → (validation : Validation) → HoldsMini validation (state_of self.old)
-            → SparesMini (mini_sector_at self.old (position_of self.old) ∷ []) (state_of self.old) (state_of self.new) }
+        ensures cut { (IsPlaced self.old (position_of self.old) → ⊥)
+            → IsErrAnd result IsInvalidData }
+        ensures err { IfErr result (ChangeRefused (IsPlaced self.old (position_of self.old)
+            → ⊥) ⊥ ⊥ Unit) }
+        ensures holds { IsTrue F.tells
+            → (validation : Validation) → HoldsMini validation (state_of self.old)
+            → OnOk result (HoldsMini validation (state_of self.new)) }
+        ensures others { IsTrue F.tells → ChangesOnlyBytes (place_of self.old)
+            (length from.now) (file_bytes_of self.old) (file_bytes_of self.new) }
+        ensures spares { IsTrue F.tells → Spares (mini_stream_of (state_of self.old))
+            (table_of (state_of self.old)) (table_of (state_of self.new)) }
+        ensures mini_spares { IsTrue F.tells
+            → (validation : Validation) → HoldsMini validation (state_of self.old)
+            → SparesMini (mini_sector_at self.old (position_of self.old)
+            ∷ []) (state_of self.old) (state_of self.new) }
         ensures begun { OnOk result ((table_of (state_of self.new)).file.begun ≡ true) }
         ensures refused { IfErr result (StopsShort (state_of self.old) (state_of self.new)) }
-        ensures counts { IsTrue F.tells → CountsFailure F.write_faults result (table_of (state_of self.old)).file.failures (table_of (state_of self.new)).file.failures }
+        ensures counts { IsTrue F.tells
+            → CountsFailure F.write_faults result (table_of (state_of self.old)).file.failures
+            (table_of (state_of self.new)).file.failures }
     {
         let mini = self.mini_sector_at(self.position);
         let offset = self.offset_here();
@@ -293,26 +354,43 @@ impl<'a, F: Medium, A: Heap> MiniChain<'a, F, A> {
     /// in use that one alone has changed then.
     pub fn zero_tail(&mut self, offset: u64) -> Result<(), Error>
         requires { offset ≤ len_of self.old }
-        ensures same_minialloc { (minialloc_of self.new).ghost_name ≡ (minialloc_of self.old).ghost_name }
+        ensures same_minialloc { (minialloc_of self.new).ghost_name
+            ≡ (minialloc_of self.old).ghost_name }
         ensures kept { ChangesFileOnly (state_of self.old) (state_of self.new) }
-        ensures chain { (ids_of self.new ≡ ids_of self.old) × (start_sector_of self.new ≡ start_sector_of self.old) }
+        ensures chain { (ids_of self.new ≡ ids_of self.old)
+            × (start_sector_of self.new ≡ start_sector_of self.old) }
         ensures position { position_of self.new ≡ position_of self.old }
-        ensures none { offset % mini_sector_len ≡ 0 → OnErr result ⊥ × (state_of self.new ≡ state_of self.old) }
-        ensures ok { IsTrue F.tells → 0 < offset % mini_sector_len → OnOk result ((table_of (state_of self.new)).file ≡ record (table_of (state_of self.old)).file {
-          bytes = written (file_bytes_of self.old) (place_at self.old offset) (replicate (mini_sector_len - offset % mini_sector_len) 0);
-          len = max (table_of (state_of self.old)).file.len (place_at self.old offset + (mini_sector_len - offset % mini_sector_len));
-          begun = true;
-        }) }
-        ensures cut { 0 < offset % mini_sector_len → (IsPlaced self.old offset → ⊥) → IsErrAnd result IsInvalidData }
+        ensures none { offset % mini_sector_len ≡ 0
+            → OnErr result ⊥ × (state_of self.new ≡ state_of self.old) }
+        ensures ok { IsTrue F.tells
+            → 0 < offset % mini_sector_len → OnOk result ((table_of (state_of self.new)).file
+            ≡ record (table_of (state_of self.old)).file {
+              bytes = written (file_bytes_of self.old)
+                  (place_at self.old offset) (replicate (mini_sector_len - offset % mini_sector_len) 0);
+              len = max (table_of (state_of self.old)).file.len (place_at self.old offset
+                  + (mini_sector_len - offset % mini_sector_len));
+              begun = true;
+            }) }
+        ensures cut { 0 < offset % mini_sector_len
+            → (IsPlaced self.old offset → ⊥) → IsErrAnd result IsInvalidData }
         ensures err { IfErr result (ChangeRefused (IsPlaced self.old offset → ⊥) ⊥ ⊥ Unit) }
-        ensures holds { IsTrue F.tells → (validation : Validation) → HoldsMini validation (state_of self.old) → OnOk result (HoldsMini validation (state_of self.new)) }
-        ensures others { IsTrue F.tells → ChangesOnlyBytes (place_at self.old offset) (mini_sector_len - offset % mini_sector_len) (file_bytes_of self.old) (file_bytes_of self.new) }
-        ensures spares { IsTrue F.tells → Spares (mini_stream_of (state_of self.old)) (table_of (state_of self.old)) (table_of (state_of self.new)) }
-        ensures mini_spares { IsTrue F.tells → (validation : Validation) → HoldsMini validation (state_of self.old)
-            → SparesMini (mini_sector_at self.old offset ∷ []) (state_of self.old) (state_of self.new) }
-        ensures begun { 0 < offset % mini_sector_len → OnOk result ((table_of (state_of self.new)).file.begun ≡ true) }
+        ensures holds { IsTrue F.tells
+            → (validation : Validation) → HoldsMini validation (state_of self.old)
+            → OnOk result (HoldsMini validation (state_of self.new)) }
+        ensures others { IsTrue F.tells
+            → ChangesOnlyBytes (place_at self.old offset) (mini_sector_len
+            - offset % mini_sector_len) (file_bytes_of self.old) (file_bytes_of self.new) }
+        ensures spares { IsTrue F.tells → Spares (mini_stream_of (state_of self.old))
+            (table_of (state_of self.old)) (table_of (state_of self.new)) }
+        ensures mini_spares { IsTrue F.tells → (validation : Validation)
+            → HoldsMini validation (state_of self.old) → SparesMini (mini_sector_at self.old offset
+            ∷ []) (state_of self.old) (state_of self.new) }
+        ensures begun { 0 < offset % mini_sector_len
+            → OnOk result ((table_of (state_of self.new)).file.begun ≡ true) }
         ensures refused { IfErr result (StopsShort (state_of self.old) (state_of self.new)) }
-        ensures counts { IsTrue F.tells → CountsFailure F.write_faults result (table_of (state_of self.old)).file.failures (table_of (state_of self.new)).file.failures }
+        ensures counts { IsTrue F.tells
+            → CountsFailure F.write_faults result (table_of (state_of self.old)).file.failures
+            (table_of (state_of self.new)).file.failures }
     {
         let rest = (offset % MINI_SECTOR_LEN as u64) as usize;
         if rest == 0 {
@@ -333,24 +411,35 @@ impl<'a, F: Medium, A: Heap> MiniChain<'a, F, A> {
     /// It asks for no memory. `InvalidData` where the bytes do not hold the mini sectors, and `Medium` where the medium fails. Nothing has
     /// changed where it is refused, but after `Medium`: then no other mini sector in use has changed.
     pub fn free(&mut self) -> Result<(), Error>
-        ensures same_minialloc { (minialloc_of self.new).ghost_name ≡ (minialloc_of self.old).ghost_name }
+        ensures same_minialloc { (minialloc_of self.new).ghost_name
+            ≡ (minialloc_of self.old).ghost_name }
         ensures ids { OnOk result (ids_of self.new ≡ []) }
         ensures position { position_of self.new ≡ min (position_of self.old) (len_of self.new) }
         ensures none { ids_of self.old ≡ [] → OnErr result ⊥ × IsAsBefore self.old self.new }
-        ensures freed { OnOk result (ShortensMini 0 (ids_of self.old) (ids_of self.new) (state_of self.old) (state_of self.new)) }
+        ensures freed { OnOk result (ShortensMini 0
+            (ids_of self.old) (ids_of self.new) (state_of self.old) (state_of self.new)) }
         ensures directory { KeepsDirectory (state_of self.old) (state_of self.new) }
-        ensures holds { IsTrue F.tells → (validation : Validation) → HoldsMini validation (state_of self.old)
-            → IsUnnamed (state_of self.old).minifat (start_sector_of self.old) → OnOk result (HoldsMini validation (state_of self.new)) }
-        ensures wiped { IsTrue F.tells → (validation : Validation) → HoldsMini validation (state_of self.old)
-            → OnOk result ((m : ℕ) → Contains (ids_of self.old) m → IsZeroMini (state_of self.new) m) }
-        ensures spares { IsTrue F.tells → Spares (system_sectors (state_of self.old)) (table_of (state_of self.old)) (table_of (state_of self.new)) }
-        ensures mini_spares { IsTrue F.tells → (validation : Validation) → HoldsMini validation (state_of self.old) → SparesMini (ids_of self.old) (state_of self.old) (state_of self.new) }
+        ensures holds { IsTrue F.tells
+            → (validation : Validation) → HoldsMini validation (state_of self.old)
+            → IsUnnamed (state_of self.old).minifat (start_sector_of self.old)
+            → OnOk result (HoldsMini validation (state_of self.new)) }
+        ensures wiped { IsTrue F.tells → (validation : Validation)
+            → HoldsMini validation (state_of self.old) → OnOk result ((m : ℕ)
+            → Contains (ids_of self.old) m → IsZeroMini (state_of self.new) m) }
+        ensures spares { IsTrue F.tells → Spares (system_sectors (state_of self.old))
+            (table_of (state_of self.old)) (table_of (state_of self.new)) }
+        ensures mini_spares { IsTrue F.tells
+            → (validation : Validation) → HoldsMini validation (state_of self.old)
+            → SparesMini (ids_of self.old) (state_of self.old) (state_of self.new) }
         ensures header { IsTrue F.tells → KeepsHeader (state_of self.old) (state_of self.new) }
         ensures refused { IfErr result (StopsShort (state_of self.old) (state_of self.new)) }
         ensures kept { IfErr result (AfterMedium Unit (IsAsBefore self.old self.new)) }
         ensures err { IfErr result (ChangeRefused (IsNotHeld (state_of self.old)) ⊥ ⊥ Unit) }
-        ensures begun { OnOk result (IsRaised (0 < length (ids_of self.old)) (table_of (state_of self.old)).file (table_of (state_of self.new)).file) }
-        ensures counts { IsTrue F.tells → CountsFailure F.write_faults result (table_of (state_of self.old)).file.failures (table_of (state_of self.new)).file.failures }
+        ensures begun { OnOk result (IsRaised (0 < length (ids_of self.old))
+            (table_of (state_of self.old)).file (table_of (state_of self.new)).file) }
+        ensures counts { IsTrue F.tells
+            → CountsFailure F.write_faults result (table_of (state_of self.old)).file.failures
+            (table_of (state_of self.new)).file.failures }
     {
         self.cut(0)
     }
@@ -365,30 +454,52 @@ impl<'a, F: Medium, A: Heap> MiniChain<'a, F, A> {
     /// `Medium` where the medium fails: then no other mini sector in use has changed, and of its own none that holds no byte where `from`
     /// was to stand.
     pub fn write(&mut self, from: &[u8]) -> Result<usize, Error>
-        ensures same_minialloc { (minialloc_of self.new).ghost_name ≡ (minialloc_of self.old).ghost_name }
+        ensures same_minialloc { (minialloc_of self.new).ghost_name
+            ≡ (minialloc_of self.old).ghost_name }
         ensures count { IfOk result (λ n. n ≤ length from.now) }
         ensures some { IfOk result (λ n. 0 < length from.now → 0 < n) }
-        ensures position { MatchResult result (λ n. position_of self.new ≡ position_of self.old + n) (λ _. position_of self.new ≡ position_of self.old) }
+        ensures position { MatchResult result (λ n. position_of self.new
+            ≡ position_of self.old + n) (λ _. position_of self.new ≡ position_of self.old) }
         ensures none { length from.now ≡ 0 → OnErr result ⊥ × IsAsBefore self.old self.new }
-        ensures ids { ids_of self.new ≡ ids_of self.old ++ gained (ids_of self.old) (ids_of self.new) }
-        ensures start { 0 < length (ids_of self.old) → start_sector_of self.new ≡ start_sector_of self.old }
-        ensures within { missing_of self.old (length from.now) ≡ 0 → ChangesFileOnly (state_of self.old) (state_of self.new) × (ids_of self.new ≡ ids_of self.old) }
-        ensures grown { 0 < missing_of self.old (length from.now) → OnOk result (LengthensMini (missing_of self.old (length from.now))
+        ensures ids { ids_of self.new
+            ≡ ids_of self.old ++ gained (ids_of self.old) (ids_of self.new) }
+        ensures start { 0 < length (ids_of self.old)
+            → start_sector_of self.new ≡ start_sector_of self.old }
+        ensures within { missing_of self.old (length from.now) ≡ 0
+            → ChangesFileOnly (state_of self.old) (state_of self.new)
+            × (ids_of self.new ≡ ids_of self.old) }
+        ensures grown { 0 < missing_of self.old (length from.now)
+            → OnOk result (LengthensMini (missing_of self.old (length from.now))
             (ids_of self.old) (ids_of self.new) (state_of self.old) (state_of self.new)) }
         ensures directory { KeepsDirectory (state_of self.old) (state_of self.new) }
-        ensures holds { IsTrue F.tells → (validation : Validation) → HoldsMini validation (state_of self.old) → OnOk result (HoldsMini validation (state_of self.new)) }
-        ensures places { IsTrue F.tells → (validation : Validation) → HoldsMini validation (state_of self.old) → IfOk result (λ n. HasWritten n from.now self.old self.new) }
-        ensures others { IsTrue F.tells → (validation : Validation) → HoldsMini validation (state_of self.old) → OthersStay (length from.now) self.old self.new }
-        ensures spares { IsTrue F.tells → Spares (system_sectors (state_of self.old)) (table_of (state_of self.old)) (table_of (state_of self.new)) }
-        ensures mini_spares { IsTrue F.tells → (validation : Validation) → HoldsMini validation (state_of self.old) → SparesMini (ids_of self.old) (state_of self.old) (state_of self.new) }
+        ensures holds { IsTrue F.tells
+            → (validation : Validation) → HoldsMini validation (state_of self.old)
+            → OnOk result (HoldsMini validation (state_of self.new)) }
+        ensures places { IsTrue F.tells
+            → (validation : Validation) → HoldsMini validation (state_of self.old)
+            → IfOk result (λ n. HasWritten n from.now self.old self.new) }
+        ensures others { IsTrue F.tells
+            → (validation : Validation) → HoldsMini validation (state_of self.old)
+            → OthersStay (length from.now) self.old self.new }
+        ensures spares { IsTrue F.tells → Spares (system_sectors (state_of self.old))
+            (table_of (state_of self.old)) (table_of (state_of self.new)) }
+        ensures mini_spares { IsTrue F.tells
+            → (validation : Validation) → HoldsMini validation (state_of self.old)
+            → SparesMini (ids_of self.old) (state_of self.old) (state_of self.new) }
         ensures header { IsTrue F.tells → KeepsHeader (state_of self.old) (state_of self.new) }
-        ensures begun { 0 < length from.now → OnOk result ((table_of (state_of self.new)).file.begun ≡ true) }
-        ensures refused { IfErr result (StopsShortOrFull (missing_of self.old (length from.now)) (state_of self.old) (state_of self.new)) }
-        ensures kept { IfErr result (AfterMedium Unit ((ids_of self.new ≡ ids_of self.old) × (start_sector_of self.new ≡ start_sector_of self.old))) }
+        ensures begun { 0 < length from.now
+            → OnOk result ((table_of (state_of self.new)).file.begun ≡ true) }
+        ensures refused { IfErr result (StopsShortOrFull
+            (missing_of self.old (length from.now)) (state_of self.old) (state_of self.new)) }
+        ensures kept { IfErr result (AfterMedium Unit ((ids_of self.new ≡ ids_of self.old)
+            × (start_sector_of self.new ≡ start_sector_of self.old))) }
         ensures err { IfErr result (ChangeRefused (IsNotHeld (state_of self.old)) Unit
             (IsTooFewFor (state_of self.old) (missing_of self.old (length from.now))) Unit) }
-        ensures needed { missing_of self.old (length from.now) ≡ 0 → IfErr result (ChangeRefused (IsPlaced self.old (position_of self.old) → ⊥) ⊥ ⊥ Unit) }
-        ensures counts { IsTrue F.tells → CountsFailure F.write_faults result (table_of (state_of self.old)).file.failures (table_of (state_of self.new)).file.failures }
+        ensures needed { missing_of self.old (length from.now) ≡ 0
+            → IfErr result (ChangeRefused (IsPlaced self.old (position_of self.old) → ⊥) ⊥ ⊥ Unit) }
+        ensures counts { IsTrue F.tells
+            → CountsFailure F.write_faults result (table_of (state_of self.old)).file.failures
+            (table_of (state_of self.new)).file.failures }
     {
         let missing = self.missing(from.len());
         if missing == 0 {
@@ -405,35 +516,61 @@ impl<'a, F: Medium, A: Heap> MiniChain<'a, F, A> {
     /// `InvalidData`, `Full`, `Memory` and `Medium` as in `write`; a shorter length asks for no memory and is never `Full`. Whatever it
     /// answers, no mini sector in use has changed but its own from the one on in which this length lies.
     pub fn set_len(&mut self, len: u64) -> Result<(), Error>
-        ensures same_minialloc { (minialloc_of self.new).ghost_name ≡ (minialloc_of self.old).ghost_name }
+        ensures same_minialloc { (minialloc_of self.new).ghost_name
+            ≡ (minialloc_of self.old).ghost_name }
         ensures none { len ≡ len_of self.old → OnErr result ⊥ × IsAsBefore self.old self.new }
         ensures position { position_of self.new ≡ min (position_of self.old) (len_of self.new) }
-        ensures start { 0 < len → 0 < length (ids_of self.old) → OnOk result (start_sector_of self.new ≡ start_sector_of self.old) }
-        ensures listed { length (ids_of self.old) < rounded_up len mini_sector_len → ids_of self.new ≡ ids_of self.old ++ gained (ids_of self.old) (ids_of self.new) }
-        ensures grown { length (ids_of self.old) < rounded_up len mini_sector_len → OnOk result (LengthensMini (rounded_up len mini_sector_len - length (ids_of self.old))
+        ensures start { 0 < len → 0 < length (ids_of self.old)
+            → OnOk result (start_sector_of self.new ≡ start_sector_of self.old) }
+        ensures listed { length (ids_of self.old) < rounded_up len mini_sector_len
+            → ids_of self.new ≡ ids_of self.old ++ gained (ids_of self.old) (ids_of self.new) }
+        ensures grown { length (ids_of self.old) < rounded_up len mini_sector_len
+            → OnOk result (LengthensMini (rounded_up len mini_sector_len - length (ids_of self.old))
             (ids_of self.old) (ids_of self.new) (state_of self.old) (state_of self.new)) }
-        ensures cut { rounded_up len mini_sector_len ≤ length (ids_of self.old) → OnOk result (ShortensMini (rounded_up len mini_sector_len)
+        ensures cut { rounded_up len mini_sector_len ≤ length (ids_of self.old)
+            → OnOk result (ShortensMini (rounded_up len mini_sector_len)
             (ids_of self.old) (ids_of self.new) (state_of self.old) (state_of self.new)) }
-        ensures within { rounded_up len mini_sector_len ≡ length (ids_of self.old) → ChangesFileOnly (state_of self.old) (state_of self.new) × (ids_of self.new ≡ ids_of self.old) }
+        ensures within { rounded_up len mini_sector_len ≡ length (ids_of self.old)
+            → ChangesFileOnly (state_of self.old) (state_of self.new)
+            × (ids_of self.new ≡ ids_of self.old) }
         ensures directory { KeepsDirectory (state_of self.old) (state_of self.new) }
-        ensures holds { IsTrue F.tells → (validation : Validation) → HoldsMini validation (state_of self.old)
-            → (len ≡ 0 → IsUnnamed (state_of self.old).minifat (start_sector_of self.old)) → OnOk result (HoldsMini validation (state_of self.new)) }
-        ensures places { IsTrue F.tells → (validation : Validation) → HoldsMini validation (state_of self.old) → OnOk result (HasResized len self.old self.new) }
-        ensures bytes { IsTrue F.tells → (validation : Validation) → HoldsMini validation (state_of self.old)
-            → KeepsMiniBytesBut (drop (len / mini_sector_len) (ids_of self.old)) (state_of self.old) (state_of self.new) }
-        ensures wiped { IsTrue F.tells → (validation : Validation) → HoldsMini validation (state_of self.old)
-            → OnOk result ((m : ℕ) → Contains (drop (rounded_up len mini_sector_len) (ids_of self.old)) m → IsZeroMini (state_of self.new) m) }
-        ensures spares { IsTrue F.tells → Spares (system_sectors (state_of self.old)) (table_of (state_of self.old)) (table_of (state_of self.new)) }
-        ensures mini_spares { IsTrue F.tells → (validation : Validation) → HoldsMini validation (state_of self.old) → SparesMini (ids_of self.old) (state_of self.old) (state_of self.new) }
+        ensures holds { IsTrue F.tells
+            → (validation : Validation) → HoldsMini validation (state_of self.old)
+            → (len ≡ 0 → IsUnnamed (state_of self.old).minifat (start_sector_of self.old))
+            → OnOk result (HoldsMini validation (state_of self.new)) }
+        ensures places { IsTrue F.tells
+            → (validation : Validation) → HoldsMini validation (state_of self.old)
+            → OnOk result (HasResized len self.old self.new) }
+        ensures bytes { IsTrue F.tells
+            → (validation : Validation) → HoldsMini validation (state_of self.old)
+            → KeepsMiniBytesBut (drop (len / mini_sector_len) (ids_of self.old))
+            (state_of self.old) (state_of self.new) }
+        ensures wiped { IsTrue F.tells → (validation : Validation)
+            → HoldsMini validation (state_of self.old) → OnOk result ((m : ℕ)
+            → Contains (drop (rounded_up len mini_sector_len) (ids_of self.old)) m
+            → IsZeroMini (state_of self.new) m) }
+        ensures spares { IsTrue F.tells → Spares (system_sectors (state_of self.old))
+            (table_of (state_of self.old)) (table_of (state_of self.new)) }
+        ensures mini_spares { IsTrue F.tells
+            → (validation : Validation) → HoldsMini validation (state_of self.old)
+            → SparesMini (ids_of self.old) (state_of self.old) (state_of self.new) }
         ensures header { IsTrue F.tells → KeepsHeader (state_of self.old) (state_of self.new) }
-        ensures refused { IfErr result (StopsShortOrFull (rounded_up len mini_sector_len - length (ids_of self.old)) (state_of self.old) (state_of self.new)) }
-        ensures kept { IfErr result (AfterMedium Unit ((ids_of self.new ≡ ids_of self.old) × (start_sector_of self.new ≡ start_sector_of self.old))) }
+        ensures refused { IfErr result (StopsShortOrFull (rounded_up len mini_sector_len
+            - length (ids_of self.old)) (state_of self.old) (state_of self.new)) }
+        ensures kept { IfErr result (AfterMedium Unit ((ids_of self.new ≡ ids_of self.old)
+            × (start_sector_of self.new ≡ start_sector_of self.old))) }
         ensures err { IfErr result (ChangeRefused (IsNotHeld (state_of self.old))
-            (length (ids_of self.old) < rounded_up len mini_sector_len)
-            ((length (ids_of self.old) < rounded_up len mini_sector_len) × IsTooFewFor (state_of self.old) (rounded_up len mini_sector_len - length (ids_of self.old))) Unit) }
-        ensures needed { rounded_up len mini_sector_len ≡ length (ids_of self.old) → IfErr result (ChangeRefused (IsPlaced self.old len → ⊥) ⊥ ⊥ Unit) }
-        ensures begun { OnOk result (IsRaised (len ≢ len_of self.old) (table_of (state_of self.old)).file (table_of (state_of self.new)).file) }
-        ensures counts { IsTrue F.tells → CountsFailure F.write_faults result (table_of (state_of self.old)).file.failures (table_of (state_of self.new)).file.failures }
+            (length (ids_of self.old) < rounded_up len mini_sector_len) ((length (ids_of self.old)
+            < rounded_up len mini_sector_len)
+            × IsTooFewFor (state_of self.old) (rounded_up len mini_sector_len
+            - length (ids_of self.old))) Unit) }
+        ensures needed { rounded_up len mini_sector_len ≡ length (ids_of self.old)
+            → IfErr result (ChangeRefused (IsPlaced self.old len → ⊥) ⊥ ⊥ Unit) }
+        ensures begun { OnOk result (IsRaised (len ≢ len_of self.old)
+            (table_of (state_of self.old)).file (table_of (state_of self.new)).file) }
+        ensures counts { IsTrue F.tells
+            → CountsFailure F.write_faults result (table_of (state_of self.old)).file.failures
+            (table_of (state_of self.new)).file.failures }
     {
         let mini_sectors = len.div_ceil(MINI_SECTOR_LEN as u64) as usize;
         let have = self.num_mini_sectors();
@@ -462,49 +599,83 @@ impl<'a, F: Medium, A: Heap> MiniChain<'a, F, A> {
     /// Adds so many mini sectors at its end, which read as zeros.
     fn grow(&mut self, count: usize) -> Result<(), Error>
         requires { 0 < count }
-        ensures same_minialloc { (minialloc_of self.new).ghost_name ≡ (minialloc_of self.old).ghost_name }
+        ensures same_minialloc { (minialloc_of self.new).ghost_name
+            ≡ (minialloc_of self.old).ghost_name }
         ensures position { position_of self.new ≡ position_of self.old }
-        ensures ids { ids_of self.new ≡ ids_of self.old ++ gained (ids_of self.old) (ids_of self.new) }
-        ensures start { 0 < length (ids_of self.old) → start_sector_of self.new ≡ start_sector_of self.old }
-        ensures grown { OnOk result (LengthensMini count (ids_of self.old) (ids_of self.new) (state_of self.old) (state_of self.new)) }
-        ensures room { OnOk result ((m : ℕ) → m < length (state_of self.new).minifat → HasMiniSector (state_of self.new) m) }
+        ensures ids { ids_of self.new
+            ≡ ids_of self.old ++ gained (ids_of self.old) (ids_of self.new) }
+        ensures start { 0 < length (ids_of self.old)
+            → start_sector_of self.new ≡ start_sector_of self.old }
+        ensures grown { OnOk result (LengthensMini count
+            (ids_of self.old) (ids_of self.new) (state_of self.old) (state_of self.new)) }
+        ensures room { OnOk result ((m : ℕ)
+            → m < length (state_of self.new).minifat → HasMiniSector (state_of self.new) m) }
         ensures directory { KeepsDirectory (state_of self.old) (state_of self.new) }
-        ensures holds { IsTrue F.tells → (validation : Validation) → HoldsMini validation (state_of self.old) → OnOk result (HoldsMini validation (state_of self.new)) }
-        ensures filled { IsTrue F.tells → (validation : Validation) → HoldsMini validation (state_of self.old)
-            → OnOk result ((m : ℕ) → Contains (gained (ids_of self.old) (ids_of self.new)) m → IsZeroMini (state_of self.new) m) }
-        ensures spares { IsTrue F.tells → Spares (system_sectors (state_of self.old)) (table_of (state_of self.old)) (table_of (state_of self.new)) }
-        ensures mini_spares { IsTrue F.tells → (validation : Validation) → HoldsMini validation (state_of self.old) → SparesMini (ids_of self.old) (state_of self.old) (state_of self.new) }
-        ensures bytes { IsTrue F.tells → (validation : Validation) → HoldsMini validation (state_of self.old) → KeepsMiniBytesBut [] (state_of self.old) (state_of self.new) }
+        ensures holds { IsTrue F.tells
+            → (validation : Validation) → HoldsMini validation (state_of self.old)
+            → OnOk result (HoldsMini validation (state_of self.new)) }
+        ensures filled { IsTrue F.tells
+            → (validation : Validation) → HoldsMini validation (state_of self.old)
+            → OnOk result ((m : ℕ) → Contains (gained (ids_of self.old) (ids_of self.new)) m
+            → IsZeroMini (state_of self.new) m) }
+        ensures spares { IsTrue F.tells → Spares (system_sectors (state_of self.old))
+            (table_of (state_of self.old)) (table_of (state_of self.new)) }
+        ensures mini_spares { IsTrue F.tells
+            → (validation : Validation) → HoldsMini validation (state_of self.old)
+            → SparesMini (ids_of self.old) (state_of self.old) (state_of self.new) }
+        ensures bytes { IsTrue F.tells
+            → (validation : Validation) → HoldsMini validation (state_of self.old)
+            → KeepsMiniBytesBut [] (state_of self.old) (state_of self.new) }
         ensures header { IsTrue F.tells → KeepsHeader (state_of self.old) (state_of self.new) }
-        ensures refused { IfErr result (StopsShortOrFull count (state_of self.old) (state_of self.new)) }
-        ensures kept { IfErr result (AfterMedium Unit ((ids_of self.new ≡ ids_of self.old) × (start_sector_of self.new ≡ start_sector_of self.old))) }
-        ensures err { IfErr result (ChangeRefused (IsNotHeld (state_of self.old)) Unit (IsTooFewFor (state_of self.old) count) Unit) }
-        ensures begun { OnOk result (IsRaised (0 < count) (table_of (state_of self.old)).file (table_of (state_of self.new)).file) }
-        ensures counts { IsTrue F.tells → CountsFailure F.write_faults result (table_of (state_of self.old)).file.failures (table_of (state_of self.new)).file.failures }
+        ensures refused { IfErr result
+            (StopsShortOrFull count (state_of self.old) (state_of self.new)) }
+        ensures kept { IfErr result (AfterMedium Unit ((ids_of self.new ≡ ids_of self.old)
+            × (start_sector_of self.new ≡ start_sector_of self.old))) }
+        ensures err { IfErr result (ChangeRefused
+            (IsNotHeld (state_of self.old)) Unit (IsTooFewFor (state_of self.old) count) Unit) }
+        ensures begun { OnOk result (IsRaised (0
+            < count) (table_of (state_of self.old)).file (table_of (state_of self.new)).file) }
+        ensures counts { IsTrue F.tells
+            → CountsFailure F.write_faults result (table_of (state_of self.old)).file.failures
+            (table_of (state_of self.new)).file.failures }
     {
         extend_list(self.minialloc, &mut self.ids, &mut self.start, count)
     }
 
     /// Keeps so many of its mini sectors and frees those behind them, and goes to its end where the position was past it.
     fn cut(&mut self, count: usize) -> Result<(), Error>
-        ensures same_minialloc { (minialloc_of self.new).ghost_name ≡ (minialloc_of self.old).ghost_name }
+        ensures same_minialloc { (minialloc_of self.new).ghost_name
+            ≡ (minialloc_of self.old).ghost_name }
         ensures position { position_of self.new ≡ min (position_of self.old) (len_of self.new) }
-        ensures none { length (ids_of self.old) ≤ count → OnErr result ⊥ × IsAsBefore self.old self.new }
-        ensures cut { OnOk result (ShortensMini count (ids_of self.old) (ids_of self.new) (state_of self.old) (state_of self.new)) }
+        ensures none { length (ids_of self.old) ≤ count
+            → OnErr result ⊥ × IsAsBefore self.old self.new }
+        ensures cut { OnOk result (ShortensMini count
+            (ids_of self.old) (ids_of self.new) (state_of self.old) (state_of self.new)) }
         ensures directory { KeepsDirectory (state_of self.old) (state_of self.new) }
-        ensures holds { IsTrue F.tells → (validation : Validation) → HoldsMini validation (state_of self.old)
-            → (count ≡ 0 → IsUnnamed (state_of self.old).minifat (start_sector_of self.old)) → OnOk result (HoldsMini validation (state_of self.new)) }
-        ensures wiped { IsTrue F.tells → (validation : Validation) → HoldsMini validation (state_of self.old)
-            → OnOk result ((m : ℕ) → Contains (drop count (ids_of self.old)) m → IsZeroMini (state_of self.new) m) }
-        ensures spares { IsTrue F.tells → Spares (system_sectors (state_of self.old)) (table_of (state_of self.old)) (table_of (state_of self.new)) }
-        ensures mini_spares { IsTrue F.tells → (validation : Validation) → HoldsMini validation (state_of self.old) → SparesMini (ids_of self.old) (state_of self.old) (state_of self.new) }
-        ensures bytes { IsTrue F.tells → (validation : Validation) → HoldsMini validation (state_of self.old) → KeepsMiniBytesBut (drop count (ids_of self.old)) (state_of self.old) (state_of self.new) }
+        ensures holds { IsTrue F.tells
+            → (validation : Validation) → HoldsMini validation (state_of self.old)
+            → (count ≡ 0 → IsUnnamed (state_of self.old).minifat (start_sector_of self.old))
+            → OnOk result (HoldsMini validation (state_of self.new)) }
+        ensures wiped { IsTrue F.tells → (validation : Validation)
+            → HoldsMini validation (state_of self.old) → OnOk result ((m : ℕ)
+            → Contains (drop count (ids_of self.old)) m → IsZeroMini (state_of self.new) m) }
+        ensures spares { IsTrue F.tells → Spares (system_sectors (state_of self.old))
+            (table_of (state_of self.old)) (table_of (state_of self.new)) }
+        ensures mini_spares { IsTrue F.tells
+            → (validation : Validation) → HoldsMini validation (state_of self.old)
+            → SparesMini (ids_of self.old) (state_of self.old) (state_of self.new) }
+        ensures bytes { IsTrue F.tells → (validation : Validation)
+            → HoldsMini validation (state_of self.old) → KeepsMiniBytesBut
+            (drop count (ids_of self.old)) (state_of self.old) (state_of self.new) }
         ensures header { IsTrue F.tells → KeepsHeader (state_of self.old) (state_of self.new) }
         ensures refused { IfErr result (StopsShort (state_of self.old) (state_of self.new)) }
         ensures kept { IfErr result (AfterMedium Unit (IsAsBefore self.old self.new)) }
         ensures err { IfErr result (ChangeRefused (IsNotHeld (state_of self.old)) ⊥ ⊥ Unit) }
-        ensures begun { OnOk result (IsRaised (count < length (ids_of self.old)) (table_of (state_of self.old)).file (table_of (state_of self.new)).file) }
-        ensures counts { IsTrue F.tells → CountsFailure F.write_faults result (table_of (state_of self.old)).file.failures (table_of (state_of self.new)).file.failures }
+        ensures begun { OnOk result (IsRaised (count < length (ids_of self.old))
+            (table_of (state_of self.old)).file (table_of (state_of self.new)).file) }
+        ensures counts { IsTrue F.tells
+            → CountsFailure F.write_faults result (table_of (state_of self.old)).file.failures
+            (table_of (state_of self.new)).file.failures }
     {
         if count >= self.ids.len() {
             return Ok(());
@@ -524,13 +695,6 @@ impl<'a, F: Medium, A: Heap> MiniChain<'a, F, A> {
     }
 }
 
-/// The first number of a list, or END.
-fn first_number(numbers: &[u32]) -> u32
-    ensures { result ≡ first_or_end numbers.now }
-{
-    numbers.first().copied().unwrap_or(END_OF_CHAIN)
-}
-
 /// Adds so many mini sectors at the end of a mini chain, and appends them to its list.
 fn extend_list<F: Medium, A: Heap>(
     minialloc: &mut MiniAllocator<F, A>,
@@ -545,21 +709,33 @@ fn extend_list<F: Medium, A: Heap>(
     ensures longer { length ids.old.items ≤ length ids.new.items }
     ensures listed { ids.new.items ≡ ids.old.items ++ gained ids.old.items ids.new.items }
     ensures start { 0 < length ids.old.items → start.new ≡ start.old }
-    ensures grown { OnOk result (LengthensMini count ids.old.items ids.new.items minialloc.old minialloc.new) }
-    ensures room { OnOk result ((m : ℕ) → m < length minialloc.new.minifat → HasMiniSector minialloc.new m) }
+    ensures grown { OnOk result
+        (LengthensMini count ids.old.items ids.new.items minialloc.old minialloc.new) }
+    ensures room { OnOk result ((m : ℕ)
+        → m < length minialloc.new.minifat → HasMiniSector minialloc.new m) }
     ensures directory { KeepsDirectory minialloc.old minialloc.new }
-    ensures holds { IsTrue F.tells → (validation : Validation) → HoldsMini validation minialloc.old → OnOk result (HoldsMini validation minialloc.new) }
-    ensures filled { IsTrue F.tells → (validation : Validation) → HoldsMini validation minialloc.old
-        → OnOk result ((m : ℕ) → Contains (gained ids.old.items ids.new.items) m → IsZeroMini minialloc.new m) }
-    ensures spares { IsTrue F.tells → Spares (system_sectors minialloc.old) (table_of minialloc.old) (table_of minialloc.new) }
-    ensures mini_spares { IsTrue F.tells → (validation : Validation) → HoldsMini validation minialloc.old → SparesMini ids.old.items minialloc.old minialloc.new }
-    ensures bytes { IsTrue F.tells → (validation : Validation) → HoldsMini validation minialloc.old → KeepsMiniBytesBut [] minialloc.old minialloc.new }
+    ensures holds { IsTrue F.tells → (validation : Validation)
+        → HoldsMini validation minialloc.old → OnOk result (HoldsMini validation minialloc.new) }
+    ensures filled { IsTrue F.tells
+        → (validation : Validation) → HoldsMini validation minialloc.old → OnOk result ((m : ℕ)
+        → Contains (gained ids.old.items ids.new.items) m → IsZeroMini minialloc.new m) }
+    ensures spares { IsTrue F.tells
+        → Spares (system_sectors minialloc.old) (table_of minialloc.old) (table_of minialloc.new) }
+    ensures mini_spares { IsTrue F.tells
+        → (validation : Validation) → HoldsMini validation minialloc.old
+        → SparesMini ids.old.items minialloc.old minialloc.new }
+    ensures bytes { IsTrue F.tells → (validation : Validation)
+        → HoldsMini validation minialloc.old → KeepsMiniBytesBut [] minialloc.old minialloc.new }
     ensures header { IsTrue F.tells → KeepsHeader minialloc.old minialloc.new }
     ensures refused { IfErr result (StopsShortOrFull count minialloc.old minialloc.new) }
-    ensures kept { IfErr result (AfterMedium Unit ((ids.new.items ≡ ids.old.items) × (start.new ≡ start.old))) }
-    ensures err { IfErr result (ChangeRefused (IsNotHeld minialloc.old) Unit (IsTooFewFor minialloc.old count) Unit) }
-    ensures begun { OnOk result (IsRaised (0 < count) (table_of minialloc.old).file (table_of minialloc.new).file) }
-    ensures counts { IsTrue F.tells → CountsFailure F.write_faults result (table_of minialloc.old).file.failures (table_of minialloc.new).file.failures }
+    ensures kept { IfErr result (AfterMedium Unit ((ids.new.items ≡ ids.old.items)
+        × (start.new ≡ start.old))) }
+    ensures err { IfErr result
+        (ChangeRefused (IsNotHeld minialloc.old) Unit (IsTooFewFor minialloc.old count) Unit) }
+    ensures begun { OnOk result (IsRaised (0
+        < count) (table_of minialloc.old).file (table_of minialloc.new).file) }
+    ensures counts { IsTrue F.tells → CountsFailure F.write_faults result
+        (table_of minialloc.old).file.failures (table_of minialloc.new).file.failures }
 {
     let extended = minialloc.extend_mini_listed(ids, count);
     *start = first_number(ids);
@@ -577,21 +753,30 @@ fn shorten_list<F: Medium, A: Heap>(
     requires fewer { count < length ids.old.items }
     ensures chained { chain_from minialloc.new.minifat start.new ≡ Some ids.new.items }
     ensures few { length ids.new.items ≤ max_regular_sector + 1 }
-    ensures cut { OnOk result (ShortensMini count ids.old.items ids.new.items minialloc.old minialloc.new) }
+    ensures cut { OnOk result
+        (ShortensMini count ids.old.items ids.new.items minialloc.old minialloc.new) }
     ensures directory { KeepsDirectory minialloc.old minialloc.new }
     ensures holds { IsTrue F.tells → (validation : Validation) → HoldsMini validation minialloc.old
-        → (count ≡ 0 → IsUnnamed minialloc.old.minifat start.old) → OnOk result (HoldsMini validation minialloc.new) }
-    ensures wiped { IsTrue F.tells → (validation : Validation) → HoldsMini validation minialloc.old
-        → OnOk result ((m : ℕ) → Contains (drop count ids.old.items) m → IsZeroMini minialloc.new m) }
-    ensures spares { IsTrue F.tells → Spares (system_sectors minialloc.old) (table_of minialloc.old) (table_of minialloc.new) }
-    ensures mini_spares { IsTrue F.tells → (validation : Validation) → HoldsMini validation minialloc.old → SparesMini ids.old.items minialloc.old minialloc.new }
-    ensures bytes { IsTrue F.tells → (validation : Validation) → HoldsMini validation minialloc.old → KeepsMiniBytesBut (drop count ids.old.items) minialloc.old minialloc.new }
+        → (count ≡ 0 → IsUnnamed minialloc.old.minifat start.old)
+        → OnOk result (HoldsMini validation minialloc.new) }
+    ensures wiped { IsTrue F.tells
+        → (validation : Validation) → HoldsMini validation minialloc.old → OnOk result ((m : ℕ)
+        → Contains (drop count ids.old.items) m → IsZeroMini minialloc.new m) }
+    ensures spares { IsTrue F.tells
+        → Spares (system_sectors minialloc.old) (table_of minialloc.old) (table_of minialloc.new) }
+    ensures mini_spares { IsTrue F.tells
+        → (validation : Validation) → HoldsMini validation minialloc.old
+        → SparesMini ids.old.items minialloc.old minialloc.new }
+    ensures bytes { IsTrue F.tells → (validation : Validation) → HoldsMini validation minialloc.old
+        → KeepsMiniBytesBut (drop count ids.old.items) minialloc.old minialloc.new }
     ensures header { IsTrue F.tells → KeepsHeader minialloc.old minialloc.new }
     ensures refused { IfErr result (StopsShort minialloc.old minialloc.new) }
-    ensures kept { IfErr result (AfterMedium Unit ((ids.new.items ≡ ids.old.items) × (start.new ≡ start.old))) }
+    ensures kept { IfErr result (AfterMedium Unit ((ids.new.items ≡ ids.old.items)
+        × (start.new ≡ start.old))) }
     ensures err { IfErr result (ChangeRefused (IsNotHeld minialloc.old) ⊥ ⊥ Unit) }
     ensures begun { OnOk result ((table_of minialloc.new).file.begun ≡ true) }
-    ensures counts { IsTrue F.tells → CountsFailure F.write_faults result (table_of minialloc.old).file.failures (table_of minialloc.new).file.failures }
+    ensures counts { IsTrue F.tells → CountsFailure F.write_faults result
+        (table_of minialloc.old).file.failures (table_of minialloc.new).file.failures }
 {
     let cut = minialloc.cut_mini_listed(ids, count);
     *start = first_number(ids);
@@ -609,16 +794,20 @@ fn read_mini_sector<F: ReadMedium, A: Heap>(
     requires some { 0 < length into.old }
     requires within { offset < mini_sector_len }
     ensures kept { IsStill minialloc.old minialloc.new }
-    ensures count { IfOk result (λ n. n ≡ min (min (length into.old) (mini_sector_len - offset)) ((table_of minialloc.old).file.len - (mini_place minialloc.old mini + offset))) }
+    ensures count { IfOk result (λ n. n ≡ min (min (length into.old) (mini_sector_len
+        - offset)) ((table_of minialloc.old).file.len - (mini_place minialloc.old mini + offset))) }
     ensures some { IfOk result (λ n. 0 < n) }
     ensures there { OnOk result (HasMiniByte minialloc.old mini offset) }
-    ensures ok { IsTrue F.tells → IfOk result (λ n. take n into.new ≡ part (bytes_of minialloc.old) (mini_place minialloc.old mini + offset) n) }
+    ensures ok { IsTrue F.tells → IfOk result (λ n. take n into.new
+        ≡ part (bytes_of minialloc.old) (mini_place minialloc.old mini + offset) n) }
     ensures rest { IfOk result (λ n. drop n into.new ≡ drop n into.old) }
     ensures cut { (HasMiniByte minialloc.old mini offset → ⊥) → IsErrAnd result IsInvalidData }
-    ensures err { IfErr result (ChangeRefused (HasMiniByte minialloc.old mini offset → ⊥) ⊥ ⊥ Unit) }
+    ensures err { IfErr result (ChangeRefused (HasMiniByte minialloc.old mini offset
+        → ⊥) ⊥ ⊥ Unit) }
     ensures same { IsTrue F.tells → OnOk result (minialloc.new ≡ minialloc.old) }
     ensures bytes { IsTrue F.tells → bytes_of minialloc.new ≡ bytes_of minialloc.old }
-    ensures counts { IsTrue F.tells → CountsFailure F.read_faults result (table_of minialloc.old).file.failures (table_of minialloc.new).file.failures }
+    ensures counts { IsTrue F.tells → CountsFailure F.read_faults result
+        (table_of minialloc.old).file.failures (table_of minialloc.new).file.failures }
 {
     minialloc.read_mini(mini, offset, into)
 }
@@ -634,21 +823,29 @@ fn write_mini_sector<F: Medium, A: Heap>(
     requires some { 0 < length from.now }
     requires within { offset + length from.now ≤ mini_sector_len }
     ensures kept { ChangesFileOnly minialloc.old minialloc.new }
-    ensures ok { IsTrue F.tells → OnOk result ((table_of minialloc.new).file ≡ record (table_of minialloc.old).file {
-      bytes = written (bytes_of minialloc.old) (mini_place minialloc.old mini + offset) from.now;
-      len = max (table_of minialloc.old).file.len (mini_place minialloc.old mini + offset + length from.now);
-      begun = true;
-    }) }
+    ensures ok { IsTrue F.tells → OnOk result ((table_of minialloc.new).file
+        ≡ record (table_of minialloc.old).file {
+          bytes = written
+              (bytes_of minialloc.old) (mini_place minialloc.old mini + offset) from.now;
+          len = max (table_of minialloc.old).file.len (mini_place minialloc.old mini
+              + offset + length from.now);
+          begun = true;
+        }) }
     ensures there { OnOk result (HasMiniSector minialloc.old mini) }
     ensures begun { OnOk result ((table_of minialloc.new).file.begun ≡ true) }
     ensures cut { (HasMiniSector minialloc.old mini → ⊥) → IsErrAnd result IsInvalidData }
     ensures err { IfErr result (ChangeRefused (HasMiniSector minialloc.old mini → ⊥) ⊥ ⊥ Unit) }
-    ensures others { IsTrue F.tells → ChangesOnlyBytes (mini_place minialloc.old mini + offset) (length from.now) (bytes_of minialloc.old) (bytes_of minialloc.new) }
-    ensures spares { IsTrue F.tells → Spares (mini_stream_of minialloc.old) (table_of minialloc.old) (table_of minialloc.new) }
-    ensures mini_spares { IsTrue F.tells → (validation : Validation) → HoldsMini validation minialloc.old → SparesMini (mini ∷ []) minialloc.old minialloc.new }
-    ensures holds { IsTrue F.tells → (validation : Validation) → HoldsMini validation minialloc.old → OnOk result (HoldsMini validation minialloc.new) }
+    ensures others { IsTrue F.tells → ChangesOnlyBytes (mini_place minialloc.old mini
+        + offset) (length from.now) (bytes_of minialloc.old) (bytes_of minialloc.new) }
+    ensures spares { IsTrue F.tells
+        → Spares (mini_stream_of minialloc.old) (table_of minialloc.old) (table_of minialloc.new) }
+    ensures mini_spares { IsTrue F.tells → (validation : Validation)
+        → HoldsMini validation minialloc.old → SparesMini (mini ∷ []) minialloc.old minialloc.new }
+    ensures holds { IsTrue F.tells → (validation : Validation)
+        → HoldsMini validation minialloc.old → OnOk result (HoldsMini validation minialloc.new) }
     ensures refused { IfErr result (StopsShort minialloc.old minialloc.new) }
-    ensures counts { IsTrue F.tells → CountsFailure F.write_faults result (table_of minialloc.old).file.failures (table_of minialloc.new).file.failures }
+    ensures counts { IsTrue F.tells → CountsFailure F.write_faults result
+        (table_of minialloc.old).file.failures (table_of minialloc.new).file.failures }
 {
     minialloc.write_mini(mini, offset, from)
 }

@@ -4,7 +4,7 @@ use Rattle.std.specs.Prelude.{Contains, slice_index, Option, Some, unwrap_or}
 use Rattle.std.proofs.lemmas.Bool.{cases_eq, cases_lt}
 use Rattle.std.proofs.lemmas.List.Elements.{Contains-append_cases, Contains-append_left, Contains-append_right, Contains-get_or}
 use Rattle.cfb_format.specs.declared.error.Error.{Error}
-use Rattle.cfb_format.specs.declared.error.Error.TheVariants.{NotFound, AlreadyExists, InvalidInput, InvalidData, Medium, Memory, Full, Unsound, Failed, Unsupported}
+use Rattle.cfb_format.specs.declared.error.Error.TheVariants.{NotFound, AlreadyExists, InvalidInput, InvalidData, Medium, Memory, Full, Unsound, Failed}
 use Rattle.cfb_format.specs.declared.validate.Validation.{Validation}
 use Rattle.cfb_format.specs.declared.version.Version.{Version}
 use Rattle.cfb_format.specs.declared.version.Version.TheVariants.{V3, V4}
@@ -218,4 +218,3 @@ broke-begun same broken kept invalid memory full b (AlreadyExists d) never enoug
 broke-begun same broken kept invalid memory full b (InvalidInput d) never enough up at_once r w = absurd w
 broke-begun same broken kept invalid memory full b Unsound never enough up at_once r w = absurd w
 broke-begun same broken kept invalid memory full b Failed never enough up at_once r w = absurd w
-broke-begun same broken kept invalid memory full b Unsupported never enough up at_once r w = absurd w

@@ -32,7 +32,7 @@ use Rattle.cfb_alloc.proofs.Frames.{other-chains-spared}
 use Rattle.cfb_alloc.proofs.Listed.{in_cons, not_in_nil}
 use Rattle.cfb_alloc.proofs.Spared.{lie_in_one, written_spares}
 use Rattle.cfb_alloc.proofs.TableWords.{home_fits, home_sector, other_word}
-use Rattle.cfb_directory.specs.State.{DirectoryState, HoldsDirectory, IsKeptHeaderByte, KeepsHeader}
+use Rattle.cfb_directory.specs.State.{DirectoryState, HoldsDirectory, IsKeptHeaderByte, KeepsDirectoryHeader}
 use Rattle.cfb_directory.specs.Steps.{KeepsWholeHeader}
 use Rattle.cfb_directory.proofs.HeldDirectory.{directory-stays-held}
 use Rattle.cfb_directory.proofs.Placed.{header_there}
@@ -128,7 +128,7 @@ module _ (s : MiniState) (once : IsDistinct nat_eq (system_sectors s)) where
 -- ---- changes of the directory
 
 -- a word of the header that no change of the directory writes
-kept_word_of : (s : MiniState) (d : DirectoryState) → 512 ≤ length (bytes_of s) → Spares s.directory.sectors (table_of s) d.table → KeepsHeader s.directory d
+kept_word_of : (s : MiniState) (d : DirectoryState) → 512 ≤ length (bytes_of s) → Spares s.directory.sectors (table_of s) d.table → KeepsDirectoryHeader s.directory d
     → (p : ℕ) → 48 ≤ p → p + 4 ≤ 68 → word_at d.table.file.bytes p ≡ word_at (bytes_of s) p
 kept_word_of s d long spares header p low high = word_stays 48 68 p (bytes_of s) d.table.file.bytes
     (record { no_shorter = spares.no_shorter; each = λ i lt from to. header i lt (kept-byte (version_of s) i from to) }) low high (omega (arith, long, high))

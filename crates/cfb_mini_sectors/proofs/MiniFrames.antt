@@ -8,7 +8,7 @@ use Rattle.std.proofs.lemmas.Option.{get_or_from_slice_get, none-some, same_Some
 use Rattle.cfb_format.specs.Bytes.{byte_at, free_sector, sector_len}
 use Rattle.cfb_format.specs.Chain.{value}
 use Rattle.cfb_format.specs.Content.{in_file, mini_sector_len, place_in_mini_chain, place_in_mini_stream}
-use Rattle.cfb_sectors.specs.Words.{Stays}
+use Rattle.cfb_sectors.specs.Words.{RangeStays}
 use Rattle.cfb_sectors.proofs.SectorLemmas.{Stays_apart, Stays_refl, Stays_trans}
 use Rattle.cfb_tables.specs.Listed.{gained}
 use Rattle.cfb_tables.proofs.ChainLemmas.{chain-stays, members-busy}
@@ -29,8 +29,8 @@ same-longer old new e = longer-by old new [] (e ∙ sym (append-nil old))
 same-stream : (old new : MiniState) → new.mini_stream ≡ old.mini_stream → mini_stream_of new ≡ mini_stream_of old
 same-stream old new e = ap (λ (w : Option (List ℕ)). unwrap_or w []) e
 
-same-bytes : (from to : ℕ) (a b : List ℕ) → b ≡ a → Stays from to a b
-same-bytes from to a b e = subst (λ (l : List ℕ). Stays from to a l) (sym e) (Stays_refl from to a)
+same-bytes : (from to : ℕ) (a b : List ℕ) → b ≡ a → RangeStays from to a b
+same-bytes from to a b e = subst (λ (l : List ℕ). RangeStays from to a l) (sym e) (Stays_refl from to a)
 
 -- a mini sector in use has its place
 room_of : (s : MiniState) (m : ℕ) → HasMiniPlaces s → value s.minifat m ≢ free_sector → 64 * m < length (mini_stream_of s) * sector_len (version_of s)
@@ -73,7 +73,7 @@ spares-then own more a b c places version inside first second =
       bytes = λ m busy out.
           let here : mini_place b m ≡ mini_place a m = place-stays a b m x places version first.mini_stream busy in
           Stays_trans (mini_place a m) (mini_place a m + mini_sector_len) (bytes_of a) (bytes_of b) (bytes_of c) (first.bytes m busy out)
-          (subst (λ p. Stays p (p + mini_sector_len) (bytes_of b) (bytes_of c)) here (second.bytes m (still m busy out) (out_still m busy out)));
+          (subst (λ p. RangeStays p (p + mini_sector_len) (bytes_of b) (bytes_of c)) here (second.bytes m (still m busy out) (out_still m busy out)));
     }
 
 pub sectors-spare : SectorsSpareMini
@@ -130,7 +130,7 @@ place_stays p q at old new same stays is = go (nat_lt p (length old)) refl is
 pub bytes-stay-in-place : MiniBytesStayInPlace
 bytes-stay-in-place own old new start list held held' version s chain apart k at is = go (slice_get list (k / 64)) refl is
   where
-    spared : (m : ℕ) → Contains list m → (mini_place new m ≡ mini_place old m) × Stays (mini_place old m) (mini_place old m + mini_sector_len) (bytes_of old) (bytes_of new)
+    spared : (m : ℕ) → Contains list m → (mini_place new m ≡ mini_place old m) × RangeStays (mini_place old m) (mini_place old m + mini_sector_len) (bytes_of old) (bytes_of new)
     spared = (other-chains-spared own old new start list (held-places old held) version s chain apart).1
 
     busy : (m : ℕ) → Contains list m → value old.minifat m ≢ free_sector

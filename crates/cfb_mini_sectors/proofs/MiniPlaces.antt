@@ -10,7 +10,7 @@ use Rattle.cfb_format.specs.declared.version.Version.TheVariants.{V3, V4}
 use Rattle.cfb_format.specs.Bytes.{sector_len, sector_start}
 use Rattle.cfb_format.specs.Content.{in_file, mini_sector_len, place_in_chain, place_in_mini_chain}
 use Rattle.cfb_sectors.specs.Sectors.{SectorStays}
-use Rattle.cfb_sectors.specs.Words.{Stays}
+use Rattle.cfb_sectors.specs.Words.{RangeStays}
 use Rattle.cfb_alloc.proofs.Listed.{place_once}
 use Rattle.cfb_soundness.specs.Places.{mini_start}
 use Rattle.cfb_mini_sectors.specs.State.{HoldsMiniStream, MiniState, bytes_of, mini_place, parts_of, version_of}
@@ -36,7 +36,7 @@ mini_start-left v list more m h = ap (λ i. sector_start v i + 64 * m % sector_l
 
 -- it stays where its sector stays
 pub mini_stays : (v : Version) (list : List ℕ) (m : ℕ) (a b : List ℕ) → SectorStays v (slice_index list (64 * m / sector_len v)) a b
-    → Stays (mini_start v list m) (mini_start v list m + 64) a b
+    → RangeStays (mini_start v list m) (mini_start v list m + 64) a b
 unfolding SectorStays
 mini_stays v list m a b s = record {
   no_shorter = s.no_shorter;

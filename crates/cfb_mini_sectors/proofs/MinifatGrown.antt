@@ -5,7 +5,7 @@ use Rattle.std.proofs.lemmas.Bool.{cases_eq}
 use Rattle.std.proofs.lemmas.List.Elements.{Contains-append_cases, Contains-append_left, Contains-append_right}
 use Rattle.cfb_format.specs.declared.version.Version.{Version}
 use Rattle.cfb_format.specs.declared.error.Error.{Error}
-use Rattle.cfb_format.specs.declared.error.Error.TheVariants.{NotFound, AlreadyExists, InvalidInput, InvalidData, Medium, Memory, Full, Unsound, Failed, Unsupported}
+use Rattle.cfb_format.specs.declared.error.Error.TheVariants.{NotFound, AlreadyExists, InvalidInput, InvalidData, Medium, Memory, Full, Unsound, Failed}
 use Rattle.cfb_format.specs.Bytes.{end_of_chain, free_sector, word_at}
 use Rattle.cfb_format.specs.Chain.{value}
 use Rattle.cfb_format.specs.Fat.{is_among}
@@ -138,7 +138,6 @@ medium_changed invalid memory full Memory m = absurd (omega (arith, m))
 medium_changed invalid memory full Full m = absurd (omega (arith, m))
 medium_changed invalid memory full Unsound m = absurd (omega (arith, m))
 medium_changed invalid memory full Failed m = absurd (omega (arith, m))
-medium_changed invalid memory full Unsupported m = absurd (omega (arith, m))
 
 -- ---- two lists
 

@@ -12,7 +12,7 @@ use Rattle.cfb_format.specs.Content.{mini_sector_len}
 use Rattle.cfb_format.specs.Medium.{ChangesOnlyBytes, part, written}
 use Rattle.cfb_format.proofs.ByteLemmas.{length-written, part_at, part_written}
 use Rattle.cfb_sectors.specs.Sectors.{SectorFile}
-use Rattle.cfb_sectors.specs.Words.{Stays, with_word}
+use Rattle.cfb_sectors.specs.Words.{RangeStays, with_word}
 use Rattle.cfb_sectors.proofs.SectorLemmas.{SectorStays_next, SectorStays_refl}
 use Rattle.cfb_sectors.proofs.WordLemmas.{length-with_word, word_apart, word_same, word_with_word}
 use Rattle.cfb_tables.specs.Tables.{TableState}
@@ -147,7 +147,7 @@ zeros_still p at a b change new old =
 -- every other mini sector stays
 pub other_mini_stays : (v : Version) (stream minis a b : List ℕ) (count m : ℕ) → HaveMinis v stream count minis → ChangesMinis minis v stream a b
     → IsDistinct nat_eq stream → mini_sector_len * m / sector_len v < length stream → (Contains minis m → ⊥)
-    → Stays (mini_start v stream m) (mini_start v stream m + mini_sector_len) a b
+    → RangeStays (mini_start v stream m) (mini_start v stream m + mini_sector_len) a b
 other_mini_stays v stream minis a b count m known change once lm out = record {
   no_shorter = change.no_shorter;
   each = λ i lt from to. change.others i lt (λ n member.

@@ -49,7 +49,7 @@ NamesMiniStream s = ((entry_at (entries_of s) 0).start_sector ≡ first_or_end (
     ⊎ ((mini_stream_of s ≡ []) × (root_len_of s ≡ 0) × (is_regular (entry_at (entries_of s) 0).start_sector ≡ false))
 
 -- the sectors are a chain, whatever names it, and have room for each mini sector
-pub record HasMiniRoom (s : MiniState) : Type 0 where
+pub record MiniStreamHasRoom (s : MiniState) : Type 0 where
   pub sectors : List ℕ
   pub kept : s.mini_stream ≡ Some sectors
   pub chain : IsChain (tables_in s).fat (first_or_end sectors) sectors
@@ -75,7 +75,7 @@ pub record HoldsMiniBut (late : List ℕ) (validation : Validation) (s : MiniSta
   pub whole : HasSectors (version_of s) (bytes_of s) s.minifat_sectors
   pub words : HoldWordsBut late (version_of s) (bytes_of s) s.minifat_sectors s.minifat
   pub clean : IsMiniClean s.minifat
-  pub mini_stream : HasMiniRoom s
+  pub mini_stream : MiniStreamHasRoom s
   pub apart : IsDistinct nat_eq (system_sectors s)
   pub count : IfStrict validation (word_at (bytes_of s) 64 ≡ length s.minifat_sectors)
   pub behind : IfStrict validation (IsFreeBehind late s)

@@ -13,14 +13,14 @@ use Rattle.cfb_format.specs.Medium.{ChangesOnlyBytes}
 use Rattle.cfb_format.specs.Reading.{IsOutline, IsStrict, Outline, Reads, numbers}
 use Rattle.cfb_format.specs.Siblings.{entry_at, is_red_apart}
 use Rattle.cfb_format.specs.Soundness.{IsSound}
-use Rattle.cfb_sectors.specs.Words.{Stays}
+use Rattle.cfb_sectors.specs.Words.{RangeStays}
 use Rattle.cfb_tables.specs.Changes.{AreDisjoint, ChangesOnlyValues}
 use Rattle.cfb_tables.specs.Listed.{gained}
 use Rattle.cfb_tables.specs.Tables.{AreSizes, sizes_of}
 use Rattle.cfb_alloc.specs.Agreement.{KeepsSectors}
 use Rattle.cfb_alloc.specs.Alloc.{AllocatorState, HoldsTables, IsMeasured}
 use Rattle.cfb_alloc.specs.Frame.{Spares}
-use Rattle.cfb_directory.specs.State.{AreWritable, DirectoryState, HoldsDirectory, KeepsHeader}
+use Rattle.cfb_directory.specs.State.{AreWritable, DirectoryState, HoldsDirectory, KeepsDirectoryHeader}
 use Rattle.cfb_mini_sectors.specs.State.{MiniState, HoldsMini, HoldsMiniStream, bytes_of, cases_of, entries_of, mini_place, mini_stream_of, parts_of, reading_of, root_len_of, table_of, tables_in, version_of}
 use Rattle.cfb_mini_sectors.specs.Steps.{SparesMini, system_sectors}
 use Rattle.cfb_mini_sectors.specs.Held.{HasMiniPlaces, with_directory, with_table}
@@ -60,7 +60,7 @@ DirectoryChangeKeepsMini = (validation : Validation) (s : MiniState) (d : Direct
     → Spares s.directory.sectors (table_of s) d.table
     → ((i : ℕ) → Contains d.sectors i → Contains s.directory.sectors i ⊎ (value (tables_in s).fat i ≡ free_sector))
     → (entry_at d.entries 0).start_sector ≡ (entry_at (entries_of s) 0).start_sector → (entry_at d.entries 0).stream_len ≡ root_len_of s
-    → KeepsHeader s.directory d → HoldsMini validation (with_directory s d)
+    → KeepsDirectoryHeader s.directory d → HoldsMini validation (with_directory s d)
 
 -- ---- what changes of mini sectors spare
 
@@ -100,7 +100,7 @@ abbrev pub OtherMiniChainsAreSpared : Type 0
 OtherMiniChainsAreSpared = (own : List ℕ) (old new : MiniState) (start : ℕ) (list : List ℕ) → HasMiniPlaces old → version_of new ≡ version_of old
     → SparesMini own old new → IsChain old.minifat start list → AreDisjoint list own
     → IsChain new.minifat start list × ((m : ℕ) → Contains list m
-    → (mini_place new m ≡ mini_place old m) × Stays (mini_place old m) (mini_place old m + mini_sector_len) (bytes_of old) (bytes_of new))
+    → (mini_place new m ≡ mini_place old m) × RangeStays (mini_place old m) (mini_place old m + mini_sector_len) (bytes_of old) (bytes_of new))
 
 -- and a byte of such a chain that stood at a place stands there with the same value
 abbrev pub MiniBytesStayInPlace : Type 0

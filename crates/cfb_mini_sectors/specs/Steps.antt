@@ -12,10 +12,11 @@ use Rattle.cfb_format.specs.Siblings.{entry_at}
 use Rattle.cfb_tables.specs.Listed.{gained, last_or_end}
 use Rattle.cfb_tables.specs.Tables.{TableState, AreFullTables, IsTooFew}
 use Rattle.cfb_tables.specs.Room.{IsTooFewAfter}
-use Rattle.cfb_sectors.specs.Words.{Stays}
+use Rattle.cfb_sectors.specs.Words.{RangeStays}
 use Rattle.cfb_alloc.specs.ListedChain.{Lengthens}
 use Rattle.cfb_mini_table.specs.MiniTable.{IsTooFewMini}
 use Rattle.cfb_mini_sectors.specs.State.{MiniState, HoldsMini, bytes_of, cases_of, entries_of, mini_place, mini_stream_of, root_len_of, table_of, tables_in, version_of}
+use Rattle.cfb_format.specs.DirectoryEntry.{ButContent}
 
 -- ---- what is taken
 
@@ -70,10 +71,6 @@ IsMeasuredMini s = root_len_of s ≡ mini_sector_len * length s.minifat
 
 -- ---- what stays
 
--- start and length alone may differ
-abbrev pub ButContent : Entry → Entry → Type 0
-ButContent old new = new ≡ record old { start_sector = new.start_sector; stream_len = new.stream_len }
-
 -- of the entries only the root's changes, and of it start and length alone: the length stays whole mini sectors
 pub record MovesRoot (old new : MiniState) : Type 0 where
   pub same_length : length (entries_of new) ≡ length (entries_of old)
@@ -94,7 +91,7 @@ pub record SparesMini (own : List ℕ) (old new : MiniState) : Type 0 where
   pub values : (m : ℕ) → value old.minifat m ≢ free_sector → (Contains own m → ⊥) → value new.minifat m ≡ value old.minifat m
   pub mini_stream : mini_stream_of new ≡ mini_stream_of old ++ gained (mini_stream_of old) (mini_stream_of new)
   pub bytes : (m : ℕ) → value old.minifat m ≢ free_sector → (Contains own m → ⊥)
-      → Stays (mini_place old m) (mini_place old m + mini_sector_len) (bytes_of old) (bytes_of new)
+      → RangeStays (mini_place old m) (mini_place old m + mini_sector_len) (bytes_of old) (bytes_of new)
 
 -- a byte of the header that no change of mini sectors writes: it speaks neither of the tables nor of the MiniFAT (MS-CFB 2.2)
 abbrev pub IsOutsideMini : ℕ → Type 0

@@ -7,7 +7,7 @@ ghost use Rattle.cfb_format.specs.Chain.{value};
 ghost use Rattle.cfb_format.specs.Content.{mini_sector_len};
 ghost use Rattle.cfb_format.specs.Medium.{ChangesOnlyBytes, part, written};
 ghost use Rattle.cfb_format.specs.Refused.{CountsFailure, IsInvalidData};
-ghost use Rattle.cfb_sectors.specs.Words.{Stays, with_word};
+ghost use Rattle.cfb_sectors.specs.Words.{RangeStays, with_word};
 ghost use Rattle.cfb_sectors.specs.Sectors.{IsMediumError, IsRaised, SectorStays};
 ghost use Rattle.cfb_alloc.specs.Agreement.{word_home, word_of};
 ghost use Rattle.cfb_alloc.specs.Alloc.{HoldsTables};
@@ -25,8 +25,10 @@ use std::alloc::Allocator as Heap;
 
 /// The sector with that index in a list, if there is one and it is among so many sectors of the file.
 fn sector_in(sectors: &[u32], index: usize, count: usize) -> Option<u32>
-    ensures some { IfSome result (λ sector. (index < length sectors.now) × (sector ≡ slice_index sectors.now index) × (sector < count)) }
-    ensures none { IfNone result (index < length sectors.now → count ≤ slice_index sectors.now index) }
+    ensures some { IfSome result (λ sector. (index < length sectors.now)
+        × (sector ≡ slice_index sectors.now index) × (sector < count)) }
+    ensures none { IfNone result (index < length sectors.now
+        → count ≤ slice_index sectors.now index) }
 {
     let Some(sector) = sectors.get(index) else {
         return None;
@@ -53,7 +55,8 @@ fn has_word<F: ReadMedium, A: Heap>(
     sectors: &[u32],
     number: u32,
 ) -> bool
-    ensures { IsTrue result ↔ HasWord allocator.now.tables.version sectors.now (length allocator.now.tables.fat) number }
+    ensures { IsTrue result ↔ HasWord allocator.now.tables.version sectors.now
+        (length allocator.now.tables.fat) number }
 {
     let (index, _) = place_of_word(allocator.version(), number);
     sector_in(sectors, index, allocator.fat().len()).is_some()
@@ -65,7 +68,8 @@ pub fn are_known_words<F: ReadMedium, A: Heap>(
     sectors: &[u32],
     numbers: &[u32],
 ) -> bool
-    ensures { IsTrue result ↔ HaveWords allocator.now.tables.version sectors.now (length allocator.now.tables.fat) numbers.now }
+    ensures { IsTrue result ↔ HaveWords allocator.now.tables.version sectors.now
+        (length allocator.now.tables.fat) numbers.now }
 {
     for number in numbers {
         if !has_word(allocator, sectors, *number) {
@@ -92,9 +96,12 @@ fn sector_of_mini<F: ReadMedium, A: Heap>(
     stream: &[u32],
     mini: u32,
 ) -> Option<u32>
-    ensures some { IfSome result (λ sector. HasMini allocator.now.tables.version stream.now (length allocator.now.tables.fat) mini
-        × (sector ≡ slice_index stream.now (mini_sector_len * mini / sector_len allocator.now.tables.version))) }
-    ensures none { IfNone result (HasMini allocator.now.tables.version stream.now (length allocator.now.tables.fat) mini → ⊥) }
+    ensures some { IfSome result (λ sector.
+        HasMini allocator.now.tables.version stream.now (length allocator.now.tables.fat) mini
+        × (sector ≡ slice_index stream.now (mini_sector_len
+        * mini / sector_len allocator.now.tables.version))) }
+    ensures none { IfNone result (HasMini allocator.now.tables.version stream.now
+        (length allocator.now.tables.fat) mini → ⊥) }
 {
     let (index, _) = place_of_mini(allocator.version(), mini);
     sector_in(stream, index, allocator.fat().len())
@@ -106,7 +113,8 @@ pub fn are_known_minis<F: ReadMedium, A: Heap>(
     stream: &[u32],
     minis: &[u32],
 ) -> bool
-    ensures { IsTrue result ↔ HaveMinis allocator.now.tables.version stream.now (length allocator.now.tables.fat) minis.now }
+    ensures { IsTrue result ↔ HaveMinis allocator.now.tables.version stream.now
+        (length allocator.now.tables.fat) minis.now }
 {
     for mini in minis {
         if sector_of_mini(allocator, stream, *mini).is_none() {
@@ -135,22 +143,31 @@ fn write_listed<F: Medium, A: Heap>(
       failures = allocator.new.file.failures;
       begun = allocator.new.file.begun;
     } }
-    ensures ok { IsTrue F.tells → OnOk result (allocator.new.file ≡ record allocator.old.file {
-      bytes = written allocator.old.file.bytes (sector_start allocator.old.tables.version (slice_index sectors.now index) + offset) from.now;
-      len = max allocator.old.file.len (sector_start allocator.old.tables.version (slice_index sectors.now index) + offset + length from.now);
-      begun = true;
-    }) }
-    ensures others { IsTrue F.tells → ChangesOnlyBytes (sector_start allocator.old.tables.version (slice_index sectors.now index) + offset) (length from.now)
-        allocator.old.file.bytes allocator.new.file.bytes }
+    ensures ok { IsTrue F.tells → OnOk result (allocator.new.file
+        ≡ record allocator.old.file {
+          bytes = written allocator.old.file.bytes
+              (sector_start allocator.old.tables.version (slice_index sectors.now index)
+              + offset) from.now;
+          len = max allocator.old.file.len
+              (sector_start allocator.old.tables.version (slice_index sectors.now index)
+              + offset + length from.now);
+          begun = true;
+        }) }
+    ensures others { IsTrue F.tells → ChangesOnlyBytes
+        (sector_start allocator.old.tables.version (slice_index sectors.now index)
+        + offset) (length from.now) allocator.old.file.bytes allocator.new.file.bytes }
     ensures among { IsTrue F.tells → WritesAmong sectors.now allocator.old allocator.new }
-    ensures holds { IsTrue F.tells → (validation : Validation) → HoldsTables validation allocator.old
-        → ((i : ℕ) → Contains sectors.now i → IsNoTableSector allocator.old.tables i) → OnOk result (HoldsTables validation allocator.new) }
+    ensures holds { IsTrue F.tells
+        → (validation : Validation) → HoldsTables validation allocator.old
+        → ((i : ℕ) → Contains sectors.now i → IsNoTableSector allocator.old.tables i)
+        → OnOk result (HoldsTables validation allocator.new) }
     ensures begun { allocator.new.file.begun ≡ true }
     ensures err { IfErr result IsMediumError }
-    ensures counts { IsTrue F.tells → CountsFailure F.write_faults result allocator.old.file.failures allocator.new.file.failures }
+    ensures counts { IsTrue F.tells → CountsFailure
+        F.write_faults result allocator.old.file.failures allocator.new.file.failures }
 {
     let len = allocator.file_len();
-    let _met = len;
+    let _fact = len;
     allocator.write_contiguous(sectors[index], offset, from)
 }
 
@@ -169,7 +186,8 @@ fn write_word<F: Medium, A: Heap>(
     number: u32,
     word: u32,
 ) -> Result<(), Error>
-    requires known { HasWord allocator.old.tables.version sectors.now (length allocator.old.tables.fat) number }
+    requires known { HasWord allocator.old.tables.version sectors.now
+        (length allocator.old.tables.fat) number }
     ensures tables { allocator.new.tables ≡ allocator.old.tables }
     ensures kept { allocator.new.file ≡ record allocator.old.file {
       len = allocator.new.file.len;
@@ -177,14 +195,21 @@ fn write_word<F: Medium, A: Heap>(
       failures = allocator.new.file.failures;
       begun = allocator.new.file.begun;
     } }
-    ensures ok { IsTrue F.tells → OnOk result (allocator.new.file.bytes ≡ with_word allocator.old.file.bytes (word_home allocator.old.tables.version sectors.now number) word) }
-    ensures others { IsTrue F.tells → ChangesOnlyBytes (word_home allocator.old.tables.version sectors.now number) 4 allocator.old.file.bytes allocator.new.file.bytes }
+    ensures ok { IsTrue F.tells
+        → OnOk result (allocator.new.file.bytes ≡ with_word allocator.old.file.bytes
+        (word_home allocator.old.tables.version sectors.now number) word) }
+    ensures others { IsTrue F.tells
+        → ChangesOnlyBytes (word_home allocator.old.tables.version sectors.now number)
+        4 allocator.old.file.bytes allocator.new.file.bytes }
     ensures among { IsTrue F.tells → WritesAmong sectors.now allocator.old allocator.new }
-    ensures holds { IsTrue F.tells → (validation : Validation) → HoldsTables validation allocator.old
-        → ((i : ℕ) → Contains sectors.now i → IsNoTableSector allocator.old.tables i) → OnOk result (HoldsTables validation allocator.new) }
+    ensures holds { IsTrue F.tells
+        → (validation : Validation) → HoldsTables validation allocator.old
+        → ((i : ℕ) → Contains sectors.now i → IsNoTableSector allocator.old.tables i)
+        → OnOk result (HoldsTables validation allocator.new) }
     ensures begun { allocator.new.file.begun ≡ true }
     ensures err { IfErr result IsMediumError }
-    ensures counts { IsTrue F.tells → CountsFailure F.write_faults result allocator.old.file.failures allocator.new.file.failures }
+    ensures counts { IsTrue F.tells → CountsFailure
+        F.write_faults result allocator.old.file.failures allocator.new.file.failures }
 {
     let (index, offset) = place_of_word(allocator.version(), number);
     write_listed(allocator, sectors, index, offset, &word.to_le_bytes())
@@ -198,7 +223,8 @@ pub fn write_words<F: Medium, A: Heap>(
     table: &[u32],
     numbers: &[u32],
 ) -> Result<(), Error>
-    requires known { HaveWords allocator.old.tables.version sectors.now (length allocator.old.tables.fat) numbers.now }
+    requires known { HaveWords allocator.old.tables.version sectors.now
+        (length allocator.old.tables.fat) numbers.now }
     ensures tables { allocator.new.tables ≡ allocator.old.tables }
     ensures kept { allocator.new.file ≡ record allocator.old.file {
       len = allocator.new.file.len;
@@ -206,22 +232,33 @@ pub fn write_words<F: Medium, A: Heap>(
       failures = allocator.new.file.failures;
       begun = allocator.new.file.begun;
     } }
-    ensures words { IsTrue F.tells → IsDistinct nat_eq sectors.now → OnOk result ((m : ℕ) → Contains numbers.now m
-        → word_of allocator.old.tables.version allocator.new.file.bytes sectors.now m ≡ value table.now m) }
-    ensures other_words { IsTrue F.tells → IsDistinct nat_eq sectors.now → (m : ℕ) → m / words_per_sector allocator.old.tables.version < length sectors.now → (Contains numbers.now m → ⊥)
+    ensures words { IsTrue F.tells
+        → IsDistinct nat_eq sectors.now → OnOk result ((m : ℕ) → Contains numbers.now m
+        → word_of allocator.old.tables.version allocator.new.file.bytes sectors.now m
+        ≡ value table.now m) }
+    ensures other_words { IsTrue F.tells → IsDistinct nat_eq sectors.now
+        → (m : ℕ) → m / words_per_sector allocator.old.tables.version < length sectors.now
+        → (Contains numbers.now m → ⊥)
         → word_home allocator.old.tables.version sectors.now m + 4 ≤ length allocator.old.file.bytes
-        → word_of allocator.old.tables.version allocator.new.file.bytes sectors.now m ≡ word_of allocator.old.tables.version allocator.old.file.bytes sectors.now m }
-    ensures others { IsTrue F.tells → ChangesWords numbers.now allocator.old.tables.version sectors.now allocator.old.file.bytes allocator.new.file.bytes }
-    ensures sectors { IsTrue F.tells → (i : ℕ) → (Contains sectors.now i → ⊥) → SectorStays allocator.old.tables.version i allocator.old.file.bytes allocator.new.file.bytes }
-    ensures header { IsTrue F.tells → (i : ℕ) → i < length allocator.old.file.bytes → i < sector_len allocator.old.tables.version
+        → word_of allocator.old.tables.version allocator.new.file.bytes sectors.now m
+        ≡ word_of allocator.old.tables.version allocator.old.file.bytes sectors.now m }
+    ensures others { IsTrue F.tells → ChangesWords numbers.now
+        allocator.old.tables.version sectors.now allocator.old.file.bytes allocator.new.file.bytes }
+    ensures sectors { IsTrue F.tells → (i : ℕ) → (Contains sectors.now i → ⊥) → SectorStays
+        allocator.old.tables.version i allocator.old.file.bytes allocator.new.file.bytes }
+    ensures header { IsTrue F.tells → (i : ℕ)
+        → i < length allocator.old.file.bytes → i < sector_len allocator.old.tables.version
         → slice_index allocator.new.file.bytes i ≡ slice_index allocator.old.file.bytes i }
     ensures spares { IsTrue F.tells → Spares sectors.now allocator.old allocator.new }
-    ensures holds { IsTrue F.tells → (validation : Validation) → HoldsTables validation allocator.old
-        → ((i : ℕ) → Contains sectors.now i → IsNoTableSector allocator.old.tables i) → OnOk result (HoldsTables validation allocator.new) }
+    ensures holds { IsTrue F.tells
+        → (validation : Validation) → HoldsTables validation allocator.old
+        → ((i : ℕ) → Contains sectors.now i → IsNoTableSector allocator.old.tables i)
+        → OnOk result (HoldsTables validation allocator.new) }
     ensures begun { IsRaised (0 < length numbers.now) allocator.old.file allocator.new.file }
     ensures none { length numbers.now ≡ 0 → (allocator.new ≡ allocator.old) × OnErr result ⊥ }
     ensures err { IfErr result IsMediumError }
-    ensures counts { IsTrue F.tells → CountsFailure F.write_faults result allocator.old.file.failures allocator.new.file.failures }
+    ensures counts { IsTrue F.tells → CountsFailure
+        F.write_faults result allocator.old.file.failures allocator.new.file.failures }
 {
     for number in numbers {
         write_word(allocator, sectors, *number, value_of(table, *number))?;
@@ -242,18 +279,30 @@ pub fn read_piece<F: ReadMedium, A: Heap>(
     requires some { 0 < length into.old }
     requires within { offset + length into.old ≤ mini_sector_len }
     ensures tables { allocator.new.tables ≡ allocator.old.tables }
-    ensures kept { allocator.new.file ≡ record allocator.old.file { bytes = allocator.new.file.bytes; failures = allocator.new.file.failures } }
-    ensures count { IfOk result (λ n. n ≡ min (length into.old) (allocator.old.file.len - (mini_start allocator.old.tables.version stream.now mini + offset))) }
+    ensures kept { allocator.new.file
+        ≡ record allocator.old.file {
+          bytes = allocator.new.file.bytes;
+          failures = allocator.new.file.failures;
+        } }
+    ensures count { IfOk result (λ n. n ≡ min (length into.old) (allocator.old.file.len
+        - (mini_start allocator.old.tables.version stream.now mini + offset))) }
     ensures some { IfOk result (λ n. 0 < n) }
-    ensures ok { IsTrue F.tells → IfOk result (λ n. take n into.new ≡ part allocator.old.file.bytes (mini_start allocator.old.tables.version stream.now mini + offset) n) }
+    ensures ok { IsTrue F.tells → IfOk result (λ n. take n into.new
+        ≡ part allocator.old.file.bytes (mini_start allocator.old.tables.version stream.now mini
+        + offset) n) }
     ensures rest { IfOk result (λ n. drop n into.new ≡ drop n into.old) }
-    ensures missing { (HasMini allocator.old.tables.version stream.now (length allocator.old.tables.fat) mini → ⊥) → IsErrAnd result IsInvalidData }
-    ensures cut { allocator.old.file.len ≤ mini_start allocator.old.tables.version stream.now mini + offset → IsErrAnd result IsInvalidData }
-    ensures there { HasMini allocator.old.tables.version stream.now (length allocator.old.tables.fat) mini
-        → mini_start allocator.old.tables.version stream.now mini + offset < allocator.old.file.len → IfErr result IsMediumError }
+    ensures missing { (HasMini allocator.old.tables.version stream.now
+        (length allocator.old.tables.fat) mini → ⊥) → IsErrAnd result IsInvalidData }
+    ensures cut { allocator.old.file.len ≤ mini_start allocator.old.tables.version stream.now mini
+        + offset → IsErrAnd result IsInvalidData }
+    ensures there { HasMini allocator.old.tables.version stream.now
+        (length allocator.old.tables.fat) mini
+        → mini_start allocator.old.tables.version stream.now mini + offset < allocator.old.file.len
+        → IfErr result IsMediumError }
     ensures same { IsTrue F.tells → OnOk result (allocator.new ≡ allocator.old) }
     ensures bytes { IsTrue F.tells → allocator.new.file.bytes ≡ allocator.old.file.bytes }
-    ensures counts { IsTrue F.tells → CountsFailure F.read_faults result allocator.old.file.failures allocator.new.file.failures }
+    ensures counts { IsTrue F.tells → CountsFailure
+        F.read_faults result allocator.old.file.failures allocator.new.file.failures }
 {
     let Some(sector) = sector_of_mini(allocator, stream, mini) else {
         return Err(no_mini(mini));
@@ -284,24 +333,34 @@ pub fn write_piece<F: Medium, A: Heap>(
       failures = allocator.new.file.failures;
       begun = allocator.new.file.begun;
     } }
-    ensures ok { IsTrue F.tells → OnOk result (allocator.new.file ≡ record allocator.old.file {
-      bytes = written allocator.old.file.bytes (mini_start allocator.old.tables.version stream.now mini + offset) from.now;
-      len = max allocator.old.file.len (mini_start allocator.old.tables.version stream.now mini + offset + length from.now);
-      begun = true;
-    }) }
-    ensures missing { (HasMini allocator.old.tables.version stream.now (length allocator.old.tables.fat) mini → ⊥)
-        → IsErrAnd result IsInvalidData × (allocator.new ≡ allocator.old) }
-    ensures there { HasMini allocator.old.tables.version stream.now (length allocator.old.tables.fat) mini
+    ensures ok { IsTrue F.tells → OnOk result (allocator.new.file
+        ≡ record allocator.old.file {
+          bytes = written allocator.old.file.bytes
+              (mini_start allocator.old.tables.version stream.now mini + offset) from.now;
+          len = max allocator.old.file.len (mini_start allocator.old.tables.version stream.now mini
+              + offset + length from.now);
+          begun = true;
+        }) }
+    ensures missing { (HasMini allocator.old.tables.version stream.now (length allocator.old.tables.fat) mini
+        → ⊥) → IsErrAnd result IsInvalidData × (allocator.new ≡ allocator.old) }
+    ensures there { HasMini allocator.old.tables.version stream.now
+        (length allocator.old.tables.fat) mini
         → IfErr result IsMediumError × (allocator.new.file.begun ≡ true) }
-    ensures others { IsTrue F.tells → ChangesOnlyBytes (mini_start allocator.old.tables.version stream.now mini + offset) (length from.now)
-        allocator.old.file.bytes allocator.new.file.bytes }
-    ensures sectors { IsTrue F.tells → (i : ℕ) → (Contains stream.now i → ⊥) → SectorStays allocator.old.tables.version i allocator.old.file.bytes allocator.new.file.bytes }
-    ensures header { IsTrue F.tells → (i : ℕ) → i < length allocator.old.file.bytes → i < sector_len allocator.old.tables.version
+    ensures others { IsTrue F.tells
+        → ChangesOnlyBytes (mini_start allocator.old.tables.version stream.now mini
+        + offset) (length from.now) allocator.old.file.bytes allocator.new.file.bytes }
+    ensures sectors { IsTrue F.tells → (i : ℕ) → (Contains stream.now i → ⊥) → SectorStays
+        allocator.old.tables.version i allocator.old.file.bytes allocator.new.file.bytes }
+    ensures header { IsTrue F.tells → (i : ℕ)
+        → i < length allocator.old.file.bytes → i < sector_len allocator.old.tables.version
         → slice_index allocator.new.file.bytes i ≡ slice_index allocator.old.file.bytes i }
     ensures spares { IsTrue F.tells → Spares stream.now allocator.old allocator.new }
-    ensures holds { IsTrue F.tells → (validation : Validation) → HoldsTables validation allocator.old
-        → ((i : ℕ) → Contains stream.now i → IsNoTableSector allocator.old.tables i) → OnOk result (HoldsTables validation allocator.new) }
-    ensures counts { IsTrue F.tells → CountsFailure F.write_faults result allocator.old.file.failures allocator.new.file.failures }
+    ensures holds { IsTrue F.tells
+        → (validation : Validation) → HoldsTables validation allocator.old
+        → ((i : ℕ) → Contains stream.now i → IsNoTableSector allocator.old.tables i)
+        → OnOk result (HoldsTables validation allocator.new) }
+    ensures counts { IsTrue F.tells → CountsFailure
+        F.write_faults result allocator.old.file.failures allocator.new.file.failures }
 {
     if sector_of_mini(allocator, stream, mini).is_none() {
         return Err(no_mini(mini));
@@ -317,7 +376,8 @@ fn wipe_mini<F: Medium, A: Heap>(
     stream: &[u32],
     mini: u32,
 ) -> Result<(), Error>
-    requires known { HasMini allocator.old.tables.version stream.now (length allocator.old.tables.fat) mini }
+    requires known { HasMini allocator.old.tables.version stream.now
+        (length allocator.old.tables.fat) mini }
     ensures tables { allocator.new.tables ≡ allocator.old.tables }
     ensures kept { allocator.new.file ≡ record allocator.old.file {
       len = allocator.new.file.len;
@@ -325,16 +385,21 @@ fn wipe_mini<F: Medium, A: Heap>(
       failures = allocator.new.file.failures;
       begun = allocator.new.file.begun;
     } }
-    ensures ok { IsTrue F.tells → OnOk result (allocator.new.file.bytes
-        ≡ written allocator.old.file.bytes (mini_start allocator.old.tables.version stream.now mini) (replicate mini_sector_len 0)) }
-    ensures others { IsTrue F.tells → ChangesOnlyBytes (mini_start allocator.old.tables.version stream.now mini) mini_sector_len
-        allocator.old.file.bytes allocator.new.file.bytes }
+    ensures ok { IsTrue F.tells
+        → OnOk result (allocator.new.file.bytes ≡ written allocator.old.file.bytes
+        (mini_start allocator.old.tables.version stream.now mini) (replicate mini_sector_len 0)) }
+    ensures others { IsTrue F.tells
+        → ChangesOnlyBytes (mini_start allocator.old.tables.version stream.now mini)
+        mini_sector_len allocator.old.file.bytes allocator.new.file.bytes }
     ensures among { IsTrue F.tells → WritesAmong stream.now allocator.old allocator.new }
-    ensures holds { IsTrue F.tells → (validation : Validation) → HoldsTables validation allocator.old
-        → ((i : ℕ) → Contains stream.now i → IsNoTableSector allocator.old.tables i) → OnOk result (HoldsTables validation allocator.new) }
+    ensures holds { IsTrue F.tells
+        → (validation : Validation) → HoldsTables validation allocator.old
+        → ((i : ℕ) → Contains stream.now i → IsNoTableSector allocator.old.tables i)
+        → OnOk result (HoldsTables validation allocator.new) }
     ensures begun { allocator.new.file.begun ≡ true }
     ensures err { IfErr result IsMediumError }
-    ensures counts { IsTrue F.tells → CountsFailure F.write_faults result allocator.old.file.failures allocator.new.file.failures }
+    ensures counts { IsTrue F.tells → CountsFailure
+        F.write_faults result allocator.old.file.failures allocator.new.file.failures }
 {
     let zeros = [0; MINI_SECTOR_LEN];
     let (index, start) = place_of_mini(allocator.version(), mini);
@@ -348,7 +413,8 @@ pub fn wipe<F: Medium, A: Heap>(
     stream: &[u32],
     minis: &[u32],
 ) -> Result<(), Error>
-    requires known { HaveMinis allocator.old.tables.version stream.now (length allocator.old.tables.fat) minis.now }
+    requires known { HaveMinis allocator.old.tables.version stream.now
+        (length allocator.old.tables.fat) minis.now }
     ensures tables { allocator.new.tables ≡ allocator.old.tables }
     ensures kept { allocator.new.file ≡ record allocator.old.file {
       len = allocator.new.file.len;
@@ -356,21 +422,31 @@ pub fn wipe<F: Medium, A: Heap>(
       failures = allocator.new.file.failures;
       begun = allocator.new.file.begun;
     } }
-    ensures zeros { IsTrue F.tells → OnOk result ((m : ℕ) → Contains minis.now m → AreZeros allocator.new.file.bytes (mini_start allocator.old.tables.version stream.now m)) }
-    ensures other_minis { IsTrue F.tells → IsDistinct nat_eq stream.now → (m : ℕ) → mini_sector_len * m / sector_len allocator.old.tables.version < length stream.now
-        → (Contains minis.now m → ⊥) → Stays (mini_start allocator.old.tables.version stream.now m) (mini_start allocator.old.tables.version stream.now m + mini_sector_len)
-        allocator.old.file.bytes allocator.new.file.bytes }
-    ensures others { IsTrue F.tells → ChangesMinis minis.now allocator.old.tables.version stream.now allocator.old.file.bytes allocator.new.file.bytes }
-    ensures sectors { IsTrue F.tells → (i : ℕ) → (Contains stream.now i → ⊥) → SectorStays allocator.old.tables.version i allocator.old.file.bytes allocator.new.file.bytes }
-    ensures header { IsTrue F.tells → (i : ℕ) → i < length allocator.old.file.bytes → i < sector_len allocator.old.tables.version
+    ensures zeros { IsTrue F.tells
+        → OnOk result ((m : ℕ) → Contains minis.now m → AreZeros allocator.new.file.bytes
+        (mini_start allocator.old.tables.version stream.now m)) }
+    ensures other_minis { IsTrue F.tells → IsDistinct nat_eq stream.now → (m : ℕ) → mini_sector_len
+        * m / sector_len allocator.old.tables.version < length stream.now → (Contains minis.now m
+        → ⊥) → RangeStays (mini_start allocator.old.tables.version stream.now m)
+        (mini_start allocator.old.tables.version stream.now m
+        + mini_sector_len) allocator.old.file.bytes allocator.new.file.bytes }
+    ensures others { IsTrue F.tells → ChangesMinis minis.now
+        allocator.old.tables.version stream.now allocator.old.file.bytes allocator.new.file.bytes }
+    ensures sectors { IsTrue F.tells → (i : ℕ) → (Contains stream.now i → ⊥) → SectorStays
+        allocator.old.tables.version i allocator.old.file.bytes allocator.new.file.bytes }
+    ensures header { IsTrue F.tells → (i : ℕ)
+        → i < length allocator.old.file.bytes → i < sector_len allocator.old.tables.version
         → slice_index allocator.new.file.bytes i ≡ slice_index allocator.old.file.bytes i }
     ensures spares { IsTrue F.tells → Spares stream.now allocator.old allocator.new }
-    ensures holds { IsTrue F.tells → (validation : Validation) → HoldsTables validation allocator.old
-        → ((i : ℕ) → Contains stream.now i → IsNoTableSector allocator.old.tables i) → OnOk result (HoldsTables validation allocator.new) }
+    ensures holds { IsTrue F.tells
+        → (validation : Validation) → HoldsTables validation allocator.old
+        → ((i : ℕ) → Contains stream.now i → IsNoTableSector allocator.old.tables i)
+        → OnOk result (HoldsTables validation allocator.new) }
     ensures begun { IsRaised (0 < length minis.now) allocator.old.file allocator.new.file }
     ensures none { length minis.now ≡ 0 → (allocator.new ≡ allocator.old) × OnErr result ⊥ }
     ensures err { IfErr result IsMediumError }
-    ensures counts { IsTrue F.tells → CountsFailure F.write_faults result allocator.old.file.failures allocator.new.file.failures }
+    ensures counts { IsTrue F.tells → CountsFailure
+        F.write_faults result allocator.old.file.failures allocator.new.file.failures }
 {
     for mini in minis {
         wipe_mini(allocator, stream, *mini)?;

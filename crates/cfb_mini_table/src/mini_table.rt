@@ -55,7 +55,8 @@ impl<A: Allocator> Model for MiniTable<A> {
       room = min (vec_capacity t.minifat) (vec_capacity t.free);
     } };
 
-    ghost invariant = { λ t. IsMini t.limit t.minifat.items t.free.items t.unused (vec_capacity t.free) };
+    ghost invariant = { λ t.
+        IsMini t.limit t.minifat.items t.free.items t.unused (vec_capacity t.free) };
 }
 
 impl<A: Allocator + Clone> MiniTable<A> {
@@ -72,8 +73,10 @@ impl<A: Allocator + Clone> MiniTable<A> {
     ) -> Result<MiniTable<A>, Error>
         ensures minifat { IfOk result (λ table. table.minifat ≡ read_entries most words.items) }
         ensures limit { IfOk result (λ table. table.limit ≡ max_mini_sectors version) }
-        ensures accepted { OnOk result (AcceptsMini validation (max_mini_sectors version) most words.items) }
-        ensures err { IfErr result (TableRefused (AcceptsMini validation (max_mini_sectors version) most words.items → ⊥) Unit ⊥) }
+        ensures accepted { OnOk result
+            (AcceptsMini validation (max_mini_sectors version) most words.items) }
+        ensures err { IfErr result (TableRefused
+            (AcceptsMini validation (max_mini_sectors version) most words.items → ⊥) Unit ⊥) }
     {
         let limit = max_len(version);
         let minifat = read(alloc.clone()?, words, limit as usize, most, validation)?;
@@ -145,7 +148,8 @@ impl<A: Allocator> MiniTable<A> {
 
     /// The last mini sector of the chain from `start`. `InvalidData` where there is no such chain and where it is empty.
     pub fn last(&self, start: u32) -> Result<u32, Error>
-        ensures ok { IfOk result (λ last. (front : List ℕ) × IsChain self.now.minifat start (front ++ last ∷ [])) }
+        ensures ok { IfOk result (λ last. (front : List ℕ)
+            × IsChain self.now.minifat start (front ++ last ∷ [])) }
         ensures err { IfErr result (LastRefused self.now.minifat start) }
     {
         last_of(&self.minifat, start)
@@ -166,7 +170,8 @@ impl<A: Allocator> MiniTable<A> {
         ensures kept { self.old.room ≤ self.new.room }
         ensures again { IsPreparedMini self.old count → IsOk result }
         ensures full { IsTooFewMini self.old.limit self.old.minifat count → result ≡ Err Full }
-        ensures err { IfErr result (TableRefused ⊥ Unit (IsTooFewMini self.old.limit self.old.minifat count)) }
+        ensures err { IfErr result
+            (TableRefused ⊥ Unit (IsTooFewMini self.old.limit self.old.minifat count)) }
     {
         if !self.can_take(count) {
             return Err(Error::Full);
@@ -205,8 +210,10 @@ impl<A: Allocator> MiniTable<A> {
         requires ended { value self.old.minifat last ≡ end_of_chain }
         requires prepared { IsPreparedMini self.old count }
         requires room { vec_len list.old + count ≤ vec_capacity list.old }
-        ensures taken { TakesMini self.old.limit self.old.minifat self.new.minifat (last ∷ []) (drop (vec_len list.old) list.new.items) }
-        ensures chain { IsChain self.new.minifat last (last ∷ drop (vec_len list.old) list.new.items) }
+        ensures taken { TakesMini self.old.limit self.old.minifat self.new.minifat (last
+            ∷ []) (drop (vec_len list.old) list.new.items) }
+        ensures chain { IsChain self.new.minifat last (last
+            ∷ drop (vec_len list.old) list.new.items) }
         ensures before { take (vec_len list.old) list.new.items ≡ list.old.items }
         ensures count { vec_len list.new ≡ vec_len list.old + count }
         ensures rest { self.new ≡ record self.old { minifat = self.new.minifat } }
@@ -227,13 +234,18 @@ impl<A: Allocator> MiniTable<A> {
     /// memory that was prepared for them, and appends them to the list.
     pub fn extend_prepared(&mut self, list: &mut Vec<u32, A>, count: usize)
         requires prepared { IsPreparedMini self.old count }
-        requires ended { 0 < vec_len list.old → value self.old.minifat (last_or_end list.old.items) ≡ end_of_chain }
+        requires ended { 0 < vec_len list.old
+            → value self.old.minifat (last_or_end list.old.items) ≡ end_of_chain }
         requires room { vec_len list.old + count ≤ vec_capacity list.old }
         ensures listed { list.new.items ≡ list.old.items ++ gained list.old.items list.new.items }
         ensures count { length (gained list.old.items list.new.items) ≡ count }
-        ensures taken { TakesMini self.old.limit self.old.minifat self.new.minifat (ends_of list.old.items) (gained list.old.items list.new.items) }
-        ensures added { IsChain self.new.minifat (first_or_end (ends_of list.old.items ++ gained list.old.items list.new.items)) (ends_of list.old.items ++ gained list.old.items list.new.items) }
-        ensures chain { IsChain self.old.minifat (first_or_end list.old.items) list.old.items → IsChain self.new.minifat (first_or_end list.new.items) list.new.items }
+        ensures taken { TakesMini self.old.limit self.old.minifat self.new.minifat
+            (ends_of list.old.items) (gained list.old.items list.new.items) }
+        ensures added { IsChain self.new.minifat (first_or_end (ends_of list.old.items
+            ++ gained list.old.items list.new.items)) (ends_of list.old.items
+            ++ gained list.old.items list.new.items) }
+        ensures chain { IsChain self.old.minifat (first_or_end list.old.items) list.old.items
+            → IsChain self.new.minifat (first_or_end list.new.items) list.new.items }
         ensures rest { self.new ≡ record self.old { minifat = self.new.minifat } }
         ensures capacity { vec_capacity list.new ≡ vec_capacity list.old }
     {
@@ -247,14 +259,17 @@ impl<A: Allocator> MiniTable<A> {
     /// Takes so many mini sectors as a new chain, and gives their numbers. `Full` where there are too few numbers, and
     /// `Memory`.
     pub fn begin_by(&mut self, alloc: A, count: usize) -> Result<Vec<u32, A>, Error>
-        ensures taken { IfOk result (λ list. TakesMini self.old.limit self.old.minifat self.new.minifat [] list.items) }
-        ensures chain { IfOk result (λ list. IsChain self.new.minifat (first_or_end list.items) list.items) }
+        ensures taken { IfOk result (λ list.
+            TakesMini self.old.limit self.old.minifat self.new.minifat [] list.items) }
+        ensures chain { IfOk result (λ list.
+            IsChain self.new.minifat (first_or_end list.items) list.items) }
         ensures count { IfOk result (λ list. vec_len list ≡ count) }
         ensures limit { self.new.limit ≡ self.old.limit }
         ensures kept { self.old.room ≤ self.new.room }
         ensures unchanged { OnErr result (self.new ≡ record self.old { room = self.new.room }) }
         ensures full { IsTooFewMini self.old.limit self.old.minifat count → result ≡ Err Full }
-        ensures err { IfErr result (TableRefused ⊥ Unit (IsTooFewMini self.old.limit self.old.minifat count)) }
+        ensures err { IfErr result
+            (TableRefused ⊥ Unit (IsTooFewMini self.old.limit self.old.minifat count)) }
     {
         self.prepare(count)?;
         let mut list = Vec::with_capacity(alloc, count)?;
@@ -266,14 +281,16 @@ impl<A: Allocator> MiniTable<A> {
     /// numbers, and `Memory`.
     pub fn extend_by(&mut self, alloc: A, last: u32, count: usize) -> Result<Vec<u32, A>, Error>
         requires ended { value self.old.minifat last ≡ end_of_chain }
-        ensures taken { IfOk result (λ list. TakesMini self.old.limit self.old.minifat self.new.minifat (last ∷ []) list.items) }
+        ensures taken { IfOk result (λ list.
+            TakesMini self.old.limit self.old.minifat self.new.minifat (last ∷ []) list.items) }
         ensures chain { IfOk result (λ list. IsChain self.new.minifat last (last ∷ list.items)) }
         ensures count { IfOk result (λ list. vec_len list ≡ count) }
         ensures limit { self.new.limit ≡ self.old.limit }
         ensures kept { self.old.room ≤ self.new.room }
         ensures unchanged { OnErr result (self.new ≡ record self.old { room = self.new.room }) }
         ensures full { IsTooFewMini self.old.limit self.old.minifat count → result ≡ Err Full }
-        ensures err { IfErr result (TableRefused ⊥ Unit (IsTooFewMini self.old.limit self.old.minifat count)) }
+        ensures err { IfErr result
+            (TableRefused ⊥ Unit (IsTooFewMini self.old.limit self.old.minifat count)) }
     {
         self.prepare(count)?;
         let mut list = Vec::with_capacity(alloc, count)?;
@@ -285,7 +302,8 @@ impl<A: Allocator> MiniTable<A> {
     pub fn free_listed(&mut self, list: &[u32])
         requires busy { AreBusy self.old.minifat list.now }
         ensures freed { MiniGivesBack [] list.now self.old.minifat self.new.minifat }
-        ensures prepared { (count : ℕ) → IsPreparedMini self.old count → IsPreparedMini self.new count }
+        ensures prepared { (count : ℕ)
+            → IsPreparedMini self.old count → IsPreparedMini self.new count }
         ensures rest { self.new ≡ record self.old { minifat = self.new.minifat } }
     {
         if list.is_empty() {
@@ -300,7 +318,8 @@ impl<A: Allocator> MiniTable<A> {
         requires below { last < length self.old.minifat }
         requires chain { IsChain self.old.minifat (value self.old.minifat last) list.now }
         ensures cut { MiniGivesBack (last ∷ []) list.now self.old.minifat self.new.minifat }
-        ensures prepared { (count : ℕ) → IsPreparedMini self.old count → IsPreparedMini self.new count }
+        ensures prepared { (count : ℕ)
+            → IsPreparedMini self.old count → IsPreparedMini self.new count }
         ensures rest { self.new ≡ record self.old { minifat = self.new.minifat } }
     {
         if list.is_empty() {
@@ -316,8 +335,10 @@ impl<A: Allocator> MiniTable<A> {
     pub fn cut_listed(&mut self, list: &[u32], left: usize)
         requires chain { IsChain self.old.minifat (first_or_end list.now) list.now }
         requires fewer { left ≤ length list.now }
-        ensures cut { MiniGivesBack (ends_of (take left list.now)) (drop left list.now) self.old.minifat self.new.minifat }
-        ensures prepared { (count : ℕ) → IsPreparedMini self.old count → IsPreparedMini self.new count }
+        ensures cut { MiniGivesBack
+            (ends_of (take left list.now)) (drop left list.now) self.old.minifat self.new.minifat }
+        ensures prepared { (count : ℕ)
+            → IsPreparedMini self.old count → IsPreparedMini self.new count }
         ensures rest { self.new ≡ record self.old { minifat = self.new.minifat } }
     {
         if left == 0 {
@@ -330,7 +351,8 @@ impl<A: Allocator> MiniTable<A> {
     /// `Memory`.
     pub fn free(&mut self, alloc: A, start: u32) -> Result<Vec<u32, A>, Error>
         ensures ok { IfOk result (λ list. IsChain self.old.minifat start list.items) }
-        ensures freed { IfOk result (λ list. MiniGivesBack [] list.items self.old.minifat self.new.minifat) }
+        ensures freed { IfOk result (λ list.
+            MiniGivesBack [] list.items self.old.minifat self.new.minifat) }
         ensures rest { self.new ≡ record self.old { minifat = self.new.minifat } }
         ensures unchanged { OnErr result (self.new ≡ self.old) }
         ensures err { IfErr result (WalkRefused self.old.minifat start) }
@@ -344,8 +366,10 @@ impl<A: Allocator> MiniTable<A> {
     /// goes on from it, and `Memory`.
     pub fn free_after(&mut self, alloc: A, mini: u32) -> Result<Vec<u32, A>, Error>
         requires below { mini < length self.old.minifat }
-        ensures ok { IfOk result (λ list. IsChain self.old.minifat (value self.old.minifat mini) list.items) }
-        ensures cut { IfOk result (λ list. MiniGivesBack (mini ∷ []) list.items self.old.minifat self.new.minifat) }
+        ensures ok { IfOk result (λ list.
+            IsChain self.old.minifat (value self.old.minifat mini) list.items) }
+        ensures cut { IfOk result (λ list.
+            MiniGivesBack (mini ∷ []) list.items self.old.minifat self.new.minifat) }
         ensures rest { self.new ≡ record self.old { minifat = self.new.minifat } }
         ensures unchanged { OnErr result (self.new ≡ self.old) }
         ensures err { IfErr result (WalkRefused self.old.minifat (value self.old.minifat mini)) }

@@ -3,11 +3,9 @@ ghost use Rattle.std.specs.Prelude.{◌≡◌, ◌+◌, ◌-◌, ◌<◌, ◌≤
 ghost use Rattle.std.specs.List.{list_all};
 ghost use Rattle.cfb_format.specs.Bytes.{max_regular_sector, end_of_chain, points_below};
 ghost use Rattle.cfb_format.specs.Chain.{value, IsChain};
-ghost use Rattle.cfb_format.specs.Fat.{HasDistinctPointers};
 ghost use Rattle.cfb_format.specs.Full.{free_count};
 ghost use Rattle.cfb_format.specs.Header.{IfStrict};
 ghost use Rattle.cfb_format.specs.Refused.{IsInvalidData};
-ghost use Rattle.cfb_tables.specs.Changes.{PointsWithin};
 ghost use Rattle.cfb_tables.specs.Refused.{TableRefused};
 ghost use Rattle.cfb_tables.specs.Tables.{first_or_end, wiped};
 ghost use Rattle.cfb_mini_table.specs.Steps.{TakesOne, Taking, CanLink, Links, Freeing};
@@ -16,6 +14,7 @@ ghost use Rattle.cfb_mini_table.specs.MiniTable.{trimmed, read_entries, AcceptsM
 use cfb_format::consts::{END_OF_CHAIN, FREE_SECTOR, MAX_REGULAR_SECTOR};
 use cfb_format::error::{Detail, Error};
 use cfb_format::validate::Validation;
+use cfb_tables::fat::names_once;
 use std::alloc::Allocator;
 
 fn invalid(text: &'static str) -> Error
@@ -28,7 +27,8 @@ fn invalid(text: &'static str) -> Error
 fn busy_len(words: &[u32]) -> usize
     ensures within { result ≤ length words.now }
     ensures trimmed { take result words.now ≡ trimmed words.now }
-    ensures counted { free_count (take result words.now) + length words.now ≡ free_count words.now + result }
+    ensures counted { free_count (take result words.now) + length words.now
+        ≡ free_count words.now + result }
 {
     let mut len = words.len();
     while len > 0 && words[len - 1] == FREE_SECTOR {
@@ -58,25 +58,6 @@ fn point_inside(minifat: &[u32]) -> bool
     minifat.iter().all(|word| *word > MAX_REGULAR_SECTOR || (*word as usize) < len)
 }
 
-/// Whether no mini sector is pointed to twice. `Memory`.
-fn names_once<A: Allocator>(alloc: A, minifat: &[u32]) -> Result<bool, Error>
-    requires within { PointsWithin minifat.now }
-    ensures once { IfOk result (λ once. once ≡ true → HasDistinctPointers minifat.now) }
-    ensures twice { IfOk result (λ once. HasDistinctPointers minifat.now → once ≡ true) }
-    ensures err { IfErr result (TableRefused ⊥ Unit ⊥) }
-{
-    let mut named = Vec::from_elem(alloc, false, minifat.len())?;
-    for sector in minifat {
-        if *sector <= MAX_REGULAR_SECTOR {
-            if named[*sector as usize] {
-                return Ok(false);
-            }
-            named[*sector as usize] = true;
-        }
-    }
-    Ok(true)
-}
-
 /// Cuts the entries to so many. `InvalidData` where there are more and opening is strict.
 fn cut<A: Allocator>(
     minifat: &mut Vec<u32, A>,
@@ -85,7 +66,8 @@ fn cut<A: Allocator>(
 ) -> Result<(), Error>
     ensures ok { OnOk result (IfStrict validation (vec_len minifat.old ≤ most)) }
     ensures items { OnOk result (minifat.new.items ≡ take most minifat.old.items) }
-    ensures err { IfErr result (TableRefused (IfStrict validation (vec_len minifat.old ≤ most) → ⊥) ⊥ ⊥) }
+    ensures err { IfErr result (TableRefused (IfStrict validation (vec_len minifat.old ≤ most)
+        → ⊥) ⊥ ⊥) }
 {
     if minifat.len() > most {
         match validation {
@@ -108,7 +90,8 @@ pub fn read<A: Allocator>(
 ) -> Result<Vec<u32, A>, Error>
     ensures minifat { IfOk result (λ minifat. minifat.items ≡ read_entries most words.items) }
     ensures accepted { OnOk result (AcceptsMini validation limit most words.items) }
-    ensures err { IfErr result (TableRefused (AcceptsMini validation limit most words.items → ⊥) Unit ⊥) }
+    ensures err { IfErr result (TableRefused (AcceptsMini validation limit most words.items
+        → ⊥) Unit ⊥) }
 {
     let mut minifat = words;
     trim(&mut minifat);
@@ -140,7 +123,8 @@ pub fn free_numbers<A: Allocator>(alloc: A, minifat: &[u32]) -> Result<Vec<u32, 
     ensures ok { IfOk result (λ free. ListsMiniFree free.items minifat.now) }
     ensures counted { IfOk result (λ free. vec_len free ≡ free_count minifat.now) }
     ensures next { IfOk result (λ free. TakesEndFirst free.items minifat.now) }
-    ensures within { IfOk result (λ free. (i : ℕ) → Contains free.items i → i < length minifat.now) }
+    ensures within { IfOk result (λ free. (i : ℕ)
+        → Contains free.items i → i < length minifat.now) }
     ensures room { IfOk result (λ free. length minifat.now ≤ vec_capacity free) }
     ensures err { IfErr result (TableRefused ⊥ Unit ⊥) }
 {
@@ -158,7 +142,8 @@ pub fn free_numbers<A: Allocator>(alloc: A, minifat: &[u32]) -> Result<Vec<u32, 
 fn take_one<A: Allocator>(minifat: &mut Vec<u32, A>, free: &mut Vec<u32, A>) -> u32
     requires listed { ListsMiniFree free.old.items minifat.old.items }
     requires next { TakesEndFirst free.old.items minifat.old.items }
-    requires room { free_count minifat.old.items ≡ 0 → vec_len minifat.old < vec_capacity minifat.old }
+    requires room { free_count minifat.old.items ≡ 0
+        → vec_len minifat.old < vec_capacity minifat.old }
     requires short { free_count minifat.old.items ≡ 0 → vec_len minifat.old < max_regular_sector }
     ensures taken { TakesOne minifat.old.items minifat.new.items result }
     ensures listed { ListsMiniFree free.new.items minifat.new.items }
@@ -189,9 +174,11 @@ fn take_all<A: Allocator>(
     requires next { TakesEndFirst free.old.items minifat.old.items }
     requires limited { limit ≤ max_regular_sector }
     requires enough { vec_len minifat.old + (count - free_count minifat.old.items) ≤ limit }
-    requires held { vec_len minifat.old + (count - free_count minifat.old.items) ≤ vec_capacity minifat.old }
+    requires held { vec_len minifat.old + (count - free_count minifat.old.items)
+        ≤ vec_capacity minifat.old }
     requires room { vec_len list.old + count ≤ vec_capacity list.old }
-    ensures taken { Taking limit minifat.old.items minifat.new.items (drop (vec_len list.old) list.new.items) }
+    ensures taken { Taking limit minifat.old.items minifat.new.items
+        (drop (vec_len list.old) list.new.items) }
     ensures before { take (vec_len list.old) list.new.items ≡ list.old.items }
     ensures count { vec_len list.new ≡ vec_len list.old + count }
     ensures listed { ListsMiniFree free.new.items minifat.new.items }
@@ -201,9 +188,9 @@ fn take_all<A: Allocator>(
     ensures free_capacity { vec_capacity free.new ≡ vec_capacity free.old }
     ensures list_capacity { vec_capacity list.new ≡ vec_capacity list.old }
 {
-    let _at_most = limit;
+    let _fact = limit;
     for turn in 0..count {
-        let _taken = turn;
+        let _fact = turn;
         let number = take_one(minifat, free);
         list.push_reserved(number);
     }
@@ -256,7 +243,8 @@ pub fn begin<A: Allocator>(
     requires next { TakesEndFirst free.old.items minifat.old.items }
     requires limited { limit ≤ max_regular_sector }
     requires enough { vec_len minifat.old + (count - free_count minifat.old.items) ≤ limit }
-    requires held { vec_len minifat.old + (count - free_count minifat.old.items) ≤ vec_capacity minifat.old }
+    requires held { vec_len minifat.old + (count - free_count minifat.old.items)
+        ≤ vec_capacity minifat.old }
     requires room { count ≤ vec_capacity list.old }
     requires empty { list.old.items ≡ [] }
     ensures taken { TakesMini limit minifat.old.items minifat.new.items [] list.new.items }
@@ -289,9 +277,11 @@ pub fn extend<A: Allocator>(
     requires limited { limit ≤ max_regular_sector }
     requires ended { value minifat.old.items last ≡ end_of_chain }
     requires enough { vec_len minifat.old + (count - free_count minifat.old.items) ≤ limit }
-    requires held { vec_len minifat.old + (count - free_count minifat.old.items) ≤ vec_capacity minifat.old }
+    requires held { vec_len minifat.old + (count - free_count minifat.old.items)
+        ≤ vec_capacity minifat.old }
     requires room { vec_len list.old + count ≤ vec_capacity list.old }
-    ensures taken { TakesMini limit minifat.old.items minifat.new.items (last ∷ []) (drop (vec_len list.old) list.new.items) }
+    ensures taken { TakesMini limit minifat.old.items minifat.new.items (last
+        ∷ []) (drop (vec_len list.old) list.new.items) }
     ensures chain { IsChain minifat.new.items last (last ∷ drop (vec_len list.old) list.new.items) }
     ensures before { take (vec_len list.old) list.new.items ≡ list.old.items }
     ensures count { vec_len list.new ≡ vec_len list.old + count }
@@ -321,7 +311,8 @@ pub fn give_back<A: Allocator>(
     ensures minifat { minifat.new.items ≡ trimmed (wiped minifat.old.items list.now) }
     ensures listed { ListsMiniFree free.new.items minifat.new.items }
     ensures free { free.new.items ≡ free.old.items ++ list.now }
-    ensures counted { free_count minifat.new.items + result ≡ free_count minifat.old.items + length list.now }
+    ensures counted { free_count minifat.new.items + result
+        ≡ free_count minifat.old.items + length list.now }
     ensures len { vec_len minifat.new + result ≡ vec_len minifat.old }
     ensures fits { free_count minifat.old.items + length list.now ≤ vec_len minifat.old }
     ensures capacity { vec_capacity minifat.new ≡ vec_capacity minifat.old }

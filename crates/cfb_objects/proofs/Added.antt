@@ -12,7 +12,7 @@ use Rattle.cfb_format.specs.Tree.{Objects, nothing, storage, stream, put_in_orde
 use Rattle.cfb_format.proofs.Unique.{Below-unique}
 use Rattle.cfb_rules.specs.CallChanges.{new_storage, new_stream, storage_added_at, stream_added_at, tree_changed_at}
 use Rattle.cfb_rules.specs.Finding.{last_name, parent_names}
-use Rattle.cfb_siblings.specs.Painted.{tally}
+use Rattle.cfb_siblings.specs.Painted.{times_in}
 use Rattle.cfb_siblings.specs.Children.{HasInserted}
 use Rattle.cfb_siblings.specs.Laws.{IgnoresLinks, SameObject, StandsFor}
 use Rattle.cfb_siblings.proofs.Objects.{storage-is-put, stream-is-put}
@@ -45,13 +45,13 @@ module _ (cases : Cases) (old new : List Entry) (c : Entry → List ℕ) (o o' x
   pub list-is : siblings x ≡ xs ++ ys
   list-is = Below-unique cases old (entry_at old parent).child (siblings x) (xs ++ ys) (at-held cases old o is parent x stands).0 ins.was.below
 
-  fresh : tally n (0 ∷ numbers o) ≡ 0
+  fresh : times_in n (0 ∷ numbers o) ≡ 0
   fresh = free-is-apart cases old o is n free
 
   pub apart : IsDistinct nat_eq (n ∷ parent ∷ numbers x)
-  unfolding tally
+  unfolding times_in
   apart = once-distinct (n ∷ parent ∷ numbers x) (λ k. elim (hit-cases k n) [
-    | inl e ↦ omega (arith, at-inner parent x o stands k, hit-small k n, fresh, ap (λ j. tally j (0 ∷ numbers o)) e)
+    | inl e ↦ omega (arith, at-inner parent x o stands k, hit-small k n, fresh, ap (λ j. times_in j (0 ∷ numbers o)) e)
     | inr z ↦ omega (arith, at-inner parent x o stands k, z, reached-once cases old o is k)
   ])
 
@@ -61,7 +61,7 @@ module _ (cases : Cases) (old new : List Entry) (c : Entry → List ℕ) (o o' x
     object = parent-object old new c parent ne ins.parent_kept;
     links = parent-links old new parent ins.parent_kept;
     others = λ k r kp out. same-entry old new c ignores k
-        (ins.others_kept k kp (λ e. omega (arith, r, fresh, ap (λ j. tally j (0 ∷ numbers o)) e)) (outside k (xs ++ ys) (omega (arith, out, ap (tally k) list-is))));
+        (ins.others_kept k kp (λ e. omega (arith, r, fresh, ap (λ j. times_in j (0 ∷ numbers o)) e)) (outside k (xs ++ ys) (omega (arith, out, ap (times_in k) list-is))));
   }
 
   -- what stands for the children now is in the tree

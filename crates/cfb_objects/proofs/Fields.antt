@@ -4,14 +4,14 @@ use Rattle.std.specs.Prelude.{Some, if◌then◌else◌, Contains, ◌%◌}
 use Rattle.std.proofs.lemmas.Bool.{cases_eq}
 use Rattle.cfb_format.specs.declared.objtype.ObjType.TheVariants.{Stream}
 use Rattle.cfb_format.specs.Names.{Cases}
-use Rattle.cfb_format.specs.DirectoryEntry.{Entry}
+use Rattle.cfb_format.specs.DirectoryEntry.{Entry, ButContent}
 use Rattle.cfb_format.specs.Siblings.{entry_at}
 use Rattle.cfb_format.specs.Reading.{Outline, no_more, storage_at, stream_at, siblings, numbers, stream_numbers, HasContents, IsOutline}
 use Rattle.cfb_format.specs.Meaning.{objects_from, storage_info, stream_info}
 use Rattle.cfb_format.specs.Tree.{StorageInfo, StreamInfo, storage, stream, is_same_name}
 use Rattle.cfb_rules.specs.CallChanges.{with_fields, fields_changed_at, with_content, same_storage}
 use Rattle.cfb_rules.specs.Finding.{last_name, parent_names}
-use Rattle.cfb_siblings.specs.Painted.{hit, tally}
+use Rattle.cfb_siblings.specs.Painted.{hit, times_in}
 use Rattle.cfb_siblings.specs.Laws.{SameObject, SameLinks}
 use Rattle.cfb_siblings.specs.Paths.{number_named}
 use Rattle.cfb_siblings.proofs.Tallies.{hit-same, hit-cases, tally-append, counted, present}
@@ -22,7 +22,7 @@ use Rattle.cfb_trees.proofs.Members.{of-stream-kind, reached-once, root-is-no-st
 use Rattle.cfb_trees.proofs.Same.{outline-kept}
 use Rattle.cfb_trees.proofs.Standing.{StandsAt, at-inner, at-within, at-held}
 use Rattle.cfb_objects.specs.Objects.{tree_from}
-use Rattle.cfb_objects.specs.Changes.{ButContent, ChangesFields, MovesContentOf, OtherContentsStay}
+use Rattle.cfb_objects.specs.Changes.{ChangesFields, MovesContentOf, OtherContentsStay}
 use Rattle.cfb_objects.specs.Laws.{FieldsChangeInPlace, ContentChangesInPlace}
 use Rattle.cfb_objects.proofs.Places.{place_from, place-of, no-place, same-place, leads-at, place-split, place-fits, leads-on, named-in}
 use Rattle.cfb_objects.proofs.Level.{KeptBeside, replaced-tree}
@@ -33,18 +33,18 @@ module _ (cases : Cases) (old new : List Entry) (longer : length old ≤ length 
     (stream-is : (entry_at old i).obj_type ≡ Stream → stream_info after (entry_at new i) ≡ g (stream_info before (entry_at old i))) where
   -- all but entry i is as before
   abbrev Beside : Outline → Type 0
-  Beside o = (k : ℕ) → 1 ≤ tally k (numbers o) → k ≢ i → SameObject old new before after k k
+  Beside o = (k : ℕ) → 1 ≤ times_in k (numbers o) → k ≢ i → SameObject old new before after k k
 
   -- on one level the object of that name is entry i
-  pub fields-level : (o : Outline) (p : ℕ × Outline) → number_named cases old name o ≡ Some p → p.0 ≡ i → HasContents cases old o → ((k : ℕ) → tally k (numbers o) ≤ 1) → Beside o
+  pub fields-level : (o : Outline) (p : ℕ × Outline) → number_named cases old name o ≡ Some p → p.0 ≡ i → HasContents cases old o → ((k : ℕ) → times_in k (numbers o) ≤ 1) → Beside o
       → objects_from new after o ≡ with_fields cases name f g (objects_from old before o)
-  unfolding tally objects_from
+  unfolding times_in objects_from
   fields-level no_more p e n h once others = no-place p e
   fields-level (storage_at j x rest) p e n h once others =
       go (λ k. tally-append k (numbers x) (numbers rest)) (is_same_name cases name (entry_at old j).name) refl e
       (λ q. fields-level rest p q n h.3 (λ k. omega (arith, once k, tally-append k (numbers x) (numbers rest))) (λ k m ne. others k (omega (arith, m, tally-append k (numbers x) (numbers rest))) ne))
     where
-      go : ((k : ℕ) → tally k (numbers x ++ numbers rest) ≡ tally k (numbers x) + tally k (numbers rest)) → (b : Bool) → is_same_name cases name (entry_at old j).name ≡ b
+      go : ((k : ℕ) → times_in k (numbers x ++ numbers rest) ≡ times_in k (numbers x) + times_in k (numbers rest)) → (b : Bool) → is_same_name cases name (entry_at old j).name ≡ b
           → (if b then Some (j, x) else number_named cases old name rest) ≡ Some p
           → (number_named cases old name rest ≡ Some p → objects_from new after rest ≡ with_fields cases name f g (objects_from old before rest))
           → storage (entry_at new j).name (storage_info (entry_at new j)) (objects_from new after x) (objects_from new after rest)
@@ -53,7 +53,7 @@ module _ (cases : Cases) (old new : List Entry) (longer : length old ≤ length 
           else storage (entry_at old j).name (storage_info (entry_at old j)) (objects_from old before x) (with_fields cases name f g (objects_from old before rest)))
       go s true t u more =
           let j-is : j ≡ i = ap (λ (q : ℕ × Outline). q.0) (same-place (j, x) p u) ∙ n in
-          let out : (k : ℕ) → 1 ≤ tally k (numbers x) + tally k (numbers rest) → k ≢ i = λ k m q. omega (arith, m, once k, s k, hit-same j, ap (λ l. hit l j) (q ∙ sym j-is)) in
+          let out : (k : ℕ) → 1 ≤ times_in k (numbers x) + times_in k (numbers rest) → k ≢ i = λ k m q. omega (arith, m, once k, s k, hit-same j, ap (λ l. hit l j) (q ∙ sym j-is)) in
           (λ d. storage
           (subst (λ (l : ℕ). (entry_at new l).name ≡ (entry_at old l).name) (sym j-is) same-name d)
           (subst (λ (l : ℕ). storage_info (entry_at new l) ≡ f (storage_info (entry_at old l))) (sym j-is)
@@ -62,9 +62,9 @@ module _ (cases : Cases) (old new : List Entry) (longer : length old ≤ length 
           (objects-kept cases old new longer before after rest (λ k m. others k (omega (arith, m, s k)) (out k (omega (arith, m)))) h.3 d))
           ∙ sym (if-true _ _ _ t)
       go s false t u more =
-          let m : 1 ≤ tally i (siblings rest) = subst (λ (l : ℕ). 1 ≤ tally l (siblings rest)) n (named-in cases old name rest p u).0 in
+          let m : 1 ≤ times_in i (siblings rest) = subst (λ (l : ℕ). 1 ≤ times_in l (siblings rest)) n (named-in cases old name rest p u).0 in
           let not-j : j ≢ i = λ q. omega (arith, m, siblings-numbers i rest, once i, s i, hit-same i, ap (hit i) q) in
-          let not-x : (k : ℕ) → 1 ≤ tally k (numbers x) → k ≢ i = λ k v q. omega (arith, m, siblings-numbers i rest, once i, s i, v, ap (λ l. tally l (numbers x)) q) in
+          let not-x : (k : ℕ) → 1 ≤ times_in k (numbers x) → k ≢ i = λ k v q. omega (arith, m, siblings-numbers i rest, once i, s i, v, ap (λ l. times_in l (numbers x)) q) in
           let here = others j (omega (arith, hit-same j)) not-j in
           (λ d. storage (here.name d) (here.storage d)
           (objects-kept cases old new longer before after x (λ k m. others k (omega (arith, m, s k)) (not-x k m)) h.2 d) (more u d))
@@ -82,7 +82,7 @@ module _ (cases : Cases) (old new : List Entry) (longer : length old ≤ length 
           else stream (entry_at old j).name (stream_info before (entry_at old j)) (with_fields cases name f g (objects_from old before rest)))
       go true t u more =
           let j-is : j ≡ i = ap (λ (q : ℕ × Outline). q.0) (same-place (j, no_more) p u) ∙ n in
-          let out : (k : ℕ) → 1 ≤ tally k (numbers rest) → k ≢ i = λ k m q. omega (arith, m, once k, hit-same j, ap (λ l. hit l j) (q ∙ sym j-is)) in
+          let out : (k : ℕ) → 1 ≤ times_in k (numbers rest) → k ≢ i = λ k m q. omega (arith, m, once k, hit-same j, ap (λ l. hit l j) (q ∙ sym j-is)) in
           (λ d. stream
           (subst (λ (l : ℕ). (entry_at new l).name ≡ (entry_at old l).name) (sym j-is) same-name d)
           (subst (λ (l : ℕ). stream_info after (entry_at new l) ≡ g (stream_info before (entry_at old l))) (sym j-is)
@@ -90,7 +90,7 @@ module _ (cases : Cases) (old new : List Entry) (longer : length old ≤ length 
           (objects-kept cases old new longer before after rest (λ k m. others k (omega (arith, m)) (out k m)) h.1 d))
           ∙ sym (if-true _ _ _ t)
       go false t u more =
-          let m : 1 ≤ tally i (siblings rest) = subst (λ (l : ℕ). 1 ≤ tally l (siblings rest)) n (named-in cases old name rest p u).0 in
+          let m : 1 ≤ times_in i (siblings rest) = subst (λ (l : ℕ). 1 ≤ times_in l (siblings rest)) n (named-in cases old name rest p u).0 in
           let not-j : j ≢ i = λ q. omega (arith, m, siblings-numbers i rest, once i, hit-same i, ap (hit i) q) in
           let here = others j (omega (arith, hit-same j)) not-j in
           (λ d. stream (here.name d) (here.stream h.0 d) (more u d)) ∙ sym (if-false _ _ _ t)
@@ -107,11 +107,11 @@ module _ (cases : Cases) (old new : List Entry) (before after : Entry → List �
   links : (k : ℕ) → SameLinks old new k
   links k = let b = did.kept k in record { name = b.name; left = b.left_sibling; right = b.right_sibling }
 
-  other : (k : ℕ) → 1 ≤ tally k (0 ∷ numbers o) → k ≢ i → SameObject old new before after k k
+  other : (k : ℕ) → 1 ≤ times_in k (0 ∷ numbers o) → k ≢ i → SameObject old new before after k k
   other k m ne = did.others k (present k (0 ∷ numbers o) m) ne
 
   pub fields-changed : (names : List (List ℕ)) (x : Outline) → place_from cases old (0, o) names ≡ Some (i, x) → tree_from new after o ≡ fields_changed_at cases f g names (tree_from old before o)
-  unfolding tally
+  unfolding times_in
   fields-changed [] x e =
       let n : 0 ≡ i = ap (λ (q : ℕ × Outline). q.0) (same-place (0, o) (i, x) e) in
       λ d. record {
@@ -126,11 +126,11 @@ module _ (cases : Cases) (old new : List Entry) (before after : Entry → List �
       leads-on cases old q (i, x) (last_name (name ∷ names))
       (place-fits cases old (parent_names (name ∷ names)) (0, o) q (is.contents, λ s. absurd (root-is-no-stream (entry_at old 0).obj_type is.root s)) at) named in
       let stands : StandsAt q.0 q.1 o = leads-at cases old q.0 q.1 ne o (parent_names (name ∷ names)) is.contents at in
-      let inner : (k : ℕ) → hit k q.0 + tally k (numbers q.1) ≤ tally k (0 ∷ numbers o) = at-inner q.0 q.1 o stands in
-      let within : (k : ℕ) → tally k (numbers q.1) ≤ tally k (numbers o) = at-within q.0 q.1 o stands in
-      let m : 1 ≤ tally i (siblings q.1) = (named-in cases old (last_name (name ∷ names)) q.1 (i, x) named).0 in
-      let there : (k : ℕ) → tally k (siblings q.1) ≡ 0 → k ≢ i = λ k z u. omega (arith, m, z, ap (λ l. tally l (siblings q.1)) u) in
-      let parent-out : tally q.0 (siblings q.1) ≡ 0 = omega (arith, inner q.0, hit-same q.0, reached-once cases old o is q.0, siblings-numbers q.0 q.1) in
+      let inner : (k : ℕ) → hit k q.0 + times_in k (numbers q.1) ≤ times_in k (0 ∷ numbers o) = at-inner q.0 q.1 o stands in
+      let within : (k : ℕ) → times_in k (numbers q.1) ≤ times_in k (numbers o) = at-within q.0 q.1 o stands in
+      let m : 1 ≤ times_in i (siblings q.1) = (named-in cases old (last_name (name ∷ names)) q.1 (i, x) named).0 in
+      let there : (k : ℕ) → times_in k (siblings q.1) ≡ 0 → k ≢ i = λ k z u. omega (arith, m, z, ap (λ l. times_in l (siblings q.1)) u) in
+      let parent-out : times_in q.0 (siblings q.1) ≡ 0 = omega (arith, inner q.0, hit-same q.0, reached-once cases old o is q.0, siblings-numbers q.0 q.1) in
       let kept : KeptBeside old new before after o q.0 q.1 = record {
         longer = longer;
         object = other q.0 (omega (arith, inner q.0, hit-same q.0)) (there q.0 parent-out);
@@ -178,7 +178,7 @@ module _ (cases : Cases) (old new : List Entry) (before after : Entry → List �
   )
 
   same-beside : (k : ℕ) → Contains (0 ∷ numbers o) k → k ≢ i → SameObject old new before after k k
-  unfolding tally
+  unfolding times_in
   same-beside k r ne =
       let e = (entry-is k).0 in
       record {
@@ -187,7 +187,7 @@ module _ (cases : Cases) (old new : List Entry) (before after : Entry → List �
         storage = ap storage_info e;
         stream = λ s.
             let nz : k ≢ 0 = λ z. root-is-no-stream (entry_at old 0).obj_type is.root (ap (λ (j : ℕ). (entry_at old j).obj_type) (sym z) ∙ s) in
-            let m : 1 ≤ tally k (numbers o) = elim (hit-cases k 0) [ inl z ↦ absurd (nz z) | inr z ↦ omega (arith, counted k (0 ∷ numbers o) r, z) ] in
+            let m : 1 ≤ times_in k (numbers o) = elim (hit-cases k 0) [ inl z ↦ absurd (nz z) | inr z ↦ omega (arith, counted k (0 ∷ numbers o) r, z) ] in
             let same = (entry-is k).1 ne nz in
             λ d. record {
               state_bits = (same d).state_bits;

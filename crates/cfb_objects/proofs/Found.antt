@@ -15,7 +15,7 @@ use Rattle.cfb_format.specs.Reading.{Outline, no_more, storage_at, stream_at, si
 use Rattle.cfb_format.specs.Meaning.{objects_from, storage_info, stream_info}
 use Rattle.cfb_format.specs.Tree.{Object, a_storage, a_stream, Found, is_same_name, object_named}
 use Rattle.cfb_outline.specs.Outlines.{HasInside}
-use Rattle.cfb_siblings.specs.Painted.{tally}
+use Rattle.cfb_siblings.specs.Painted.{times_in}
 use Rattle.cfb_siblings.specs.Paths.{number_named, number_from}
 use Rattle.cfb_siblings.proofs.Outlines.{if-true, if-false}
 use Rattle.cfb_siblings.proofs.Put.{nothing-below}
@@ -48,8 +48,8 @@ storage-by-kind es c o k ne = either-kind (entry_at es k).obj_type _ _ ne
 
 -- ---- what is inside
 
-outside-is-none : (q : ℕ) (o : Outline) → tally q (numbers o) ≡ 0 → found_inside q o ≡ None
-unfolding tally
+outside-is-none : (q : ℕ) (o : Outline) → times_in q (numbers o) ≡ 0 → found_inside q o ≡ None
+unfolding times_in
 outside-is-none q no_more z = refl
 outside-is-none q (storage_at i inside rest) z =
     let t = tally-append q (numbers inside) (numbers rest) in
@@ -57,11 +57,11 @@ outside-is-none q (storage_at i inside rest) z =
     ∙ (λ d. option_or (outside-is-none q inside (omega (arith, z, t)) d) (outside-is-none q rest (omega (arith, z, t)) d))
 outside-is-none q (stream_at i rest) z = if-false (q == i) _ _ (ne_eqb q i (hit-none q i (omega (arith, z)))) ∙ outside-is-none q rest (omega (arith, z))
 
-inside-found : (q : ℕ) (x o : Outline) → ((k : ℕ) → tally k (numbers o) ≤ 1) → Stands q x o → found_inside q o ≡ Some x
-unfolding tally
+inside-found : (q : ℕ) (x o : Outline) → ((k : ℕ) → times_in k (numbers o) ≤ 1) → Stands q x o → found_inside q o ≡ Some x
+unfolding times_in
 inside-found q x no_more once s = absurd s
 inside-found q x (storage_at i inside rest) once s =
-    let t : (k : ℕ) → tally k (numbers inside ++ numbers rest) ≡ tally k (numbers inside) + tally k (numbers rest) = λ k. tally-append k (numbers inside) (numbers rest) in
+    let t : (k : ℕ) → times_in k (numbers inside ++ numbers rest) ≡ times_in k (numbers inside) + times_in k (numbers rest) = λ k. tally-append k (numbers inside) (numbers rest) in
     elim s [
       | inl e ↦ if-true (q == i) _ _ (eq-eqb q i (sym e.0)) ∙ ap Some e.1
       | inr r ↦ elim r [
@@ -78,7 +78,7 @@ inside-found q x (stream_at i rest) once s =
 
 module _ (cases : Cases) (es : List Entry) (o : Outline) (is : IsOutline cases es o) where
   pub inside-is : (q : ℕ) (x : Outline) → StandsAt q x o → inside_of o q ≡ x
-  unfolding tally
+  unfolding times_in
   inside-is q x s = elim s [
     | inl e ↦ if-true (q == 0) _ _ (eq-eqb q 0 (sym e.0)) ∙ e.1
     | inr r ↦

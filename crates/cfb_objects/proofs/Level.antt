@@ -10,7 +10,7 @@ use Rattle.cfb_format.specs.Meaning.{objects_from, storage_info}
 use Rattle.cfb_format.specs.Tree.{Objects, storage, stream, is_same_name}
 use Rattle.cfb_format.proofs.Unique.{Below-unique}
 use Rattle.cfb_rules.specs.CallChanges.{inside_changed, changed_at, tree_changed_at}
-use Rattle.cfb_siblings.specs.Painted.{hit, tally}
+use Rattle.cfb_siblings.specs.Painted.{hit, times_in}
 use Rattle.cfb_siblings.specs.Laws.{SameObject, SameLinks, SameEntry}
 use Rattle.cfb_siblings.specs.Paths.{number_named}
 use Rattle.cfb_siblings.proofs.Tallies.{hit-same, hit-cases, hit-none, tally-append}
@@ -33,7 +33,7 @@ pub record KeptBeside (old new : List Entry) (before after : Entry → List ℕ)
   pub longer : length old ≤ length new
   pub object : SameObject old new before after q q
   pub links : SameLinks old new q
-  pub others : (k : ℕ) → 1 ≤ tally k (0 ∷ numbers o) → k ≢ q → tally k (siblings x) ≡ 0 → SameEntry old new before after k
+  pub others : (k : ℕ) → 1 ≤ times_in k (0 ∷ numbers o) → k ≢ q → times_in k (siblings x) ≡ 0 → SameEntry old new before after k
 
 module _ (cases : Cases) (old new : List Entry) (longer : length old ≤ length new) (before after : Entry → List ℕ) (q : ℕ) (x x' : Outline) (F : Objects → Objects)
     (ne : (entry_at old q).obj_type ≢ Stream) (held : SameObject old new before after q q) (hung : SameLinks old new q)
@@ -41,14 +41,14 @@ module _ (cases : Cases) (old new : List Entry) (longer : length old ≤ length 
     (objects : objects_from new after x' ≡ F (objects_from old before x)) where
   -- all of an outline but that storage and its children is as before
   abbrev pub Apart : Outline → Type 0
-  Apart o = (k : ℕ) → 1 ≤ tally k (numbers o) → k ≢ q → tally k (siblings x) ≡ 0 → SameEntry old new before after k
+  Apart o = (k : ℕ) → 1 ≤ times_in k (numbers o) → k ≢ q → times_in k (siblings x) ≡ 0 → SameEntry old new before after k
 
   -- a part without that storage
-  aside : (o : Outline) → Apart o → ((k : ℕ) → 1 ≤ tally k (numbers o) → hit k q + tally k (numbers x) ≡ 0) → (k : ℕ) → 1 ≤ tally k (numbers o) → SameEntry old new before after k
+  aside : (o : Outline) → Apart o → ((k : ℕ) → 1 ≤ times_in k (numbers o) → hit k q + times_in k (numbers x) ≡ 0) → (k : ℕ) → 1 ≤ times_in k (numbers o) → SameEntry old new before after k
   aside o apart out k m = apart k m (hit-none k q (omega (arith, out k m))) (omega (arith, out k m, siblings-numbers k x))
 
   -- siblings that are not its children hang as before
-  pub hung-beside : (o : Outline) → Apart o → ((k : ℕ) → 1 ≤ tally k (siblings o) → tally k (siblings x) ≡ 0) → (k : ℕ) → 1 ≤ tally k (siblings o) → SameLinks old new k
+  pub hung-beside : (o : Outline) → Apart o → ((k : ℕ) → 1 ≤ times_in k (siblings o) → times_in k (siblings x) ≡ 0) → (k : ℕ) → 1 ≤ times_in k (siblings o) → SameLinks old new k
   hung-beside o apart out k m = elim (hit-cases k q) [
     | inl e ↦ subst (SameLinks old new) (sym e) hung
     | inr z ↦ (apart k (omega (arith, m, siblings-numbers k o)) (hit-none k q z) (out k m)).links
@@ -62,17 +62,17 @@ module _ (cases : Cases) (old new : List Entry) (longer : length old ≤ length 
   Result o name names = (o' : Outline) × Replaced cases old new before after o o' (inside_changed cases name (changed_at cases F names))
 
   abbrev Once : Outline → Type 0
-  Once o = (k : ℕ) → tally k (numbers o) ≤ 1
+  Once o = (k : ℕ) → times_in k (numbers o) ≤ 1
 
   -- it stands behind a storage of another name
   later-storage : (i : ℕ) (y rest : Outline) (name : List ℕ) (names : List (List ℕ)) → is_same_name cases name (entry_at old i).name ≡ false
       → HasContents cases old (storage_at i y rest) → Once (storage_at i y rest) → Apart (storage_at i y rest) → Stands q x rest → Result rest name names → Result (storage_at i y rest) name names
-  unfolding tally objects_from
+  unfolding times_in objects_from
   later-storage i y rest name names t h once apart stands (o', r) =
-      let s : (k : ℕ) → tally k (numbers y ++ numbers rest) ≡ tally k (numbers y) + tally k (numbers rest) = λ k. tally-append k (numbers y) (numbers rest) in
-      let within : (k : ℕ) → hit k q + tally k (numbers x) ≤ tally k (numbers rest) = stands-inner q x rest stands in
+      let s : (k : ℕ) → times_in k (numbers y ++ numbers rest) ≡ times_in k (numbers y) + times_in k (numbers rest) = λ k. tally-append k (numbers y) (numbers rest) in
+      let within : (k : ℕ) → hit k q + times_in k (numbers x) ≤ times_in k (numbers rest) = stands-inner q x rest stands in
       let here : SameEntry old new before after i = apart i (omega (arith, hit-same i)) (hit-none i q (omega (arith, within i, once i, s i, hit-same i))) (omega (arith, within i, once i, s i, hit-same i, siblings-numbers i x)) in
-      let kept : (k : ℕ) → 1 ≤ tally k (numbers y) → SameEntry old new before after k = aside y (λ k m. apart k (omega (arith, m, s k))) (λ k m. omega (arith, m, within k, once k, s k)) in (
+      let kept : (k : ℕ) → 1 ≤ times_in k (numbers y) → SameEntry old new before after k = aside y (λ k m. apart k (omega (arith, m, s k))) (λ k m. omega (arith, m, within k, once k, s k)) in (
         storage_at i y o',
         record {
           same = ap (λ l. i ∷ l) r.same;
@@ -91,9 +91,9 @@ module _ (cases : Cases) (old new : List Entry) (longer : length old ≤ length 
   -- it stands behind a stream of another name
   later-stream : (i : ℕ) (rest : Outline) (name : List ℕ) (names : List (List ℕ)) → is_same_name cases name (entry_at old i).name ≡ false
       → HasContents cases old (stream_at i rest) → Once (stream_at i rest) → Apart (stream_at i rest) → Stands q x rest → Result rest name names → Result (stream_at i rest) name names
-  unfolding tally objects_from
+  unfolding times_in objects_from
   later-stream i rest name names t h once apart stands (o', r) =
-      let within : (k : ℕ) → hit k q + tally k (numbers x) ≤ tally k (numbers rest) = stands-inner q x rest stands in
+      let within : (k : ℕ) → hit k q + times_in k (numbers x) ≤ times_in k (numbers rest) = stands-inner q x rest stands in
       let here : SameEntry old new before after i = apart i (omega (arith, hit-same i)) (hit-none i q (omega (arith, within i, once i, hit-same i))) (omega (arith, within i, once i, hit-same i, siblings-numbers i x)) in (
         stream_at i o',
         record {
@@ -106,11 +106,11 @@ module _ (cases : Cases) (old new : List Entry) (longer : length old ≤ length 
   -- it is the storage of that name
   here-storage : (i : ℕ) (y rest : Outline) (name : List ℕ) → is_same_name cases name (entry_at old i).name ≡ true → i ≡ q → y ≡ x
       → HasContents cases old (storage_at i y rest) → Once (storage_at i y rest) → Apart (storage_at i y rest) → Result (storage_at i y rest) name []
-  unfolding tally objects_from
+  unfolding times_in objects_from
   here-storage i y rest name t i-is y-is h once apart =
-      let s : (k : ℕ) → tally k (numbers y ++ numbers rest) ≡ tally k (numbers y) + tally k (numbers rest) = λ k. tally-append k (numbers y) (numbers rest) in
-      let kept : (k : ℕ) → 1 ≤ tally k (numbers rest) → SameEntry old new before after k =
-      aside rest (λ k m. apart k (omega (arith, m, s k))) (λ k m. omega (arith, m, once k, s k, ap (hit k) i-is, ap (λ z. tally k (numbers z)) y-is)) in (
+      let s : (k : ℕ) → times_in k (numbers y ++ numbers rest) ≡ times_in k (numbers y) + times_in k (numbers rest) = λ k. tally-append k (numbers y) (numbers rest) in
+      let kept : (k : ℕ) → 1 ≤ times_in k (numbers rest) → SameEntry old new before after k =
+      aside rest (λ k m. apart k (omega (arith, m, s k))) (λ k m. omega (arith, m, once k, s k, ap (hit k) i-is, ap (λ z. times_in k (numbers z)) y-is)) in (
         storage_at i x' rest,
         record {
           same = refl;
@@ -131,13 +131,13 @@ module _ (cases : Cases) (old new : List Entry) (longer : length old ≤ length 
   -- it is in the storage of that name
   deeper-storage : (i : ℕ) (y rest : Outline) (name n : List ℕ) (ns : List (List ℕ)) → is_same_name cases name (entry_at old i).name ≡ true
       → HasContents cases old (storage_at i y rest) → Once (storage_at i y rest) → Apart (storage_at i y rest) → Stands q x y → Result y n ns → Result (storage_at i y rest) name (n ∷ ns)
-  unfolding tally objects_from
+  unfolding times_in objects_from
   deeper-storage i y rest name n ns t h once apart stands (o', r) =
-      let s : (k : ℕ) → tally k (numbers y ++ numbers rest) ≡ tally k (numbers y) + tally k (numbers rest) = λ k. tally-append k (numbers y) (numbers rest) in
-      let within : (k : ℕ) → hit k q + tally k (numbers x) ≤ tally k (numbers y) = stands-inner q x y stands in
-      let beside : (k : ℕ) → tally k (siblings y) + tally k (numbers x) ≤ tally k (numbers y) = stands-beside q x y stands in
+      let s : (k : ℕ) → times_in k (numbers y ++ numbers rest) ≡ times_in k (numbers y) + times_in k (numbers rest) = λ k. tally-append k (numbers y) (numbers rest) in
+      let within : (k : ℕ) → hit k q + times_in k (numbers x) ≤ times_in k (numbers y) = stands-inner q x y stands in
+      let beside : (k : ℕ) → times_in k (siblings y) + times_in k (numbers x) ≤ times_in k (numbers y) = stands-beside q x y stands in
       let here : SameEntry old new before after i = apart i (omega (arith, hit-same i)) (hit-none i q (omega (arith, within i, once i, s i, hit-same i))) (omega (arith, within i, once i, s i, hit-same i, siblings-numbers i x)) in
-      let kept : (k : ℕ) → 1 ≤ tally k (numbers rest) → SameEntry old new before after k = aside rest (λ k m. apart k (omega (arith, m, s k))) (λ k m. omega (arith, m, within k, once k, s k)) in (
+      let kept : (k : ℕ) → 1 ≤ times_in k (numbers rest) → SameEntry old new before after k = aside rest (λ k m. apart k (omega (arith, m, s k))) (λ k m. omega (arith, m, within k, once k, s k)) in (
         storage_at i o' rest,
         record {
           same = refl;
@@ -155,11 +155,11 @@ module _ (cases : Cases) (old new : List Entry) (longer : length old ≤ length 
         },
       )
 
-  pub replaced : (o : Outline) (name : List ℕ) (names : List (List ℕ)) → Lead o name names → HasContents cases old o → ((k : ℕ) → tally k (numbers o) ≤ 1) → Apart o → Result o name names
-  unfolding tally
+  pub replaced : (o : Outline) (name : List ℕ) (names : List (List ℕ)) → Lead o name names → HasContents cases old o → ((k : ℕ) → times_in k (numbers o) ≤ 1) → Apart o → Result o name names
+  unfolding times_in
   replaced no_more name names e h once apart = no-place (q, x) e
   replaced (storage_at i y rest) name names e h once apart =
-      let s : (k : ℕ) → tally k (numbers y ++ numbers rest) ≡ tally k (numbers y) + tally k (numbers rest) = λ k. tally-append k (numbers y) (numbers rest) in
+      let s : (k : ℕ) → times_in k (numbers y ++ numbers rest) ≡ times_in k (numbers y) + times_in k (numbers rest) = λ k. tally-append k (numbers y) (numbers rest) in
       go (is_same_name cases name (entry_at old i).name) refl names refl e
       (λ n ns f. (leads cases old q x ne y n ns h.2 f, replaced y n ns f h.2 (λ k. omega (arith, once k, s k)) (λ k m. apart k (omega (arith, m, s k)))))
       (λ f. (leads cases old q x ne rest name names h.3 f, replaced rest name names f h.3 (λ k. omega (arith, once k, s k)) (λ k m. apart k (omega (arith, m, s k)))))
@@ -200,7 +200,7 @@ module _ (cases : Cases) (old new : List Entry) (before after : Entry → List �
   outline-is o' b h = same-outline cases new p o' (Below-unique cases new (entry_at new 0).child (siblings p) (siblings o') new_is.children b) new_is.contents h
 
   pub replaced-tree : (names : List (List ℕ)) → place_from cases old (0, o) names ≡ Some (q, x) → tree_from new after p ≡ tree_changed_at cases F names (tree_from old before o)
-  unfolding tally
+  unfolding times_in
   replaced-tree [] e =
       let w = same-place (0, o) (q, x) e in
       let n-is : 0 ≡ q = ap (λ (r : ℕ × Outline). r.0) w in
@@ -211,10 +211,10 @@ module _ (cases : Cases) (old new : List Entry) (before after : Entry → List �
         objects = (ap (objects_from new after) p-is ∙ objects ∙ ap (λ z. F (objects_from old before z)) (sym o-is)) d;
       }
   replaced-tree (name ∷ names) e =
-      let reached : (k : ℕ) → tally k (0 ∷ numbers o) ≤ 1 = reached-once cases old o is in
+      let reached : (k : ℕ) → times_in k (0 ∷ numbers o) ≤ 1 = reached-once cases old o is in
       let stands = leads cases old q x ne o name names is.contents e in
-      let within : (k : ℕ) → hit k q + tally k (numbers x) ≤ tally k (numbers o) = stands-inner q x o stands in
-      let beside : (k : ℕ) → tally k (siblings o) + tally k (numbers x) ≤ tally k (numbers o) = stands-beside q x o stands in
+      let within : (k : ℕ) → hit k q + times_in k (numbers x) ≤ times_in k (numbers o) = stands-inner q x o stands in
+      let beside : (k : ℕ) → times_in k (siblings o) + times_in k (numbers x) ≤ times_in k (numbers o) = stands-beside q x o stands in
       let top : SameEntry old new before after 0 =
       kept.others 0 (omega (arith, hit-same 0)) (hit-none 0 q (omega (arith, within 0, reached 0, hit-same 0))) (omega (arith, within 0, reached 0, hit-same 0, siblings-numbers 0 x)) in
       let apart : Apart cases old new kept.longer before after q x x' F ne kept.object kept.links below contents objects o = λ k m. kept.others k (omega (arith, m)) in

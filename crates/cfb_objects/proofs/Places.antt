@@ -8,7 +8,7 @@ use Rattle.cfb_format.specs.DirectoryEntry.{Entry}
 use Rattle.cfb_format.specs.Siblings.{entry_at}
 use Rattle.cfb_format.specs.Reading.{Outline, no_more, storage_at, stream_at, siblings, HasContents}
 use Rattle.cfb_format.specs.Tree.{is_same_name}
-use Rattle.cfb_siblings.specs.Painted.{hit, tally}
+use Rattle.cfb_siblings.specs.Painted.{hit, times_in}
 use Rattle.cfb_siblings.specs.Paths.{number_named, number_from}
 use Rattle.cfb_siblings.proofs.Tallies.{hit-same}
 use Rattle.cfb_trees.proofs.Members.{storage-is-no-stream}
@@ -103,14 +103,14 @@ module _ (cases : Cases) (es : List Entry) where
 
   -- what is found stands among the siblings, and has the name
   pub named-in : (name : List ℕ) (o : Outline) (p : ℕ × Outline) → number_named cases es name o ≡ Some p
-      → (1 ≤ tally p.0 (siblings o)) × (is_same_name cases name (entry_at es p.0).name ≡ true)
-  unfolding tally
+      → (1 ≤ times_in p.0 (siblings o)) × (is_same_name cases name (entry_at es p.0).name ≡ true)
+  unfolding times_in
   named-in name no_more p e = no-place p e
   named-in name (storage_at i inside rest) p e = go (is_same_name cases name (entry_at es i).name) refl e (λ f. named-in name rest p f)
     where
       go : (b : Bool) → is_same_name cases name (entry_at es i).name ≡ b → (if b then Some (i, inside) else number_named cases es name rest) ≡ Some p
-          → (number_named cases es name rest ≡ Some p → (1 ≤ tally p.0 (siblings rest)) × (is_same_name cases name (entry_at es p.0).name ≡ true))
-          → (1 ≤ hit p.0 i + tally p.0 (siblings rest)) × (is_same_name cases name (entry_at es p.0).name ≡ true)
+          → (number_named cases es name rest ≡ Some p → (1 ≤ times_in p.0 (siblings rest)) × (is_same_name cases name (entry_at es p.0).name ≡ true))
+          → (1 ≤ hit p.0 i + times_in p.0 (siblings rest)) × (is_same_name cases name (entry_at es p.0).name ≡ true)
       go true t f more =
           let n : i ≡ p.0 = ap (λ (r : ℕ × Outline). r.0) (same-place (i, inside) p f) in
           (omega (arith, hit-same i, ap (λ j. hit j i) n), subst (λ j. is_same_name cases name (entry_at es j).name ≡ true) n t)
@@ -118,8 +118,8 @@ module _ (cases : Cases) (es : List Entry) where
   named-in name (stream_at i rest) p e = go (is_same_name cases name (entry_at es i).name) refl e (λ f. named-in name rest p f)
     where
       go : (b : Bool) → is_same_name cases name (entry_at es i).name ≡ b → (if b then Some (i, no_more) else number_named cases es name rest) ≡ Some p
-          → (number_named cases es name rest ≡ Some p → (1 ≤ tally p.0 (siblings rest)) × (is_same_name cases name (entry_at es p.0).name ≡ true))
-          → (1 ≤ hit p.0 i + tally p.0 (siblings rest)) × (is_same_name cases name (entry_at es p.0).name ≡ true)
+          → (number_named cases es name rest ≡ Some p → (1 ≤ times_in p.0 (siblings rest)) × (is_same_name cases name (entry_at es p.0).name ≡ true))
+          → (1 ≤ hit p.0 i + times_in p.0 (siblings rest)) × (is_same_name cases name (entry_at es p.0).name ≡ true)
       go true t f more =
           let n : i ≡ p.0 = ap (λ (r : ℕ × Outline). r.0) (same-place (i, no_more) p f) in
           (omega (arith, hit-same i, ap (λ j. hit j i) n), subst (λ j. is_same_name cases name (entry_at es j).name ≡ true) n t)

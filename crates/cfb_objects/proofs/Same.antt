@@ -11,7 +11,7 @@ use Rattle.cfb_format.specs.Tree.{storage, stream}
 use Rattle.cfb_format.proofs.Unique.{Below-unique}
 use Rattle.cfb_siblings.specs.Children.{ButLinks}
 use Rattle.cfb_siblings.specs.Laws.{SameObject, SameEntry, IgnoresLinks, grown_by}
-use Rattle.cfb_siblings.specs.Painted.{tally}
+use Rattle.cfb_siblings.specs.Painted.{times_in}
 use Rattle.cfb_siblings.specs.Way.{unlinked}
 use Rattle.cfb_siblings.proofs.Put.{same-head, same-tail}
 use Rattle.cfb_siblings.proofs.Tallies.{hit-same, present, tally-append}
@@ -48,9 +48,9 @@ pub readable-ignores-links : ReadableIgnoresLinks
 readable-ignores-links bytes r a b e = ap (readable bytes r) e
 
 -- the same objects, where the contents of their streams are the same
-pub objects-stay : (es : List Entry) (before after : Entry → List ℕ) (o : Outline) → ((k : ℕ) → 1 ≤ tally k (stream_numbers o) → after (entry_at es k) ≡ before (entry_at es k))
+pub objects-stay : (es : List Entry) (before after : Entry → List ℕ) (o : Outline) → ((k : ℕ) → 1 ≤ times_in k (stream_numbers o) → after (entry_at es k) ≡ before (entry_at es k))
     → objects_from es after o ≡ objects_from es before o
-unfolding tally objects_from
+unfolding times_in objects_from
 objects-stay es before after no_more same = refl
 objects-stay es before after (storage_at i inside rest) same =
     λ d. storage (entry_at es i).name (storage_info (entry_at es i))

@@ -10,6 +10,7 @@ use Rattle.cfb_format.specs.Tree.{StorageInfo, StreamInfo}
 use Rattle.cfb_siblings.specs.Laws.{SameObject}
 use Rattle.cfb_trees.specs.Changes.{ButFields}
 use Rattle.cfb_trees.specs.Reached.{IsReached}
+use Rattle.cfb_format.specs.DirectoryEntry.{ButContent}
 
 -- ---- contents
 
@@ -20,10 +21,6 @@ ContentsStay entries before after o = (k : ℕ) → Contains (stream_numbers o) 
 -- each stream of the tree but that of entry i has the content that it had
 abbrev pub OtherContentsStay : List Entry → List Entry → (Entry → List ℕ) → (Entry → List ℕ) → Outline → ℕ → Type 0
 OtherContentsStay old new before after o i = (k : ℕ) → Contains (stream_numbers o) k → k ≢ i → after (entry_at new k) ≡ before (entry_at old k)
-
--- start and length alone may differ
-abbrev pub ButContent : Entry → Entry → Type 0
-ButContent old new = new ≡ record old { start_sector = new.start_sector; stream_len = new.stream_len }
 
 -- of the entries only that of the stream i and the root's change, and of these start and length alone; the root's length stays whole mini
 -- sectors

@@ -3,7 +3,7 @@ use Rattle.std.proofs.Common.{ℕ}
 use Rattle.std.specs.Prelude.{Bool, IsTrue}
 use Rattle.cfb_format.specs.Refused.{CountsError, IsInvalidOrMemory}
 use Rattle.cfb_format.specs.declared.error.Error.{Error}
-use Rattle.cfb_format.specs.declared.error.Error.TheVariants.{NotFound, AlreadyExists, InvalidInput, InvalidData, Medium, Memory, Full, Unsound, Failed, Unsupported}
+use Rattle.cfb_format.specs.declared.error.Error.TheVariants.{NotFound, AlreadyExists, InvalidInput, InvalidData, Medium, Memory, Full, Unsound, Failed}
 use Rattle.cfb_format.specs.declared.medium.MediumFault.{MediumFault}
 use Rattle.cfb_tables.specs.Refused.{ChangeRefused, TableRefused}
 use Rattle.cfb_reading.specs.PartRefused.{PartRefused}
@@ -20,7 +20,6 @@ module _ (tells : Bool) (can_give : MediumFault → Bool) (P Q : Type 0) (turn :
   change-refused old new Full r counts = r
   change-refused old new Unsound r counts = r
   change-refused old new Failed r counts = r
-  change-refused old new Unsupported r counts = r
 
   -- a step in memory
   pub table-refused : (e : Error) → TableRefused P (Unit {0}) ⊥ e → PartRefused tells can_give Q e
@@ -33,7 +32,6 @@ module _ (tells : Bool) (can_give : MediumFault → Bool) (P Q : Type 0) (turn :
   table-refused Full r = r
   table-refused Unsound r = r
   table-refused Failed r = r
-  table-refused Unsupported r = r
 
   pub memory-refused : (e : Error) → IsInvalidOrMemory P e → PartRefused tells can_give Q e
   memory-refused (NotFound d) r = r
@@ -45,4 +43,3 @@ module _ (tells : Bool) (can_give : MediumFault → Bool) (P Q : Type 0) (turn :
   memory-refused Full r = r
   memory-refused Unsound r = r
   memory-refused Failed r = r
-  memory-refused Unsupported r = r

@@ -5,7 +5,8 @@ use Rattle.std.proofs.lemmas.List.Elements.{filter-append, filter_more}
 use Rattle.cfb_format.specs.DirectoryEntry.{Entry}
 use Rattle.cfb_format.specs.Names.{Cases}
 use Rattle.cfb_format.specs.Reading.{HasContents, Outline, no_more, numbers, storage_at, stream_at, stream_numbers}
-use Rattle.cfb_opening.specs.Streams.{is_stream_at, is_stream_kind}
+use Rattle.cfb_outline.specs.Families.{is_stream_kind}
+use Rattle.cfb_opening.specs.Streams.{is_stream_at}
 
 left-out : (p : ℕ → Bool) (i : ℕ) (rest : List ℕ) → p i ≡ false → filter p (i ∷ rest) ≡ filter p rest
 left-out p i rest e = rw e refl

@@ -4,12 +4,7 @@ use Rattle.cfb_format.specs.declared.objtype.ObjType.{ObjType}
 use Rattle.cfb_format.specs.declared.objtype.ObjType.TheVariants.{Unallocated, Storage, Stream, Root}
 use Rattle.cfb_format.specs.DirectoryEntry.{Entry}
 use Rattle.cfb_format.specs.Siblings.{entry_at}
-
-abbrev pub is_stream_kind : ObjType → Bool
-is_stream_kind Unallocated = false
-is_stream_kind Storage = false
-is_stream_kind Stream = true
-is_stream_kind Root = false
+use Rattle.cfb_outline.specs.Families.{is_stream_kind}
 
 -- the entry of that number is a stream; past the end none is
 abbrev pub is_stream_at : List Entry → ℕ → Bool

@@ -41,7 +41,8 @@ fn invalid(text: &'static str, number: u64) -> Error
 
 /// Whether a file of this length has room for a header, and no more sectors than there are numbers.
 fn has_length(version: Version, len: u64) -> bool
-    ensures { IsTrue result ↔ ((sector_len version ≤ len) × (len ≤ 0xFFFF_FFFB * sector_len version)) }
+    ensures { IsTrue result
+        ↔ ((sector_len version ≤ len) × (len ≤ 0xFFFF_FFFB * sector_len version)) }
 {
     let sector_len = version.sector_len() as u64;
     sector_len <= len && len <= MAX_SECTORS * sector_len
@@ -50,12 +51,15 @@ fn has_length(version: Version, len: u64) -> bool
 /// Reads the header. `InvalidData` exactly where opening in this mode takes no header or not the length of the file; `Medium` where the
 /// medium fails.
 fn read_head<F: ReadMedium>(medium: &mut F, validation: Validation) -> Result<Head, Error>
-    ensures fits { IfOk result (λ head. (sector_len head.header.version ≤ head.len) × (head.len ≤ 0xFFFF_FFFB * sector_len head.header.version)) }
+    ensures fits { IfOk result (λ head. (sector_len head.header.version ≤ head.len)
+        × (head.len ≤ 0xFFFF_FFFB * sector_len head.header.version)) }
     ensures same { IsTrue F.tells → F.bytes medium.new ≡ F.bytes medium.old }
     ensures len { IsTrue F.tells → IfOk result (λ head. head.len ≡ length (F.bytes medium.old)) }
-    ensures ok { IsTrue F.tells → IfOk result (λ head. AcceptsHead validation (F.bytes medium.old) head.header) }
+    ensures ok { IsTrue F.tells
+        → IfOk result (λ head. AcceptsHead validation (F.bytes medium.old) head.header) }
     ensures calm { IsTrue F.tells → OnOk result (F.failures medium.new ≡ F.failures medium.old) }
-    ensures err { IfErr result (PartRefused F.tells F.read_faults (AcceptsNoHead validation (F.bytes medium.old))) }
+    ensures err { IfErr result
+        (PartRefused F.tells F.read_faults (AcceptsNoHead validation (F.bytes medium.old))) }
 {
     laws::header_is_at_the_start();
     let len = medium.length()?;
@@ -77,10 +81,12 @@ pub(crate) fn open_sectors<F: ReadMedium>(
     medium: F,
     validation: Validation,
 ) -> Result<Headed<F>, Error>
-    ensures ok { IsTrue F.tells → IfOk result (λ headed. AcceptsHead validation (F.bytes medium) headed.header) }
+    ensures ok { IsTrue F.tells
+        → IfOk result (λ headed. AcceptsHead validation (F.bytes medium) headed.header) }
     ensures sectors { IsTrue F.tells → IfOk result (λ headed. headed.sectors
         ≡ unchanged_sectors headed.header.version (F.bytes medium) (F.failures medium)) }
-    ensures err { IfErr result (PartRefused F.tells F.read_faults (AcceptsNoHead validation (F.bytes medium))) }
+    ensures err { IfErr result
+        (PartRefused F.tells F.read_faults (AcceptsNoHead validation (F.bytes medium))) }
 {
     let mut medium = medium;
     let Head { header, len } = read_head(&mut medium, validation)?;

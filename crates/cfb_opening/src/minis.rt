@@ -67,11 +67,13 @@ fn open_directory<F: ReadMedium, A: Heap + Clone>(
     letters: CaseMapper<A>,
     validation: Validation,
 ) -> Result<Listed<F, A>, Error>
-    ensures ok { IsTrue F.tells → IfOk result (λ listed. KnowsDirectory validation letters (F.bytes medium) (F.failures medium)
-        listed.header listed.directory listed.points_into_file) }
-    ensures words { IsTrue F.tells → IfOk result (λ listed. KnowsWords (F.bytes medium) listed.header listed.directory.table.tables
-        listed.minifat_words.items) }
-    ensures err { IfErr result (PartRefused F.tells F.read_faults (IsRefused validation letters (F.bytes medium))) }
+    ensures ok { IsTrue F.tells
+        → IfOk result (λ listed. KnowsDirectory validation letters (F.bytes medium)
+        (F.failures medium) listed.header listed.directory listed.points_into_file) }
+    ensures words { IsTrue F.tells → IfOk result (λ listed. KnowsWords
+        (F.bytes medium) listed.header listed.directory.table.tables listed.minifat_words.items) }
+    ensures err { IfErr result
+        (PartRefused F.tells F.read_faults (IsRefused validation letters (F.bytes medium))) }
 {
     let FileParts {
         header,
@@ -109,9 +111,11 @@ pub(crate) fn open_minis<F: ReadMedium, A: Heap + Clone>(
     letters: CaseMapper<A>,
     validation: Validation,
 ) -> Result<Minis<F, A>, Error>
-    ensures ok { IsTrue F.tells → IfOk result (λ minis. (h : HeaderOf)
-        × KnowsMinis validation letters (F.bytes medium) (F.failures medium) h minis.mini minis.points_into_file) }
-    ensures err { IfErr result (PartRefused F.tells F.read_faults (IsRefused validation letters (F.bytes medium))) }
+    ensures ok { IsTrue F.tells
+        → IfOk result (λ minis. (h : HeaderOf) × KnowsMinis validation letters
+        (F.bytes medium) (F.failures medium) h minis.mini minis.points_into_file) }
+    ensures err { IfErr result
+        (PartRefused F.tells F.read_faults (IsRefused validation letters (F.bytes medium))) }
 {
     let Listed {
         header,
@@ -120,7 +124,7 @@ pub(crate) fn open_minis<F: ReadMedium, A: Heap + Clone>(
         minifat_words,
     } = open_directory(heap, medium, letters, validation)?;
     words_make_the_minifat();
-    let _measured = directory.allocator().file_len();
+    let _fact = directory.allocator().file_len();
     let mini = MiniAllocator::new(
         heap.clone()?,
         directory,

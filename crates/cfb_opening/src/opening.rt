@@ -33,9 +33,9 @@ pub fn open_file<F: ReadMedium, A: Heap + Clone>(
     max_sectors: u32,
     validation: Validation,
 ) -> Result<Opened<F, A>, Error>
-    ensures answers { IsTrue F.tells → MatchResult result
-        (λ opened. IsOpened validation letters max_sectors (F.bytes medium) (F.failures medium) opened.mini opened.is_sound)
-        (OpeningRefused F.read_faults validation letters (F.bytes medium)) }
+    ensures answers { IsTrue F.tells → MatchResult result (λ opened.
+        IsOpened validation letters max_sectors (F.bytes medium) (F.failures medium) opened.mini
+        opened.is_sound) (OpeningRefused F.read_faults validation letters (F.bytes medium)) }
     ensures kinds { IfErr result IsOfOpening }
 {
     let Minis {

@@ -37,9 +37,11 @@ pub(crate) fn read_parts<F: ReadMedium, A: Heap + Clone>(
     medium: F,
     validation: Validation,
 ) -> Result<FileParts<F, A>, Error>
-    ensures ok { IsTrue F.tells → IfOk result (λ parts. KnowsParts validation (F.bytes medium) (F.failures medium) parts.header parts.allocator
+    ensures ok { IsTrue F.tells → IfOk result (λ parts.
+        KnowsParts validation (F.bytes medium) (F.failures medium) parts.header parts.allocator
         parts.points_into_file (entries_of parts.entries.items) parts.minifat_words.items) }
-    ensures err { IfErr result (PartRefused F.tells F.read_faults ((cases : Cases) → IsRefused validation cases (F.bytes medium))) }
+    ensures err { IfErr result (PartRefused F.tells F.read_faults ((cases : Cases)
+        → IsRefused validation cases (F.bytes medium))) }
 {
     let Tabled {
         header,

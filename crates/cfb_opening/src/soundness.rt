@@ -23,8 +23,10 @@ pub(crate) fn is_sound<F: ReadMedium, A: Heap + Clone>(
     mini: &MiniAllocator<F, A>,
     points_into_file: bool,
 ) -> Result<bool, Error>
-    ensures exact { (validation : Validation) (cases : Cases) (bytes : List ℕ) (failures : ℕ) (h : HeaderOf) (o : Outline)
-        → KnowsMinis validation cases bytes failures h mini.now points_into_file → IsOutline cases (entries_of mini.now) o
+    ensures exact { (validation : Validation)
+        (cases : Cases) (bytes : List ℕ) (failures : ℕ) (h : HeaderOf) (o : Outline)
+        → KnowsMinis validation cases bytes failures h mini.now points_into_file
+        → IsOutline cases (entries_of mini.now) o
         → IfOk result (λ sound. IsTrue sound ↔ IsSound bytes (reading_of h mini.now o)) }
     ensures err { IfErr result IsMemory }
 {

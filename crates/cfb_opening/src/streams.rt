@@ -33,7 +33,8 @@ pub(crate) fn stream_numbers<A: Heap + Clone>(
     entries: &[DirEntry<A>],
 ) -> Result<Vec<u32, A>, Error>
     requires { (cases : Cases) × IsReachedStorage cases (entries_of entries.now) 0 }
-    ensures ok { IfOk result (λ streams. (cases : Cases) (o : Outline) → IsOutline cases (entries_of entries.now) o → streams.items ≡ streams_in o) }
+    ensures ok { IfOk result (λ streams. (cases : Cases) (o : Outline)
+        → IsOutline cases (entries_of entries.now) o → streams.items ≡ streams_in o) }
     ensures err { IfErr result IsMemory }
 {
     let reached = contents(heap.clone()?, entries, 0)?;

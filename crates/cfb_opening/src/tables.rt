@@ -31,9 +31,10 @@ pub(crate) fn open_tables<F: ReadMedium, A: Heap + Clone>(
     medium: F,
     validation: Validation,
 ) -> Result<Tabled<F, A>, Error>
-    ensures ok { IsTrue F.tells → IfOk result (λ tabled. KnowsTables validation (F.bytes medium) (F.failures medium)
-        tabled.header tabled.allocator tabled.points_into_file) }
-    ensures err { IfErr result (PartRefused F.tells F.read_faults ((cases : Cases) → IsRefused validation cases (F.bytes medium))) }
+    ensures ok { IsTrue F.tells → IfOk result (λ tabled. KnowsTables validation (F.bytes medium)
+        (F.failures medium) tabled.header tabled.allocator tabled.points_into_file) }
+    ensures err { IfErr result (PartRefused F.tells F.read_faults ((cases : Cases)
+        → IsRefused validation cases (F.bytes medium))) }
 {
     let Headed {
         header,

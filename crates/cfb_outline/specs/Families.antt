@@ -23,6 +23,12 @@ is_storage_kind Storage = true
 is_storage_kind Stream = false
 is_storage_kind Root = false
 
+abbrev pub is_stream_kind : ObjType → Bool
+is_stream_kind Unallocated = false
+is_stream_kind Storage = false
+is_stream_kind Stream = true
+is_stream_kind Root = false
+
 abbrev pub is_root_kind : ObjType → Bool
 is_root_kind Unallocated = false
 is_root_kind Storage = false

@@ -2,6 +2,6 @@
 //! what is in it, and whether they stand there as the format wants it (MS-CFB 2.6.2 to 2.6.4).
 #![tactic(auto)]
 
-mod links;
+pub mod links;
 pub mod listing;
 pub mod outline;

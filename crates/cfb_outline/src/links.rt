@@ -7,35 +7,12 @@ ghost use Rattle.cfb_format.specs.Siblings.{entry_at, is_red_color, is_red_at, i
 ghost use Rattle.cfb_outline.specs.Families.{is_object_kind, is_storage_kind, is_root_entry, is_before_last, IsInside};
 
 use cfb_codecs::direntry::DirEntry;
+use cfb_codecs::links::{left_link, right_link};
 use cfb_codecs::path::{CaseMapper, compare_names};
 use cfb_format::color::Color;
 use cfb_format::consts::NO_STREAM;
 use cfb_format::objtype::ObjType;
 use std::alloc::Allocator;
-
-/// The number of the entry that hangs to the left, or `NO_STREAM`.
-pub(crate) fn left_link<A: Allocator>(entries: &[DirEntry<A>], number: u32) -> u32
-    requires { number < length entries.now }
-    ensures { result ≡ (entry_at (entries_of entries.now) number).left_sibling }
-{
-    entries[number as usize].left_sibling
-}
-
-/// The number of the entry that hangs to the right, or `NO_STREAM`.
-pub(crate) fn right_link<A: Allocator>(entries: &[DirEntry<A>], number: u32) -> u32
-    requires { number < length entries.now }
-    ensures { result ≡ (entry_at (entries_of entries.now) number).right_sibling }
-{
-    entries[number as usize].right_sibling
-}
-
-/// The number of the entry at the top of the children, or `NO_STREAM`.
-pub(crate) fn child_link<A: Allocator>(entries: &[DirEntry<A>], number: u32) -> u32
-    requires { number < length entries.now }
-    ensures { result ≡ (entry_at (entries_of entries.now) number).child }
-{
-    entries[number as usize].child
-}
 
 /// Whether the entry may be in a storage: it is a storage or a stream.
 pub(crate) fn is_object<A: Allocator>(entries: &[DirEntry<A>], number: u32) -> bool
@@ -49,7 +26,7 @@ pub(crate) fn is_object<A: Allocator>(entries: &[DirEntry<A>], number: u32) -> b
 }
 
 /// Whether the entry is a storage, and not the root.
-pub(crate) fn is_storage<A: Allocator>(entries: &[DirEntry<A>], number: u32) -> bool
+pub fn is_storage<A: Allocator>(entries: &[DirEntry<A>], number: u32) -> bool
     requires { number < length entries.now }
     ensures { result ≡ is_storage_kind (entry_at (entries_of entries.now) number).obj_type }
 {
@@ -79,7 +56,8 @@ fn is_before<A: Allocator>(
 ) -> bool
     requires first_in { first < length entries.now }
     requires second_in { second < length entries.now }
-    ensures { result ≡ is_lt (name_cmp cases.now (entry_at (entries_of entries.now) first).name (entry_at (entries_of entries.now) second).name) }
+    ensures { result ≡ is_lt (name_cmp cases.now (entry_at (entries_of entries.now) first).name
+        (entry_at (entries_of entries.now) second).name) }
 {
     compare_names(
         cases,

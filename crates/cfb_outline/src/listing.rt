@@ -7,8 +7,9 @@ ghost use Rattle.cfb_format.specs.Reading.{Outline, numbers};
 ghost use Rattle.cfb_format.specs.Refused.{IsMemory};
 ghost use Rattle.cfb_outline.specs.Outlines.{HasInside, IsReachedStorage};
 
-use crate::links::{child_link, is_storage, left_link, right_link};
+use crate::links::is_storage;
 use cfb_codecs::direntry::DirEntry;
+use cfb_codecs::links::{child_link, left_link, right_link};
 use cfb_format::consts::NO_STREAM;
 use cfb_format::error::Error;
 use std::alloc::Allocator;
@@ -20,9 +21,12 @@ fn push_siblings<A: Allocator>(
     stack: &mut Vec<u32, A>,
     pending: &mut Vec<u32, A>,
 ) -> Result<(), Error>
-    requires listed { (cases : Cases) × (list : List ℕ) × Below cases (entries_of entries.now) top list }
+    requires listed { (cases : Cases)
+        × (list : List ℕ) × Below cases (entries_of entries.now) top list }
     requires empty { stack.old.items ≡ [] }
-    ensures ok { OnOk result ((cases : Cases) (list : List ℕ) → Below cases (entries_of entries.now) top list → pending.new.items ≡ pending.old.items ++ reverse list) }
+    ensures ok { OnOk result ((cases : Cases) (list : List ℕ)
+        → Below cases (entries_of entries.now) top list
+        → pending.new.items ≡ pending.old.items ++ reverse list) }
     ensures emptied { OnOk result (stack.new.items ≡ []) }
     ensures refused { IfErr result IsMemory }
 {
@@ -49,7 +53,8 @@ pub fn contents<A: Allocator + Clone>(
     parent: u32,
 ) -> Result<Vec<u32, A>, Error>
     requires { (cases : Cases) × IsReachedStorage cases (entries_of entries.now) parent }
-    ensures ok { IfOk result (λ order. (cases : Cases) (o : Outline) → HasInside cases (entries_of entries.now) parent o → order.items ≡ numbers o) }
+    ensures ok { IfOk result (λ order. (cases : Cases) (o : Outline)
+        → HasInside cases (entries_of entries.now) parent o → order.items ≡ numbers o) }
     ensures refused { IfErr result IsMemory }
 {
     let mut stack = Vec::new(alloc.clone()?);

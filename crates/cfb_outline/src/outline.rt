@@ -8,10 +8,9 @@ ghost use Rattle.cfb_format.specs.Refused.{IsInvalidOrMemory, IsMemory};
 ghost use Rattle.cfb_outline.specs.Families.{Family, is_marked};
 ghost use Rattle.cfb_outline.specs.Outlines.{AcceptsOutline};
 
-use crate::links::{
-    child_link, has_root, is_object, is_storage, keeps_red_apart, left_link, precedes, right_link,
-};
+use crate::links::{has_root, is_object, is_storage, keeps_red_apart, precedes};
 use cfb_codecs::direntry::DirEntry;
+use cfb_codecs::links::{child_link, left_link, right_link};
 use cfb_codecs::path::CaseMapper;
 use cfb_format::consts::NO_STREAM;
 use cfb_format::error::{Detail, Error};
@@ -49,11 +48,14 @@ fn walk_siblings<A: Allocator>(
 ) -> Result<(), Error>
     requires marks { length seen.old.items ≡ length entries.now }
     requires empty { stack.old.items ≡ [] }
-    ensures ok { OnOk result ((list : List ℕ) × Family cases.now (entries_of entries.now) top seen.old.items list
-        × (pending.new.items ≡ pending.old.items ++ reverse list) × ((k : ℕ) → is_marked seen.new.items k ≡ (is_marked seen.old.items k || list_any (nat_eq k) list))) }
+    ensures ok { OnOk result ((list : List ℕ)
+        × Family cases.now (entries_of entries.now) top seen.old.items list
+        × (pending.new.items ≡ pending.old.items ++ reverse list) × ((k : ℕ)
+        → is_marked seen.new.items k ≡ (is_marked seen.old.items k || list_any (nat_eq k) list))) }
     ensures size { OnOk result (length seen.new.items ≡ length entries.now) }
     ensures emptied { OnOk result (stack.new.items ≡ []) }
-    ensures refused { IfErr result (IsInvalidOrMemory ((list : List ℕ) → Family cases.now (entries_of entries.now) top seen.old.items list → ⊥)) }
+    ensures refused { IfErr result (IsInvalidOrMemory ((list : List ℕ)
+        → Family cases.now (entries_of entries.now) top seen.old.items list → ⊥)) }
 {
     let mut current = top;
     let mut last = None;
@@ -93,8 +95,10 @@ fn reach<A: Allocator + Clone>(
     cases: &CaseMapper<A>,
     entries: &[DirEntry<A>],
 ) -> Result<Vec<u32, A>, Error>
-    ensures ok { IfOk result (λ order. (o : Outline) × IsOutline cases.now (entries_of entries.now) o × (order.items ≡ numbers o)) }
-    ensures refused { IfErr result (IsInvalidOrMemory ((o : Outline) → IsOutline cases.now (entries_of entries.now) o → ⊥)) }
+    ensures ok { IfOk result (λ order. (o : Outline)
+        × IsOutline cases.now (entries_of entries.now) o × (order.items ≡ numbers o)) }
+    ensures refused { IfErr result (IsInvalidOrMemory ((o : Outline)
+        → IsOutline cases.now (entries_of entries.now) o → ⊥)) }
 {
     if entries.len() == 0 {
         return Err(Error::InvalidData(Detail::text("directory without a root")));
@@ -141,8 +145,11 @@ pub fn reached_entries<A: Allocator + Clone>(
     entries: &[DirEntry<A>],
     validation: Validation,
 ) -> Result<Vec<u32, A>, Error>
-    ensures ok { IfOk result (λ order. (o : Outline) × AcceptsOutline validation cases.now (entries_of entries.now) o × (order.items ≡ numbers o)) }
-    ensures refused { IfErr result (IsInvalidOrMemory ((o : Outline) → AcceptsOutline validation cases.now (entries_of entries.now) o → ⊥)) }
+    ensures ok { IfOk result (λ order. (o : Outline)
+        × AcceptsOutline validation cases.now (entries_of entries.now) o
+        × (order.items ≡ numbers o)) }
+    ensures refused { IfErr result (IsInvalidOrMemory ((o : Outline)
+        → AcceptsOutline validation cases.now (entries_of entries.now) o → ⊥)) }
 {
     let order = reach(alloc, cases, entries)?;
     match validation {

@@ -3,7 +3,7 @@ use Rattle.std.proofs.Common.{◌≡◌, arith}
 use Rattle.std.specs.Prelude.{Bool, IsTrue, Result, Ok, Err, IfOk}
 use Rattle.cfb_format.specs.Refused.{number_of}
 use Rattle.cfb_format.specs.declared.error.Error.{Error}
-use Rattle.cfb_format.specs.declared.error.Error.TheVariants.{NotFound, AlreadyExists, InvalidInput, InvalidData, Medium, Memory, Full, Unsound, Failed, Unsupported}
+use Rattle.cfb_format.specs.declared.error.Error.TheVariants.{NotFound, AlreadyExists, InvalidInput, InvalidData, Medium, Memory, Full, Unsound, Failed}
 use Rattle.cfb_format.specs.declared.medium.MediumFault.{MediumFault}
 use Rattle.cfb_reading.specs.PartRefused.{PartRefused}
 
@@ -18,7 +18,6 @@ module _ (tells : Bool) (can_give : MediumFault → Bool) (P Q : Type 0) (turn :
   refused-weaker Full r = r
   refused-weaker Unsound r = r
   refused-weaker Failed r = r
-  refused-weaker Unsupported r = r
 
 -- four facts of what a call answered
 pub from_four : {T E : Type 0} (r : Result T E) (P Q R S All : T → Type 0) → ((x : T) → P x → Q x → R x → S x → All x) → IfOk r P → IfOk r Q → IfOk r R → IfOk r S → IfOk r All
@@ -36,4 +35,3 @@ refused-bytes tells can_give none Memory is turn = absurd (omega arith)
 refused-bytes tells can_give none Full is turn = absurd (omega arith)
 refused-bytes tells can_give none Unsound is turn = absurd (omega arith)
 refused-bytes tells can_give none Failed is turn = absurd (omega arith)
-refused-bytes tells can_give none Unsupported is turn = absurd (omega arith)

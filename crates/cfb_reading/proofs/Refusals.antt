@@ -1,6 +1,6 @@
 -- How the refusal of a step is one of the whole.
 use Rattle.cfb_format.specs.declared.error.Error.{Error}
-use Rattle.cfb_format.specs.declared.error.Error.TheVariants.{AlreadyExists, Failed, Full, InvalidData, InvalidInput, Medium, Memory, NotFound, Unsound, Unsupported}
+use Rattle.cfb_format.specs.declared.error.Error.TheVariants.{AlreadyExists, Failed, Full, InvalidData, InvalidInput, Medium, Memory, NotFound, Unsound}
 use Rattle.cfb_format.specs.Refused.{IsInvalidOrMemory}
 use Rattle.cfb_tables.specs.Refused.{ChangeRefused}
 
@@ -16,7 +16,6 @@ refused-as invalid invalid' memory memory' full full' medium medium' a b c d Mem
 refused-as invalid invalid' memory memory' full full' medium medium' a b c d Full h = c h
 refused-as invalid invalid' memory memory' full full' medium medium' a b c d Unsound h = h
 refused-as invalid invalid' memory memory' full full' medium medium' a b c d Failed h = h
-refused-as invalid invalid' memory memory' full full' medium medium' a b c d Unsupported h = h
 
 -- a step that reads no medium
 pub memory-refused : (P invalid full medium : Type 0) → (P → invalid) → (e : Error) → IsInvalidOrMemory P e → ChangeRefused invalid (Unit {0}) full medium e
@@ -29,4 +28,3 @@ memory-refused P invalid full medium a Memory h = h
 memory-refused P invalid full medium a Full h = absurd h
 memory-refused P invalid full medium a Unsound h = h
 memory-refused P invalid full medium a Failed h = h
-memory-refused P invalid full medium a Unsupported h = h

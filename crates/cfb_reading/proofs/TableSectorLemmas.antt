@@ -11,28 +11,28 @@ use Rattle.cfb_format.specs.Header.{IfStrict, header_difat_len}
 use Rattle.cfb_format.proofs.Unique.{FollowsDifat-unique}
 use Rattle.cfb_sectors.specs.Sectors.{SectorFile, sectors_end}
 use Rattle.cfb_alloc.specs.Alloc.{AreListed, IsMeasured}
-use Rattle.cfb_reading.specs.Difat.{AcceptsDifat, AcceptsNoDifat, AcceptsDifatSectors, AcceptsNoDifatSectors, HasRightCounts, has_sector, is_strict_next, listed_by}
+use Rattle.cfb_reading.specs.Difat.{AcceptsDifat, AcceptsNoDifat, AcceptsDifatSectors, AcceptsNoDifatSectors, HasRightCounts, has_sector, is_strict_next, listed_sectors}
 use Rattle.cfb_reading.proofs.DifatLemmas.{all-below}
 
 -- ---- how many there are
 
 -- no more are listed than entries stand there
-listed-few : (h : Header) (entries : List ℕ) → length (listed_by h entries) ≤ length entries
+listed-few : (h : Header) (entries : List ℕ) → length (listed_sectors h entries) ≤ length entries
 listed-few h entries =
     let kept = without_padding h entries in
     let k = max (max header_difat_len h.num_fat_sectors) (length entries - suffix_len (λ word. word == 0) entries) in
     let inner : length kept ≡ min k (length entries) = length-take k entries in
-    let outer : length (listed_by h entries) ≡ min (length kept - suffix_len (λ word. word == free_sector) kept) (length kept) =
+    let outer : length (listed_sectors h entries) ≡ min (length kept - suffix_len (λ word. word == free_sector) kept) (length kept) =
     length-take (length kept - suffix_len (λ word. word == free_sector) kept) kept in
     omega (arith, inner, outer)
 
 pub are-listed : (file : SectorFile) (h : Header) (list own entries : List ℕ) → file.len ≤ sectors_end file → file.num_sectors ≤ max_regular_sector
     → length own ≤ file.num_sectors → list_all (has_sector file) own ≡ true → length entries ≡ header_difat_len + length own * (words_per_sector file.version - 1)
-    → list ≡ listed_by h entries → list_all (has_sector file) list ≡ true → AreListed file.version file.num_sectors list own
+    → list ≡ listed_sectors h entries → list_all (has_sector file) list ≡ true → AreListed file.version file.num_sectors list own
 are-listed file h list own entries within short few own_there count is there = record {
   sizes = record {
     short = short;
-    places = let same : length list ≡ length (listed_by h entries) = ap length is in let most = listed-few h entries in omega (arith, same, most, count);
+    places = let same : length list ≡ length (listed_sectors h entries) = ap length is in let most = listed-few h entries in omega (arith, same, most, count);
     difats = few;
   };
   fats = all-below file list within there;
@@ -42,12 +42,12 @@ are-listed file h list own entries within short few own_there count is there = r
 -- ---- what opening reads
 
 module _ (validation : Validation) (bytes : List ℕ) (h : Header) (list own entries : List ℕ) where
-  strict-difat : entries ≡ all_difat_entries h bytes own → list ≡ listed_by h entries
+  strict-difat : entries ≡ all_difat_entries h bytes own → list ≡ listed_sectors h entries
       → IfStrict validation (list_all (λ i. is_strict_next (next_difat h.version bytes i)) own ≡ true) → IfStrict validation (HasRightCounts h entries own)
       → IfStrict validation (IsStrictDifat bytes h list own)
   strict-difat = go validation
     where
-      go : (v : Validation) → entries ≡ all_difat_entries h bytes own → list ≡ listed_by h entries
+      go : (v : Validation) → entries ≡ all_difat_entries h bytes own → list ≡ listed_sectors h entries
           → IfStrict v (list_all (λ i. is_strict_next (next_difat h.version bytes i)) own ≡ true) → IfStrict v (HasRightCounts h entries own)
           → IfStrict v (IsStrictDifat bytes h list own)
       go Permissive all is ended counts = tt
@@ -58,10 +58,10 @@ module _ (validation : Validation) (bytes : List ℕ) (h : Header) (list own ent
         difat_count = counts.difat_count;
       }
 
-  pub accepted : AcceptsDifatSectors validation h.version bytes h.first_difat_sector own → entries ≡ all_difat_entries h bytes own → list ≡ listed_by h entries
+  pub accepted : AcceptsDifatSectors validation h.version bytes h.first_difat_sector own → entries ≡ all_difat_entries h bytes own → list ≡ listed_sectors h entries
       → list_all (is_whole_sector h.version bytes) list ≡ true → IfStrict validation (HasRightCounts h entries own) → AcceptsDifat validation bytes h list own
   accepted a all is whole counts = record {
-    difat = record { sectors = a.sectors; distinct = a.distinct; entries = is ∙ ap (listed_by h) all; in_file = whole };
+    difat = record { sectors = a.sectors; distinct = a.distinct; entries = is ∙ ap (listed_sectors h) all; in_file = whole };
     strict = strict-difat all is a.ended counts;
   }
 
@@ -74,8 +74,8 @@ module _ (validation : Validation) (bytes : List ℕ) (h : Header) (list own : L
       ended Permissive s = tt
       ended Strict s = s.ended
 
-  pub its-list : (entries : List ℕ) → entries ≡ all_difat_entries h bytes own → listed_by h entries ≡ list
-  its-list entries all = ap (listed_by h) all ∙ sym a.difat.entries
+  pub its-list : (entries : List ℕ) → entries ≡ all_difat_entries h bytes own → listed_sectors h entries ≡ list
+  its-list entries all = ap (listed_sectors h) all ∙ sym a.difat.entries
 
   pub its-counts : (entries : List ℕ) → entries ≡ all_difat_entries h bytes own → IfStrict validation (HasRightCounts h entries own)
   its-counts entries all = go validation a.strict
@@ -98,7 +98,7 @@ module _ (validation : Validation) (file : SectorFile) (h : Header) (measured : 
   all-entries own entries is = is ∙ ap (λ v. h.initial_difat_entries ++ flat_map (difat_entries v file.bytes) own) (sym same)
 
   pub file-accepted : (list own entries : List ℕ) → AcceptsDifatSectors validation file.version file.bytes h.first_difat_sector own
-      → entries ≡ h.initial_difat_entries ++ flat_map (difat_entries file.version file.bytes) own → list ≡ listed_by h entries
+      → entries ≡ h.initial_difat_entries ++ flat_map (difat_entries file.version file.bytes) own → list ≡ listed_sectors h entries
       → list_all (has_sector file) list ≡ true → IfStrict validation (HasRightCounts h entries own) → AcceptsDifat validation file.bytes h list own
   file-accepted list own entries a all is there counts =
       accepted validation file.bytes h list own entries (subst (λ v. AcceptsDifatSectors validation v file.bytes h.first_difat_sector own) (sym same) a)
@@ -109,7 +109,7 @@ module _ (validation : Validation) (file : SectorFile) (h : Header) (measured : 
 
   pub no-list : (own entries : List ℕ) → AcceptsDifatSectors validation file.version file.bytes h.first_difat_sector own
       → entries ≡ h.initial_difat_entries ++ flat_map (difat_entries file.version file.bytes) own
-      → (list_all (has_sector file) (listed_by h entries) ≡ true → IfStrict validation (HasRightCounts h entries own) → ⊥)
+      → (list_all (has_sector file) (listed_sectors h entries) ≡ true → IfStrict validation (HasRightCounts h entries own) → ⊥)
       → AcceptsNoDifat validation file.bytes h
   no-list own entries s all none list own' a =
       let once : own' ≡ own = FollowsDifat-unique file.version file.bytes h.first_difat_sector own' own

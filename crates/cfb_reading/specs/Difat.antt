@@ -46,11 +46,11 @@ AcceptsNoDifatSectors validation version bytes first = (own : List ℕ) → Acce
 -- ---- what they list
 
 -- the FAT sectors that all entries list
-abbrev pub listed_by : Header → List ℕ → List ℕ
-listed_by h entries = without_end (λ word. word == free_sector) (without_padding h entries)
+abbrev pub listed_sectors : Header → List ℕ → List ℕ
+listed_sectors h entries = without_end (λ word. word == free_sector) (without_padding h entries)
 
 -- strict opening wants no padding by zeros, and the header's two counts to be right
 pub record HasRightCounts (h : Header) (entries own : List ℕ) : Type 0 where
   pub unpadded : length (without_padding h entries) ≡ length entries
-  pub fat_count : h.num_fat_sectors ≡ length (listed_by h entries)
+  pub fat_count : h.num_fat_sectors ≡ length (listed_sectors h entries)
   pub difat_count : h.num_difat_sectors ≡ length own

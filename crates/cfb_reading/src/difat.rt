@@ -7,7 +7,7 @@ ghost use Rattle.cfb_format.specs.Header.{IfStrict, header_difat_len};
 ghost use Rattle.cfb_format.specs.Refused.{CountsFailure, IsInvalidData, IsMemory};
 ghost use Rattle.cfb_alloc.specs.Alloc.{AreListed, IsMeasured};
 ghost use Rattle.cfb_reading.specs.PartRefused.{PartRefused};
-ghost use Rattle.cfb_reading.specs.Difat.{AcceptsDifat, AcceptsNoDifat, AcceptsDifatSectors, AcceptsNoDifatSectors, AreDifatWords, HasRightCounts, has_sector, listed_by};
+ghost use Rattle.cfb_reading.specs.Difat.{AcceptsDifat, AcceptsNoDifat, AcceptsDifatSectors, AcceptsNoDifatSectors, AreDifatWords, HasRightCounts, has_sector, listed_sectors};
 
 use crate::marks::{is_marked, mark};
 use cfb_format::consts::{
@@ -54,17 +54,22 @@ pub fn read_difat<F: ReadMedium, A: Heap + Clone>(
     header: &Header,
     validation: Validation,
 ) -> Result<TableSectors<A>, Error>
-    ensures kept { sectors.new ≡ record sectors.old { bytes = sectors.new.bytes; failures = sectors.new.failures } }
-    ensures listed { IfOk result (λ t. AreListed sectors.old.version sectors.old.num_sectors t.fat_sectors.items t.difat_sectors.items) }
-    ensures ok { IsTrue F.tells → IsMeasured sectors.old → header.now.version ≡ sectors.old.version
-        → IfOk result (λ t. AcceptsDifat validation sectors.old.bytes header.now t.fat_sectors.items t.difat_sectors.items) }
-    ensures err { IfErr result (PartRefused F.tells F.read_faults
-        (IsMeasured sectors.old → header.now.version ≡ sectors.old.version → AcceptsNoDifat validation sectors.old.bytes header.now)) }
+    ensures kept { sectors.new
+        ≡ record sectors.old { bytes = sectors.new.bytes; failures = sectors.new.failures } }
+    ensures listed { IfOk result (λ t. AreListed
+        sectors.old.version sectors.old.num_sectors t.fat_sectors.items t.difat_sectors.items) }
+    ensures ok { IsTrue F.tells → IsMeasured sectors.old
+        → header.now.version ≡ sectors.old.version → IfOk result (λ t. AcceptsDifat
+        validation sectors.old.bytes header.now t.fat_sectors.items t.difat_sectors.items) }
+    ensures err { IfErr result (PartRefused F.tells F.read_faults (IsMeasured sectors.old
+        → header.now.version ≡ sectors.old.version
+        → AcceptsNoDifat validation sectors.old.bytes header.now)) }
     ensures same { IsTrue F.tells → OnOk result (sectors.new ≡ sectors.old) }
     ensures bytes { IsTrue F.tells → sectors.new.bytes ≡ sectors.old.bytes }
-    ensures counts { IsTrue F.tells → CountsFailure F.read_faults result sectors.old.failures sectors.new.failures }
+    ensures counts { IsTrue F.tells
+        → CountsFailure F.read_faults result sectors.old.failures sectors.new.failures }
 {
-    let _count = sectors.num_sectors();
+    let _fact = sectors.num_sectors();
     let trail = follow_difat(heap, sectors, header, validation)?;
     list_sectors(trail, sectors, header, validation)
 }
@@ -94,7 +99,8 @@ fn are_entries(words: &[u32]) -> bool
 /// Whether a DIFAT sector may list these entries and name this one next. `InvalidData`.
 fn check_words(entries: &[u32], next: u32, validation: Validation) -> Result<(), Error>
     ensures ok { OnOk result (AreDifatWords validation entries.now next) }
-    ensures err { IfErr result (λ e. IsInvalidData e × (AreDifatWords validation entries.now next → ⊥)) }
+    ensures err { IfErr result (λ e. IsInvalidData e
+        × (AreDifatWords validation entries.now next → ⊥)) }
 {
     if !are_entries(entries) {
         return Err(invalid("DIFAT lists what is no sector"));
@@ -133,24 +139,33 @@ fn advance<F: ReadMedium, A: Heap>(
     validation: Validation,
 ) -> Result<(), Error>
     requires { length buffer.old ≡ words_per_sector sectors.old.version }
-    ensures kept { sectors.new ≡ record sectors.old { bytes = sectors.new.bytes; failures = sectors.new.failures } }
-    ensures own { OnOk result (trail.new.difat_sectors.items ≡ trail.old.difat_sectors.items ++ trail.old.next ∷ []) }
+    ensures kept { sectors.new
+        ≡ record sectors.old { bytes = sectors.new.bytes; failures = sectors.new.failures } }
+    ensures own { OnOk result (trail.new.difat_sectors.items
+        ≡ trail.old.difat_sectors.items ++ trail.old.next ∷ []) }
     ensures fresh { OnOk result (slice_index_or trail.old.met.items trail.old.next false ≡ false) }
-    ensures met { OnOk result (trail.new.met.items ≡ slice_set trail.old.met.items trail.old.next true) }
+    ensures met { OnOk result (trail.new.met.items
+        ≡ slice_set trail.old.met.items trail.old.next true) }
     ensures there { OnOk result (has_sector sectors.old trail.old.next ≡ true) }
-    ensures count { OnOk result (vec_len trail.new.entries ≡ vec_len trail.old.entries + (words_per_sector sectors.old.version - 1)) }
-    ensures entries { IsTrue F.tells → OnOk result (trail.new.entries.items
-        ≡ trail.old.entries.items ++ difat_entries sectors.old.version sectors.old.bytes trail.old.next) }
-    ensures next { IsTrue F.tells → OnOk result (trail.new.next ≡ next_difat sectors.old.version sectors.old.bytes trail.old.next) }
-    ensures words { IsTrue F.tells → OnOk result (AreDifatWords validation
-        (difat_entries sectors.old.version sectors.old.bytes trail.old.next) (next_difat sectors.old.version sectors.old.bytes trail.old.next)) }
-    ensures err { IfErr result (PartRefused F.tells F.read_faults
-        (slice_index_or trail.old.met.items trail.old.next false ≡ false → has_sector sectors.old trail.old.next ≡ true
-        → AreDifatWords validation (difat_entries sectors.old.version sectors.old.bytes trail.old.next)
-        (next_difat sectors.old.version sectors.old.bytes trail.old.next) → ⊥)) }
+    ensures count { OnOk result (vec_len trail.new.entries
+        ≡ vec_len trail.old.entries + (words_per_sector sectors.old.version - 1)) }
+    ensures entries { IsTrue F.tells
+        → OnOk result (trail.new.entries.items ≡ trail.old.entries.items
+        ++ difat_entries sectors.old.version sectors.old.bytes trail.old.next) }
+    ensures next { IsTrue F.tells → OnOk result (trail.new.next
+        ≡ next_difat sectors.old.version sectors.old.bytes trail.old.next) }
+    ensures words { IsTrue F.tells
+        → OnOk result (AreDifatWords validation (difat_entries sectors.old.version sectors.old.bytes
+        trail.old.next) (next_difat sectors.old.version sectors.old.bytes trail.old.next)) }
+    ensures err { IfErr result
+        (PartRefused F.tells F.read_faults (slice_index_or trail.old.met.items trail.old.next false
+        ≡ false → has_sector sectors.old trail.old.next ≡ true
+        → AreDifatWords validation (difat_entries sectors.old.version sectors.old.bytes
+        trail.old.next) (next_difat sectors.old.version sectors.old.bytes trail.old.next) → ⊥)) }
     ensures same { IsTrue F.tells → OnOk result (sectors.new ≡ sectors.old) }
     ensures bytes { IsTrue F.tells → sectors.new.bytes ≡ sectors.old.bytes }
-    ensures counts { IsTrue F.tells → CountsFailure F.read_faults result sectors.old.failures sectors.new.failures }
+    ensures counts { IsTrue F.tells
+        → CountsFailure F.read_faults result sectors.old.failures sectors.new.failures }
 {
     let sector = trail.next;
     if is_marked(&trail.met, sector) {
@@ -175,19 +190,26 @@ fn follow_difat<F: ReadMedium, A: Heap + Clone>(
     header: &Header,
     validation: Validation,
 ) -> Result<Trail<A>, Error>
-    ensures kept { sectors.new ≡ record sectors.old { bytes = sectors.new.bytes; failures = sectors.new.failures } }
+    ensures kept { sectors.new
+        ≡ record sectors.old { bytes = sectors.new.bytes; failures = sectors.new.failures } }
     ensures few { IfOk result (λ t. vec_len t.difat_sectors ≤ sectors.old.num_sectors) }
-    ensures there { IfOk result (λ t. list_all (has_sector sectors.old) t.difat_sectors.items ≡ true) }
-    ensures count { IfOk result (λ t. vec_len t.entries ≡ header_difat_len + vec_len t.difat_sectors * (words_per_sector sectors.old.version - 1)) }
-    ensures entries { IsTrue F.tells → IfOk result (λ t. t.entries.items
-        ≡ header.now.initial_difat_entries ++ flat_map (difat_entries sectors.old.version sectors.old.bytes) t.difat_sectors.items) }
-    ensures ok { IsTrue F.tells → IsMeasured sectors.old → IfOk result (λ t. AcceptsDifatSectors validation
+    ensures there { IfOk result (λ t. list_all (has_sector sectors.old) t.difat_sectors.items
+        ≡ true) }
+    ensures count { IfOk result (λ t. vec_len t.entries
+        ≡ header_difat_len + vec_len t.difat_sectors * (words_per_sector sectors.old.version - 1)) }
+    ensures entries { IsTrue F.tells
+        → IfOk result (λ t. t.entries.items ≡ header.now.initial_difat_entries
+        ++ flat_map (difat_entries sectors.old.version sectors.old.bytes) t.difat_sectors.items) }
+    ensures ok { IsTrue F.tells
+        → IsMeasured sectors.old → IfOk result (λ t. AcceptsDifatSectors validation
         sectors.old.version sectors.old.bytes header.now.first_difat_sector t.difat_sectors.items) }
-    ensures err { IfErr result (PartRefused F.tells F.read_faults (IsMeasured sectors.old → AcceptsNoDifatSectors validation
-        sectors.old.version sectors.old.bytes header.now.first_difat_sector)) }
+    ensures err { IfErr result (PartRefused F.tells F.read_faults (IsMeasured sectors.old
+        → AcceptsNoDifatSectors
+        validation sectors.old.version sectors.old.bytes header.now.first_difat_sector)) }
     ensures same { IsTrue F.tells → OnOk result (sectors.new ≡ sectors.old) }
     ensures bytes { IsTrue F.tells → sectors.new.bytes ≡ sectors.old.bytes }
-    ensures counts { IsTrue F.tells → CountsFailure F.read_faults result sectors.old.failures sectors.new.failures }
+    ensures counts { IsTrue F.tells
+        → CountsFailure F.read_faults result sectors.old.failures sectors.new.failures }
 {
     let mut buffer = [0; 1024];
     let buffer = &mut buffer[..sectors.version().words_per_sector()];
@@ -242,9 +264,10 @@ fn check_counts(
     difat_sectors: usize,
     validation: Validation,
 ) -> Result<(), Error>
-    ensures ok { OnOk result (IfStrict validation ((padding ≡ 0) × (header.now.num_fat_sectors ≡ fat_sectors)
-        × (header.now.num_difat_sectors ≡ difat_sectors))) }
-    ensures err { IfErr result (λ e. IsInvalidData e × (IfStrict validation ((padding ≡ 0) × (header.now.num_fat_sectors ≡ fat_sectors)
+    ensures ok { OnOk result (IfStrict validation ((padding ≡ 0) × (header.now.num_fat_sectors
+        ≡ fat_sectors) × (header.now.num_difat_sectors ≡ difat_sectors))) }
+    ensures err { IfErr result (λ e. IsInvalidData e
+        × (IfStrict validation ((padding ≡ 0) × (header.now.num_fat_sectors ≡ fat_sectors)
         × (header.now.num_difat_sectors ≡ difat_sectors)) → ⊥)) }
 {
     if !validation.is_strict() {
@@ -271,11 +294,16 @@ fn list_sectors<F: ReadMedium, A: Heap>(
     validation: Validation,
 ) -> Result<TableSectors<A>, Error>
     ensures own { IfOk result (λ t. t.difat_sectors.items ≡ trail.difat_sectors.items) }
-    ensures list { IfOk result (λ t. t.fat_sectors.items ≡ listed_by header.now trail.entries.items) }
-    ensures there { IfOk result (λ t. list_all (has_sector sectors.now) t.fat_sectors.items ≡ true) }
-    ensures counts { OnOk result (IfStrict validation (HasRightCounts header.now trail.entries.items trail.difat_sectors.items)) }
-    ensures err { IfErr result (λ e. IsInvalidData e × (list_all (has_sector sectors.now) (listed_by header.now trail.entries.items) ≡ true
-        → IfStrict validation (HasRightCounts header.now trail.entries.items trail.difat_sectors.items) → ⊥)) }
+    ensures list { IfOk result (λ t. t.fat_sectors.items
+        ≡ listed_sectors header.now trail.entries.items) }
+    ensures there { IfOk result (λ t. list_all (has_sector sectors.now) t.fat_sectors.items
+        ≡ true) }
+    ensures counts { OnOk result (IfStrict validation
+        (HasRightCounts header.now trail.entries.items trail.difat_sectors.items)) }
+    ensures err { IfErr result (λ e. IsInvalidData e
+        × (list_all (has_sector sectors.now) (listed_sectors header.now trail.entries.items) ≡ true
+        → IfStrict validation
+        (HasRightCounts header.now trail.entries.items trail.difat_sectors.items) → ⊥)) }
 {
     let Trail {
         entries,

@@ -49,17 +49,21 @@ pub fn read_fat_words<F: ReadMedium, A: Heap + Clone>(
     difat_sectors: &[u32],
     validation: Validation,
 ) -> Result<FatWords<A>, Error>
-    ensures kept { sectors.new ≡ record sectors.old { bytes = sectors.new.bytes; failures = sectors.new.failures } }
+    ensures kept { sectors.new
+        ≡ record sectors.old { bytes = sectors.new.bytes; failures = sectors.new.failures } }
     ensures few { IfOk result (λ fat. vec_len fat.words ≤ sectors.old.num_sectors) }
     ensures points { IfOk result (λ fat. IsTrue fat.points_into_file
         ↔ PointsInto sectors.old.num_sectors fat.words.items fat_sectors.now difat_sectors.now) }
-    ensures ok { IsTrue F.tells → IsMeasured sectors.old → IfOk result (λ fat. AcceptsFatWords validation sectors.old.num_sectors
+    ensures ok { IsTrue F.tells → IsMeasured sectors.old
+        → IfOk result (λ fat. AcceptsFatWords validation sectors.old.num_sectors
         sectors.old.version sectors.old.bytes fat_sectors.now fat.words.items) }
-    ensures err { IfErr result (PartRefused F.tells F.read_faults (IsMeasured sectors.old → AcceptsNoFatWords validation sectors.old.num_sectors
-        sectors.old.version sectors.old.bytes fat_sectors.now)) }
+    ensures err { IfErr result (PartRefused F.tells F.read_faults (IsMeasured sectors.old
+        → AcceptsNoFatWords
+        validation sectors.old.num_sectors sectors.old.version sectors.old.bytes fat_sectors.now)) }
     ensures same { IsTrue F.tells → OnOk result (sectors.new ≡ sectors.old) }
     ensures bytes { IsTrue F.tells → sectors.new.bytes ≡ sectors.old.bytes }
-    ensures counts { IsTrue F.tells → CountsFailure F.read_faults result sectors.old.failures sectors.new.failures }
+    ensures counts { IsTrue F.tells
+        → CountsFailure F.read_faults result sectors.old.failures sectors.new.failures }
 {
     let num_sectors = sectors.num_sectors();
     let words = read_words(heap, sectors, fat_sectors, validation)?;
@@ -105,27 +109,35 @@ fn take_sector<F: ReadMedium, A: Heap>(
     requires buffer { length buffer.old ≡ words_per_sector sectors.old.version }
     requires count { vec_len taking.old.checked ≡ sectors.old.num_sectors }
     requires few { vec_len taking.old.words ≤ vec_len taking.old.checked }
-    ensures kept { sectors.new ≡ record sectors.old { bytes = sectors.new.bytes; failures = sectors.new.failures } }
+    ensures kept { sectors.new
+        ≡ record sectors.old { bytes = sectors.new.bytes; failures = sectors.new.failures } }
     ensures few { OnOk result (vec_len taking.new.words ≤ vec_len taking.new.checked) }
     ensures len { OnOk result (vec_len taking.new.checked ≡ vec_len taking.old.checked) }
-    ensures met { vec_len taking.old.words ≡ vec_len taking.old.checked → OnOk result (slice_index_or taking.new.checked.items sector false ≡ true) }
-    ensures once { vec_len taking.old.words ≡ vec_len taking.old.checked → slice_index_or taking.old.checked.items sector false ≡ true
+    ensures met { vec_len taking.old.words ≡ vec_len taking.old.checked
+        → OnOk result (slice_index_or taking.new.checked.items sector false ≡ true) }
+    ensures once { vec_len taking.old.words ≡ vec_len taking.old.checked
+        → slice_index_or taking.old.checked.items sector false ≡ true
         → IsOk result × (taking.new ≡ taking.old) × (sectors.new ≡ sectors.old) }
     ensures there { AreThere sectors.old taking.old.checked.items
-        → OnOk result ((has_sector sectors.old sector ≡ true) × AreThere sectors.old taking.new.checked.items) }
-    ensures words { IsTrue F.tells → OnOk result (taking.new.words.items ≡ taking.old.words.items
-        ++ take (vec_len taking.old.checked - vec_len taking.old.words) (sector_words sectors.old.version sectors.old.bytes sector)) }
+        → OnOk result ((has_sector sectors.old sector ≡ true)
+        × AreThere sectors.old taking.new.checked.items) }
+    ensures words { IsTrue F.tells → OnOk result (taking.new.words.items
+        ≡ taking.old.words.items ++ take (vec_len taking.old.checked
+        - vec_len taking.old.words) (sector_words sectors.old.version sectors.old.bytes sector)) }
     ensures padding { IsTrue F.tells → ArePadding validation sectors.old taking.old.checked.items
-        → OnOk result ((list_all (is_padding_in validation) (drop (vec_len taking.old.checked - vec_len taking.old.words)
-        (sector_words sectors.old.version sectors.old.bytes sector)) ≡ true) × ArePadding validation sectors.old taking.new.checked.items) }
-    ensures err { IfErr result (PartRefused F.tells F.read_faults (has_sector sectors.old sector ≡ true
-        → list_all (is_padding_in validation) (drop (vec_len taking.old.checked - vec_len taking.old.words)
-        (sector_words sectors.old.version sectors.old.bytes sector)) ≡ true → ⊥)) }
+        → OnOk result ((list_all (is_padding_in validation) (drop (vec_len taking.old.checked
+        - vec_len taking.old.words) (sector_words sectors.old.version sectors.old.bytes sector))
+        ≡ true) × ArePadding validation sectors.old taking.new.checked.items) }
+    ensures err { IfErr result (PartRefused F.tells F.read_faults (has_sector sectors.old sector
+        ≡ true → list_all (is_padding_in validation) (drop (vec_len taking.old.checked
+        - vec_len taking.old.words) (sector_words sectors.old.version sectors.old.bytes sector))
+        ≡ true → ⊥)) }
     ensures same { IsTrue F.tells → OnOk result (sectors.new ≡ sectors.old) }
     ensures bytes { IsTrue F.tells → sectors.new.bytes ≡ sectors.old.bytes }
-    ensures counts { IsTrue F.tells → CountsFailure F.read_faults result sectors.old.failures sectors.new.failures }
+    ensures counts { IsTrue F.tells
+        → CountsFailure F.read_faults result sectors.old.failures sectors.new.failures }
 {
-    let _count = sectors.num_sectors();
+    let _fact = sectors.num_sectors();
     let room = taking.checked.len() - taking.words.len();
     if room > 0 {
         return keep_words(&mut taking.words, sectors, sector, buffer, room, validation);
@@ -148,18 +160,21 @@ fn keep_words<F: ReadMedium, A: Heap>(
     validation: Validation,
 ) -> Result<(), Error>
     requires { length buffer.old ≡ words_per_sector sectors.old.version }
-    ensures kept { sectors.new ≡ record sectors.old { bytes = sectors.new.bytes; failures = sectors.new.failures } }
+    ensures kept { sectors.new
+        ≡ record sectors.old { bytes = sectors.new.bytes; failures = sectors.new.failures } }
     ensures few { OnOk result (vec_len words.new ≤ vec_len words.old + room) }
     ensures there { OnOk result (has_sector sectors.old sector ≡ true) }
     ensures words { IsTrue F.tells → OnOk result (words.new.items ≡ words.old.items
         ++ take room (sector_words sectors.old.version sectors.old.bytes sector)) }
     ensures padding { IsTrue F.tells → OnOk result (list_all (is_padding_in validation)
         (drop room (sector_words sectors.old.version sectors.old.bytes sector)) ≡ true) }
-    ensures err { IfErr result (PartRefused F.tells F.read_faults (has_sector sectors.old sector ≡ true
-        → list_all (is_padding_in validation) (drop room (sector_words sectors.old.version sectors.old.bytes sector)) ≡ true → ⊥)) }
+    ensures err { IfErr result (PartRefused F.tells F.read_faults (has_sector sectors.old sector
+        ≡ true → list_all (is_padding_in validation)
+        (drop room (sector_words sectors.old.version sectors.old.bytes sector)) ≡ true → ⊥)) }
     ensures same { IsTrue F.tells → OnOk result (sectors.new ≡ sectors.old) }
     ensures bytes { IsTrue F.tells → sectors.new.bytes ≡ sectors.old.bytes }
-    ensures counts { IsTrue F.tells → CountsFailure F.read_faults result sectors.old.failures sectors.new.failures }
+    ensures counts { IsTrue F.tells
+        → CountsFailure F.read_faults result sectors.old.failures sectors.new.failures }
 {
     sectors.read_words(sector, buffer)?;
     let (first, padding) = buffer.split_at(room.min(buffer.len()));
@@ -178,15 +193,18 @@ fn check_padding<F: ReadMedium>(
     validation: Validation,
 ) -> Result<(), Error>
     requires { length buffer.old ≡ words_per_sector sectors.old.version }
-    ensures kept { sectors.new ≡ record sectors.old { bytes = sectors.new.bytes; failures = sectors.new.failures } }
+    ensures kept { sectors.new
+        ≡ record sectors.old { bytes = sectors.new.bytes; failures = sectors.new.failures } }
     ensures there { OnOk result (has_sector sectors.old sector ≡ true) }
     ensures padding { IsTrue F.tells → OnOk result (list_all (is_padding_in validation)
         (sector_words sectors.old.version sectors.old.bytes sector) ≡ true) }
-    ensures err { IfErr result (PartRefused F.tells F.read_faults (has_sector sectors.old sector ≡ true
-        → list_all (is_padding_in validation) (sector_words sectors.old.version sectors.old.bytes sector) ≡ true → ⊥)) }
+    ensures err { IfErr result (PartRefused F.tells F.read_faults (has_sector sectors.old sector
+        ≡ true → list_all (is_padding_in validation)
+        (sector_words sectors.old.version sectors.old.bytes sector) ≡ true → ⊥)) }
     ensures same { IsTrue F.tells → OnOk result (sectors.new ≡ sectors.old) }
     ensures bytes { IsTrue F.tells → sectors.new.bytes ≡ sectors.old.bytes }
-    ensures counts { IsTrue F.tells → CountsFailure F.read_faults result sectors.old.failures sectors.new.failures }
+    ensures counts { IsTrue F.tells
+        → CountsFailure F.read_faults result sectors.old.failures sectors.new.failures }
 {
     sectors.read_words(sector, buffer)?;
     if !are_padding(buffer, validation) {
@@ -213,15 +231,19 @@ fn read_words<F: ReadMedium, A: Heap + Clone>(
     fat_sectors: &[u32],
     validation: Validation,
 ) -> Result<Vec<u32, A>, Error>
-    ensures kept { sectors.new ≡ record sectors.old { bytes = sectors.new.bytes; failures = sectors.new.failures } }
+    ensures kept { sectors.new
+        ≡ record sectors.old { bytes = sectors.new.bytes; failures = sectors.new.failures } }
     ensures few { IfOk result (λ words. vec_len words ≤ sectors.old.num_sectors) }
-    ensures ok { IsTrue F.tells → IsMeasured sectors.old → IfOk result (λ words. AcceptsFatWords validation sectors.old.num_sectors
-        sectors.old.version sectors.old.bytes fat_sectors.now words.items) }
-    ensures err { IfErr result (PartRefused F.tells F.read_faults (IsMeasured sectors.old → AcceptsNoFatWords validation sectors.old.num_sectors
-        sectors.old.version sectors.old.bytes fat_sectors.now)) }
+    ensures ok { IsTrue F.tells
+        → IsMeasured sectors.old → IfOk result (λ words. AcceptsFatWords validation
+        sectors.old.num_sectors sectors.old.version sectors.old.bytes fat_sectors.now words.items) }
+    ensures err { IfErr result (PartRefused F.tells F.read_faults (IsMeasured sectors.old
+        → AcceptsNoFatWords
+        validation sectors.old.num_sectors sectors.old.version sectors.old.bytes fat_sectors.now)) }
     ensures same { IsTrue F.tells → OnOk result (sectors.new ≡ sectors.old) }
     ensures bytes { IsTrue F.tells → sectors.new.bytes ≡ sectors.old.bytes }
-    ensures counts { IsTrue F.tells → CountsFailure F.read_faults result sectors.old.failures sectors.new.failures }
+    ensures counts { IsTrue F.tells
+        → CountsFailure F.read_faults result sectors.old.failures sectors.new.failures }
 {
     let mut buffer = [0; 1024];
     let buffer = &mut buffer[..sectors.version().words_per_sector()];
@@ -244,7 +266,8 @@ fn points_past(word: u32, num_sectors: u32) -> bool
 /// Whether no word that has no mark points past the last of so many sectors.
 fn others_point_into(words: &[u32], listed: &[bool], num_sectors: u32) -> bool
     requires { length listed.now ≡ length words.now }
-    ensures { IsTrue result ↔ ((i : ℕ) → i < length words.now → slice_index_or listed.now i false ≡ false
+    ensures { IsTrue result
+        ↔ ((i : ℕ) → i < length words.now → slice_index_or listed.now i false ≡ false
         → IsTrue (is_regular (slice_index words.now i)) → slice_index words.now i < num_sectors) }
 {
     for (i, word) in words.iter().enumerate() {
@@ -263,7 +286,8 @@ fn point_into<A: Heap + Clone>(
     fat_sectors: &[u32],
     difat_sectors: &[u32],
 ) -> Result<bool, Error>
-    ensures points { IfOk result (λ into. IsTrue into ↔ PointsInto num_sectors words.now fat_sectors.now difat_sectors.now) }
+    ensures points { IfOk result (λ into. IsTrue into
+        ↔ PointsInto num_sectors words.now fat_sectors.now difat_sectors.now) }
     ensures err { IfErr result IsMemory }
 {
     let mut listed = Vec::from_elem(heap.clone()?, false, words.len())?;

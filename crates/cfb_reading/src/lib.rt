@@ -8,4 +8,3 @@ mod marks;
 pub mod minifat;
 pub mod slots;
 mod whole_sectors;
-mod widths;

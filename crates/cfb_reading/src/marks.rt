@@ -22,7 +22,8 @@ pub fn mark(marks: &mut [bool], number: u32)
 
 /// Marks each of these numbers.
 pub fn mark_all(marks: &mut [bool], numbers: &[u32])
-    ensures { (i : ℕ) → i < length marks.old → slice_index_or marks.new i false ≡ (slice_index_or marks.old i false || is_among numbers.now i) }
+    ensures { (i : ℕ) → i < length marks.old → slice_index_or marks.new i false
+        ≡ (slice_index_or marks.old i false || is_among numbers.now i) }
 {
     for number in numbers {
         mark(marks, *number);

@@ -24,16 +24,25 @@ pub fn read_minifat_words<F: ReadMedium, A: Heap + Clone>(
     start: u32,
 ) -> Result<Vec<u32, A>, Error>
     ensures tables { allocator.new.tables ≡ allocator.old.tables }
-    ensures kept { allocator.new.file ≡ record allocator.old.file { bytes = allocator.new.file.bytes; failures = allocator.new.file.failures } }
-    ensures read { IsTrue F.tells → IsMeasured allocator.old.file → IfOk result (λ words. (sectors : List ℕ) → IsChain allocator.old.tables.fat start sectors
-        → HasMinifatWords allocator.old.tables.version allocator.old.file.bytes allocator.old.tables.fat start sectors words.items) }
-    ensures filled { IfOk result (λ words. (sectors : List ℕ) × IsChain allocator.old.tables.fat start sectors
+    ensures kept { allocator.new.file
+        ≡ record allocator.old.file {
+          bytes = allocator.new.file.bytes;
+          failures = allocator.new.file.failures;
+        } }
+    ensures read { IsTrue F.tells → IsMeasured allocator.old.file
+        → IfOk result (λ words. (sectors : List ℕ) → IsChain allocator.old.tables.fat start sectors
+        → HasMinifatWords allocator.old.tables.version
+        allocator.old.file.bytes allocator.old.tables.fat start sectors words.items) }
+    ensures filled { IfOk result (λ words. (sectors : List ℕ)
+        × IsChain allocator.old.tables.fat start sectors
         × (vec_len words ≡ length sectors * words_per_sector allocator.old.tables.version)) }
-    ensures err { IfErr result (ChangeRefused (IsTrue F.tells → IsMeasured allocator.old.file
-        → NoMinifatWords allocator.old.tables.version allocator.old.file.bytes allocator.old.tables.fat start) Unit ⊥ Unit) }
+    ensures err { IfErr result (ChangeRefused (IsTrue F.tells
+        → IsMeasured allocator.old.file → NoMinifatWords allocator.old.tables.version
+        allocator.old.file.bytes allocator.old.tables.fat start) Unit ⊥ Unit) }
     ensures same { IsTrue F.tells → OnOk result (allocator.new ≡ allocator.old) }
     ensures bytes { IsTrue F.tells → allocator.new.file.bytes ≡ allocator.old.file.bytes }
-    ensures counts { IsTrue F.tells → CountsFailure F.read_faults result allocator.old.file.failures allocator.new.file.failures }
+    ensures counts { IsTrue F.tells → CountsFailure
+        F.read_faults result allocator.old.file.failures allocator.new.file.failures }
 {
     let sectors = allocator.chain(start)?;
     let mut words = Vec::new(heap.clone()?);
@@ -50,17 +59,25 @@ fn read_words<F: ReadMedium, A: Heap>(
     into: &mut Vec<u32, A>,
 ) -> Result<(), Error>
     ensures tables { allocator.new.tables ≡ allocator.old.tables }
-    ensures kept { allocator.new.file ≡ record allocator.old.file { bytes = allocator.new.file.bytes; failures = allocator.new.file.failures } }
+    ensures kept { allocator.new.file
+        ≡ record allocator.old.file {
+          bytes = allocator.new.file.bytes;
+          failures = allocator.new.file.failures;
+        } }
     ensures whole { IsTrue F.tells → IsMeasured allocator.old.file
-        → OnOk result (is_whole_sector allocator.old.tables.version allocator.old.file.bytes sector ≡ true) }
-    ensures appended { IsTrue F.tells
-        → OnOk result (into.new.items ≡ into.old.items ++ sector_words allocator.old.tables.version allocator.old.file.bytes sector) }
-    ensures count { OnOk result (vec_len into.new ≡ vec_len into.old + words_per_sector allocator.old.tables.version) }
+        → OnOk result (is_whole_sector allocator.old.tables.version allocator.old.file.bytes sector
+        ≡ true) }
+    ensures appended { IsTrue F.tells → OnOk result (into.new.items ≡ into.old.items
+        ++ sector_words allocator.old.tables.version allocator.old.file.bytes sector) }
+    ensures count { OnOk result (vec_len into.new
+        ≡ vec_len into.old + words_per_sector allocator.old.tables.version) }
     ensures err { IfErr result (ChangeRefused (IsTrue F.tells → IsMeasured allocator.old.file
-        → is_whole_sector allocator.old.tables.version allocator.old.file.bytes sector ≡ true → ⊥) Unit ⊥ Unit) }
+        → is_whole_sector allocator.old.tables.version allocator.old.file.bytes sector ≡ true
+        → ⊥) Unit ⊥ Unit) }
     ensures same { IsTrue F.tells → OnOk result (allocator.new ≡ allocator.old) }
     ensures bytes { IsTrue F.tells → allocator.new.file.bytes ≡ allocator.old.file.bytes }
-    ensures counts { IsTrue F.tells → CountsFailure F.read_faults result allocator.old.file.failures allocator.new.file.failures }
+    ensures counts { IsTrue F.tells → CountsFailure
+        F.read_faults result allocator.old.file.failures allocator.new.file.failures }
 {
     let mut buffer = [0; MAX_SECTOR_LEN];
     let bytes = &mut buffer[..allocator.sector_len()];
@@ -71,7 +88,8 @@ fn read_words<F: ReadMedium, A: Heap>(
 /// Appends the words of these bytes. `Memory`.
 #[tactic(auto, using(crate::proofs::WordReading::appended_words))]
 fn append_words<A: Heap>(bytes: &[u8], into: &mut Vec<u32, A>) -> Result<(), Error>
-    ensures appended { OnOk result (into.new.items ≡ into.old.items ++ words (length bytes.now / 4) bytes.now) }
+    ensures appended { OnOk result (into.new.items
+        ≡ into.old.items ++ words (length bytes.now / 4) bytes.now) }
     ensures err { IfErr result IsMemory }
 {
     for index in 0..bytes.len() / 4 {

@@ -13,9 +13,9 @@ ghost use Rattle.cfb_alloc.specs.Alloc.{IsMeasured};
 ghost use Rattle.cfb_reading.specs.ReadDirectory.{AcceptsDirectory, AppendsSlots, AreFromSlots, FillsSlots, IsDirectoryChain, NoDirectory};
 
 use crate::whole_sectors::{MAX_SECTOR_LEN, read_whole};
-use crate::widths::entry_fits;
 use cfb_alloc::alloc::Allocator;
 use cfb_codecs::direntry::DirEntry;
+use cfb_codecs::widths::entry_fits;
 use cfb_format::consts::DIR_ENTRY_LEN;
 use cfb_format::error::{Detail, Error};
 use cfb_format::medium::ReadMedium;
@@ -38,17 +38,28 @@ pub fn read_entries<F: ReadMedium, A: Heap + Clone>(
     validation: Validation,
 ) -> Result<Vec<DirEntry<A>, A>, Error>
     ensures tables { allocator.new.tables ≡ allocator.old.tables }
-    ensures kept { allocator.new.file ≡ record allocator.old.file { bytes = allocator.new.file.bytes; failures = allocator.new.file.failures } }
-    ensures accepted { IsTrue F.tells → IsMeasured allocator.old.file → IfOk result (λ entries. (sectors : List ℕ) → IsChain allocator.old.tables.fat start sectors
-        → AcceptsDirectory validation allocator.old.tables.version allocator.old.file.bytes allocator.old.tables.fat start sectors (entries_of entries.items)) }
-    ensures filled { IfOk result (λ entries. (sectors : List ℕ) × FillsSlots allocator.old.tables.version allocator.old.tables.fat start sectors (vec_len entries)) }
-    ensures fit { IfOk result (λ entries. HaveShortNames (entries_of entries.items) × (vec_len entries ≤ max_entries)) }
-    ensures from_slots { IfOk result (λ entries. AreFromSlots validation allocator.old.tables.version (entries_of entries.items)) }
-    ensures err { IfErr result (ChangeRefused (IsTrue F.tells → IsMeasured allocator.old.file
-        → NoDirectory validation allocator.old.tables.version allocator.old.file.bytes allocator.old.tables.fat start) Unit ⊥ Unit) }
+    ensures kept { allocator.new.file
+        ≡ record allocator.old.file {
+          bytes = allocator.new.file.bytes;
+          failures = allocator.new.file.failures;
+        } }
+    ensures accepted { IsTrue F.tells → IsMeasured allocator.old.file → IfOk result (λ entries.
+        (sectors : List ℕ) → IsChain allocator.old.tables.fat start sectors
+        → AcceptsDirectory validation allocator.old.tables.version allocator.old.file.bytes
+        allocator.old.tables.fat start sectors (entries_of entries.items)) }
+    ensures filled { IfOk result (λ entries. (sectors : List ℕ) × FillsSlots
+        allocator.old.tables.version allocator.old.tables.fat start sectors (vec_len entries)) }
+    ensures fit { IfOk result (λ entries. HaveShortNames (entries_of entries.items)
+        × (vec_len entries ≤ max_entries)) }
+    ensures from_slots { IfOk result (λ entries.
+        AreFromSlots validation allocator.old.tables.version (entries_of entries.items)) }
+    ensures err { IfErr result (ChangeRefused (IsTrue F.tells
+        → IsMeasured allocator.old.file → NoDirectory validation allocator.old.tables.version
+        allocator.old.file.bytes allocator.old.tables.fat start) Unit ⊥ Unit) }
     ensures same { IsTrue F.tells → OnOk result (allocator.new ≡ allocator.old) }
     ensures bytes { IsTrue F.tells → allocator.new.file.bytes ≡ allocator.old.file.bytes }
-    ensures counts { IsTrue F.tells → CountsFailure F.read_faults result allocator.old.file.failures allocator.new.file.failures }
+    ensures counts { IsTrue F.tells → CountsFailure
+        F.read_faults result allocator.old.file.failures allocator.new.file.failures }
 {
     let sectors = directory_sectors(allocator, start)?;
     let mut entries = Vec::new(heap.clone()?);
@@ -64,9 +75,11 @@ fn directory_sectors<F: ReadMedium, A: Heap + Clone>(
     allocator: &Allocator<F, A>,
     start: u32,
 ) -> Result<Vec<u32, A>, Error>
-    ensures ok { IfOk result (λ sectors. IsDirectoryChain allocator.now.tables.version allocator.now.tables.fat start sectors.items) }
+    ensures ok { IfOk result (λ sectors. IsDirectoryChain
+        allocator.now.tables.version allocator.now.tables.fat start sectors.items) }
     ensures err { IfErr result (ChangeRefused ((sectors : List ℕ)
-        → IsDirectoryChain allocator.now.tables.version allocator.now.tables.fat start sectors → ⊥) Unit ⊥ ⊥) }
+        → IsDirectoryChain allocator.now.tables.version allocator.now.tables.fat start sectors
+        → ⊥) Unit ⊥ ⊥) }
 {
     let sectors = allocator.chain(start)?;
     if sectors.is_empty() {
@@ -96,19 +109,28 @@ fn read_slots<F: ReadMedium, A: Heap + Clone>(
     entries: &mut Vec<DirEntry<A>, A>,
 ) -> Result<(), Error>
     ensures tables { allocator.new.tables ≡ allocator.old.tables }
-    ensures kept { allocator.new.file ≡ record allocator.old.file { bytes = allocator.new.file.bytes; failures = allocator.new.file.failures } }
+    ensures kept { allocator.new.file
+        ≡ record allocator.old.file {
+          bytes = allocator.new.file.bytes;
+          failures = allocator.new.file.failures;
+        } }
     ensures whole { IsTrue F.tells → IsMeasured allocator.old.file
-        → OnOk result (is_whole_sector allocator.old.tables.version allocator.old.file.bytes sector ≡ true) }
-    ensures appended { OnOk result ((read : List (List ℕ)) × (length read ≡ entries_per_sector allocator.old.tables.version)
-        × (IsTrue F.tells → read ≡ slots_of_sector allocator.old.tables.version allocator.old.file.bytes sector)
-        × AppendsSlots validation allocator.old.tables.version read (entries_of entries.old.items) (entries_of entries.new.items)) }
+        → OnOk result (is_whole_sector allocator.old.tables.version allocator.old.file.bytes sector
+        ≡ true) }
+    ensures appended { OnOk result ((read : List (List ℕ))
+        × (length read ≡ entries_per_sector allocator.old.tables.version) × (IsTrue F.tells
+        → read ≡ slots_of_sector allocator.old.tables.version allocator.old.file.bytes sector)
+        × AppendsSlots validation allocator.old.tables.version read
+        (entries_of entries.old.items) (entries_of entries.new.items)) }
     ensures err { IfErr result (ChangeRefused (IsTrue F.tells → IsMeasured allocator.old.file
         → is_whole_sector allocator.old.tables.version allocator.old.file.bytes sector ≡ true
         → (more : List Entry) → AllZip (AcceptsEntry validation allocator.old.tables.version)
-        (slots_of_sector allocator.old.tables.version allocator.old.file.bytes sector) more → ⊥) Unit ⊥ Unit) }
+        (slots_of_sector allocator.old.tables.version allocator.old.file.bytes sector) more
+        → ⊥) Unit ⊥ Unit) }
     ensures same { IsTrue F.tells → OnOk result (allocator.new ≡ allocator.old) }
     ensures bytes { IsTrue F.tells → allocator.new.file.bytes ≡ allocator.old.file.bytes }
-    ensures counts { IsTrue F.tells → CountsFailure F.read_faults result allocator.old.file.failures allocator.new.file.failures }
+    ensures counts { IsTrue F.tells → CountsFailure
+        F.read_faults result allocator.old.file.failures allocator.new.file.failures }
 {
     let version = allocator.version();
     let mut buffer = [0; MAX_SECTOR_LEN];
@@ -126,8 +148,10 @@ fn append_entries<A: Heap + Clone>(
     validation: Validation,
     entries: &mut Vec<DirEntry<A>, A>,
 ) -> Result<(), Error>
-    ensures appended { OnOk result (AppendsSlots validation version slots.now (entries_of entries.old.items) (entries_of entries.new.items)) }
-    ensures err { IfErr result (IsInvalidOrMemory ((more : List Entry) → AllZip (AcceptsEntry validation version) slots.now more → ⊥)) }
+    ensures appended { OnOk result (AppendsSlots validation version slots.now
+        (entries_of entries.old.items) (entries_of entries.new.items)) }
+    ensures err { IfErr result (IsInvalidOrMemory ((more : List Entry)
+        → AllZip (AcceptsEntry validation version) slots.now more → ⊥)) }
 {
     for slot in slots {
         let entry = DirEntry::read_from(heap.clone()?, slot, version, validation)?;

@@ -20,15 +20,23 @@ pub(crate) fn read_whole<F: ReadMedium, A: Heap>(
 ) -> Result<(), Error>
     requires { length into.old ≡ sector_len allocator.old.tables.version }
     ensures tables { allocator.new.tables ≡ allocator.old.tables }
-    ensures kept { allocator.new.file ≡ record allocator.old.file { bytes = allocator.new.file.bytes; failures = allocator.new.file.failures } }
-    ensures there { OnOk result (sector_start allocator.old.tables.version sector + sector_len allocator.old.tables.version ≤ allocator.old.file.len) }
-    ensures ok { IsTrue F.tells → OnOk result (into.new ≡ sector_bytes allocator.old.tables.version allocator.old.file.bytes sector) }
+    ensures kept { allocator.new.file
+        ≡ record allocator.old.file {
+          bytes = allocator.new.file.bytes;
+          failures = allocator.new.file.failures;
+        } }
+    ensures there { OnOk result (sector_start allocator.old.tables.version sector
+        + sector_len allocator.old.tables.version ≤ allocator.old.file.len) }
+    ensures ok { IsTrue F.tells → OnOk result (into.new
+        ≡ sector_bytes allocator.old.tables.version allocator.old.file.bytes sector) }
     ensures len { length into.new ≡ sector_len allocator.old.tables.version }
-    ensures err { IfErr result (ChangeRefused
-        (allocator.old.file.len < sector_start allocator.old.tables.version sector + sector_len allocator.old.tables.version) ⊥ ⊥ Unit) }
+    ensures err { IfErr result (ChangeRefused (allocator.old.file.len
+        < sector_start allocator.old.tables.version sector
+        + sector_len allocator.old.tables.version) ⊥ ⊥ Unit) }
     ensures same { IsTrue F.tells → OnOk result (allocator.new ≡ allocator.old) }
     ensures bytes { IsTrue F.tells → allocator.new.file.bytes ≡ allocator.old.file.bytes }
-    ensures counts { IsTrue F.tells → CountsFailure F.read_faults result allocator.old.file.failures allocator.new.file.failures }
+    ensures counts { IsTrue F.tells → CountsFailure
+        F.read_faults result allocator.old.file.failures allocator.new.file.failures }
 {
     let file_len = allocator.file_len();
     let count = allocator.read_contiguous(sector, 0, into)?;

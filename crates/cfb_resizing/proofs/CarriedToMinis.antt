@@ -5,11 +5,12 @@ use Rattle.std.specs.List.{IsDistinct}
 use Rattle.std.proofs.lemmas.Bool.{cases_eq, cases_lt}
 use Rattle.std.proofs.lemmas.List.Elements.{Contains-append_cases, Contains-append_left, Contains-append_right, Contains-get_or}
 use Rattle.cfb_format.specs.declared.error.Error.{Error}
-use Rattle.cfb_format.specs.declared.error.Error.TheVariants.{AlreadyExists, Failed, Full, InvalidData, InvalidInput, Medium, Memory, NotFound, Unsound, Unsupported}
+use Rattle.cfb_format.specs.declared.error.Error.TheVariants.{AlreadyExists, Failed, Full, InvalidData, InvalidInput, Medium, Memory, NotFound, Unsound}
 use Rattle.cfb_format.specs.declared.validate.Validation.{Validation}
 use Rattle.cfb_format.specs.Bytes.{free_sector}
 use Rattle.cfb_format.specs.Chain.{IsChain, value}
 use Rattle.cfb_format.specs.Full.{free_count}
+use Rattle.cfb_format.specs.Refused.{AfterMedium}
 use Rattle.cfb_sectors.specs.Sectors.{IsMediumError}
 use Rattle.cfb_tables.specs.Changes.{AreDisjoint}
 use Rattle.cfb_tables.specs.Listed.{gained}
@@ -20,6 +21,7 @@ use Rattle.cfb_tables.proofs.Members.{Contains-here, Contains-nil, Contains-one,
 use Rattle.cfb_mini_table.proofs.CountLemmas.{bit, count-cons}
 use Rattle.cfb_mini_table.proofs.FreedLemmas.{count-free}
 use Rattle.cfb_alloc.specs.Alloc.{AllocatorState, ChangesSectors, HoldsTables}
+use Rattle.cfb_alloc.specs.Broken.{BreaksOff}
 use Rattle.cfb_alloc.specs.Frame.{Spares}
 use Rattle.cfb_alloc.specs.ListedChain.{Shortens}
 use Rattle.cfb_alloc.proofs.Frames.{spares-less, spares-then}
@@ -241,6 +243,74 @@ begun-all mid new n first none more = elim (cases_lt 0 n) [
   | inr few ↦ ap (λ (m : MiniState). (table_of m).file.begun) (none (omega (arith, few))) ∙ first
 ]
 
+-- a chain that was freed, or of which the medium refused a word, leaves as many sectors
+pub broken-as-long : (list : List ℕ) (lent a : AllocatorState) (e : Error) → BreaksOff (TablesGiveBack [] list) lent a e → length a.tables.fat ≡ length lent.tables.fat
+broken-as-long list lent a e h = go e h
+  where
+    same : a ≡ lent → length a.tables.fat ≡ length lent.tables.fat
+    same is = ap (λ (b : AllocatorState). length b.tables.fat) is
+
+    go : (e : Error) → BreaksOff (TablesGiveBack [] list) lent a e → length a.tables.fat ≡ length lent.tables.fat
+    go (NotFound d) h = same h
+    go (AlreadyExists d) h = same h
+    go (InvalidInput d) h = same h
+    go (InvalidData d) h = same h
+    go (Medium m) h = h.1.given.same_length
+    go Memory h = same h
+    go Full h = same h
+    go Unsound h = same h
+    go Failed h = same h
+
+-- where nothing changed, it is so after any error
+pub kept-after : (s new : MiniState) (e : Error) → new ≡ s → AfterMedium (Unit {0}) (new ≡ s) e
+kept-after s new (NotFound d) h = h
+kept-after s new (AlreadyExists d) h = h
+kept-after s new (InvalidInput d) h = h
+kept-after s new (InvalidData d) h = h
+kept-after s new (Medium m) h = tt
+kept-after s new Memory h = h
+kept-after s new Full h = h
+kept-after s new Unsound h = h
+kept-after s new Failed h = h
+
+-- and where any error but the medium's left a later state as it was, which was the first
+pub after-then : (s mid new : MiniState) (e : Error) → mid ≡ s → AfterMedium (Unit {0}) (new ≡ mid) e → AfterMedium (Unit {0}) (new ≡ s) e
+after-then s mid new e same h = subst (λ (m : MiniState). AfterMedium (Unit {0}) (new ≡ m) e) same h
+
+-- the medium's error says nothing else
+pub medium-after : {T : Type 0} (r : Result T Error) (P : Type 0) → IfErr r IsMediumError → IfErr r (AfterMedium (Unit {0}) P)
+medium-after (Ok x) P err = tt
+medium-after (Err e) P err = go e err
+  where
+    go : (e : Error) → IsMediumError e → AfterMedium (Unit {0}) P e
+    go (NotFound d) h = absurd (omega (arith, h))
+    go (AlreadyExists d) h = absurd (omega (arith, h))
+    go (InvalidInput d) h = absurd (omega (arith, h))
+    go (InvalidData d) h = absurd (omega (arith, h))
+    go (Medium m) h = tt
+    go Memory h = absurd (omega (arith, h))
+    go Full h = absurd (omega (arith, h))
+    go Unsound h = absurd (omega (arith, h))
+    go Failed h = absurd (omega (arith, h))
+
+pub broken-keeps : (s : MiniState) (list : List ℕ) (lent a : AllocatorState) (e : Error) → lent ≡ table_of s → BreaksOff (TablesGiveBack [] list) lent a e
+    → AfterMedium (Unit {0}) (with_table s a ≡ s) e
+broken-keeps s list lent a e is-lent h = go e h
+  where
+    same : a ≡ lent → with_table s a ≡ s
+    same is = ap (λ (b : AllocatorState). with_table s b) (is ∙ is-lent)
+
+    go : (e : Error) → BreaksOff (TablesGiveBack [] list) lent a e → AfterMedium (Unit {0}) (with_table s a ≡ s) e
+    go (NotFound d) h = same h
+    go (AlreadyExists d) h = same h
+    go (InvalidInput d) h = same h
+    go (InvalidData d) h = same h
+    go (Medium m) h = tt
+    go Memory h = same h
+    go Full h = same h
+    go Unsound h = same h
+    go Failed h = same h
+
 pub carried-stops : (s mid new : MiniState) (count : ℕ) (invalid full : Type 0) → (table_of mid).file.begun ≡ true → (full → ⊥) → (e : Error) → StopsShortOrFull count mid new e
     → ChangeRefused invalid Unit full Unit e → StopsOrBegun s new e
 carried-stops s mid new count invalid full first enough e h w = go e h w
@@ -258,7 +328,6 @@ carried-stops s mid new count invalid full first enough e h w = go e h w
     go Full h w = absurd (enough w)
     go Unsound h w = absurd w
     go Failed h w = absurd w
-    go Unsupported h w = absurd w
 
 -- the medium failed once the change was begun
 stops-medium : (old new : MiniState) (e : Error) → IsMediumError e → (table_of new).file.begun ≡ true → StopsOrBegun old new e
@@ -271,7 +340,6 @@ stops-medium old new Memory m b = absurd (omega (arith, m))
 stops-medium old new Full m b = absurd (omega (arith, m))
 stops-medium old new Unsound m b = absurd (omega (arith, m))
 stops-medium old new Failed m b = absurd (omega (arith, m))
-stops-medium old new Unsupported m b = absurd (omega (arith, m))
 
 pub medium-stops : {T : Type 0} (r : Result T Error) (old new : MiniState) → IfErr r IsMediumError → (table_of new).file.begun ≡ true → IfErr r (StopsOrBegun old new)
 medium-stops (Ok x) old new err begun = tt

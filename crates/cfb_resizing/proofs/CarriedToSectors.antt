@@ -1,18 +1,22 @@
 -- The steps by which a content leaves its mini sectors for sectors: its mini chain is freed, and then a chain begins.
-use Rattle.std.proofs.Common.{◌≡◌, ◌≤◌, ◌<◌, ◌*◌, inl, inr, ℕ, List, [], ◌++◌, true, refl, sym, ◌∙◌, ap, subst, length}
-use Rattle.std.specs.Prelude.{Err, IfErr, Ok, Result, slice_index}
+use Rattle.std.proofs.Common.{◌≡◌, ◌≤◌, ◌<◌, ◌+◌, ◌*◌, ◌/◌, inl, inr, ℕ, List, [], ◌++◌, true, refl, sym, ◌∙◌, ap, subst, length, arith}
+use Rattle.std.specs.Prelude.{Contains, Err, unwrap_or, IfErr, Ok, Result, slice_index}
 use Rattle.std.proofs.lemmas.Bool.{cases_lt}
 use Rattle.std.proofs.lemmas.List.{append-nil}
-use Rattle.std.proofs.lemmas.List.Elements.{Contains-append_right}
+use Rattle.std.proofs.lemmas.List.Elements.{Contains-append_right, Contains-get_or}
 use Rattle.cfb_format.specs.declared.error.Error.{Error}
-use Rattle.cfb_format.specs.declared.error.Error.TheVariants.{AlreadyExists, Failed, Full, InvalidData, InvalidInput, Medium, Memory, NotFound, Unsound, Unsupported}
+use Rattle.cfb_format.specs.declared.error.Error.TheVariants.{AlreadyExists, Failed, Full, InvalidData, InvalidInput, Medium, Memory, NotFound, Unsound}
 use Rattle.cfb_format.specs.declared.validate.Validation.{Validation}
 use Rattle.cfb_format.specs.Bytes.{sector_len}
 use Rattle.cfb_format.specs.Refused.{AfterMedium}
+use Rattle.cfb_sectors.specs.Words.{RangeStays}
+use Rattle.cfb_soundness.specs.Places.{mini_start}
+use Rattle.cfb_format.specs.Chain.{IsChain}
 use Rattle.cfb_tables.specs.Changes.{AreDisjoint}
 use Rattle.cfb_tables.specs.Clean.{IsUnnamed}
 use Rattle.cfb_tables.specs.Refused.{ChangeRefused}
 use Rattle.cfb_tables.specs.Tables.{AreSizes, TableState, first_or_end, sizes_of}
+use Rattle.cfb_tables.proofs.ChainLemmas.{members-busy}
 use Rattle.cfb_tables.proofs.Members.{Contains-nil}
 use Rattle.cfb_alloc.specs.Agreement.{KeepsSectors}
 use Rattle.cfb_alloc.specs.Alloc.{AllocatorState, HoldsTables, IsOtherHeaderByte}
@@ -20,12 +24,13 @@ use Rattle.cfb_alloc.specs.Frame.{Spares}
 use Rattle.cfb_alloc.specs.ListedChain.{Lengthens}
 use Rattle.cfb_alloc.proofs.Frames.{other-chains-spared, spares-then}
 use Rattle.cfb_chains.specs.ChainPlaces.{place_along}
-use Rattle.cfb_mini_sectors.specs.State.{HoldsMini, MiniState, bytes_of, mini_stream_of, table_of, tables_in, version_of}
-use Rattle.cfb_mini_sectors.specs.Steps.{KeepsLimits, KeepsSystem, MovesRoot, SparesMini, system_sectors}
+use Rattle.cfb_mini_sectors.specs.State.{HoldsMini, MiniState, bytes_of, mini_place, mini_stream_of, table_of, tables_in, version_of}
+use Rattle.cfb_mini_sectors.specs.Steps.{IsZeroMini, KeepsLimits, KeepsSystem, MovesRoot, SparesMini, system_sectors}
 use Rattle.cfb_mini_sectors.specs.Held.{with_table}
 use Rattle.cfb_mini_sectors.proofs.HeldMini.{no-tables}
 use Rattle.cfb_mini_sectors.proofs.MiniFrames.{held-places, longer-by, sectors-spare, spares-then as mini-spares-then}
 use Rattle.cfb_mini.proofs.MiniDirectory.{chains-changed}
+use Rattle.cfb_content.proofs.Kept.{mini-below, stays-inside, stream-room}
 use Rattle.cfb_content.proofs.Refusals.{refused-as}
 use Rattle.cfb_resizing.specs.Turning.{IsPaddedAlong, KeepsAround, KeepsTablesTight, StopsOrBegun}
 use Rattle.cfb_resizing.proofs.MiniStreamChain.{stream-is-chain}
@@ -44,6 +49,34 @@ apart-spares-mini v s a own held apart spares =
 
 pub fresh-spares-mini : (v : Validation) (s : MiniState) (a : AllocatorState) → HoldsMini v s → Spares [] (table_of s) a → SparesMini [] s (with_table s a)
 fresh-spares-mini v s a held spares = apart-spares-mini v s a [] held (λ i m o. Contains-nil i o) spares
+
+-- a mini sector in the mini stream that reads as zeros does so still, where its sector stays
+pub zeros-stay : (s new : MiniState) (m : ℕ) → version_of new ≡ version_of s → mini_stream_of new ≡ mini_stream_of s
+    → RangeStays (mini_place s m) (mini_place s m + 64) (bytes_of s) (bytes_of new) → IsZeroMini s m → IsZeroMini new m
+zeros-stay s new m version stream stays zero =
+    let place : mini_place new m ≡ mini_place s m = λ j. mini_start (version j) (stream j) m in
+    let there = zero.there in
+    let longer = stays.no_shorter in
+    record {
+      there = omega (arith, place, there, longer);
+      zeros = λ k lt. ap (λ p. slice_index (bytes_of new) (p + k)) place ∙ stays.each (mini_place s m + k) (omega (arith, there, lt)) (omega arith) (omega (arith, lt))
+          ∙ zero.zeros k lt;
+    }
+
+-- so it is where no sector in use changed
+pub fresh-keeps-zeros : (v : Validation) (s : MiniState) (a : AllocatorState) → HoldsMini v s → Spares [] (table_of s) a → a.tables.version ≡ version_of s
+    → (m : ℕ) → 64 * m < length (mini_stream_of s) * sector_len (version_of s) → IsZeroMini s m → IsZeroMini (with_table s a) m
+fresh-keeps-zeros v s a held spares version m room zero =
+    let list = mini_stream_of s in
+    let chain = stream-is-chain v s held in
+    let keeps : KeepsSectors (version_of s) list (bytes_of s) a.file.bytes =
+    (other-chains-spared [] (table_of s) a (first_or_end list) list spares chain (λ i m o. Contains-nil i o)
+    (no-tables v (table_of s) (first_or_end list) list held.directory.tables chain)).2 in
+    let index = 64 * m / sector_len (version_of s) in
+    let sector = slice_index list index in
+    zeros-stay s (with_table s a) m version refl
+    (stays-inside (version_of s) sector m (mini_place s m) (bytes_of s) a.file.bytes refl
+    (keeps sector (Contains-get_or list index 0 (mini-below (version_of s) m (length list) room)))) zero
 
 module _ (s mid : MiniState) (list : List ℕ) where
   -- the mini sectors are held once the mini chain is free
@@ -66,6 +99,16 @@ module _ (s mid : MiniState) (list : List ℕ) where
     carried-mini-spares v held held' first second =
         mini-spares-then list [] s mid (with_table mid a) (held-places s held.mini_stream) (ap (λ (t : TableState). t.version) system.tables) (λ m c. absurd (Contains-nil m c)) first
         (fresh-spares-mini v mid a held' (subst (λ (b : AllocatorState). Spares [] b a) is-lent second))
+
+    -- what was freed of the mini chain reads as zeros still
+    pub carried-zeros : (v : Validation) → HoldsMini v s → HoldsMini v mid → IsChain s.minifat (first_or_end list) list → Spares [] lent a
+        → a.tables.version ≡ lent.tables.version → ((m : ℕ) → Contains list m → IsZeroMini mid m) → (m : ℕ) → Contains list m → IsZeroMini (with_table mid a) m
+    carried-zeros v held held' chain spares version wiped m c =
+        let room = stream-room v s m held (members-busy s.minifat (first_or_end list) list chain m c).1 in
+        let same : length (mini_stream_of mid) * sector_len (version_of mid) ≡ length (mini_stream_of s) * sector_len (version_of s) =
+        λ j. length (unwrap_or (system.mini_stream j) []) * sector_len (system.tables j).version in
+        fresh-keeps-zeros v mid a held' (subst (λ (b : AllocatorState). Spares [] b a) is-lent spares)
+        (version ∙ ap (λ (b : AllocatorState). b.tables.version) is-lent) m (subst (λ n. 64 * m < n) (sym same) room) (wiped m c)
 
     pub carried-tables : (v : Validation) → HoldsMini v mid → HoldsTables v lent
     carried-tables v held = subst (λ (b : AllocatorState). HoldsTables v b) (sym is-lent) held.directory.tables
@@ -120,7 +163,6 @@ module _ (s mid : MiniState) (list : List ℕ) where
         go Full h w = absurd (enough w)
         go Unsound h w = absurd w
         go Failed h w = absurd w
-        go Unsupported h w = absurd w
 
 pub carried-err : {T : Type 0} (r : Result T Error) (invalid full invalid' : Type 0) → (invalid → ⊥) → (full → ⊥) → IfErr r (ChangeRefused invalid Unit full Unit)
     → IfErr r (ChangeRefused invalid' Unit ⊥ Unit)

@@ -1,5 +1,5 @@
 -- A stream that was cut has no more sectors, or mini sectors, than its length takes.
-use Rattle.std.proofs.Common.{◌≡◌, ◌≤◌, ◌<◌, ◌/◌, ◌%◌, ◌+◌, min, ℕ, List, sym, ◌∙◌, ap, subst, length, take, arith, length-take}
+use Rattle.std.proofs.Common.{◌≡◌, ◌≤◌, ◌<◌, ◌/◌, ◌%◌, ◌+◌, min, ℕ, List, sym, ◌∙◌, ap, subst, length, take, arith}
 use Rattle.cfb_format.specs.declared.version.Version.{Version}
 use Rattle.cfb_format.specs.declared.version.Version.TheVariants.{V3, V4}
 use Rattle.cfb_format.specs.Bytes.{sector_len}
@@ -11,17 +11,11 @@ use Rattle.cfb_chains.proofs.LentContent.{wanted_is}
 use Rattle.cfb_mini_sectors.specs.State.{MiniState}
 use Rattle.cfb_mini_sectors.proofs.MiniStreams.{begins}
 use Rattle.cfb_content.specs.Parts.{IsWholeChain, IsWholeMiniChain}
-use Rattle.cfb_resizing.proofs.TurnedInSectors.{rounded-up-some, taken-first}
+use Rattle.cfb_resizing.proofs.TurnedInSectors.{as-taken, rounded-up-some, taken-first}
 
 has-room : (v : Version) (size n : ℕ) → size / sector_len v < n → rounded_up size (sector_len v) ≤ n
 has-room V3 size n lt = omega (arith, lt)
 has-room V4 size n lt = omega (arith, lt)
-
-left-is : (list list' : List ℕ) (wanted : ℕ) → list' ≡ take wanted list → wanted ≤ length list → length list' ≡ wanted
-left-is list list' wanted listed enough =
-    let count = ap (λ (l : List ℕ). length l) listed in
-    let taken = length-take wanted list in
-    omega (arith, count, taken, enough)
 
 -- what is left begins where the chain began
 still-begins : (version : Version) (fat : List ℕ) (file_len start len size wanted l : ℕ) (list list' : List ℕ) → 0 < size
@@ -45,7 +39,7 @@ cut-takes-few version fat fat' file_len start len size wanted l list list' other
     let kept = cut-is-kept version fat fat' file_len start len size wanted l list list' some whole l-is wanted-by listed chain' in
     let same = ap (λ (m : List ℕ). length m) (IsChain-unique fat' start other list' chain kept) in
     let room = has-room version size (length list) (whole.there size shorter).listed in
-    let left = left-is list list' wanted listed (omega (arith, room, is)) in
+    let left = as-taken wanted list list' listed (omega (arith, room, is)) in
     omega (arith, same, left, is)
 
 pub mini-cut-takes-few : (s : MiniState) (table : List ℕ) (start len size wanted : ℕ) (list list' other : List ℕ) → size < len → IsWholeMiniChain s start len list
@@ -54,5 +48,5 @@ pub mini-cut-takes-few : (s : MiniState) (table : List ℕ) (start len size want
 mini-cut-takes-few s table start len size wanted list list' other shorter whole is listed chain' chain =
     let same = ap (λ (m : List ℕ). length m) (IsChain-unique table (first_or_end list') other list' chain chain') in
     let room = (whole.there size shorter).listed in
-    let left = left-is list list' wanted listed (omega (arith, room, is)) in
+    let left = as-taken wanted list list' listed (omega (arith, room, is)) in
     omega (arith, same, left, is)

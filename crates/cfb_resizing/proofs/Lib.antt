@@ -18,3 +18,4 @@ pub mod GrownLengths
 pub mod TakenRest
 pub mod CutShort
 pub mod PutBehind
+pub mod FixedHeader

@@ -53,6 +53,8 @@ module _ (v : Validation) (s new : MiniState) (i size count : ℕ) (list ids byt
         let nothing : ids ≡ [] = nil_from_length ids (omega (arith, counted, count-is, z)) in
         (nothing, ap first_or_end nothing);
     enough = λ k lt. omega (arith, lt, counted, count-is);
+    fewer = λ lt. counted ∙ count-is;
+    more = λ le. absurd (omega (arith, le, small, long));
     stands = record {
       there = λ k lt. (stand-at k lt).0;
       kept = λ k lt early.

@@ -1,8 +1,8 @@
 -- The content of a stream after it left its mini sectors for sectors.
-use Rattle.std.proofs.Common.{◌≡◌, ◌≤◌, ◌<◌, ◌*◌, ◌/◌, ◌%◌, ◌+◌, ◌-◌, ◌⊎◌, min, inl, inr, ℕ, List, [], ◌++◌, true, refl, sym, ◌∙◌, ap, subst, length, arith}
+use Rattle.std.proofs.Common.{◌≡◌, ◌≤◌, ◌<◌, ◌*◌, ◌/◌, ◌%◌, ◌+◌, ◌-◌, ◌⊎◌, max, min, inl, inr, ℕ, List, [], ◌++◌, true, refl, sym, ◌∙◌, ap, subst, length, arith}
 use Rattle.std.specs.Prelude.{Contains, slice_index, unwrap_or}
 use Rattle.cfb_format.specs.declared.error.Error.{Error}
-use Rattle.cfb_format.specs.declared.error.Error.TheVariants.{AlreadyExists, Failed, Full, InvalidData, InvalidInput, Medium, Memory, NotFound, Unsound, Unsupported}
+use Rattle.cfb_format.specs.declared.error.Error.TheVariants.{AlreadyExists, Failed, Full, InvalidData, InvalidInput, Medium, Memory, NotFound, Unsound}
 use Rattle.cfb_format.specs.declared.validate.Validation.{Validation}
 use Rattle.cfb_format.specs.Bytes.{sector_len}
 use Rattle.cfb_format.specs.Chain.{IsChain}
@@ -20,7 +20,7 @@ use Rattle.cfb_chains.proofs.LentContent.{wanted_is}
 use Rattle.cfb_chains.proofs.OwnWrites.{enough_by}
 use Rattle.cfb_mini_table.specs.MiniTable.{MiniGivesBack}
 use Rattle.cfb_mini_sectors.specs.State.{HoldsMini, IsChangeable, MiniState, bytes_of, content_of, entries_of, table_of, tables_in, version_of}
-use Rattle.cfb_mini_sectors.specs.Steps.{SparesMini, system_sectors}
+use Rattle.cfb_mini_sectors.specs.Steps.{IsZeroMini, SparesMini, system_sectors}
 use Rattle.cfb_mini_sectors.specs.Held.{with_minifat}
 use Rattle.cfb_mini_sectors.proofs.HeldMini.{no-tables}
 use Rattle.cfb_mini_sectors.proofs.MiniFrames.{nothing-touched as no-mini-touched}
@@ -74,7 +74,6 @@ still-stops s mid new still e h = go e h
     go Full h = inl (is h)
     go Unsound h = inl (is h)
     go Failed h = inl (is h)
-    go Unsupported h = inl (is h)
 
 -- and where the medium tells its bytes, so are the other streams
 pub still-kept : (v : Validation) (s new : MiniState) (i : ℕ) → IsChangeable v s → IsStreamOf s i → IsStill s new → bytes_of new ≡ bytes_of s → KeepsOthers i s new
@@ -92,7 +91,8 @@ module _ (v : Validation) (s new : MiniState) (i size count : ℕ) (list ids byt
     (freed : MiniGivesBack [] list s.minifat new.minifat) (made : Lengthens count [] ids (tables_in s) (tables_in new)) (minifat : new.minifat_sectors ≡ s.minifat_sectors)
     (stream : new.mini_stream ≡ s.mini_stream) (around : KeepsAround s new) (held : HoldsMini v new) (chain : IsChain (tables_in new).fat (first_or_end ids) ids)
     (len : length bytes ≡ len_of s i) (got : (k : ℕ) → k < len_of s i → slice_index bytes k ≡ slice_index (bytes_of s) (mini_place_along s list k))
-    (padded : IsPaddedAlong (length bytes) (count * sector_len (version_of s)) (λ k. k) (place_along (version_of s) ids) bytes (bytes_of new)) where
+    (padded : IsPaddedAlong (length bytes) (count * sector_len (version_of s)) (λ k. k) (place_along (version_of s) ids) bytes (bytes_of new))
+    (wiped : (m : ℕ) → Contains list m → IsZeroMini new m) where
   owned : mini_sectors_owned s i ≡ list
   owned = owned-minis s i short list whole
 
@@ -130,6 +130,10 @@ module _ (v : Validation) (s new : MiniState) (i size count : ℕ) (list ids byt
     large = large;
     chain = chain;
     enough = λ k lt. subst (λ w. k / sector_len w < length ids) (sym version) (enough k lt);
+    fewer = λ lt. absurd (omega (arith, lt, short, large));
+    more = λ le.
+        let all : length ids ≡ max (rounded_up size (sector_len (version_of s))) 0 = omega (arith, made.count, count-is) in
+        all ∙ (λ j. max (rounded_up size (sector_len (sym version j))) (length (sym (no-sectors s i short) j)));
     apart = apart;
     tables_apart = no-tables v (table_of new) (first_or_end ids) ids held.directory.tables chain;
     stands = subst (λ w. StandsTurned s i size (bytes_of new) (place_along w ids)) (sym version) stands;
@@ -143,6 +147,7 @@ module _ (v : Validation) (s new : MiniState) (i size count : ℕ) (list ids byt
     count = count;
     system = record { directory = refl; minifat = refl; mini_stream = refl; tables = refl };
     freed = subst (λ (l : List ℕ). MiniGivesBack [] l s.minifat new.minifat) (sym owned) freed;
+    wiped = subst (λ (l : List ℕ). (m : ℕ) → Contains l m → IsZeroMini new m) (sym owned) wiped;
     mini = record { minifat = refl; minifat_sectors = minifat; mini_stream = stream };
     longer = made;
     lies = lies;
@@ -193,8 +198,9 @@ module _ (s mid new : MiniState) (i size count start len l : ℕ) (list : List �
       → ((k : ℕ) → k < len → slice_index content k ≡ slice_index (bytes_of first) (mini_place_along first listed k))
       → (HoldsMini v mid → (0 < length list → IsUnnamed mid.minifat (first_or_end list))
       → IsPaddedAlong (length bytes) (count * sector_len (version_of mid)) (λ k. k) (place_along (version_of mid) ids) bytes (bytes_of new))
+      → (HoldsMini v mid → (0 < length list → IsUnnamed mid.minifat (first_or_end list)) → (m : ℕ) → Contains list m → IsZeroMini new m)
       → Turns s new i size (first_or_end ids)
-  move-turned ids bytes content listed first same same-first listed-is bytes-is v change freed made minifat stream around chain holds long got padded =
+  move-turned ids bytes content listed first same same-first listed-is bytes-is v change freed made minifat stream around chain holds long got padded wiped =
       moved-turns v s new i size count list ids bytes change at short large there wanted
       (subst (λ (m : MiniState). MiniGivesBack [] list m.minifat new.minifat) same freed)
       (subst (λ (m : MiniState). Lengthens count [] ids (tables_in m) (tables_in new)) same made)
@@ -205,3 +211,5 @@ module _ (s mid new : MiniState) (i size count start len l : ℕ) (list : List �
       ∙ (λ j. slice_index (bytes_of (same-first j)) (mini_place_along (same-first j) (listed-is j) k)))
       ((subst (λ (m : MiniState). HoldsMini v m → (0 < length list → IsUnnamed m.minifat (first_or_end list))
       → IsPaddedAlong (length bytes) (count * sector_len (version_of m)) (λ k. k) (place_along (version_of m) ids) bytes (bytes_of new)) same padded) change.held (unnamed v change))
+      ((subst (λ (m : MiniState). HoldsMini v m → (0 < length list → IsUnnamed m.minifat (first_or_end list)) → (k : ℕ) → Contains list k → IsZeroMini new k) same wiped)
+      change.held (unnamed v change))

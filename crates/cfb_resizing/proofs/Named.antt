@@ -9,10 +9,10 @@ use Rattle.cfb_format.specs.declared.version.Version.TheVariants.{V3, V4}
 use Rattle.cfb_format.specs.Bytes.{entries_per_sector, max_stream_len, sector_len, stream_len_modulus}
 use Rattle.cfb_format.specs.Chain.{IsChain, chain_from}
 use Rattle.cfb_format.specs.Content.{is_large, mini_sector_len, sector_chain}
-use Rattle.cfb_format.specs.DirectoryEntry.{Entry, IsValidEntry, unless_storage}
+use Rattle.cfb_format.specs.DirectoryEntry.{Entry, IsValidEntry, unless_storage, ButContent}
 use Rattle.cfb_format.specs.Reading.{IsOutline, Outline, stream_numbers}
 use Rattle.cfb_format.specs.Siblings.{entry_at}
-use Rattle.cfb_sectors.specs.Words.{Stays}
+use Rattle.cfb_sectors.specs.Words.{RangeStays}
 use Rattle.cfb_tables.specs.Tables.{first_or_end}
 use Rattle.cfb_tables.proofs.ChainLemmas.{members-busy}
 use Rattle.cfb_tables.proofs.Members.{distinct-apart}
@@ -23,7 +23,7 @@ use Rattle.cfb_entries.specs.declared.fields.Fields.{Fields}
 use Rattle.cfb_entries.specs.Fields.{entries_with_fields, entry_with_fields, fields_in}
 use Rattle.cfb_directory.proofs.ChangedFields.{changed_beside, changed_here, changed_length}
 use Rattle.cfb_mini_sectors.specs.State.{HoldsMini, IsChangeable, MiniState, bytes_of, cases_of, entries_of, mini_place, mini_stream_of, parts_of, table_of, tables_in, version_of}
-use Rattle.cfb_mini_sectors.specs.Steps.{ButContent, KeepsLimits, KeepsMini, KeepsSystem}
+use Rattle.cfb_mini_sectors.specs.Steps.{KeepsLimits, KeepsMini, KeepsSystem}
 use Rattle.cfb_mini_sectors.proofs.HeldMini.{no-tables}
 use Rattle.cfb_mini_sectors.proofs.MiniStreams.{chain-is-stream, stream-chain}
 use Rattle.cfb_content.specs.Contents.{IsStreamOf, KeepsContent, KeepsOthers, MovesContent, sectors_owned}
@@ -161,14 +161,18 @@ module _ (v : Validation) (old mid new : MiniState) (i : ℕ) (was : WasNamed v 
       (λ d. distinct-apart (mid.directory.sectors ++ mid.minifat_sectors) (mini_stream_of mid) was.held.apart n
       (Contains-append_left mid.directory.sectors mid.minifat_sectors n d) m)
 
-  -- so every mini sector stays
-  pub mini-stays : (m : ℕ) → m < length mid.minifat → Stays (mini_place mid m) (mini_place mid m + mini_sector_len) (bytes_of mid) (bytes_of new)
-  mini-stays m lt =
+  -- so every mini sector stays, in use or not
+  pub mini-stays-there : (m : ℕ) → 64 * m < length (mini_stream_of mid) * sector_len (version_of mid)
+      → RangeStays (mini_place mid m) (mini_place mid m + mini_sector_len) (bytes_of mid) (bytes_of new)
+  mini-stays-there m room =
       let index = 64 * m / sector_len (version_of mid) in
-      let inside : index < length (mini_stream_of mid) = mini-below (version_of mid) m (length (mini_stream_of mid)) (stream-room v mid m was.held lt) in
+      let inside : index < length (mini_stream_of mid) = mini-below (version_of mid) m (length (mini_stream_of mid)) room in
       let sector = slice_index (mini_stream_of mid) index in
       stays-inside (version_of mid) sector m (mini_place mid m) (bytes_of mid) (bytes_of new) refl
       (was.spares.sectors sector (stream-foreign sector (Contains-get_or (mini_stream_of mid) index 0 inside)))
+
+  pub mini-stays : (m : ℕ) → m < length mid.minifat → RangeStays (mini_place mid m) (mini_place mid m + mini_sector_len) (bytes_of mid) (bytes_of new)
+  mini-stays m lt = mini-stays-there m (stream-room v mid m was.held lt)
 
   -- ---- the other streams
 

@@ -2,7 +2,7 @@
 use Rattle.std.proofs.Common.{◌≡◌, ◌≤◌, ◌<◌, ◌+◌, ◌-◌, ◌⊎◌, inl, inr, ℕ, List, ◌++◌, true, refl, sym, ◌∙◌, ap, subst, length, take, drop, replicate, arith}
 use Rattle.std.proofs.lemmas.List.{drop_all, length-take, take-append-le, take_all}
 use Rattle.cfb_format.specs.declared.error.Error.{Error}
-use Rattle.cfb_format.specs.declared.error.Error.TheVariants.{AlreadyExists, Failed, Full, InvalidData, InvalidInput, Medium, Memory, NotFound, Unsound, Unsupported}
+use Rattle.cfb_format.specs.declared.error.Error.TheVariants.{AlreadyExists, Failed, Full, InvalidData, InvalidInput, Medium, Memory, NotFound, Unsound}
 use Rattle.cfb_format.specs.declared.version.Version.{Version}
 use Rattle.cfb_format.specs.declared.version.Version.TheVariants.{V3, V4}
 use Rattle.cfb_format.specs.Bytes.{max_stream_len}
@@ -15,7 +15,7 @@ use Rattle.cfb_mini_sectors.specs.State.{MiniState, entries_of, table_of, tables
 use Rattle.cfb_mini_sectors.specs.Steps.{KeepsLimits}
 use Rattle.cfb_mini_sectors.specs.Held.{with_table}
 use Rattle.cfb_mini.specs.MiniSectors.{IsStill}
-use Rattle.cfb_content.specs.Contents.{AreAllUsed, IsNotChangeable, MovesContent, StopsStillOrBegun}
+use Rattle.cfb_content.specs.Contents.{AreAllUsed, IsNotChangeable, MovesContent, SizesChain, StopsStillOrBegun}
 use Rattle.cfb_content.proofs.Outlines.{same-entries-moved}
 use Rattle.cfb_content.proofs.Rewritten.{resized-len}
 use Rattle.cfb_resizing.specs.Turning.{KeepsTablesTight, StopsOrIsFull}
@@ -44,6 +44,14 @@ module _ (old new : MiniState) (rest : new ≡ with_table old (record (table_of 
   pub filed-used : AreAllUsed old → AreAllUsed new
   filed-used used = subst AreAllUsed (sym rest) (record { sectors = used.sectors; mini_sectors = used.mini_sectors })
 
+  pub filed-sized : (before : MiniState) (i : ℕ) → SizesChain before old i → SizesChain before new i
+  filed-sized before i sized = subst (λ (s : MiniState). SizesChain before s i) (sym rest) (record {
+    shorter = λ fewer. let h = sized.shorter fewer in record { sectors = h.sectors; mini_sectors = h.mini_sectors };
+    moved = λ small large. let h = sized.moved small large in record { sectors = h.sectors; mini_sectors = h.mini_sectors };
+    longer = sized.longer;
+    longer_small = sized.longer_small;
+  })
+
 -- tables that stay tight, and stay
 pub tight-then : (old mid new : MiniState) → KeepsTablesTight old mid → tables_in new ≡ tables_in mid → KeepsTablesTight old new
 tight-then old mid new t same = record {
@@ -67,7 +75,6 @@ still-or-begun old new Memory h = inl (same-is-still old new h)
 still-or-begun old new Full h = inl (same-is-still old new h)
 still-or-begun old new Unsound h = inl (same-is-still old new h)
 still-or-begun old new Failed h = inl (same-is-still old new h)
-still-or-begun old new Unsupported h = inl (same-is-still old new h)
 
 -- a write stops where numbers are no matter
 pub stops-inside : (old new : MiniState) (e : Error) → StopsStillOrBegun old new e → ChangeRefused (IsNotChangeable old) (Unit {0}) ⊥ (Unit {0}) e → StopsOrIsFull old new e
@@ -80,7 +87,6 @@ stops-inside old new Memory h r = inl h
 stops-inside old new Full h r = absurd r
 stops-inside old new Unsound h r = h
 stops-inside old new Failed h r = h
-stops-inside old new Unsupported h r = h
 
 -- behind a growth the change was begun, whatever the write is refused for
 module _ (old mid new : MiniState) (e : Error) (up : (table_of mid).file.begun ≡ true) (stops : StopsStillOrBegun mid new e) where
@@ -103,7 +109,6 @@ module _ (old mid new : MiniState) (e : Error) (up : (table_of mid).file.begun �
       go Full b r = absurd r
       go Unsound b r = absurd r
       go Failed b r = absurd r
-      go Unsupported b r = absurd r
 
 -- ---- the content
 

@@ -4,10 +4,10 @@ use Rattle.std.specs.Prelude.{Err, IfErr, Ok, OnOk, Result}
 use Rattle.std.proofs.lemmas.Bool.{cases_lt}
 use Rattle.std.proofs.lemmas.List.Elements.{Contains-append_left}
 use Rattle.cfb_format.specs.declared.error.Error.{Error}
-use Rattle.cfb_format.specs.declared.error.Error.TheVariants.{AlreadyExists, Failed, Full, InvalidData, InvalidInput, Medium, Memory, NotFound, Unsound, Unsupported}
+use Rattle.cfb_format.specs.declared.error.Error.TheVariants.{AlreadyExists, Failed, Full, InvalidData, InvalidInput, Medium, Memory, NotFound, Unsound}
 use Rattle.cfb_format.specs.declared.validate.Validation.{Validation}
 use Rattle.cfb_format.specs.Bytes.{sector_len}
-use Rattle.cfb_format.specs.DirectoryEntry.{Entry}
+use Rattle.cfb_format.specs.DirectoryEntry.{Entry, ButContent}
 use Rattle.cfb_format.specs.Full.{IsFullOfMiniSectors, rounded_up}
 use Rattle.cfb_format.specs.Siblings.{entry_at}
 use Rattle.cfb_tables.specs.Refused.{ChangeRefused}
@@ -20,7 +20,7 @@ use Rattle.cfb_chains.proofs.LentContent.{wanted_is}
 use Rattle.cfb_mini_table.specs.MiniTable.{IsTooFewMini}
 use Rattle.cfb_mini_table.proofs.LawLemmas.{full-of-mini}
 use Rattle.cfb_mini_sectors.specs.State.{HoldsMini, IsChangeable, MiniState, bytes_of, entries_of, parts_of, table_of, tables_in, version_of}
-use Rattle.cfb_mini_sectors.specs.Steps.{ButContent, IsTooFewFor, MovesRoot, SparesMini, StopsShortOrFull, system_sectors}
+use Rattle.cfb_mini_sectors.specs.Steps.{IsTooFewFor, MovesRoot, SparesMini, StopsShortOrFull, system_sectors}
 use Rattle.cfb_mini_sectors.specs.Held.{with_table}
 use Rattle.cfb_mini.specs.MiniSectors.{IsStill}
 use Rattle.cfb_content.specs.Contents.{IsStreamOf, KeepsOthers, MovesContent, len_of, sectors_owned}
@@ -71,7 +71,6 @@ short-still old new Memory h = same-or-begun old new h
 short-still old new Full h = same-or-begun old new h.0
 short-still old new Unsound h = same-still old new h
 short-still old new Failed h = same-still old new h
-short-still old new Unsupported h = same-still old new h
 
 same-bytes : (old new : MiniState) → new ≡ old → bytes_of new ≡ bytes_of old
 same-bytes old new same = ap (λ (s : MiniState). bytes_of s) same
@@ -90,7 +89,6 @@ short-unwritten old new Memory h calm = calm-bytes old new h calm
 short-unwritten old new Full h calm = calm-bytes old new h.0 calm
 short-unwritten old new Unsound h calm = same-bytes old new h
 short-unwritten old new Failed h calm = same-bytes old new h
-short-unwritten old new Unsupported h calm = same-bytes old new h
 
 -- where no mini sector is left, though there may be more of them, sectors are lacking
 module _ (v : Validation) (old new : MiniState) (held : HoldsMini v old) (short : length old.minifat ≤ old.max_mini_sectors) (free : IsFullOfMiniSectors (parts_of old) → ⊥) where
@@ -107,7 +105,6 @@ module _ (v : Validation) (old new : MiniState) (held : HoldsMini v old) (short 
   short-or-full Full h = (h.0, elim h.1 [ inl few ↦ absurd (minis-left few) | inr full ↦ inr full ])
   short-or-full Unsound h = h
   short-or-full Failed h = h
-  short-or-full Unsupported h = h
 
 -- where the length has numbers, what is refused is not so for want of them
 pub begun-or-full : (old new : MiniState) (invalid full : Type 0) (e : Error) → (full → ⊥) → StopsOrBegun old new e → ChangeRefused invalid Unit full Unit e → StopsOrIsFull old new e
@@ -120,7 +117,6 @@ begun-or-full old new invalid full Memory fits h r = h
 begun-or-full old new invalid full Full fits h r = absurd (fits r)
 begun-or-full old new invalid full Unsound fits h r = h
 begun-or-full old new invalid full Failed fits h r = h
-begun-or-full old new invalid full Unsupported fits h r = h
 
 -- where the root's entry alone has changed, no stream's has
 pub root-moves-content : (old new : MiniState) (i : ℕ) → IsStreamOf old i → MovesRoot old new → MovesContent old new i

@@ -1,8 +1,9 @@
 -- A stream whose content was given another length, and whose entry says so: what it has, that it is used in order, and how it reads.
-use Rattle.std.proofs.Common.{◌≡◌, ◌<◌, ◌≤◌, ◌+◌, ◌/◌, ◌%◌, inl, inr, ℕ, List, [], ◌++◌, Bool, true, false, refl, sym, ◌∙◌, ap, subst, length, arith}
-use Rattle.std.specs.Prelude.{Contains, Err, IsSome, Ok, OnOk, Result, nat_le, slice_index, take, drop, unwrap_or}
+use Rattle.std.proofs.Common.{◌≡◌, ◌<◌, ◌≤◌, ◌+◌, ◌/◌, ◌%◌, ◌*◌, inl, inr, max, ℕ, List, [], ◌++◌, Bool, true, false, refl, sym, ◌∙◌, ap, subst, length, arith}
+use Rattle.std.specs.Prelude.{Contains, Err, IsSome, Ok, OnOk, Option, Result, nat_le, slice_index, take, drop, unwrap_or, ◌==◌}
 use Rattle.std.proofs.lemmas.Bool.{cases_eq, le-leb, leb-true}
-use Rattle.std.proofs.lemmas.List.Elements.{Contains-append_left, Contains-get_or}
+use Rattle.std.proofs.lemmas.List.Elements.{Contains-append_cases, Contains-append_left, Contains-get_or}
+use Rattle.std.proofs.lemmas.List.{take-append-drop}
 use Rattle.cfb_format.specs.declared.validate.Validation.{Validation}
 use Rattle.cfb_format.specs.declared.version.Version.{Version}
 use Rattle.cfb_format.specs.declared.version.Version.TheVariants.{V3, V4}
@@ -10,28 +11,35 @@ use Rattle.cfb_format.specs.Bytes.{sector_len, sector_start}
 use Rattle.cfb_format.specs.Chain.{IsChain}
 use Rattle.cfb_format.specs.Content.{content_chain, is_large, mini_sector_len}
 use Rattle.cfb_format.specs.DirectoryEntry.{Entry}
+use Rattle.cfb_format.specs.Full.{rounded_up}
 use Rattle.cfb_format.specs.Siblings.{entry_at}
 use Rattle.cfb_rules.specs.StreamCalls.{resized}
 use Rattle.cfb_sectors.specs.Sectors.{SectorStays}
-use Rattle.cfb_sectors.specs.Words.{Stays}
+use Rattle.cfb_sectors.specs.Words.{RangeStays}
 use Rattle.cfb_soundness.specs.Places.{mini_start}
 use Rattle.cfb_tables.specs.Listed.{ends_of, gained}
 use Rattle.cfb_tables.specs.Tables.{TableState}
 use Rattle.cfb_tables.proofs.ChainLemmas.{members-busy}
+use Rattle.cfb_tables.proofs.Members.{Contains-nil}
 use Rattle.cfb_alloc.specs.ListedChain.{Lengthens, Shortens}
 use Rattle.cfb_chains.specs.ChainPlaces.{place_along}
 use Rattle.cfb_mini_table.specs.MiniTable.{MiniGivesBack, TakesMini}
 use Rattle.cfb_mini_sectors.specs.State.{HoldsMini, MiniState, bytes_of, content_of, entries_of, mini_stream_of, parts_of, tables_in, version_of}
-use Rattle.cfb_content.specs.Contents.{len_of, mini_place_along, mini_sectors_owned, sectors_owned}
+use Rattle.cfb_mini_sectors.specs.Steps.{IsZeroMini}
+use Rattle.cfb_content.specs.Contents.{SizesChain, WipesMinis, len_of, mini_place_along, mini_sectors_owned, sectors_owned}
 use Rattle.cfb_content.specs.Laws.{StandsResized}
 use Rattle.cfb_content.specs.Uses.{ChangesContent, ChangesUse, Owns}
 use Rattle.cfb_content.proofs.Changing.{growth-stays, large-becomes-small, large-goes-on, large-is-cut, same-is-used, small-becomes-large, small-goes-on, small-is-cut}
-use Rattle.cfb_content.proofs.Kept.{next-start}
-use Rattle.cfb_content.proofs.Owned.{empty-owns-nothing, large-no-mini, large-owns-its-chain, small-no-sector, small-owns-its-chain}
+use Rattle.cfb_content.proofs.Apart.{maybe-chain}
+use Rattle.cfb_content.proofs.Kept.{next-start, stream-room}
+use Rattle.cfb_content.proofs.Owned.{empty-owns-nothing, large-no-mini, large-owns-its-chain, small-no-sector, small-owned, small-owns-its-chain}
 use Rattle.cfb_content.proofs.Readable.{stream-owns-its-own}
 use Rattle.cfb_content.proofs.Rewritten.{large-is-resized, resized-len, small-is-resized}
+use Rattle.cfb_content.proofs.Snug.{large-needs, small-needs, snug-in-minis, snug-in-sectors}
+use Rattle.cfb_content.proofs.WholeStreams.{no-sectors}
 use Rattle.cfb_resizing.specs.Turning.{LiesTurnedInMinis, LiesTurnedInSectors, Turns, TurnsByCut, TurnsByGrowth, TurnsByMiniCut, TurnsByMiniGrowth, TurnsLarge, TurnsSmall}
-use Rattle.cfb_resizing.proofs.Named.{WasNamed, chain-foreign, mini-stays, mini-then, named-changes, system-then}
+use Rattle.cfb_resizing.proofs.Named.{WasNamed, chain-foreign, mini-stays, mini-stays-there, mini-then, named-changes, system-then}
+use Rattle.cfb_resizing.proofs.CarriedToSectors.{zeros-stay}
 
 large-by-len : (e : Entry) (size : ℕ) → e.stream_len ≡ size → 4096 ≤ size → is_large e ≡ true
 large-by-len e size len le = ap (λ (n : ℕ). nat_le 4096 n) len ∙ le-leb 4096 size le
@@ -47,11 +55,13 @@ rest-inside : (v : Version) (k : ℕ) → k % sector_len v < sector_len v
 rest-inside V3 k = omega arith
 rest-inside V4 k = omega arith
 
--- the stream is used in order, has its chain, and reads as it did, cut or padded
+-- the stream is used in order, has its chain, as long as it is to be, and reads as it did, cut or padded; what it gave back is wiped
 pub record WasTurned (old new : MiniState) (i size : ℕ) : Type 0 where
   pub used : ChangesUse old new
   pub chain : IsSome (content_chain (parts_of new) (entry_at (entries_of new) i))
   pub content : content_of new (entry_at (entries_of new) i) ≡ resized (content_of old (entry_at (entries_of old) i)) size
+  pub sized : SizesChain old new i
+  pub wiped : WipesMinis old new i
 
 -- then all is as it was promised
 pub turned-whole : (old new : MiniState) (i size : ℕ) → WasTurned old new i size → len_of new i ≡ size → length (content_of new (entry_at (entries_of new) i)) ≡ len_of new i
@@ -89,6 +99,22 @@ module _ (v : Validation) (old mid new : MiniState) (i size start : ℕ) (was : 
   had-small : is_large (entry_at (entries_of old) i) ≡ false → Owns old i [] (mini_sectors_owned old i)
   had-small b = subst (λ (l : List ℕ). Owns old i l (mini_sectors_owned old i)) (small-no-sector old (entry_at (entries_of old) i) b) had
 
+  -- ---- what it gave back
+
+  gave-none : is_large (entry_at (entries_of old) i) ≡ true → WipesMinis old new i
+  gave-none b m c out = absurd (Contains-nil m (subst (λ (l : List ℕ). Contains l m) (large-no-mini old (entry_at (entries_of old) i) b) c))
+
+  gave-zeros : is_large (entry_at (entries_of old) i) ≡ false → mini_stream_of mid ≡ mini_stream_of old → (m : ℕ) → Contains (mini_sectors_owned old i) m
+      → IsZeroMini mid m → IsZeroMini new m
+  gave-zeros b stream m c zero =
+      let e = entry_at (entries_of old) i in
+      let w = maybe-chain old.minifat (e.stream_len == 0) e.start_sector m (subst (λ (l : List ℕ). Contains l m) (small-owned old e b) c) in
+      let room = stream-room v old m was.changeable.held (members-busy old.minifat e.start_sector w.0 w.1 m w.2).1 in
+      let same : length (mini_stream_of mid) * sector_len (version_of mid) ≡ length (mini_stream_of old) * sector_len (version_of old) =
+      λ j. length (stream j) * sector_len (was.around.limits.version j) in
+      zeros-stay mid new m version-is (ap (λ (o : Option (List ℕ)). unwrap_or o []) was.mini.mini_stream)
+      (mini-stays-there v old mid new i was m (subst (λ n. 64 * m < n) (sym same) room)) zero
+
   -- ---- in sectors
 
   module _ (ys : List ℕ) (lies : LiesTurnedInSectors old mid i size start ys) where
@@ -108,7 +134,7 @@ module _ (v : Validation) (old mid new : MiniState) (i size start : ℕ) (was : 
         let m : Contains ys n = Contains-get_or ys (k / sector_len (version_of mid)) 0 (lies.enough k lt) in
         let out : Contains mid.directory.sectors n → ⊥ = λ d. lies.apart n m
         (Contains-append_left (mid.directory.sectors ++ mid.minifat_sectors) (mini_stream_of mid) n (Contains-append_left mid.directory.sectors mid.minifat_sectors n d)) in
-        let stays : Stays (sector_start (version_of mid) n) (sector_start (version_of mid) (n + 1)) (bytes_of mid) (bytes_of new) =
+        let stays : RangeStays (sector_start (version_of mid) n) (sector_start (version_of mid) (n + 1)) (bytes_of mid) (bytes_of new) =
         was.spares.sectors n (chain-foreign v old mid new i was start ys lies.chain n m out) in
         stays.each (place_along (version_of mid) ys k) (lies.stands.there k lt) (omega arith)
         (omega (arith, next-start (version_of mid) n, rest-inside (version_of mid) k))
@@ -120,8 +146,27 @@ module _ (v : Validation) (old mid new : MiniState) (i size start : ℕ) (was : 
       zeros = λ k le lt. sector-byte k (omega (arith, lt, len-is)) ∙ lies.stands.zeros k le (omega (arith, lt, len-is));
     })
 
-    large-turned : ChangesUse old new → WasTurned old new i size
-    large-turned used = record {
+    sized-large : SizesChain old new i
+    sized-large =
+        let count = ap (λ (l : List ℕ). length l) owns-large.sectors_are in
+        let long : 4096 ≤ len_of new i = omega (arith, lies.large, len-is) in
+        let needed : rounded_up (len_of new i) (sector_len (version_of new)) ≡ rounded_up size (sector_len (version_of mid)) =
+        λ j. rounded_up (len-is j) (sector_len (version-is j)) in
+        record {
+          shorter = λ fewer. snug-in-sectors new now long (count ∙ lies.fewer (omega (arith, fewer, len-is)) ∙ sym needed);
+          moved = λ small big.
+              let had = ap (λ (l : List ℕ). length l) (no-sectors old i small) in
+              let more = lies.more (omega (arith, small, big, len-is)) in
+              snug-in-sectors new now long (omega (arith, count, more, had, needed));
+          longer = λ big more. count ∙ lies.more (omega (arith, more, len-is))
+              ∙ ap (λ n. max n (length (sectors_owned old i))) (sym needed ∙ sym (large-needs new now long));
+          longer_small = λ more few. absurd (omega (arith, few, long));
+        }
+
+    large-turned : ChangesUse old new → WipesMinis old new i → WasTurned old new i size
+    large-turned used wiped = record {
+      sized = sized-large;
+      wiped = wiped;
       used = used;
       chain = owns-large.chain;
       content = large-is-resized v old new i ys was.changeable was.stream large owns-large
@@ -164,8 +209,23 @@ module _ (v : Validation) (old mid new : MiniState) (i size start : ℕ) (was : 
       zeros = λ k le lt. mini-byte k (omega (arith, lt, len-is)) ∙ lies.stands.zeros k le (omega (arith, lt, len-is));
     })
 
-    small-turned : ChangesUse old new → WasTurned old new i size
-    small-turned used = record {
+    sized-small : SizesChain old new i
+    sized-small =
+        let count = ap (λ (l : List ℕ). length l) owns-small.mini_sectors_are in
+        let short : len_of new i < 4096 = omega (arith, lies.small, len-is) in
+        let needed : rounded_up (len_of new i) 64 ≡ rounded_up size 64 = ap (λ n. rounded_up n 64) len-is in
+        record {
+          shorter = λ fewer. snug-in-minis new now short (count ∙ lies.fewer (omega (arith, fewer, len-is)) ∙ sym needed);
+          moved = λ few big. absurd (omega (arith, big, short));
+          longer = λ big more. absurd (omega (arith, big, more, short));
+          longer_small = λ more few. count ∙ lies.more (omega (arith, more, len-is))
+              ∙ ap (λ n. max n (length (mini_sectors_owned old i))) (sym needed ∙ sym (small-needs new now short));
+        }
+
+    small-turned : ChangesUse old new → WipesMinis old new i → WasTurned old new i size
+    small-turned used wiped = record {
+      sized = sized-small;
+      wiped = wiped;
       used = used;
       chain = owns-small.chain;
       content = small-is-resized v old new i ns was.changeable was.stream held.mini_stream small owns-small (λ k lt. lies.enough k (omega (arith, lt, len-is))) small-stands
@@ -183,12 +243,12 @@ module _ (v : Validation) (old mid new : MiniState) (i size start : ℕ) (was : 
   by-growth : TurnsByGrowth old mid i size start → WasTurned old new i size
   by-growth t = large-turned t.ys t.lies
       (large-goes-on v i old new (sectors_owned old i) t.ys [] t.count change (mini-then old mid new t.mini was.mini)
-      (tables-then (λ (w : TableState). Lengthens t.count (sectors_owned old i) t.ys (tables_in old) w) t.longer) (had-large t.was) (owns-large t.ys t.lies))
+      (tables-then (λ (w : TableState). Lengthens t.count (sectors_owned old i) t.ys (tables_in old) w) t.longer) (had-large t.was) (owns-large t.ys t.lies)) (gave-none t.was)
 
   by-cut : TurnsByCut old mid i size start → WasTurned old new i size
   by-cut t = large-turned t.ys t.lies
       (large-is-cut v i old new (sectors_owned old i) t.ys [] t.left change (mini-then old mid new t.mini was.mini)
-      (tables-then (λ (w : TableState). Shortens t.left (sectors_owned old i) t.ys (tables_in old) w) t.shorter) (had-large t.was) (owns-large t.ys t.lies))
+      (tables-then (λ (w : TableState). Shortens t.left (sectors_owned old i) t.ys (tables_in old) w) t.shorter) (had-large t.was) (owns-large t.ys t.lies)) (gave-none t.was)
 
   by-mini-growth : TurnsByMiniGrowth old mid i size start → WasTurned old new i size
   by-mini-growth t = small-turned t.ns t.lies (elim t.grown [
@@ -199,13 +259,20 @@ module _ (v : Validation) (old mid new : MiniState) (i size start : ℕ) (was : 
     | inr (same, system, mini) ↦
         same-is-used v i old new [] (mini_sectors_owned old i) change (system-then old mid new system was.system) (mini-then old mid new mini was.mini) (had-small t.was)
         (subst (λ (l : List ℕ). Owns new i [] l) same (owns-small t.ns t.lies))
-  ])
+  ]) (λ m c out. absurd (out (subst (λ (l : List ℕ). Contains l m) (sym ((owns-small t.ns t.lies).mini_sectors_are ∙ t.listed))
+      (Contains-append_left (mini_sectors_owned old i) (gained (mini_sectors_owned old i) t.ns) m c))))
 
   by-mini-cut : TurnsByMiniCut old mid i size start → WasTurned old new i size
   by-mini-cut t = small-turned t.ns t.lies
       (small-is-cut v i old new [] (mini_sectors_owned old i) t.ns t.left change (system-then old mid new t.system was.system) t.listed
       (minifat-then (λ (w : List ℕ). MiniGivesBack (ends_of (take t.left (mini_sectors_owned old i))) (drop t.left (mini_sectors_owned old i)) old.minifat w) t.given_back)
       (had-small t.was) (owns-small t.ns t.lies))
+      (λ m c out. gave-zeros t.was (ap (λ (o : Option (List ℕ)). unwrap_or o []) t.system.mini_stream) m c
+      (elim (Contains-append_cases (take t.left (mini_sectors_owned old i)) (drop t.left (mini_sectors_owned old i)) m
+      (subst (λ (l : List ℕ). Contains l m) (sym (take-append-drop t.left (mini_sectors_owned old i))) c)) [
+        | inl stays ↦ absurd (out (subst (λ (l : List ℕ). Contains l m) (sym ((owns-small t.ns t.lies).mini_sectors_are ∙ t.listed)) stays))
+        | inr gone ↦ t.wiped m gone
+      ]))
 
   made-small : TurnsSmall old mid i size start → WasTurned old new i size
   made-small t = small-turned t.ns t.lies (elim t.grown [
@@ -218,12 +285,13 @@ module _ (v : Validation) (old mid new : MiniState) (i size start : ℕ) (was : 
         large-is-cut v i old new (sectors_owned old i) [] [] 0 change (mini-then old t.mid new t.mini (mini-then t.mid mid new mini was.mini))
         (subst (λ (w : TableState). Shortens 0 (sectors_owned old i) [] (tables_in old) w) (sym (was.system.tables ∙ system.tables)) t.freed)
         (had-large t.was) (subst (λ (l : List ℕ). Owns new i [] l) none (owns-small t.ns t.lies))
-  ])
+  ]) (gave-none t.was)
 
   made-large : TurnsLarge old mid i size start → WasTurned old new i size
   made-large t = large-turned t.ys t.lies
       (small-becomes-large v i old t.mid new (mini_sectors_owned old i) t.ys t.count change t.system t.freed (mini-then t.mid mid new t.mini was.mini)
       (tables-then (λ (w : TableState). Lengthens t.count [] t.ys (tables_in t.mid) w) t.longer) (had-small t.was) (owns-large t.ys t.lies))
+      (λ m c out. gave-zeros t.was (ap (λ (o : Option (List ℕ)). unwrap_or o []) (t.mini.mini_stream ∙ t.system.mini_stream)) m c (t.wiped m c))
 
   pub turned : Turns old mid i size start → WasTurned old new i size
   turned (inl t) = by-growth t

@@ -1,5 +1,5 @@
 -- The content of a stream in mini sectors after its mini chain was cut, or went on.
-use Rattle.std.proofs.Common.{◌≡◌, ◌≤◌, ◌<◌, ◌+◌, ◌-◌, ◌*◌, ◌/◌, ◌%◌, inl, inr, ℕ, List, [], ◌∷◌, ◌++◌, Bool, zero, suc, refl, sym, ◌∙◌, ap, subst, length, take, drop, arith, length-append, length-take}
+use Rattle.std.proofs.Common.{◌≡◌, ◌≤◌, ◌<◌, ◌+◌, ◌-◌, ◌*◌, ◌/◌, ◌%◌, inl, inr, max, ℕ, List, [], ◌∷◌, ◌++◌, Bool, zero, suc, refl, sym, ◌∙◌, ap, subst, length, take, drop, arith, length-append, length-take}
 use Rattle.std.specs.Prelude.{◌↔◌, Contains, IsTrue, None, Option, Some, if◌then◌else◌, nat_eq, slice_index, unwrap_or}
 use Rattle.std.specs.List.{IsDistinct}
 use Rattle.std.proofs.lemmas.Bool.{cases_lt, lt-leb}
@@ -23,7 +23,7 @@ use Rattle.cfb_chains.proofs.ChainContent.{taken_index}
 use Rattle.cfb_mini_table.specs.MiniTable.{MiniGivesBack, TakesMini}
 use Rattle.cfb_soundness.specs.Places.{mini_start}
 use Rattle.cfb_mini_sectors.specs.State.{HoldsMini, IsChangeable, MiniState, bytes_of, content_of, entries_of, mini_place, mini_stream_of, table_of, tables_in, version_of}
-use Rattle.cfb_mini_sectors.specs.Steps.{GrowsFor, KeepsMini, KeepsSystem, IsNotHeld, IsTooFewAfterFor, IsTooFewFor, SparesMini, minifat_lacks, minifat_len_with, mini_stream_lacks, system_sectors}
+use Rattle.cfb_mini_sectors.specs.Steps.{GrowsFor, IsNotHeld, IsTooFewAfterFor, IsTooFewFor, IsZeroMini, KeepsMini, KeepsSystem, SparesMini, minifat_lacks, minifat_len_with, mini_stream_lacks, system_sectors}
 use Rattle.cfb_mini_sectors.proofs.MiniStreams.{begins}
 use Rattle.cfb_alloc.specs.Alloc.{AllocatorState}
 use Rattle.cfb_alloc.specs.Frame.{Spares}
@@ -38,7 +38,7 @@ use Rattle.cfb_content.proofs.Kept.{spared-is-kept}
 use Rattle.cfb_content.proofs.Readable.{small-is-there}
 use Rattle.cfb_content.proofs.WholeStreams.{no-sectors, owned-is-there, owned-minis, small-entry, whole-minis-as}
 use Rattle.cfb_resizing.specs.Turning.{IsPaddedAlong, LiesTurnedInMinis, Turns}
-use Rattle.cfb_resizing.proofs.TurnedInSectors.{below-taken}
+use Rattle.cfb_resizing.proofs.TurnedInSectors.{as-grown, as-taken, below-taken}
 
 -- a list that is there has room for each of its bytes
 listed-room : (len n : ℕ) → ((k : ℕ) → k < len → k / 64 < n) → rounded_up len 64 ≤ n
@@ -82,7 +82,8 @@ module _ (v : Validation) (old new : MiniState) (i size wanted : ℕ) (list list
     (small : len_of old i < 4096) (shorter : size < len_of old i) (whole : IsWholeMiniChain old (entry_at (entries_of old) i).start_sector (len_of old i) list)
     (wanted-is : wanted ≡ rounded_up size 64) (listed : list' ≡ take wanted list)
     (given : MiniGivesBack (ends_of (take wanted list)) (drop wanted list) old.minifat new.minifat) (system : KeepsSystem old new)
-    (left : IsChain new.minifat (first_or_end list') list') (keeps : KeepsMiniBytesBut (drop wanted list) old new) where
+    (left : IsChain new.minifat (first_or_end list') list') (keeps : KeepsMiniBytesBut (drop wanted list) old new)
+    (wiped : (m : ℕ) → Contains (drop wanted list) m → IsZeroMini new m) where
   cut-owned : mini_sectors_owned old i ≡ list
   cut-owned = owned-minis old i small list whole
 
@@ -126,6 +127,10 @@ module _ (v : Validation) (old new : MiniState) (i size wanted : ℕ) (list list
         let nothing : list' ≡ [] = listed ∙ ap (λ n. take n list) (wanted-is ∙ ap (λ n. rounded_up n 64) z) in
         (nothing, ap first_or_end nothing);
     enough = λ k lt. let is = left-at k lt in below-taken (k / 64) wanted list list' listed is.0 is.1;
+    fewer = λ lt.
+        let room = listed-room (len_of old i) (length list) (λ k early. (whole.there k early).listed) in
+        as-taken wanted list list' listed (omega (arith, room, wanted-is, shorter)) ∙ wanted-is;
+    more = λ le. absurd (omega (arith, le, shorter));
     stands = record {
       there = λ k lt. (cut-byte k lt).0;
       kept = λ k lt early. (cut-byte k lt).1;
@@ -141,6 +146,7 @@ module _ (v : Validation) (old new : MiniState) (i size wanted : ℕ) (list list
     system = system;
     listed = listed ∙ ap (λ (l : List ℕ). take wanted l) (sym cut-owned);
     given_back = subst (λ (l : List ℕ). MiniGivesBack (ends_of (take wanted l)) (drop wanted l) old.minifat new.minifat) (sym cut-owned) given;
+    wiped = subst (λ (l : List ℕ). (m : ℕ) → Contains (drop wanted l) m → IsZeroMini new m) (sym cut-owned) wiped;
     lies = mini-cut-lies;
   }))))
 
@@ -167,6 +173,9 @@ module _ (v : Validation) (old new : MiniState) (i size lacking : ℕ) (list lis
     enough = λ k lt. (let sum = ap (λ (l : List ℕ). length l) listed in
         let parts = length-append list (gained list list') in
         omega (arith, lt, lacking-is, count, sum, parts));
+    fewer = λ lt. absurd (omega (arith, lt, longer));
+    more = λ le. as-grown (rounded_up size 64) lacking list list' listed count lacking-is
+        ∙ sym (ap (λ (l : List ℕ). max (rounded_up size 64) (length l)) grown-owned);
     stands = record {
       there = padded.there;
       kept = λ k lt early. padded.kept k lt early

@@ -1,5 +1,5 @@
 -- The content of a stream in sectors after its chain was cut, or went on.
-use Rattle.std.proofs.Common.{◌≡◌, ◌≤◌, ◌<◌, ◌-◌, ◌/◌, ◌%◌, ◌+◌, min, inl, inr, ℕ, List, [], ◌∷◌, ◌++◌, zero, suc, refl, sym, ◌∙◌, ap, subst, length, take, arith, le-leb, length-append, length-take}
+use Rattle.std.proofs.Common.{◌≡◌, ◌≤◌, ◌<◌, ◌-◌, ◌/◌, ◌%◌, ◌+◌, max, min, inl, inr, ℕ, List, [], ◌∷◌, ◌++◌, zero, suc, refl, sym, ◌∙◌, ap, subst, length, take, arith, le-leb, length-append, length-take}
 use Rattle.std.specs.Prelude.{Contains, if◌then◌else◌, slice_index}
 use Rattle.std.proofs.lemmas.List.Elements.{Contains-append_cases, Contains-append_left, Contains-append_right}
 use Rattle.cfb_format.specs.declared.validate.Validation.{Validation}
@@ -52,6 +52,24 @@ rounded-up-holds V4 k n lt = omega (arith, lt)
 pub rounded-up-some : (v : Version) (n : ℕ) → 0 < n → 0 < rounded_up n (sector_len v)
 rounded-up-some V3 n lt = omega (arith, lt)
 rounded-up-some V4 n lt = omega (arith, lt)
+
+-- a list that has each of so many bytes has room for them
+room-is-enough : (v : Version) (size len n : ℕ) → size < len → ((k : ℕ) → k < len → k / sector_len v < n) → rounded_up size (sector_len v) ≤ n
+room-is-enough V3 size len n lt h = (let last = h size lt in omega (arith, last))
+room-is-enough V4 size len n lt h = (let last = h size lt in omega (arith, last))
+
+pub as-taken : (n : ℕ) (list list' : List ℕ) → list' ≡ take n list → n ≤ length list → length list' ≡ n
+as-taken n list list' is enough =
+    let count = ap (λ (l : List ℕ). length l) is in
+    let taken = length-take n list in
+    omega (arith, count, taken, enough)
+
+pub as-grown : (needed count : ℕ) (list list' : List ℕ) → list' ≡ list ++ gained list list' → length (gained list list') ≡ count → count ≡ needed - length list
+    → length list' ≡ max needed (length list)
+as-grown needed count list list' is more lacking =
+    let sum = ap (λ (l : List ℕ). length l) is in
+    let parts = length-append list (gained list list') in
+    omega (arith, sum, parts, more, lacking)
 
 pub below-taken : (q n : ℕ) (list list' : List ℕ) → list' ≡ take n list → q < n → q < length list → q < length list'
 below-taken q n list list' is lt less =
@@ -141,6 +159,11 @@ module _ (v : Validation) (old : MiniState) (i size wanted : ℕ) (list list' : 
     enough = λ k lt.
         let is = listed-at k lt in
         subst (λ w. k / sector_len w < length list') (sym same_version) (below-taken (k / sector_len (version_of old)) wanted list list' short.listed is.0 is.1);
+    fewer = λ lt.
+        let room = room-is-enough (version_of old) size (len_of old i) (length list) shorter
+        (λ k early. subst (λ (l : List ℕ). k / sector_len (version_of old) < length l) owned ((large-is-there v old i change at (large-entry old i long)).enough k early)) in
+        as-taken wanted list list' short.listed (omega (arith, room, wanted-is)) ∙ wanted-is ∙ sym (ap (λ w. rounded_up size (sector_len w)) same_version);
+    more = λ le. absurd (omega (arith, le, shorter));
     apart = λ n m c. (own-is-apart v old i change at).system n (fewer-of n m) c;
     tables_apart = no-tables v a (first_or_end list') list' held left;
     stands = record {
@@ -165,7 +188,7 @@ module _ (v : Validation) (old : MiniState) (i size wanted : ℕ) (list list' : 
 
 module _ (v : Validation) (old : MiniState) (i size count : ℕ) (list list' : List ℕ) (a : AllocatorState) (change : IsChangeable v old) (at : IsStreamOf old i)
     (large : 4096 ≤ len_of old i) (longer : len_of old i < size) (chain : IsChain (tables_in old).fat (entry_at (entries_of old) i).start_sector list)
-    (enough : rounded_up size (sector_len (version_of old)) ≤ length list + count) (made : Lengthens count list list' (tables_in old) a.tables)
+    (lacking : count ≡ rounded_up size (sector_len (version_of old)) - length list) (made : Lengthens count list list' (tables_in old) a.tables)
     (now : IsChain a.tables.fat (first_or_end list') list') (held : HoldsTables v a)
     (padded : IsPaddedAlong (len_of old i) size (place_along (version_of old) list) (place_along (version_of old) list') (bytes_of old) a.file.bytes) where
   grown-owned : sectors_owned old i ≡ list
@@ -206,8 +229,11 @@ module _ (v : Validation) (old : MiniState) (i size count : ℕ) (list list' : L
     large = omega (arith, large, longer);
     chain = subst (λ n. IsChain a.tables.fat n list') (sym grown-start) now;
     enough = λ k lt. subst (λ w. k / sector_len w < length list') (sym grown-version)
-        (below-grown (k / sector_len (version_of old)) (rounded_up size (sector_len (version_of old))) count list list' made.listed made.count enough
+        (below-grown (k / sector_len (version_of old)) (rounded_up size (sector_len (version_of old))) count list list' made.listed made.count (omega (arith, lacking))
         (rounded-up-holds (version_of old) k size lt));
+    fewer = λ lt. absurd (omega (arith, lt, longer));
+    more = λ le. as-grown (rounded_up size (sector_len (version_of old))) count list list' made.listed made.count lacking
+        ∙ (λ j. max (rounded_up size (sector_len (sym grown-version j))) (length (sym grown-owned j)));
     apart = grown-apart;
     tables_apart = no-tables v a (first_or_end list') list' held now;
     stands = subst (λ w. StandsTurned old i size a.file.bytes (place_along w list')) (sym grown-version) grown-stands;
@@ -354,7 +380,7 @@ module _ (s : MiniState) (i size start len count : ℕ) (here lent a : Allocator
         subst (λ n. IsPaddedAlong n size (place_along (version_of s) list) (place_along (version_of s) list') (bytes_of s) a.file.bytes) len-is
         (subst (λ (b : AllocatorState). IsPaddedAlong len size (place_along b.tables.version list) (place_along b.tables.version list') b.file.bytes a.file.bytes) is-lent padded) in
         subst (λ n. Turns s (with_table s a) i size n) (sym start-is)
-        (grown-turns v s i size (rounded_up size (sector_len (version_of s)) - length list) list list' a change at large longer grow-whole.chain (omega arith) made-here now held here-padded)
+        (grown-turns v s i size (rounded_up size (sector_len (version_of s)) - length list) list list' a change at large longer grow-whole.chain refl made-here now held here-padded)
 
     pub grow-held : Spares list lent a → AreSizes a.tables.version (sizes_of a.tables)
         → ((n : ℕ) → n < length lent.file.bytes → IsOtherHeaderByte lent.tables.version n → slice_index a.file.bytes n ≡ slice_index lent.file.bytes n) → HoldsMini v (with_table s a)

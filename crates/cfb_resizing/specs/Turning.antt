@@ -1,6 +1,6 @@
 -- What becomes of a stream's content that gets another length, before its entry says so, and what every such change leaves alone (MS-CFB 2.3,
 -- 2.4 and 2.6.3).
-use Rattle.std.specs.Prelude.{ℕ, ◌≡◌, ◌+◌, ◌/◌, ◌<◌, ◌≤◌, ◌⊎◌, List, [], ◌++◌, true, false, length, take, drop, slice_index}
+use Rattle.std.specs.Prelude.{ℕ, ◌≡◌, ◌+◌, ◌/◌, ◌<◌, ◌≤◌, ◌⊎◌, List, [], ◌++◌, true, false, length, max, take, drop, slice_index, Contains}
 use Rattle.cfb_format.specs.declared.error.Error.{Error}
 use Rattle.cfb_format.specs.Bytes.{end_of_chain, sector_len}
 use Rattle.cfb_format.specs.Chain.{IsChain}
@@ -11,12 +11,12 @@ use Rattle.cfb_format.specs.Siblings.{entry_at}
 use Rattle.cfb_tables.specs.Changes.{AreDisjoint, NoneFree}
 use Rattle.cfb_tables.specs.Listed.{ends_of, gained}
 use Rattle.cfb_tables.specs.Tables.{AreExactTables, AreFullTables, IsTooFew}
-use Rattle.cfb_alloc.specs.Frame.{table_sectors}
+use Rattle.cfb_alloc.specs.Frame.{IsFixedHeaderByte, table_sectors}
 use Rattle.cfb_alloc.specs.ListedChain.{Lengthens, Shortens}
 use Rattle.cfb_chains.specs.ChainPlaces.{place_along}
 use Rattle.cfb_mini_table.specs.MiniTable.{MiniGivesBack, TakesMini}
 use Rattle.cfb_mini_sectors.specs.State.{MiniState, bytes_of, content_of, entries_of, parts_of, table_of, tables_in, version_of}
-use Rattle.cfb_mini_sectors.specs.Steps.{GrowsFor, IsTooFewFor, KeepsLimits, KeepsMini, KeepsSystem, MovesRoot, system_sectors}
+use Rattle.cfb_mini_sectors.specs.Steps.{GrowsFor, IsTooFewFor, IsZeroMini, KeepsLimits, KeepsMini, KeepsSystem, MovesRoot, system_sectors}
 use Rattle.cfb_mini.specs.MiniSectors.{IsStill}
 use Rattle.cfb_content.specs.Contents.{len_of, mini_place_along, mini_sectors_owned, sectors_owned}
 
@@ -36,11 +36,14 @@ pub record StandsTurned (old : MiniState) (i size : ℕ) (bytes : List ℕ) (pla
   pub kept : (k : ℕ) → k < size → k < len_of old i → slice_index bytes (place k) ≡ slice_index (content_of old (entry_at (entries_of old) i)) k
   pub zeros : (k : ℕ) → len_of old i ≤ k → k < size → slice_index bytes (place k) ≡ 0
 
--- the content lies in these sectors now, a chain from there, which are none of another's
+-- the content lies in these sectors now, a chain from there, which are none of another's: as many as it needs, but it has what it had
+-- where it got longer
 pub record LiesTurnedInSectors (old new : MiniState) (i size start : ℕ) (ys : List ℕ) : Type 0 where
   pub large : mini_stream_cutoff ≤ size
   pub chain : IsChain (tables_in new).fat start ys
   pub enough : (k : ℕ) → k < size → k / sector_len (version_of new) < length ys
+  pub fewer : size < len_of old i → length ys ≡ rounded_up size (sector_len (version_of new))
+  pub more : len_of old i ≤ size → length ys ≡ max (rounded_up size (sector_len (version_of new))) (length (sectors_owned old i))
   pub apart : AreDisjoint ys (system_sectors new)
   pub tables_apart : AreDisjoint ys (table_sectors (tables_in new))
   pub stands : StandsTurned old i size (bytes_of new) (place_along (version_of new) ys)
@@ -51,6 +54,8 @@ pub record LiesTurnedInMinis (old new : MiniState) (i size start : ℕ) (ns : Li
   pub chain : 0 < size → IsChain new.minifat start ns
   pub none : size ≡ 0 → (ns ≡ []) × (start ≡ end_of_chain)
   pub enough : (k : ℕ) → k < size → k / mini_sector_len < length ns
+  pub fewer : size < len_of old i → length ns ≡ rounded_up size mini_sector_len
+  pub more : len_of old i ≤ size → length ns ≡ max (rounded_up size mini_sector_len) (length (mini_sectors_owned old i))
   pub stands : StandsTurned old i size (bytes_of new) (mini_place_along new ns)
 
 -- a large stream's chain went on
@@ -91,6 +96,7 @@ pub record TurnsByMiniCut (old new : MiniState) (i size start : ℕ) : Type 0 wh
   pub system : KeepsSystem old new
   pub listed : ns ≡ take left (mini_sectors_owned old i)
   pub given_back : MiniGivesBack (ends_of (take left (mini_sectors_owned old i))) (drop left (mini_sectors_owned old i)) old.minifat new.minifat
+  pub wiped : (m : ℕ) → Contains (drop left (mini_sectors_owned old i)) m → IsZeroMini new m
   pub lies : LiesTurnedInMinis old new i size start ns
 
 -- a large stream's chain was freed, and then a mini chain began, or none where nothing is left
@@ -113,6 +119,7 @@ pub record TurnsLarge (old new : MiniState) (i size start : ℕ) : Type 0 where
   pub count : ℕ
   pub system : KeepsSystem old mid
   pub freed : MiniGivesBack [] (mini_sectors_owned old i) old.minifat mid.minifat
+  pub wiped : (m : ℕ) → Contains (mini_sectors_owned old i) m → IsZeroMini new m
   pub mini : KeepsMini mid new
   pub longer : Lengthens count [] ys (tables_in mid) (tables_in new)
   pub lies : LiesTurnedInSectors old new i size start ys
@@ -137,6 +144,11 @@ pub record KeepsAround (old new : MiniState) : Type 0 where
   pub directory : new.directory.sectors ≡ old.directory.sectors
   pub entries : MovesRoot old new
   pub limits : KeepsLimits old new
+
+-- the file gets no shorter, and of its header stay the bytes that speak neither of tables nor of chains, and those behind it (MS-CFB 2.2)
+pub record KeepsFixedHeader (old new : MiniState) : Type 0 where
+  pub no_shorter : length (bytes_of old) ≤ length (bytes_of new)
+  pub bytes : (i : ℕ) → i < length (bytes_of old) → IsFixedHeaderByte (version_of old) i → slice_index (bytes_of new) i ≡ slice_index (bytes_of old) i
 
 -- exact tables stay exact, no sector is lost, and where some were appended none is free
 pub record KeepsTablesTight (old new : MiniState) : Type 0 where

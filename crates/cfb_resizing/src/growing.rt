@@ -13,7 +13,7 @@ ghost use Rattle.cfb_tables.specs.Tables.{AreFullTables, IsTooFew};
 ghost use Rattle.cfb_mini_sectors.specs.State.{HoldsMini, IsChangeable, bytes_of, content_of, entries_of, parts_of, table_of, tables_in, version_of};
 ghost use Rattle.cfb_mini_sectors.specs.Steps.{IsTooFewFor, KeepsLimits};
 ghost use Rattle.cfb_mini.specs.MiniSectors.{IsStill};
-ghost use Rattle.cfb_content.specs.Contents.{AreAllUsed, IsNotChangeable, IsStreamOf, KeepsOthers, MovesContent, len_of};
+ghost use Rattle.cfb_content.specs.Contents.{AreAllUsed, IsNotChangeable, IsStreamOf, KeepsOthers, MovesContent, SizesChain, len_of};
 ghost use Rattle.cfb_content.specs.KeptChain.{IsKeptChain};
 ghost use Rattle.cfb_content.specs.Laws.{LacksNumbersFor};
 ghost use Rattle.cfb_resizing.specs.Turning.{CannotGrow, KeepsAround, KeepsTablesTight, StopsOrIsFull};
@@ -206,6 +206,8 @@ pub fn grow_content<F: Medium, A: Heap + Clone>(
     ensures others { IsTrue F.tells → (validation : Validation) → IsChangeable validation mini.old → KeepsOthers entry mini.old mini.new }
     ensures holds { IsTrue F.tells → (validation : Validation) → IsChangeable validation mini.old → OnOk result (IsChangeable validation mini.new) }
     ensures owned { IsTrue F.tells → (validation : Validation) → IsChangeable validation mini.old → AreAllUsed mini.old → OnOk result (AreAllUsed mini.new) }
+    ensures sized { IsTrue F.tells → (validation : Validation) → IsChangeable validation mini.old
+        → OnOk result (SizesChain mini.old mini.new entry) }
     ensures tight { OnOk result (KeepsTablesTight mini.old mini.new) }
     ensures stays_full { IsTrue F.tells → (validation : Validation) → IsChangeable validation mini.old → NoneFree (tables_in mini.old).fat → OnOk result (NoneFree (tables_in mini.new).fat) }
     ensures directory { mini.new.directory.sectors ≡ mini.old.directory.sectors }

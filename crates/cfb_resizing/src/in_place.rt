@@ -21,7 +21,7 @@ ghost use Rattle.cfb_content.specs.Contents.{IsNotChangeable, IsStreamOf, KeepsO
 ghost use Rattle.cfb_content.specs.KeptChain.{IsKeptChain};
 ghost use Rattle.cfb_content.specs.Laws.{LacksNumbersFor};
 ghost use Rattle.cfb_content.specs.Parts.{IsThereInMinis, IsThereInSectors};
-ghost use Rattle.cfb_resizing.specs.Turning.{IsPaddedAlong, KeepsAround, KeepsTablesTight, StopsOrBegun, Turns};
+ghost use Rattle.cfb_resizing.specs.Turning.{IsPaddedAlong, KeepsAround, KeepsFixedHeader, KeepsTablesTight, StopsOrBegun, Turns};
 
 use cfb_alloc::alloc::Allocator;
 use cfb_content::in_minis::{whole_mini_chain, zero_in_minis};
@@ -104,6 +104,7 @@ pub(crate) fn grow_in_sectors<F: Medium, A: Heap + Clone>(
     ensures turned { IsTrue F.tells → (validation : Validation) → IsChangeable validation mini.old → IfOk result (λ start. Turns mini.old mini.new entry size start) }
     ensures holds { IsTrue F.tells → (validation : Validation) → IsChangeable validation mini.old → OnOk result (HoldsMini validation mini.new) }
     ensures others { IsTrue F.tells → (validation : Validation) → IsChangeable validation mini.old → KeepsOthers entry mini.old mini.new }
+    ensures header { IsTrue F.tells → KeepsFixedHeader mini.old mini.new }
     ensures around { KeepsAround mini.old mini.new }
     ensures tight { OnOk result (KeepsTablesTight mini.old mini.new) }
     ensures enough { OnOk result (LacksNumbersFor mini.old entry size → ⊥) }
@@ -140,6 +141,7 @@ pub(crate) fn cut_in_sectors<F: Medium, A: Heap + Clone>(
     ensures turned { IsTrue F.tells → (validation : Validation) → IsChangeable validation mini.old → IfOk result (λ start. Turns mini.old mini.new entry size start) }
     ensures holds { IsTrue F.tells → (validation : Validation) → IsChangeable validation mini.old → OnOk result (HoldsMini validation mini.new) }
     ensures others { IsTrue F.tells → (validation : Validation) → IsChangeable validation mini.old → KeepsOthers entry mini.old mini.new }
+    ensures header { IsTrue F.tells → KeepsFixedHeader mini.old mini.new }
     ensures around { KeepsAround mini.old mini.new }
     ensures few { IfOk result (λ start. (list : List ℕ) → IsChain (tables_in mini.new).fat start list → length list ≡ rounded_up size (sector_len (version_of mini.old))) }
     ensures tight { OnOk result (KeepsTablesTight mini.old mini.new) }
@@ -230,6 +232,7 @@ pub(crate) fn grow_in_minis<F: Medium, A: Heap + Clone>(
     ensures turned { IsTrue F.tells → (validation : Validation) → IsChangeable validation mini.old → IfOk result (λ start. Turns mini.old mini.new entry size start) }
     ensures holds { IsTrue F.tells → (validation : Validation) → IsChangeable validation mini.old → OnOk result (HoldsMini validation mini.new) }
     ensures others { IsTrue F.tells → (validation : Validation) → IsChangeable validation mini.old → KeepsOthers entry mini.old mini.new }
+    ensures header { IsTrue F.tells → KeepsFixedHeader mini.old mini.new }
     ensures around { KeepsAround mini.old mini.new }
     ensures tight { OnOk result (KeepsTablesTight mini.old mini.new) }
     ensures enough { OnOk result (LacksNumbersFor mini.old entry size → ⊥) }
@@ -264,8 +267,11 @@ pub(crate) fn cut_in_minis<F: Medium, A: Heap + Clone>(
     ensures turned { IsTrue F.tells → (validation : Validation) → IsChangeable validation mini.old → IfOk result (λ start. Turns mini.old mini.new entry size start) }
     ensures holds { IsTrue F.tells → (validation : Validation) → IsChangeable validation mini.old → OnOk result (HoldsMini validation mini.new) }
     ensures others { IsTrue F.tells → (validation : Validation) → IsChangeable validation mini.old → KeepsOthers entry mini.old mini.new }
+    ensures header { IsTrue F.tells → KeepsFixedHeader mini.old mini.new }
     ensures around { KeepsAround mini.old mini.new }
     ensures empty { size ≡ 0 → IfOk result (λ start. start ≡ end_of_chain) }
+    ensures first { IfErr result (AfterMedium Unit (mini.new ≡ mini.old)) }
+    ensures takes_none { length (tables_in mini.new).fat ≡ length (tables_in mini.old).fat }
     ensures few { IfOk result (λ start. (list : List ℕ) → IsChain mini.new.minifat start list → length list ≡ rounded_up size mini_sector_len) }
     ensures tight { OnOk result (KeepsTablesTight mini.old mini.new) }
     ensures enough { (validation : Validation) → HoldsMini validation mini.old → OnOk result (LacksNumbersFor mini.old entry size → ⊥) }

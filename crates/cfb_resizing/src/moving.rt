@@ -17,13 +17,13 @@ ghost use Rattle.cfb_alloc.specs.ListedChain.{Lengthens};
 ghost use Rattle.cfb_chains.specs.ChainPlaces.{place_along};
 ghost use Rattle.cfb_mini_table.specs.MiniTable.{MiniGivesBack};
 ghost use Rattle.cfb_mini_sectors.specs.State.{HoldsMini, IsChangeable, bytes_of, mini_stream_of, table_of, tables_in, version_of};
-ghost use Rattle.cfb_mini_sectors.specs.Steps.{IsNotHeld, IsTooFewAfterFor, SparesMini, system_sectors};
+ghost use Rattle.cfb_mini_sectors.specs.Steps.{IsNotHeld, IsTooFewAfterFor, IsZeroMini, SparesMini, system_sectors};
 ghost use Rattle.cfb_mini.specs.MiniSectors.{IsStill};
 ghost use Rattle.cfb_content.specs.Contents.{IsNotChangeable, IsStreamOf, KeepsOthers, len_of, mini_place_along};
 ghost use Rattle.cfb_content.specs.KeptChain.{IsKeptChain};
 ghost use Rattle.cfb_content.specs.Laws.{LacksNumbersFor};
 ghost use Rattle.cfb_content.specs.Parts.{IsThereInMinis, IsThereInSectors, StandAlong};
-ghost use Rattle.cfb_resizing.specs.Turning.{CarriesToMinis, IsPaddedAlong, KeepsAround, KeepsTablesTight, StopsOrBegun, Turns};
+ghost use Rattle.cfb_resizing.specs.Turning.{CarriesToMinis, IsPaddedAlong, KeepsAround, KeepsFixedHeader, KeepsTablesTight, StopsOrBegun, Turns};
 
 use crate::in_place::first_number;
 use cfb_alloc::alloc::Allocator;
@@ -139,6 +139,8 @@ fn carry_to_minis<F: Medium, A: Heap>(
         → IsUnnamed (tables_in mini.old).fat (first_or_end list.now) → SparesMini [] mini.old mini.new }
     ensures around { KeepsAround mini.old mini.new }
     ensures tight { OnOk result (KeepsTablesTight mini.old mini.new) }
+    ensures first { count ≡ 0 → IfErr result (AfterMedium Unit (mini.new ≡ mini.old)) }
+    ensures takes_none { count ≡ 0 → length (tables_in mini.new).fat ≡ length (tables_in mini.old).fat }
     ensures begun { OnOk result ((table_of mini.new).file.begun ≡ true) }
     ensures refused { IfErr result (StopsOrBegun mini.old mini.new) }
     ensures unwritten { (table_of mini.new).file.begun ≡ false → bytes_of mini.new ≡ bytes_of mini.old }
@@ -189,8 +191,11 @@ pub(crate) fn move_to_minis<F: Medium, A: Heap + Clone>(
     ensures turned { IsTrue F.tells → (validation : Validation) → IsChangeable validation mini.old → IfOk result (λ start. Turns mini.old mini.new entry size start) }
     ensures holds { IsTrue F.tells → (validation : Validation) → IsChangeable validation mini.old → OnOk result (HoldsMini validation mini.new) }
     ensures others { IsTrue F.tells → (validation : Validation) → IsChangeable validation mini.old → KeepsOthers entry mini.old mini.new }
+    ensures header { IsTrue F.tells → KeepsFixedHeader mini.old mini.new }
     ensures around { KeepsAround mini.old mini.new }
     ensures empty { size ≡ 0 → IfOk result (λ start. start ≡ end_of_chain) }
+    ensures first { IsTrue F.tells → size ≡ 0 → IfErr result (AfterMedium Unit (mini.new ≡ mini.old)) }
+    ensures takes_none { size ≡ 0 → length (tables_in mini.new).fat ≡ length (tables_in mini.old).fat }
     ensures tight { OnOk result (KeepsTablesTight mini.old mini.new) }
     ensures enough { OnOk result (LacksNumbersFor mini.old entry size → ⊥) }
     ensures refused { IsTrue F.tells → IfErr result (StopsOrBegun mini.old mini.new) }
@@ -274,6 +279,9 @@ fn carry_to_sectors<F: Medium, A: Heap>(
         bytes.now (bytes_of mini.new)) }
     ensures holds { IsTrue F.tells → (validation : Validation) → HoldsMini validation mini.old
         → (0 < length list.old.items → IsUnnamed mini.old.minifat (first_or_end list.old.items)) → OnOk result (HoldsMini validation mini.new) }
+    ensures wiped { IsTrue F.tells → (validation : Validation) → HoldsMini validation mini.old
+        → (0 < length list.old.items → IsUnnamed mini.old.minifat (first_or_end list.old.items))
+        → OnOk result ((m : ℕ) → Contains list.old.items m → IsZeroMini mini.new m) }
     ensures spares { IsTrue F.tells → Spares (system_sectors mini.old) (table_of mini.old) (table_of mini.new) }
     ensures mini_spares { IsTrue F.tells → (validation : Validation) → HoldsMini validation mini.old
         → (0 < length list.old.items → IsUnnamed mini.old.minifat (first_or_end list.old.items)) → SparesMini list.old.items mini.old mini.new }
@@ -323,6 +331,7 @@ pub(crate) fn move_to_sectors<F: Medium, A: Heap + Clone>(
     ensures turned { IsTrue F.tells → (validation : Validation) → IsChangeable validation mini.old → IfOk result (λ start. Turns mini.old mini.new entry size start) }
     ensures holds { IsTrue F.tells → (validation : Validation) → IsChangeable validation mini.old → OnOk result (HoldsMini validation mini.new) }
     ensures others { IsTrue F.tells → (validation : Validation) → IsChangeable validation mini.old → KeepsOthers entry mini.old mini.new }
+    ensures header { IsTrue F.tells → KeepsFixedHeader mini.old mini.new }
     ensures around { KeepsAround mini.old mini.new }
     ensures tight { OnOk result (KeepsTablesTight mini.old mini.new) }
     ensures enough { OnOk result (LacksNumbersFor mini.old entry size → ⊥) }

@@ -5,7 +5,7 @@ ghost use Rattle.cfb_format.specs.Bytes.{end_of_chain, max_stream_len, sector_le
 ghost use Rattle.cfb_format.specs.Chain.{IsChain};
 ghost use Rattle.cfb_format.specs.Content.{mini_sector_len, mini_stream_cutoff};
 ghost use Rattle.cfb_format.specs.Full.{rounded_up};
-ghost use Rattle.cfb_format.specs.Refused.{CountsFailure, IsInvalidData};
+ghost use Rattle.cfb_format.specs.Refused.{AfterMedium, CountsFailure, IsInvalidData};
 ghost use Rattle.cfb_format.specs.Siblings.{entry_at};
 ghost use Rattle.cfb_rules.specs.StreamCalls.{resized};
 ghost use Rattle.cfb_sectors.specs.Sectors.{IsMediumError, IsRaised};
@@ -17,10 +17,10 @@ ghost use Rattle.cfb_directory.specs.Growing.{ArePlaced};
 ghost use Rattle.cfb_mini_sectors.specs.State.{HoldsMini, IsChangeable, bytes_of, content_of, entries_of, table_of, tables_in, version_of};
 ghost use Rattle.cfb_mini_sectors.specs.Steps.{KeepsLimits, KeepsMini, KeepsSystem};
 ghost use Rattle.cfb_mini.specs.MiniSectors.{IsStill};
-ghost use Rattle.cfb_content.specs.Contents.{AreAllUsed, IsNotChangeable, IsStreamOf, IsTooLongFor, KeepsOthers, MovesContent, len_of};
+ghost use Rattle.cfb_content.specs.Contents.{AreAllUsed, IsNotChangeable, IsStreamOf, IsTooLongFor, KeepsOthers, MovesContent, SizesChain, WipesMinis, len_of};
 ghost use Rattle.cfb_content.specs.KeptChain.{IsKeptChain};
 ghost use Rattle.cfb_content.specs.Laws.{LacksNumbersFor};
-ghost use Rattle.cfb_resizing.specs.Turning.{KeepsAround, KeepsTablesTight, StopsOrBegun, Turns};
+ghost use Rattle.cfb_resizing.specs.Turning.{KeepsAround, KeepsFixedHeader, KeepsTablesTight, StopsOrBegun, Turns};
 
 use crate::in_place::{cut_in_minis, cut_in_sectors, grow_in_minis, grow_in_sectors};
 use crate::moving::{move_to_minis, move_to_sectors};
@@ -41,9 +41,10 @@ pub(crate) fn unplaced(entry: u32) -> Error
 }
 
 /// Gives the stream of that entry this length: it is cut, or padded with zeros. From 4096 bytes on it lies in sectors, below in mini
-/// sectors; what it leaves is free before anything is taken, and a chain that is cut keeps no more than it needs. No growth frees a sector.
-/// An empty stream has no chain, and starts at END. The length that it has changes nothing. All memory is asked for before anything changes,
-/// and the entry's slot is written last.
+/// sectors; what it leaves is free before anything is taken, and mini sectors that it leaves are wiped. Its chain is as long as it needs to
+/// be, but one that goes on has no less than it had. No growth frees a sector. An empty stream has no chain, and starts at END: to empty it
+/// takes no sector, however that ends. The length that it has changes nothing. All memory is asked for before anything changes, and the
+/// entry's slot is written last.
 ///
 /// `Full` exactly where the sectors of the stream, of the MiniFAT and of the mini stream that it needs are more than are free or left once
 /// the chain that it moves away from is free, or the mini sectors more than there may be; `InvalidData` where the stream's chain is none
@@ -63,15 +64,22 @@ pub fn resize_content<F: Medium, A: Heap + Clone>(
     ensures none { size ≡ len_of mini.old entry → OnErr result ⊥ × (mini.new ≡ mini.old) }
     ensures entries { MovesContent mini.old mini.new entry }
     ensures empty { size ≡ 0 → 0 < len_of mini.old entry → OnOk result ((entry_at (entries_of mini.new) entry).start_sector ≡ end_of_chain) }
+    ensures first { IsTrue F.tells → size ≡ 0 → IfErr result (AfterMedium Unit (mini.new ≡ mini.old)) }
+    ensures takes_none { size ≡ 0 → length (tables_in mini.new).fat ≡ length (tables_in mini.old).fat }
     ensures few { size < len_of mini.old entry → mini_stream_cutoff ≤ size
         → OnOk result ((list : List ℕ) → IsChain (tables_in mini.new).fat (entry_at (entries_of mini.new) entry).start_sector list
         → length list ≡ rounded_up size (sector_len (version_of mini.old))) }
     ensures few_minis { size < len_of mini.old entry → len_of mini.old entry < mini_stream_cutoff
         → OnOk result ((list : List ℕ) → IsChain mini.new.minifat (entry_at (entries_of mini.new) entry).start_sector list
         → length list ≡ rounded_up size mini_sector_len) }
+    ensures sized { IsTrue F.tells → (validation : Validation) → IsChangeable validation mini.old
+        → OnOk result (SizesChain mini.old mini.new entry) }
+    ensures wiped { IsTrue F.tells → (validation : Validation) → IsChangeable validation mini.old
+        → OnOk result (WipesMinis mini.old mini.new entry) }
     ensures content { IsTrue F.tells → (validation : Validation) → IsChangeable validation mini.old
         → OnOk result (content_of mini.new (entry_at (entries_of mini.new) entry) ≡ resized (content_of mini.old (entry_at (entries_of mini.old) entry)) size) }
     ensures others { IsTrue F.tells → (validation : Validation) → IsChangeable validation mini.old → KeepsOthers entry mini.old mini.new }
+    ensures header { IsTrue F.tells → KeepsFixedHeader mini.old mini.new }
     ensures holds { IsTrue F.tells → (validation : Validation) → IsChangeable validation mini.old → OnOk result (IsChangeable validation mini.new) }
     ensures owned { IsTrue F.tells → (validation : Validation) → IsChangeable validation mini.old → AreAllUsed mini.old → OnOk result (AreAllUsed mini.new) }
     ensures exact { AreExactTables (tables_in mini.old) → OnOk result (AreExactTables (tables_in mini.new)) }
@@ -117,8 +125,11 @@ fn turn<F: Medium, A: Heap + Clone>(
     ensures turned { IsTrue F.tells → (validation : Validation) → IsChangeable validation mini.old → IfOk result (λ start. Turns mini.old mini.new entry size start) }
     ensures holds { IsTrue F.tells → (validation : Validation) → IsChangeable validation mini.old → OnOk result (HoldsMini validation mini.new) }
     ensures others { IsTrue F.tells → (validation : Validation) → IsChangeable validation mini.old → KeepsOthers entry mini.old mini.new }
+    ensures header { IsTrue F.tells → KeepsFixedHeader mini.old mini.new }
     ensures around { KeepsAround mini.old mini.new }
     ensures empty { size ≡ 0 → IfOk result (λ start. start ≡ end_of_chain) }
+    ensures first { IsTrue F.tells → size ≡ 0 → IfErr result (AfterMedium Unit (mini.new ≡ mini.old)) }
+    ensures takes_none { size ≡ 0 → length (tables_in mini.new).fat ≡ length (tables_in mini.old).fat }
     ensures few { size < len_of mini.old entry → mini_stream_cutoff ≤ size
         → IfOk result (λ start. (list : List ℕ) → IsChain (tables_in mini.new).fat start list → length list ≡ rounded_up size (sector_len (version_of mini.old))) }
     ensures few_minis { size < len_of mini.old entry → len_of mini.old entry < mini_stream_cutoff

@@ -3,9 +3,9 @@ use Rattle.std.proofs.Common.{◌≡◌, ◌⊎◌, ℕ, Bool, true, false, refl
 use Rattle.std.specs.Prelude.{⊤, Option, Some, None, MatchOption, MatchBool, IsTrue}
 use Rattle.cfb_rules.specs.Refusal.{Refusal, not_found, already_exists, invalid_input, invalid_data, medium_failed, out_of_memory, file_full, not_sound, failed_earlier, is_of_rules}
 use Rattle.cfb_rules.specs.Calls.{Call, Reply, done, flag, one_entry, entries, refused}
-use Rattle.cfb_rules.specs.Steps.{CallKind, changing, flushing, opening, opening_to_read, asking, asking_freely, kind_of}
+use Rattle.cfb_rules.specs.Steps.{CallKind, creating, emptying, changing, flushing, opening, opening_to_read, asking, asking_freely, kind_of, kind_on}
 use Rattle.cfb_rules.specs.StreamCalls.{StreamSetting, StreamCall, StreamReply, ready, got, count, offset, answered, not_done, StreamStep}
-use Rattle.cfb_rules.specs.Runs.{Setting, TreeState, Causes, BlamesOneOf, MayBlame, MayBreak, HasCause, OnFailed, FollowsRules, IsBroken, CallRuns, Work, no_work, reading, moving, writing_out, taking, resizing, work_of, CalmWorkMayBreak, PendingWorkMayBreak, WorkMayBreak, StreamRun, is_never_refused, is_served, StreamOnFailed, IsStreamBroken, StreamCallRuns, Closes}
+use Rattle.cfb_rules.specs.Runs.{Setting, TreeState, Causes, BlamesOneOf, MayBlame, MayBreak, HasCause, OnFailed, FollowsRules, IsBroken, CallRuns, Work, no_work, reading, moving, writing_out, overwriting, appending, resizing, work_of, CalmWorkMayBreak, PendingWorkMayBreak, WorkMayBreak, StreamRun, is_never_refused, is_served, StreamOnFailed, IsStreamBroken, StreamCallRuns, Closes}
 use Rattle.cfb_rules.specs.Lists.{blame_of, reply_blame, stream_reply_blame, closing_blame}
 use Rattle.cfb_rules.proofs.RuleKinds.{ReplyOfRules, Step-rules, StreamReplyOfRules, StreamStep-rules}
 
@@ -58,7 +58,9 @@ module _ (b : Bool) (causes : Causes) where
   never_so x = elim x [ ]
 
   kind_blame : (kind : CallKind) (r : Refusal) → MayBreak causes kind r → Blames b causes (blame_of (blamed_by b) r)
-  kind_blame changing r x = broken_blame b causes causes.medium ⊤ causes.full (λ m. m) (λ f. f) r x
+  kind_blame creating r x = broken_blame b causes causes.medium ⊤ causes.full (λ m. m) (λ f. f) r x
+  kind_blame emptying r x = broken_blame b causes causes.medium ⊤ ⊥ (λ m. m) never_so r x
+  kind_blame changing r x = broken_blame b causes causes.medium ⊤ ⊥ (λ m. m) never_so r x
   kind_blame flushing r x = broken_blame b causes causes.medium ⊥ ⊥ (λ m. m) never_so r x
   kind_blame opening r x = broken_blame b causes causes.medium ⊤ ⊥ (λ m. m) never_so r x
   kind_blame opening_to_read r x = broken_blame b causes ⊥ ⊤ ⊥ never_so never_so r x
@@ -73,7 +75,8 @@ module _ (b : Bool) (causes : Causes) where
   calm_blame reading r x = broken_blame b causes causes.medium ⊤ ⊥ (λ m. m) never_so r x
   calm_blame moving r x = broken_blame b causes causes.medium ⊥ ⊥ (λ m. m) never_so r x
   calm_blame writing_out r x = broken_blame b causes causes.medium ⊥ ⊥ (λ m. m) never_so r x
-  calm_blame taking r x = all_blame r x
+  calm_blame overwriting r x = broken_blame b causes causes.medium ⊤ ⊥ (λ m. m) never_so r x
+  calm_blame appending r x = all_blame r x
   calm_blame resizing r x = all_blame r x
 
   pending_blame : (work : Work) (r : Refusal) → PendingWorkMayBreak causes work r → Blames b causes (blame_of (blamed_by b) r)
@@ -81,7 +84,8 @@ module _ (b : Bool) (causes : Causes) where
   pending_blame reading r x = all_blame r x
   pending_blame moving r x = all_blame r x
   pending_blame writing_out r x = all_blame r x
-  pending_blame taking r x = all_blame r x
+  pending_blame overwriting r x = all_blame r x
+  pending_blame appending r x = all_blame r x
   pending_blame resizing r x = all_blame r x
 
   work_blame : (pending : Bool) (work : Work) (r : Refusal) → WorkMayBreak causes pending work r → Blames b causes (blame_of (blamed_by b) r)
@@ -111,6 +115,8 @@ module _ (b : Bool) (causes : Causes) where
   earlier_reply reply e = refused_reply reply failed_earlier e (caused_blame b causes failed_earlier tt)
 
   failed_reply : (kind : CallKind) (reply : Reply) (new : TreeState) → OnFailed causes kind reply new → Blames b causes (reply_blame (blamed_by b) reply)
+  failed_reply creating reply new h = earlier_reply reply h.0
+  failed_reply emptying reply new h = earlier_reply reply h.0
   failed_reply changing reply new h = earlier_reply reply h.0
   failed_reply flushing reply new h = earlier_reply reply h.0
   failed_reply opening reply new h = earlier_reply reply h.0
@@ -122,11 +128,11 @@ module _ (b : Bool) (causes : Causes) where
       → Blames b causes (reply_blame (blamed_by b) reply)
   call_blames setting old new call reply = go old.failed
     where
-      unfailed : FollowsRules setting old call reply new ⊎ IsBroken causes old call reply new → Blames b causes (reply_blame (blamed_by b) reply)
+      unfailed : FollowsRules setting old call reply new ⊎ IsBroken causes setting old call reply new → Blames b causes (reply_blame (blamed_by b) reply)
       unfailed (inl f) = rules_reply reply (Step-rules setting.cases setting.stream.sound old.root_len old.tree new.tree call reply f.step)
-      unfailed (inr x) = refused_reply reply x.0.0 x.0.2 (kind_blame (kind_of call) x.0.0 x.0.1)
+      unfailed (inr x) = refused_reply reply x.0.0 x.0.2 (kind_blame (kind_on setting.cases old.tree call) x.0.0 x.0.1)
 
-      go : (failed : Bool) → MatchBool failed (OnFailed causes (kind_of call) reply new) (FollowsRules setting old call reply new ⊎ IsBroken causes old call reply new)
+      go : (failed : Bool) → MatchBool failed (OnFailed causes (kind_of call) reply new) (FollowsRules setting old call reply new ⊎ IsBroken causes setting old call reply new)
           → Blames b causes (reply_blame (blamed_by b) reply)
       go true h = failed_reply (kind_of call) reply new h
       go false h = unfailed h

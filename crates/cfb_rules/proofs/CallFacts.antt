@@ -1,6 +1,6 @@
 -- Worked examples of calls by path.
 use Rattle.std.proofs.Common.{◌≡◌, ℕ, List, [], ◌∷◌, Bool, true, false, refl, replicate, length, map, inl, lit≤, inr}
-use Rattle.std.specs.Prelude.{codes, Option, Some, None}
+use Rattle.std.specs.Prelude.{codes, Option, Some, None, ⊤}
 use Rattle.cfb_format.specs.declared.objtype.ObjType.TheVariants.{Storage, Stream}
 use Rattle.cfb_format.specs.Names.{default_cases}
 use Rattle.cfb_format.specs.Path.{names_of_path}
@@ -13,7 +13,7 @@ use Rattle.cfb_rules.specs.CallChanges.{tree_after}
 use Rattle.cfb_rules.specs.CallReplies.{reply_of}
 use Rattle.cfb_rules.specs.StreamCalls.{StreamState, read, write, seek, set_len, read_to_end, ask_position, from_start, got, count, offset, ready, not_done}
 use Rattle.cfb_rules.specs.Runs.{Setting, TreeState}
-use Rattle.cfb_rules.specs.Lists.{FileView, IsLegal, IsLegalRun, Command, by_path, on_stream, creates_new, replied, streamed, opens, blame_in}
+use Rattle.cfb_rules.specs.Lists.{Deed, FileView, IsLegal, IsLegalRun, IsSeenAsBefore, tree_alone, Command, by_path, on_stream, creates_new, replied, streamed, opens, blame_in}
 
 abbrev run : List Call → Tree → Tree
 run [] tree = tree
@@ -197,6 +197,10 @@ commands = by_path (create_storage (codes "/s") 0)
 abbrev x_info : EntryInfo
 x_info = record { name = codes "x"; path = codes "/S/X"; obj_type = Stream; len = 1; clsid = replicate 16 0; state_bits = 0; created = 0; modified = 0 }
 
+-- between trees alone nothing lacks
+alike : {t u : Tree} → IsSeenAsBefore (tree_alone (unfailed t)) (tree_alone (unfailed u))
+alike = record { root_len = refl; full = λ x. x; no_entry = λ x. x; too_long = λ names len x. x }
+
 pub a_run : IsLegal setting (unfailed empty_tree) commands
     (replied done
     ∷ streamed (count 3 ∷ offset 1 ∷ got (codes "bc") ∷ got [] ∷ ready ∷ offset 1 ∷ got [] ∷ []) None
@@ -205,42 +209,42 @@ pub a_run : IsLegal setting (unfailed empty_tree) commands
 unfolding names_of_path
 a_run = (
   unfailed tree1,
-  record { runs = inl (record { step = (refl, refl); root_len = inl (refl, refl); unfailed = refl }); counted = lit≤ tt },
+  record { runs = inl (record { step = (refl, refl); root_len = inr refl; unfailed = refl }); stays = λ leaves calm. alike; counted = λ none. refl; kept = tt },
   (
     unfailed tree3,
     record {
       opened = unfailed tree2;
-      opening = record { runs = inl (record { step = (refl, refl); root_len = inl (refl, refl); unfailed = refl }); counted = lit≤ tt };
+      opening = record { runs = inl (record { step = (refl, refl); root_len = inr refl; unfailed = refl }); stays = λ leaves calm. alike; counted = λ none. refl; kept = tt };
       stream = at (codes "a") 1 false;
       worked = unfailed tree2;
       works = (
         at (codes "abc") 3 true,
         unfailed tree2,
-        record { runs = inl ((3, lit≤ tt, lit≤ tt, lit≤ tt, refl, record { len = refl; content = refl; position = refl; ahead = refl }), refl); counted = lit≤ tt },
+        record { runs = inl ((3, lit≤ tt, lit≤ tt, lit≤ tt, refl, record { len = refl; content = refl; position = refl; ahead = refl }), refl); stays = λ leaves calm. alike; counted = λ none. refl; kept = tt },
         (
           at (codes "abc") 1 true,
           unfailed tree2,
-          record { runs = inl ((refl, record { len = refl; content = refl; position = refl; ahead = refl; pending = λ h. h }), refl); counted = lit≤ tt },
+          record { runs = inl ((refl, record { len = refl; content = refl; position = refl; ahead = refl; pending = λ h. h }), refl); stays = λ leaves calm. alike; counted = λ none. refl; kept = tt },
           (
             at (codes "abc") 3 true,
             unfailed tree2,
-            record { runs = inl ((2, lit≤ tt, lit≤ tt, lit≤ tt, refl, record { len = refl; content = refl; position = refl; ahead = refl; pending = λ h. h }), refl); counted = lit≤ tt },
+            record { runs = inl ((2, lit≤ tt, lit≤ tt, lit≤ tt, refl, record { len = refl; content = refl; position = refl; ahead = refl; pending = λ h. h }), refl); stays = λ leaves calm. alike; counted = λ none. refl; kept = tt },
             (
               at (codes "abc") 3 true,
               unfailed tree2,
-              record { runs = inl ((refl, record { len = refl; content = refl; position = refl; ahead = refl; pending = λ h. h }), refl); counted = lit≤ tt },
+              record { runs = inl ((refl, record { len = refl; content = refl; position = refl; ahead = refl; pending = λ h. h }), refl); stays = λ leaves calm. alike; counted = λ none. refl; kept = tt },
               (
                 at (codes "a") 1 false,
                 unfailed tree2,
-                record { runs = inl ((refl, record { len = refl; content = refl; position = refl; ahead = refl; pending = λ h. cc }, refl), refl); counted = lit≤ tt },
+                record { runs = inl ((refl, record { len = refl; content = refl; position = refl; ahead = refl; pending = λ h. cc }, refl), refl); stays = λ leaves calm. alike; counted = λ none. refl; kept = tt },
                 (
                   at (codes "a") 1 false,
                   unfailed tree2,
-                  record { runs = inl ((refl, refl), refl); counted = lit≤ tt },
+                  record { runs = inl ((refl, refl), refl); stays = λ leaves calm. alike; counted = λ none. refl; kept = tt },
                   (
                     at (codes "a") 1 false,
                     unfailed tree2,
-                    record { runs = inl ((refl, record { len = refl; content = refl; position = refl; ahead = refl; pending = λ h. h }), refl); counted = lit≤ tt },
+                    record { runs = inl ((refl, record { len = refl; content = refl; position = refl; ahead = refl; pending = λ h. h }), refl); stays = λ leaves calm. alike; counted = λ none. refl; kept = tt },
                     (refl, refl),
                   ),
                 ),
@@ -249,11 +253,11 @@ a_run = (
           ),
         ),
       );
-      closes = record { closes = refl; closed = refl; counted = lit≤ tt };
+      closes = record { closes = refl; closed = refl; stays = λ leaves calm. alike; counted = λ none. refl; kept = tt };
     },
     (
       unfailed tree3,
-      record { runs = inl (record { step = (refl, refl); root_len = inr refl; unfailed = refl }); counted = lit≤ tt },
+      record { runs = inl (record { step = (refl, refl); root_len = inr refl; unfailed = refl }); stays = λ leaves calm. alike; counted = λ none. refl; kept = tt },
       refl,
     ),
   ),
@@ -267,7 +271,14 @@ pub record Watched : Type 0 where
   pub failures : ℕ
 
 abbrev seen_as : Watched → FileView
-seen_as file = record { state = file.state; failures = file.failures; full = ⊥; too_long = λ names len. ⊥ }
+seen_as file = record { state = file.state; failures = file.failures; full = ⊥; no_entry = ⊥; too_long = λ names len. ⊥ }
+
+-- and of which nothing more is promised
+abbrev anything_at_all : Watched → Deed → Watched → Type 0
+anything_at_all old deed new = ⊤
+
+unchanged : {file : Watched} → IsSeenAsBefore (seen_as file) (seen_as file)
+unchanged = record { root_len = refl; full = λ x. x; no_entry = λ x. x; too_long = λ names len x. x }
 
 abbrev calm : Watched
 calm = record { state = unfailed tree2; failures = 0 }
@@ -276,7 +287,7 @@ abbrev broken : Watched
 broken = record { state = record { tree = tree1; root_len = 64; failed = true }; failures = 1 }
 
 -- memory is refused once and nothing is changed; then the medium fails in a write, the file is failed, and what comes after is told so
-pub a_broken_run : IsLegalRun seen_as setting calm
+pub a_broken_run : IsLegalRun seen_as anything_at_all setting calm
     (by_path (create_storage (codes "/t") 0)
     ∷ on_stream opens (codes "/s/X") (write (codes "abc") ∷ ask_position ∷ read 1 ∷ [])
     ∷ by_path (remove_stream (codes "/s/x")) ∷ by_path walk ∷ [])
@@ -287,38 +298,38 @@ pub a_broken_run : IsLegalRun seen_as setting calm
 unfolding names_of_path
 a_broken_run = (
   calm,
-  record { runs = inr ((out_of_memory, tt, refl), inl (refl, refl)); counted = lit≤ tt },
+  record { runs = inr ((out_of_memory, tt, refl), inl (refl, refl)); stays = λ leaves unfailed. unchanged; counted = λ none. refl; kept = tt },
   (
     broken,
     record {
       opened = calm;
-      opening = record { runs = inl (record { step = (refl, refl); root_len = inr refl; unfailed = refl }); counted = lit≤ tt };
+      opening = record { runs = inl (record { step = (refl, refl); root_len = inr refl; unfailed = refl }); stays = λ leaves unfailed. unchanged; counted = λ none. refl; kept = tt };
       stream = at [] 0 false;
       worked = broken;
       works = (
         at [] 0 false,
         broken,
-        record { runs = inr (medium_failed, record { no_less = lit≤ tt; more = lit≤ tt }, refl, inr (refl, refl)); counted = lit≤ tt },
+        record { runs = inr (medium_failed, record { no_less = lit≤ tt; more = lit≤ tt }, refl, inr (refl, refl)); stays = λ leaves unfailed. absurd (cc); counted = λ none. absurd (cc); kept = tt },
         (
           at [] 0 false,
           broken,
-          record { runs = (refl, refl); counted = lit≤ tt },
+          record { runs = (refl, refl); stays = λ leaves unfailed. unchanged; counted = λ none. refl; kept = tt },
           (
             at [] 0 false,
             broken,
-            record { runs = (refl, refl); counted = lit≤ tt },
+            record { runs = (refl, refl); stays = λ leaves unfailed. unchanged; counted = λ none. refl; kept = tt },
             (refl, refl),
           ),
         ),
       );
-      closes = record { closes = (refl, refl); closed = tt; counted = lit≤ tt };
+      closes = record { closes = (refl, refl); closed = tt; stays = λ leaves unfailed. unchanged; counted = λ none. refl; kept = tt };
     },
     (
       broken,
-      record { runs = (refl, refl); counted = lit≤ tt },
+      record { runs = (refl, refl); stays = λ leaves unfailed. unchanged; counted = λ none. refl; kept = tt },
       (
         broken,
-        record { runs = (tt, refl); counted = lit≤ tt },
+        record { runs = (tt, refl); stays = λ leaves unfailed. unchanged; counted = λ none. refl; kept = tt },
         refl,
       ),
     ),

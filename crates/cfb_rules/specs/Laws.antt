@@ -1,5 +1,5 @@
 -- What the rules of calls promise.
-use Rattle.std.specs.Prelude.{ℕ, ◌+◌, ◌-◌, ◌^◌, ◌≡◌, ◌<◌, ◌≤◌, ◌⊎◌, List, [], ◌∷◌, Bool, true, false, Some, None, length, ⊤}
+use Rattle.std.specs.Prelude.{ℕ, ◌+◌, ◌-◌, ◌^◌, ◌≡◌, ◌≢◌, ◌<◌, ◌≤◌, ◌⊎◌, List, [], ◌∷◌, Bool, true, false, Some, None, length, ⊤}
 use Rattle.cfb_format.specs.Names.{Cases}
 use Rattle.cfb_format.specs.Path.{names_of_path}
 use Rattle.cfb_format.specs.Tree.{StorageInfo, StreamInfo, Objects, nothing, Tree, IsOrdered, Object, a_storage, a_stream}
@@ -7,10 +7,10 @@ use Rattle.cfb_rules.specs.Refusal.{Refusal, medium_failed, file_full, is_of_rul
 use Rattle.cfb_rules.specs.Calls.{Call, create_storage, create_storage_all, create_stream, create_new_stream, remove_storage, remove_storage_all, remove_stream, set_storage_clsid, set_state_bits, set_created_time, set_modified_time, touch, flush, Reply, done, refused}
 use Rattle.cfb_rules.specs.CallChanges.{new_storage, new_stream, changed_names}
 use Rattle.cfb_rules.specs.Finding.{object_at, PartWays}
-use Rattle.cfb_rules.specs.Steps.{Step, kind_of, is_changing}
+use Rattle.cfb_rules.specs.Steps.{creating, emptying, kind_on, Step}
 use Rattle.cfb_rules.specs.StreamCalls.{StreamSetting, StreamState, StreamCall, flush, StreamReply, not_done, StreamStep, IsStream}
-use Rattle.cfb_rules.specs.Runs.{Setting, TreeState, any_cause, CallRuns, StreamRun, StreamCallRuns, ClosedTree}
-use Rattle.cfb_rules.specs.Lists.{Command, CommandReply, FileView, IsLegalRun, IsLegal, blame_in}
+use Rattle.cfb_rules.specs.Runs.{Setting, TreeState, any_cause, CallRuns, appending, resizing, work_of, StreamRun, StreamCallRuns, ClosedTree}
+use Rattle.cfb_rules.specs.Lists.{Command, CommandReply, Deed, FileView, CallStep, IsLegalRun, IsLegal, blame_in}
 
 -- ---- what is answered
 
@@ -179,10 +179,15 @@ abbrev pub OnlyNamedCallsChange : Type 0
 OnlyNamedCallsChange = (cases : Cases) (sound : Bool) (root_len : ℕ) (tree tree' : Tree) (call : Call) (reply : Reply)
     → changed_names call ≡ None → Step cases sound root_len tree call reply tree' → tree' ≡ tree
 
--- the root's entry keeps its length where a call asks, opens or flushes, and where it is refused
+-- the root's entry keeps its length where a call takes no bytes away
 abbrev pub RootLenStays : Type 0
 RootLenStays = (setting : Setting) (old new : TreeState) (call : Call) (reply : Reply) → CallRuns any_cause setting old call reply new
-    → new.failed ≡ false → (is_changing (kind_of call) ≡ false) ⊎ ((refusal : Refusal) × (reply ≡ refused refusal)) → new.root_len ≡ old.root_len
+    → new.failed ≡ false → kind_on setting.cases old.tree call ≢ emptying → new.root_len ≡ old.root_len
+
+-- and where a call is refused all is as before, whatever caused it, unless the file has failed
+abbrev pub RefusedCallsKeepAll : Type 0
+RefusedCallsKeepAll = (setting : Setting) (old new : TreeState) (call : Call) (refusal : Refusal) → CallRuns any_cause setting old call (refused refusal) new
+    → new.failed ≡ false → new ≡ old
 
 -- ---- what a closed stream leaves
 
@@ -227,26 +232,48 @@ abbrev pub RefusedStreamFlushFails : Type 0
 RefusedStreamFlushFails = (setting : StreamSetting) (old new : StreamRun) (refusal : Refusal)
     → StreamCallRuns any_cause setting old flush (not_done refusal) new → new.failed ≡ true
 
-module _ {S : Type 0} (seen : S → FileView) where
+-- only a call that makes an object blames fullness, unless the file failed before
+abbrev pub OnlyCreationsAreFull : Type 0
+OnlyCreationsAreFull = (setting : Setting) (old new : TreeState) (call : Call) → CallRuns any_cause setting old call (refused file_full) new
+    → old.failed ≡ false → kind_on setting.cases old.tree call ≡ creating
+
+-- and with nothing pending, only a stream call that writes at the end or changes the length
+abbrev pub CalmWorkIsRarelyFull : Type 0
+CalmWorkIsRarelyFull = (setting : StreamSetting) (old new : StreamRun) (call : StreamCall)
+    → StreamCallRuns any_cause setting old call (not_done file_full) new → old.failed ≡ false → old.stream.pending ≡ false
+    → (work_of old.stream call ≡ appending) ⊎ (work_of old.stream call ≡ resizing)
+
+module _ {S : Type 0} (seen : S → FileView) (promised : S → Deed → S → Type 0) where
+  -- where a call blamed fullness and the file has not failed, no entry could be had before it
+  abbrev pub FullIsFoundFirst : Type 0
+  FullIsFoundFirst = (setting : Setting) (old new : S) (call : Call) → CallStep seen promised setting old call (refused file_full) new
+      → (seen old).state.failed ≡ false → (seen new).state.failed ≡ false → (seen old).no_entry
+
   -- in a list of commands no more answers blame the medium than its count of failures rose, as long as the count stays below its top
   abbrev pub MediumIsBlamedAsItFailed : Type 0
   MediumIsBlamedAsItFailed = (setting : Setting) (old new : S) (commands : List Command) (replies : List CommandReply)
-      → IsLegalRun seen setting old commands replies new → (seen new).failures < 2 ^ 64 - 1
+      → IsLegalRun seen promised setting old commands replies new → (seen new).failures < 2 ^ 64 - 1
       → (seen old).failures + blame_in medium_failed replies ≤ (seen new).failures
 
   -- so where it never rises no answer does
   abbrev pub CalmMediumIsNotBlamed : Type 0
   CalmMediumIsNotBlamed = (setting : Setting) (old new : S) (commands : List Command) (replies : List CommandReply)
-      → IsLegalRun seen setting old commands replies new → (seen new).failures < 2 ^ 64 - 1 → (seen new).failures ≡ (seen old).failures
+      → IsLegalRun seen promised setting old commands replies new → (seen new).failures < 2 ^ 64 - 1 → (seen new).failures ≡ (seen old).failures
       → blame_in medium_failed replies ≡ 0
 
-  -- where no file is full and no length too long, none blames fullness
+  -- and where none does it never rose
+  abbrev pub UnblamedMediumIsCalm : Type 0
+  UnblamedMediumIsCalm = (setting : Setting) (old new : S) (commands : List Command) (replies : List CommandReply)
+      → IsLegalRun seen promised setting old commands replies new → blame_in medium_failed replies ≡ 0 → (seen new).failures ≡ (seen old).failures
+
+  -- where no file is full, an entry can be had and no length is too long, none blames fullness
   abbrev pub RoomIsNotBlamed : Type 0
   RoomIsNotBlamed = (setting : Setting) (old new : S) (commands : List Command) (replies : List CommandReply)
-      → ((file : S) → (seen file).full → ⊥) → ((file : S) (names : List (List ℕ)) (len : ℕ) → (seen file).too_long names len → ⊥)
-      → IsLegalRun seen setting old commands replies new → blame_in file_full replies ≡ 0
+      → ((file : S) → (seen file).full → ⊥) → ((file : S) → (seen file).no_entry → ⊥)
+      → ((file : S) (names : List (List ℕ)) (len : ℕ) → (seen file).too_long names len → ⊥)
+      → IsLegalRun seen promised setting old commands replies new → blame_in file_full replies ≡ 0
 
   -- what a list of commands answers and makes of a file is legal of its tree
   abbrev pub TreesOfRunsAreLegal : Type 0
   TreesOfRunsAreLegal = (setting : Setting) (old new : S) (commands : List Command) (replies : List CommandReply)
-      → IsLegalRun seen setting old commands replies new → IsLegal setting (seen old).state commands replies (seen new).state
+      → IsLegalRun seen promised setting old commands replies new → IsLegal setting (seen old).state commands replies (seen new).state

@@ -1,11 +1,11 @@
 -- Calls with refusals by the medium, by memory and by fullness, and with the failed state.
-use Rattle.std.specs.Prelude.{ℕ, ◌≡◌, ◌⊎◌, List, [], Bool, true, false, MatchBool, MatchOption, IsTrue, Option, Some, length, option_and_then, unwrap_or, if◌then◌else◌, ◌==◌, ⊤}
+use Rattle.std.specs.Prelude.{ℕ, ◌≡◌, ◌⊎◌, List, [], Bool, true, false, MatchBool, MatchOption, IsTrue, Option, Some, length, nat_lt, option_and_then, unwrap_or, if◌then◌else◌, ◌==◌, ⊤}
 use Rattle.cfb_format.specs.Names.{Cases}
 use Rattle.cfb_format.specs.Path.{names_of_path}
 use Rattle.cfb_format.specs.Tree.{StreamInfo, Tree, Object, a_storage, a_stream}
 use Rattle.cfb_rules.specs.Refusal.{Refusal, not_found, already_exists, invalid_input, invalid_data, medium_failed, out_of_memory, file_full, not_sound, failed_earlier}
 use Rattle.cfb_rules.specs.Calls.{Call, Reply, done, flag, one_entry, entries, refused}
-use Rattle.cfb_rules.specs.Steps.{CallKind, changing, flushing, opening, opening_to_read, asking, asking_freely, kind_of, is_changing, Step}
+use Rattle.cfb_rules.specs.Steps.{CallKind, creating, emptying, changing, flushing, opening, opening_to_read, asking, asking_freely, kind_of, kind_on, Step}
 use Rattle.cfb_rules.specs.Finding.{object_at}
 use Rattle.cfb_rules.specs.CallChanges.{new_stream, content_changed_at}
 use Rattle.cfb_rules.specs.StreamCalls.{StreamSetting, StreamState, StreamCall, read, fill_buf, consume, read_to_end, write, seek, set_len, flush, ask_len, ask_position, ask_is_empty, StreamReply, ready, got, count, offset, answered, not_done, StreamStep, opened}
@@ -56,9 +56,11 @@ MayBlame causes out_of_memory = ⊤
 MayBlame causes not_sound = ⊤
 MayBlame causes failed_earlier = ⊤
 
--- which of them a call by path can answer
+-- which of them a call by path can answer: only one that makes an object needs a number
 abbrev pub MayBreak : Causes → CallKind → Refusal → Type 0
-MayBreak causes changing refusal = BlamesOneOf causes.medium ⊤ causes.full refusal
+MayBreak causes creating refusal = BlamesOneOf causes.medium ⊤ causes.full refusal
+MayBreak causes emptying refusal = BlamesOneOf causes.medium ⊤ ⊥ refusal
+MayBreak causes changing refusal = BlamesOneOf causes.medium ⊤ ⊥ refusal
 MayBreak causes flushing refusal = BlamesOneOf causes.medium ⊥ ⊥ refusal
 MayBreak causes opening refusal = BlamesOneOf causes.medium ⊤ ⊥ refusal
 MayBreak causes opening_to_read refusal = BlamesOneOf ⊥ ⊤ ⊥ refusal
@@ -67,6 +69,8 @@ MayBreak causes asking_freely refusal = BlamesOneOf ⊥ ⊥ ⊥ refusal
 
 -- only calls that write can leave the file failed, where they broke off
 abbrev pub may_fail : CallKind → Bool
+may_fail creating = true
+may_fail emptying = true
 may_fail changing = true
 may_fail flushing = true
 may_fail opening = false
@@ -76,6 +80,8 @@ may_fail asking_freely = false
 
 -- only a refused flush always leaves the file failed
 abbrev pub may_stay : CallKind → Bool
+may_stay creating = true
+may_stay emptying = true
 may_stay changing = true
 may_stay flushing = false
 may_stay opening = true
@@ -99,6 +105,8 @@ HasCause causes (refused refusal) = MayBlame causes refusal
 
 -- on a failed file queries answer anything, but they blame nothing without cause
 abbrev pub OnFailed : Causes → CallKind → Reply → TreeState → Type 0
+OnFailed causes creating reply new = (reply ≡ refused failed_earlier) × (new.failed ≡ true)
+OnFailed causes emptying reply new = (reply ≡ refused failed_earlier) × (new.failed ≡ true)
 OnFailed causes changing reply new = (reply ≡ refused failed_earlier) × (new.failed ≡ true)
 OnFailed causes flushing reply new = (reply ≡ refused failed_earlier) × (new.failed ≡ true)
 OnFailed causes opening reply new = (reply ≡ refused failed_earlier) × (new.failed ≡ true)
@@ -106,32 +114,33 @@ OnFailed causes opening_to_read reply new = (reply ≡ refused failed_earlier) �
 OnFailed causes asking reply new = HasCause causes reply × (new.failed ≡ true)
 OnFailed causes asking_freely reply new = HasCause causes reply × (new.failed ≡ true)
 
--- only a change that was done gives the root's entry another length
-abbrev pub KeepsRootLen : TreeState → Call → Reply → TreeState → Type 0
-KeepsRootLen old call reply new = (IsTrue (is_changing (kind_of call)) × (reply ≡ done)) ⊎ (new.root_len ≡ old.root_len)
+-- only a call that takes bytes away and was done gives the root's entry another length
+abbrev pub KeepsRootLen : CallKind → TreeState → Reply → TreeState → Type 0
+KeepsRootLen kind old reply new = ((kind ≡ emptying) × (reply ≡ done)) ⊎ (new.root_len ≡ old.root_len)
 
 -- the rules are followed
 pub record FollowsRules (setting : Setting) (old : TreeState) (call : Call) (reply : Reply) (new : TreeState) : Type 0 where
   pub step : Step setting.cases setting.stream.sound old.root_len old.tree call reply new.tree
-  pub root_len : KeepsRootLen old call reply new
+  pub root_len : KeepsRootLen (kind_on setting.cases old.tree call) old reply new
   pub unfailed : new.failed ≡ false
 
 -- it broke off
-abbrev pub IsBroken : Causes → TreeState → Call → Reply → TreeState → Type 0
-IsBroken causes old call reply new =
-    ((refusal : Refusal) × MayBreak causes (kind_of call) refusal × (reply ≡ refused refusal)) × CallBreaksOff (kind_of call) old new
+abbrev pub IsBroken : Causes → Setting → TreeState → Call → Reply → TreeState → Type 0
+IsBroken causes setting old call reply new =
+    ((refusal : Refusal) × MayBreak causes (kind_on setting.cases old.tree call) refusal × (reply ≡ refused refusal)) × CallBreaksOff (kind_of call) old new
 
 -- one call by path
 abbrev pub CallRuns : Causes → Setting → TreeState → Call → Reply → TreeState → Type 0
 CallRuns causes setting old call reply new = MatchBool old.failed
     (OnFailed causes (kind_of call) reply new)
-    (FollowsRules setting old call reply new ⊎ IsBroken causes old call reply new)
+    (FollowsRules setting old call reply new ⊎ IsBroken causes setting old call reply new)
 
 -- ---- calls on a stream
 
--- what a call does beside the list: nothing; it reads; it moves the position; it writes out what is pending; it takes bytes; it changes the length
+-- what a call does beside the list: nothing; it reads; it moves the position; it writes out what is pending; it takes bytes, over others or at
+-- the end; it changes the length
 pub data Work : Type 0 where
-  no_work reading moving writing_out taking resizing : Work
+  no_work reading moving writing_out overwriting appending resizing : Work
 
 -- a write of no byte and a change to the present length do nothing
 abbrev pub work_of : StreamState → StreamCall → Work
@@ -139,7 +148,7 @@ work_of old (read wanted) = reading
 work_of old fill_buf = reading
 work_of old (consume amount) = no_work
 work_of old read_to_end = reading
-work_of old (write bytes) = if length bytes == 0 then no_work else taking
+work_of old (write bytes) = if length bytes == 0 then no_work else if nat_lt old.position old.len then overwriting else appending
 work_of old (seek whence) = moving
 work_of old (set_len len) = if len == old.len then no_work else resizing
 work_of old flush = writing_out
@@ -147,13 +156,14 @@ work_of old ask_len = no_work
 work_of old ask_position = no_work
 work_of old ask_is_empty = no_work
 
--- with nothing pending: only bytes that are taken and a change of the length need numbers; neither moving nor flushing needs memory
+-- with nothing pending: only bytes at the end and a change of the length need numbers; neither moving nor flushing needs memory
 abbrev pub CalmWorkMayBreak : Causes → Work → Refusal → Type 0
 CalmWorkMayBreak causes no_work refusal = ⊥
 CalmWorkMayBreak causes reading refusal = BlamesOneOf causes.medium ⊤ ⊥ refusal
 CalmWorkMayBreak causes moving refusal = BlamesOneOf causes.medium ⊥ ⊥ refusal
 CalmWorkMayBreak causes writing_out refusal = BlamesOneOf causes.medium ⊥ ⊥ refusal
-CalmWorkMayBreak causes taking refusal = BlamesOneOf causes.medium ⊤ causes.full refusal
+CalmWorkMayBreak causes overwriting refusal = BlamesOneOf causes.medium ⊤ ⊥ refusal
+CalmWorkMayBreak causes appending refusal = BlamesOneOf causes.medium ⊤ causes.full refusal
 CalmWorkMayBreak causes resizing refusal = BlamesOneOf causes.medium ⊤ causes.full refusal
 
 -- pending bytes may have to be written out first, which can be refused by all three
@@ -162,7 +172,8 @@ PendingWorkMayBreak causes no_work refusal = ⊥
 PendingWorkMayBreak causes reading refusal = BlamesOneOf causes.medium ⊤ causes.full refusal
 PendingWorkMayBreak causes moving refusal = BlamesOneOf causes.medium ⊤ causes.full refusal
 PendingWorkMayBreak causes writing_out refusal = BlamesOneOf causes.medium ⊤ causes.full refusal
-PendingWorkMayBreak causes taking refusal = BlamesOneOf causes.medium ⊤ causes.full refusal
+PendingWorkMayBreak causes overwriting refusal = BlamesOneOf causes.medium ⊤ causes.full refusal
+PendingWorkMayBreak causes appending refusal = BlamesOneOf causes.medium ⊤ causes.full refusal
 PendingWorkMayBreak causes resizing refusal = BlamesOneOf causes.medium ⊤ causes.full refusal
 
 -- which refusals beside the rules a call on a stream can answer
@@ -177,7 +188,8 @@ CalmStaysUnfailed no_work = ⊤
 CalmStaysUnfailed reading = ⊤
 CalmStaysUnfailed moving = ⊤
 CalmStaysUnfailed writing_out = ⊥
-CalmStaysUnfailed taking = ⊤
+CalmStaysUnfailed overwriting = ⊤
+CalmStaysUnfailed appending = ⊤
 CalmStaysUnfailed resizing = ⊤
 
 -- with bytes pending, only where the buffer couldn't grow, and where a length was too long or needed too much memory before anything was written
@@ -186,7 +198,8 @@ PendingStaysUnfailed no_work refusal = ⊥
 PendingStaysUnfailed reading refusal = refusal ≡ out_of_memory
 PendingStaysUnfailed moving refusal = ⊥
 PendingStaysUnfailed writing_out refusal = ⊥
-PendingStaysUnfailed taking refusal = refusal ≡ out_of_memory
+PendingStaysUnfailed overwriting refusal = refusal ≡ out_of_memory
+PendingStaysUnfailed appending refusal = refusal ≡ out_of_memory
 PendingStaysUnfailed resizing refusal = (refusal ≡ out_of_memory) ⊎ (refusal ≡ file_full)
 
 -- whether a refused call can leave the file unfailed
@@ -199,7 +212,8 @@ may_leave_failed pending no_work = false
 may_leave_failed pending reading = pending
 may_leave_failed pending moving = pending
 may_leave_failed pending writing_out = true
-may_leave_failed pending taking = true
+may_leave_failed pending overwriting = true
+may_leave_failed pending appending = true
 may_leave_failed pending resizing = true
 
 -- a stream while it is open, and whether the file has failed meanwhile

@@ -1,29 +1,31 @@
 -- A call by path: its reply and the tree after it.
-use Rattle.std.specs.Prelude.{ℕ, ◌≡◌, Bool, true, false, Option, Some, None, MatchOption, if◌then◌else◌}
+use Rattle.std.specs.Prelude.{ℕ, ◌≡◌, List, Bool, true, false, Option, Some, None, MatchOption, is_some, option_and_then, if◌then◌else◌}
 use Rattle.std.specs.Option.{option_map_or}
 use Rattle.cfb_format.specs.Names.{Cases}
+use Rattle.cfb_format.specs.Path.{names_of_path}
 use Rattle.cfb_rules.specs.Refusal.{Refusal, not_sound}
 use Rattle.cfb_format.specs.Tree.{Tree}
 use Rattle.cfb_rules.specs.Calls.{Call, Reply, create_storage, create_storage_all, create_stream, create_new_stream, open_stream, open_read_stream, remove_storage, remove_storage_all, remove_stream, set_storage_clsid, set_state_bits, set_created_time, set_modified_time, touch, flush, exists, is_stream, is_storage, root_entry, read_root_storage, walk, entry, read_storage, walk_storage, refused}
+use Rattle.cfb_rules.specs.Finding.{object_at}
 use Rattle.cfb_rules.specs.CallRefusals.{unless, refusal_of}
 use Rattle.cfb_rules.specs.CallChanges.{tree_after}
 use Rattle.cfb_rules.specs.CallReplies.{reply_of}
 
--- what kind of call it is: it changes the file; it writes out; it opens a stream, or one to read alone; it looks and may need memory; it looks
--- and needs none
+-- what kind of call it is: it makes an object; it takes bytes of streams away; it changes the file otherwise; it writes out; it opens a stream,
+-- or one to read alone; it looks and may need memory; it looks and needs none
 pub data CallKind : Type 0 where
-  changing flushing opening opening_to_read asking asking_freely : CallKind
+  creating emptying changing flushing opening opening_to_read asking asking_freely : CallKind
 
 abbrev pub kind_of : Call → CallKind
-kind_of (create_storage path moment) = changing
-kind_of (create_storage_all path moment) = changing
-kind_of (create_stream path) = changing
-kind_of (create_new_stream path) = changing
+kind_of (create_storage path moment) = creating
+kind_of (create_storage_all path moment) = creating
+kind_of (create_stream path) = creating
+kind_of (create_new_stream path) = creating
 kind_of (open_stream path) = opening
 kind_of (open_read_stream path) = opening_to_read
 kind_of (remove_storage path) = changing
-kind_of (remove_storage_all path) = changing
-kind_of (remove_stream path) = changing
+kind_of (remove_storage_all path) = emptying
+kind_of (remove_stream path) = emptying
 kind_of (set_storage_clsid path clsid) = changing
 kind_of (set_state_bits path bits) = changing
 kind_of (set_created_time path moment) = changing
@@ -40,8 +42,20 @@ kind_of (entry path) = asking
 kind_of (read_storage path) = asking
 kind_of (walk_storage path) = asking
 
--- only changing calls are refused for want of soundness
+-- whether something stands at this path
+abbrev pub is_there : Cases → Tree → List ℕ → Bool
+is_there cases tree path = is_some (option_and_then (object_at cases tree) (names_of_path path))
+
+-- the same in a file that has this tree: of what is there `create_stream` takes the bytes away, and `create_storage_all` makes nothing
+abbrev pub kind_on : Cases → Tree → Call → CallKind
+kind_on cases tree (create_stream path) = if is_there cases tree path then emptying else creating
+kind_on cases tree (create_storage_all path moment) = if is_there cases tree path then changing else creating
+kind_on cases tree call = kind_of call
+
+-- only calls that change the file are refused for want of soundness
 abbrev pub is_changing : CallKind → Bool
+is_changing creating = true
+is_changing emptying = true
 is_changing changing = true
 is_changing flushing = false
 is_changing opening = false

@@ -1,10 +1,10 @@
 //! What the rules of calls promise. None of these functions does anything: each has a law as its
 //! contract.
-ghost use Rattle.cfb_rules.specs.Lists.{FileView};
+ghost use Rattle.cfb_rules.specs.Lists.{Deed, FileView};
 ghost use Rattle.cfb_rules.specs.Laws.{RefusedCallsChangeNothing, RulesRefuseByTheirKinds, SomeReplyFits, OneReplyFits, RefusedStreamCallsChangeNothing, StreamRulesRefuseByTheirKinds, SomeStreamReplyFits, StreamsKeepTheirBounds};
 ghost use Rattle.cfb_rules.specs.Laws.{CreatedStreamIsFound, EmptiedStreamIsFound, CreatedStorageIsFound, AddedStorageIsFound, ClsidIsSet, StateBitsAreSet, CreatedTimeIsSet, ModifiedTimeIsSet, TouchedTimeIsSet, RootIsNotTouched};
-ghost use Rattle.cfb_rules.specs.Laws.{RemovedStorageIsGone, RemovedStreamIsGone, RemovedAllIsGone, RootIsEmptied, CallsKeepOrder, OthersAreFoundAsBefore, OnlyNamedCallsChange, RootLenStays};
-ghost use Rattle.cfb_rules.specs.Laws.{ClosedStreamIsFound, UnsoundFilesStay, ClosingSparesOthers, ClosingKeepsOrder, RefusedFlushFails, RefusedStreamFlushFails, MediumIsBlamedAsItFailed, CalmMediumIsNotBlamed, RoomIsNotBlamed, TreesOfRunsAreLegal};
+ghost use Rattle.cfb_rules.specs.Laws.{RemovedStorageIsGone, RemovedStreamIsGone, RemovedAllIsGone, RootIsEmptied, CallsKeepOrder, OthersAreFoundAsBefore, OnlyNamedCallsChange, RefusedCallsKeepAll, RootLenStays};
+ghost use Rattle.cfb_rules.specs.Laws.{ClosedStreamIsFound, UnsoundFilesStay, ClosingSparesOthers, ClosingKeepsOrder, RefusedFlushFails, RefusedStreamFlushFails, OnlyCreationsAreFull, CalmWorkIsRarelyFull, FullIsFoundFirst, MediumIsBlamedAsItFailed, CalmMediumIsNotBlamed, UnblamedMediumIsCalm, RoomIsNotBlamed, TreesOfRunsAreLegal};
 
 /// A refused call changes nothing.
 pub fn refused_calls_change_nothing()
@@ -52,12 +52,13 @@ pub fn removed_objects_are_gone()
     ensures root { RootIsEmptied }
 {}
 
-/// A call changes nothing of what stands at other names than its own, and the length of the root's
-/// entry stays where nothing changes.
+/// A call changes nothing of what stands at other names than its own, the length of the root's entry
+/// stays where no bytes are taken away, and after a refusal all is as before or the file has failed.
 pub fn others_stay()
     ensures found { OthersAreFoundAsBefore }
     ensures unnamed { OnlyNamedCallsChange }
     ensures root_len { RootLenStays }
+    ensures refused { RefusedCallsKeepAll }
 {}
 
 /// A stream of a sound file that was closed has its list, and nothing else has changed.
@@ -84,19 +85,32 @@ pub fn refused_flushes_fail()
     ensures on_stream { RefusedStreamFlushFails }
 {}
 
-/// The states of a file in a list of commands, of any kind, as the rules see them. For laws alone.
+/// Fullness is blamed by calls alone that need a number: by path those that make an object, and on a
+/// stream with nothing pending those that write at its end or change its length.
+pub fn few_calls_need_numbers()
+    ensures by_path { OnlyCreationsAreFull }
+    ensures on_stream { CalmWorkIsRarelyFull }
+{}
+
+/// The states of a file in a list of commands, of any kind: what the rules see of them, and what the
+/// calls of such a file promise beside the rules. For laws alone.
 pub trait Seen {
     ghost seen: { Self → FileView };
+
+    ghost promised: { Self → Deed → Self → Type 0 };
 }
 
-/// In a list of commands each refusal that blames the medium or the tables has its cause.
+/// In a list of commands each refusal that blames the medium or the tables has its cause, and no
+/// failure of the medium is hidden.
 pub fn refusals_have_causes<S: Seen>()
-    ensures counted { MediumIsBlamedAsItFailed S.seen }
-    ensures calm { CalmMediumIsNotBlamed S.seen }
-    ensures room { RoomIsNotBlamed S.seen }
+    ensures first { FullIsFoundFirst S.seen S.promised }
+    ensures counted { MediumIsBlamedAsItFailed S.seen S.promised }
+    ensures calm { CalmMediumIsNotBlamed S.seen S.promised }
+    ensures unblamed { UnblamedMediumIsCalm S.seen S.promised }
+    ensures room { RoomIsNotBlamed S.seen S.promised }
 {}
 
 /// What a list of commands makes of a file is legal of its tree.
 pub fn runs_are_legal<S: Seen>()
-    ensures { TreesOfRunsAreLegal S.seen }
+    ensures { TreesOfRunsAreLegal S.seen S.promised }
 {}

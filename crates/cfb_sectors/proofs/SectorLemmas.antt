@@ -5,11 +5,11 @@ use Rattle.cfb_format.specs.Bytes.{sector_len, sector_start, word_at}
 use Rattle.cfb_format.specs.Medium.{ChangesOnlyBytes}
 use Rattle.cfb_format.specs.declared.version.Version.{Version}
 use Rattle.cfb_format.specs.declared.version.Version.TheVariants.{V3, V4}
-use Rattle.cfb_sectors.specs.Words.{Apart, Stays}
+use Rattle.cfb_sectors.specs.Words.{Apart, RangeStays}
 use Rattle.cfb_sectors.specs.Sectors.{SectorStays}
 use Rattle.cfb_sectors.proofs.WordLemmas.{word_stays}
 
-pub Stays_apart : (at n from to : ℕ) (a b : List ℕ) → ChangesOnlyBytes at n a b → (at < to → at + n ≤ from) → Stays from to a b
+pub Stays_apart : (at n from to : ℕ) (a b : List ℕ) → ChangesOnlyBytes at n a b → (at < to → at + n ≤ from) → RangeStays from to a b
 Stays_apart at n from to a b change apart =
     record {
       no_shorter = change.no_shorter;
@@ -20,10 +20,10 @@ Stays_apart at n from to a b change apart =
           ];
     }
 
-pub Stays_refl : (from to : ℕ) (a : List ℕ) → Stays from to a a
+pub Stays_refl : (from to : ℕ) (a : List ℕ) → RangeStays from to a a
 Stays_refl from to a = record { no_shorter = omega arith; each = λ i _ _ _. refl }
 
-pub Stays_trans : (from to : ℕ) (a b c : List ℕ) → Stays from to a b → Stays from to b c → Stays from to a c
+pub Stays_trans : (from to : ℕ) (a b c : List ℕ) → RangeStays from to a b → RangeStays from to b c → RangeStays from to a c
 Stays_trans from to a b c first second =
     let longer = first.no_shorter in
     record {

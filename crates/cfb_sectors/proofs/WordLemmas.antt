@@ -6,7 +6,7 @@ use Rattle.std.proofs.lemmas.Bool.{cases_lt}
 use Rattle.cfb_format.specs.Bytes.{word_at}
 use Rattle.cfb_format.specs.Medium.{part, written, ChangesOnlyBytes}
 use Rattle.cfb_format.proofs.ByteLemmas.{written_at, written_below, written_above, length-written}
-use Rattle.cfb_sectors.specs.Words.{Apart, with_word, Stays}
+use Rattle.cfb_sectors.specs.Words.{Apart, with_word, RangeStays}
 
 abbrev four : ℕ → ℕ → ℕ → ℕ → ℕ
 four a b c d = byte_worth 0 a + byte_worth 1 b + byte_worth 2 c + byte_worth 3 d
@@ -54,7 +54,7 @@ unfolding with_word
 length-with_word b at v = length-written b at (to_le_bytes w32 v)
 
 -- a word in a stretch that stays
-pub word_stays : (from to p : ℕ) (a b : List ℕ) → Stays from to a b → from ≤ p → p + 4 ≤ to → p + 4 ≤ length a → word_at b p ≡ word_at a p
+pub word_stays : (from to p : ℕ) (a b : List ℕ) → RangeStays from to a b → from ≤ p → p + 4 ≤ to → p + 4 ≤ length a → word_at b p ≡ word_at a p
 word_stays from to p a b stays low high within = word_same a b p (λ k small. stays.each (p + k) (omega arith) (omega arith) (omega arith))
 
 -- what a reader of words needs

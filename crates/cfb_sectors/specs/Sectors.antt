@@ -5,7 +5,7 @@ use Rattle.cfb_format.specs.DirectoryEntry.{entry_bytes, unallocated_entry}
 use Rattle.cfb_format.specs.Refused.{number_of}
 use Rattle.cfb_format.specs.declared.error.Error.{Error}
 use Rattle.cfb_format.specs.declared.version.Version.{Version}
-use Rattle.cfb_sectors.specs.Words.{Apart, Stays}
+use Rattle.cfb_sectors.specs.Words.{Apart, RangeStays}
 use Rattle.cfb_sectors.specs.declared.sector.SectorInit.{SectorInit}
 use Rattle.cfb_sectors.specs.declared.sector.SectorInit.TheVariants.{Zero, Fat, Difat, Dir}
 
@@ -44,7 +44,7 @@ IsRaised wrote old new = (old.begun ≡ true → new.begun ≡ true) × (wrote �
 
 -- the bytes of sector i are as before
 unfoldable pub SectorStays : Version → ℕ → List ℕ → List ℕ → Type 0
-SectorStays version i old new = Stays (sector_start version i) (sector_start version (i + 1)) old new
+SectorStays version i old new = RangeStays (sector_start version i) (sector_start version (i + 1)) old new
 
 -- every sector that lies apart from n bytes at a place is as before
 abbrev pub OtherSectorsStay : Version → ℕ → ℕ → List ℕ → List ℕ → Type 0

@@ -17,6 +17,6 @@ abbrev pub OtherWordsStay : ℕ → ℕ → List ℕ → List ℕ → Type 0
 OtherWordsStay at n old new = (p : ℕ) → p + 4 ≤ length old → Apart p 4 at n → word_at new p ≡ word_at old p
 
 -- what stood between two places is as before, and no byte is lost
-pub record Stays (from to : ℕ) (old new : List ℕ) : Type 0 where
+pub record RangeStays (from to : ℕ) (old new : List ℕ) : Type 0 where
   pub no_shorter : length old ≤ length new
   pub each : (i : ℕ) → i < length old → from ≤ i → i < to → slice_index new i ≡ slice_index old i

@@ -42,7 +42,8 @@ impl<F: ReadMedium> Model for Sectors<F> {
       begun = s.begun;
     } };
 
-    ghost invariant = { λ s. (sector_len s.version ≤ s.len) × (s.len ≤ sector_start s.version s.num_sectors)
+    ghost invariant = { λ s. (sector_len s.version ≤ s.len)
+        × (s.len ≤ sector_start s.version s.num_sectors)
         × (s.num_sectors ≤ 0xFFFFFFFA) × (IsTrue F.tells → s.len ≤ length (F.bytes s.medium)) };
 }
 
@@ -167,7 +168,8 @@ impl<F: ReadMedium> Sectors<F> {
     /// Counts a sector as there, if it is not yet.
     fn count_in(&mut self, sector: u32)
         requires { sector < 0xFFFFFFFA }
-        ensures { self.new ≡ record self.old { num_sectors = max self.old.num_sectors (sector + 1) } }
+        ensures { self.new
+            ≡ record self.old { num_sectors = max self.old.num_sectors (sector + 1) } }
     {
         self.num_sectors = self.num_sectors.max(sector + 1);
     }
@@ -191,8 +193,10 @@ impl<F: ReadMedium> Sectors<F> {
     /// The place of a sector's byte in the file, if it and `len` bytes more lie in sectors.
     fn place_of(&self, sector: u32, offset: usize, len: usize) -> Result<u64, Error>
         requires { offset ≤ sector_len self.now.version }
-        ensures ok { IfOk result (λ at. (at ≡ place_in_sector self.now sector offset) × (at + len ≤ sectors_end self.now)) }
-        ensures past { IfErr result (λ e. IsInvalidData e × (sectors_end self.now < place_in_sector self.now sector offset + len)) }
+        ensures ok { IfOk result (λ at. (at ≡ place_in_sector self.now sector offset)
+            × (at + len ≤ sectors_end self.now)) }
+        ensures past { IfErr result (λ e. IsInvalidData e
+            × (sectors_end self.now < place_in_sector self.now sector offset + len)) }
     {
         let at = self.place(sector, offset);
         let end = self.end();
@@ -204,14 +208,17 @@ impl<F: ReadMedium> Sectors<F> {
 
     /// Reads what is there of the bytes from `at` on, as far as `into` has room.
     pub fn read_at(&mut self, at: u64, into: &mut [u8]) -> Result<usize, Error>
-        ensures kept { self.new ≡ record self.old { bytes = self.new.bytes; failures = self.new.failures } }
+        ensures kept { self.new
+            ≡ record self.old { bytes = self.new.bytes; failures = self.new.failures } }
         ensures count { IfOk result (λ n. n ≡ min (length into.old) (self.old.len - at)) }
-        ensures ok { IsTrue F.tells → IfOk result (λ n. take n into.new ≡ part self.old.bytes at n) }
+        ensures ok { IsTrue F.tells
+            → IfOk result (λ n. take n into.new ≡ part self.old.bytes at n) }
         ensures rest { IfOk result (λ n. drop n into.new ≡ drop n into.old) }
         ensures err { IfErr result IsMediumError }
         ensures same { IsTrue F.tells → OnOk result (self.new ≡ self.old) }
         ensures bytes { IsTrue F.tells → self.new.bytes ≡ self.old.bytes }
-        ensures counts { IsTrue F.tells → CountsFailure F.read_faults result self.old.failures self.new.failures }
+        ensures counts { IsTrue F.tells
+            → CountsFailure F.read_faults result self.old.failures self.new.failures }
     {
         let there = self.len.saturating_sub(at);
         let count = (into.len() as u64).min(there) as usize;
@@ -234,15 +241,21 @@ impl<F: ReadMedium> Sectors<F> {
         into: &mut [u8],
     ) -> Result<usize, Error>
         requires { offset ≤ sector_len self.old.version }
-        ensures kept { self.new ≡ record self.old { bytes = self.new.bytes; failures = self.new.failures } }
-        ensures count { IfOk result (λ n. n ≡ min (length into.old) (self.old.len - place_in_sector self.old sector offset)) }
-        ensures ok { IsTrue F.tells → IfOk result (λ n. take n into.new ≡ part self.old.bytes (place_in_sector self.old sector offset) n) }
+        ensures kept { self.new
+            ≡ record self.old { bytes = self.new.bytes; failures = self.new.failures } }
+        ensures count { IfOk result (λ n. n
+            ≡ min (length into.old) (self.old.len - place_in_sector self.old sector offset)) }
+        ensures ok { IsTrue F.tells → IfOk result (λ n. take n into.new
+            ≡ part self.old.bytes (place_in_sector self.old sector offset) n) }
         ensures rest { IfOk result (λ n. drop n into.new ≡ drop n into.old) }
-        ensures past { sectors_end self.old < place_in_sector self.old sector offset + length into.old → IsErrAnd result IsInvalidData × (self.new ≡ self.old) }
-        ensures inside { place_in_sector self.old sector offset + length into.old ≤ sectors_end self.old → IfErr result IsMediumError }
+        ensures past { sectors_end self.old < place_in_sector self.old sector offset
+            + length into.old → IsErrAnd result IsInvalidData × (self.new ≡ self.old) }
+        ensures inside { place_in_sector self.old sector offset + length into.old
+            ≤ sectors_end self.old → IfErr result IsMediumError }
         ensures same { IsTrue F.tells → OnOk result (self.new ≡ self.old) }
         ensures bytes { IsTrue F.tells → self.new.bytes ≡ self.old.bytes }
-        ensures counts { IsTrue F.tells → CountsFailure F.read_faults result self.old.failures self.new.failures }
+        ensures counts { IsTrue F.tells
+            → CountsFailure F.read_faults result self.old.failures self.new.failures }
     {
         let at = self.place_of(sector, offset, into.len())?;
         self.read_at(at, into)
@@ -252,13 +265,18 @@ impl<F: ReadMedium> Sectors<F> {
     /// exactly where the file ends before that, and `Medium` where the medium fails.
     pub fn read_exact(&mut self, sector: u32, offset: usize, into: &mut [u8]) -> Result<(), Error>
         requires { offset ≤ sector_len self.old.version }
-        ensures kept { self.new ≡ record self.old { bytes = self.new.bytes; failures = self.new.failures } }
-        ensures ok { IsTrue F.tells → OnOk result (into.new ≡ part self.old.bytes (place_in_sector self.old sector offset) (length into.old)) }
-        ensures past { self.old.len < place_in_sector self.old sector offset + length into.old → IsErrAnd result IsInvalidData × (self.new ≡ self.old) }
-        ensures inside { place_in_sector self.old sector offset + length into.old ≤ self.old.len → IfErr result IsMediumError }
+        ensures kept { self.new
+            ≡ record self.old { bytes = self.new.bytes; failures = self.new.failures } }
+        ensures ok { IsTrue F.tells → OnOk result (into.new
+            ≡ part self.old.bytes (place_in_sector self.old sector offset) (length into.old)) }
+        ensures past { self.old.len < place_in_sector self.old sector offset + length into.old
+            → IsErrAnd result IsInvalidData × (self.new ≡ self.old) }
+        ensures inside { place_in_sector self.old sector offset + length into.old ≤ self.old.len
+            → IfErr result IsMediumError }
         ensures same { IsTrue F.tells → OnOk result (self.new ≡ self.old) }
         ensures bytes { IsTrue F.tells → self.new.bytes ≡ self.old.bytes }
-        ensures counts { IsTrue F.tells → CountsFailure F.read_faults result self.old.failures self.new.failures }
+        ensures counts { IsTrue F.tells
+            → CountsFailure F.read_faults result self.old.failures self.new.failures }
     {
         let at = self.place(sector, offset);
         if at > self.len || into.len() as u64 > self.len - at {
@@ -272,13 +290,18 @@ impl<F: ReadMedium> Sectors<F> {
     #[tactic(auto, using(crate::proofs::WordLemmas::word_of_part))]
     pub fn read_word(&mut self, sector: u32, index: usize) -> Result<u32, Error>
         requires { index < words_per_sector self.old.version }
-        ensures kept { self.new ≡ record self.old { bytes = self.new.bytes; failures = self.new.failures } }
-        ensures ok { IsTrue F.tells → IfOk result (λ word. word ≡ word_at self.old.bytes (place_in_sector self.old sector (4 * index))) }
-        ensures past { self.old.len < place_in_sector self.old sector (4 * index) + 4 → IsErrAnd result IsInvalidData × (self.new ≡ self.old) }
-        ensures inside { place_in_sector self.old sector (4 * index) + 4 ≤ self.old.len → IfErr result IsMediumError }
+        ensures kept { self.new
+            ≡ record self.old { bytes = self.new.bytes; failures = self.new.failures } }
+        ensures ok { IsTrue F.tells → IfOk result (λ word. word
+            ≡ word_at self.old.bytes (place_in_sector self.old sector (4 * index))) }
+        ensures past { self.old.len < place_in_sector self.old sector (4 * index) + 4
+            → IsErrAnd result IsInvalidData × (self.new ≡ self.old) }
+        ensures inside { place_in_sector self.old sector (4 * index) + 4 ≤ self.old.len
+            → IfErr result IsMediumError }
         ensures same { IsTrue F.tells → OnOk result (self.new ≡ self.old) }
         ensures bytes { IsTrue F.tells → self.new.bytes ≡ self.old.bytes }
-        ensures counts { IsTrue F.tells → CountsFailure F.read_faults result self.old.failures self.new.failures }
+        ensures counts { IsTrue F.tells
+            → CountsFailure F.read_faults result self.old.failures self.new.failures }
     {
         let mut bytes = [0; 4];
         self.read_exact(sector, 4 * index, &mut bytes)?;
@@ -289,13 +312,18 @@ impl<F: ReadMedium> Sectors<F> {
     /// and `Medium` where the medium fails.
     pub fn read_words(&mut self, sector: u32, into: &mut [u32]) -> Result<(), Error>
         requires { length into.old ≡ words_per_sector self.old.version }
-        ensures kept { self.new ≡ record self.old { bytes = self.new.bytes; failures = self.new.failures } }
-        ensures ok { IsTrue F.tells → OnOk result (into.new ≡ sector_words self.old.version self.old.bytes sector) }
-        ensures past { self.old.len < place_in_sector self.old sector (sector_len self.old.version) → IsErrAnd result IsInvalidData × (self.new ≡ self.old) }
-        ensures inside { place_in_sector self.old sector (sector_len self.old.version) ≤ self.old.len → IfErr result IsMediumError }
+        ensures kept { self.new
+            ≡ record self.old { bytes = self.new.bytes; failures = self.new.failures } }
+        ensures ok { IsTrue F.tells
+            → OnOk result (into.new ≡ sector_words self.old.version self.old.bytes sector) }
+        ensures past { self.old.len < place_in_sector self.old sector (sector_len self.old.version)
+            → IsErrAnd result IsInvalidData × (self.new ≡ self.old) }
+        ensures inside { place_in_sector self.old sector (sector_len self.old.version)
+            ≤ self.old.len → IfErr result IsMediumError }
         ensures same { IsTrue F.tells → OnOk result (self.new ≡ self.old) }
         ensures bytes { IsTrue F.tells → self.new.bytes ≡ self.old.bytes }
-        ensures counts { IsTrue F.tells → CountsFailure F.read_faults result self.old.failures self.new.failures }
+        ensures counts { IsTrue F.tells
+            → CountsFailure F.read_faults result self.old.failures self.new.failures }
     {
         let mut buffer = zeros();
         let len = self.sector_len();
@@ -317,10 +345,18 @@ impl<F: Medium> Sectors<F> {
           len = max self.old.len (at + length from.now);
           begun = true;
         }) }
-        ensures kept { self.new ≡ record self.old { len = self.new.len; bytes = self.new.bytes; failures = self.new.failures; begun = true } }
-        ensures len { MatchResult result (λ _. self.new.len ≡ max self.old.len (at + length from.now)) (λ e. IsMediumError e × (self.new.len ≡ self.old.len)) }
-        ensures others { IsTrue F.tells → ChangesOnlyBytes at (length from.now) self.old.bytes self.new.bytes }
-        ensures counts { IsTrue F.tells → CountsFailure F.write_faults result self.old.failures self.new.failures }
+        ensures kept { self.new ≡ record self.old {
+          len = self.new.len;
+          bytes = self.new.bytes;
+          failures = self.new.failures;
+          begun = true;
+        } }
+        ensures len { MatchResult result (λ _. self.new.len ≡ max self.old.len (at
+            + length from.now)) (λ e. IsMediumError e × (self.new.len ≡ self.old.len)) }
+        ensures others { IsTrue F.tells
+            → ChangesOnlyBytes at (length from.now) self.old.bytes self.new.bytes }
+        ensures counts { IsTrue F.tells
+            → CountsFailure F.write_faults result self.old.failures self.new.failures }
     {
         self.begun = true;
         write_all_at(&mut self.medium, at, from).map_err(Error::Medium)?;
@@ -340,14 +376,28 @@ impl<F: Medium> Sectors<F> {
           len = max self.old.len (place_in_sector self.old sector offset + length from.now);
           begun = true;
         }) }
-        ensures kept { self.new ≡ record self.old { len = self.new.len; bytes = self.new.bytes; failures = self.new.failures; begun = self.new.begun } }
-        ensures len { MatchResult result (λ _. self.new.len ≡ max self.old.len (place_in_sector self.old sector offset + length from.now)) (λ _. self.new.len ≡ self.old.len) }
-        ensures past { sectors_end self.old < place_in_sector self.old sector offset + length from.now → IsErrAnd result IsInvalidData × (self.new ≡ self.old) }
-        ensures inside { place_in_sector self.old sector offset + length from.now ≤ sectors_end self.old → IfErr result IsMediumError × (self.new.begun ≡ true) }
-        ensures others { IsTrue F.tells → ChangesOnlyBytes (place_in_sector self.old sector offset) (length from.now) self.old.bytes self.new.bytes }
-        ensures sectors { IsTrue F.tells → OtherSectorsStay self.old.version (place_in_sector self.old sector offset) (length from.now) self.old.bytes self.new.bytes }
-        ensures words { IsTrue F.tells → OtherWordsStay (place_in_sector self.old sector offset) (length from.now) self.old.bytes self.new.bytes }
-        ensures counts { IsTrue F.tells → CountsFailure F.write_faults result self.old.failures self.new.failures }
+        ensures kept { self.new ≡ record self.old {
+          len = self.new.len;
+          bytes = self.new.bytes;
+          failures = self.new.failures;
+          begun = self.new.begun;
+        } }
+        ensures len { MatchResult result (λ _. self.new.len
+            ≡ max self.old.len (place_in_sector self.old sector offset + length from.now)) (λ _.
+            self.new.len ≡ self.old.len) }
+        ensures past { sectors_end self.old < place_in_sector self.old sector offset
+            + length from.now → IsErrAnd result IsInvalidData × (self.new ≡ self.old) }
+        ensures inside { place_in_sector self.old sector offset + length from.now
+            ≤ sectors_end self.old → IfErr result IsMediumError × (self.new.begun ≡ true) }
+        ensures others { IsTrue F.tells → ChangesOnlyBytes (place_in_sector self.old sector offset)
+            (length from.now) self.old.bytes self.new.bytes }
+        ensures sectors { IsTrue F.tells
+            → OtherSectorsStay self.old.version (place_in_sector self.old sector offset)
+            (length from.now) self.old.bytes self.new.bytes }
+        ensures words { IsTrue F.tells → OtherWordsStay (place_in_sector self.old sector offset)
+            (length from.now) self.old.bytes self.new.bytes }
+        ensures counts { IsTrue F.tells
+            → CountsFailure F.write_faults result self.old.failures self.new.failures }
     {
         let at = self.place_of(sector, offset, from.len())?;
         self.write_at(at, from)
@@ -364,14 +414,27 @@ impl<F: Medium> Sectors<F> {
           len = max self.old.len (place_in_sector self.old sector (4 * index) + 4);
           begun = true;
         }) }
-        ensures kept { self.new ≡ record self.old { len = self.new.len; bytes = self.new.bytes; failures = self.new.failures; begun = self.new.begun } }
-        ensures len { MatchResult result (λ _. self.new.len ≡ max self.old.len (place_in_sector self.old sector (4 * index) + 4)) (λ _. self.new.len ≡ self.old.len) }
-        ensures past { self.old.num_sectors ≤ sector → IsErrAnd result IsInvalidData × (self.new ≡ self.old) }
-        ensures inside { sector < self.old.num_sectors → IfErr result IsMediumError × (self.new.begun ≡ true) }
-        ensures others { IsTrue F.tells → ChangesOnlyBytes (place_in_sector self.old sector (4 * index)) 4 self.old.bytes self.new.bytes }
-        ensures sectors { IsTrue F.tells → (i : ℕ) → i ≢ sector → SectorStays self.old.version i self.old.bytes self.new.bytes }
-        ensures words { IsTrue F.tells → OtherWordsStay (place_in_sector self.old sector (4 * index)) 4 self.old.bytes self.new.bytes }
-        ensures counts { IsTrue F.tells → CountsFailure F.write_faults result self.old.failures self.new.failures }
+        ensures kept { self.new ≡ record self.old {
+          len = self.new.len;
+          bytes = self.new.bytes;
+          failures = self.new.failures;
+          begun = self.new.begun;
+        } }
+        ensures len { MatchResult result (λ _. self.new.len
+            ≡ max self.old.len (place_in_sector self.old sector (4 * index) + 4)) (λ _. self.new.len
+            ≡ self.old.len) }
+        ensures past { self.old.num_sectors ≤ sector
+            → IsErrAnd result IsInvalidData × (self.new ≡ self.old) }
+        ensures inside { sector < self.old.num_sectors
+            → IfErr result IsMediumError × (self.new.begun ≡ true) }
+        ensures others { IsTrue F.tells → ChangesOnlyBytes (place_in_sector self.old sector (4
+            * index)) 4 self.old.bytes self.new.bytes }
+        ensures sectors { IsTrue F.tells
+            → (i : ℕ) → i ≢ sector → SectorStays self.old.version i self.old.bytes self.new.bytes }
+        ensures words { IsTrue F.tells → OtherWordsStay (place_in_sector self.old sector (4
+            * index)) 4 self.old.bytes self.new.bytes }
+        ensures counts { IsTrue F.tells
+            → CountsFailure F.write_faults result self.old.failures self.new.failures }
     {
         self.write_contiguous(sector, 4 * index, &value.to_le_bytes())
     }
@@ -381,13 +444,20 @@ impl<F: Medium> Sectors<F> {
     #[tactic(auto, unfolding(crate::specs::Words::with_word))]
     pub fn write_header_word(&mut self, offset: usize, value: u32) -> Result<(), Error>
         requires { offset + 4 ≤ 512 }
-        ensures ok { IsTrue F.tells → OnOk result (self.new ≡ record self.old { bytes = with_word self.old.bytes offset value; begun = true }) }
-        ensures kept { self.new ≡ record self.old { bytes = self.new.bytes; failures = self.new.failures; begun = true } }
+        ensures ok { IsTrue F.tells → OnOk result (self.new
+            ≡ record self.old { bytes = with_word self.old.bytes offset value; begun = true }) }
+        ensures kept { self.new ≡ record self.old {
+          bytes = self.new.bytes;
+          failures = self.new.failures;
+          begun = true;
+        } }
         ensures err { IfErr result IsMediumError }
         ensures others { IsTrue F.tells → ChangesOnlyBytes offset 4 self.old.bytes self.new.bytes }
-        ensures sectors { IsTrue F.tells → (i : ℕ) → SectorStays self.old.version i self.old.bytes self.new.bytes }
+        ensures sectors { IsTrue F.tells
+            → (i : ℕ) → SectorStays self.old.version i self.old.bytes self.new.bytes }
         ensures words { IsTrue F.tells → OtherWordsStay offset 4 self.old.bytes self.new.bytes }
-        ensures counts { IsTrue F.tells → CountsFailure F.write_faults result self.old.failures self.new.failures }
+        ensures counts { IsTrue F.tells
+            → CountsFailure F.write_faults result self.old.failures self.new.failures }
     {
         self.begun = true;
         write_all_at(&mut self.medium, offset as u64, &value.to_le_bytes()).map_err(Error::Medium)
@@ -398,25 +468,36 @@ impl<F: Medium> Sectors<F> {
     /// has changed but the sector's, and past the old end.
     pub fn init_sector(&mut self, sector: u32, init: SectorInit) -> Result<(), Error>
         requires room { sector < 0xFFFFFFFA }
-        ensures ok { IsTrue F.tells → OnOk result (self.new ≡ record self.old {
-          bytes = written self.old.bytes (place_in_sector self.old sector 0) (init_bytes self.old.version init);
-          len = max self.old.len (place_in_sector self.old sector (sector_len self.old.version));
-          num_sectors = max self.old.num_sectors (sector + 1);
-          begun = true;
-        }) }
-        ensures past { self.old.num_sectors < sector → IsErrAnd result IsInvalidData × (self.new ≡ self.old) }
-        ensures inside { sector ≤ self.old.num_sectors → IfErr result IsMediumError × (self.new ≡ record self.old {
-          len = self.new.len;
-          num_sectors = max self.old.num_sectors (sector + 1);
-          bytes = self.new.bytes;
-          failures = self.new.failures;
-          begun = true;
-        }) }
-        ensures len { MatchResult result (λ _. self.new.len ≡ max self.old.len (place_in_sector self.old sector (sector_len self.old.version))) (λ _. self.new.len ≡ self.old.len) }
-        ensures others { IsTrue F.tells → ChangesOnlyBytes (place_in_sector self.old sector 0) (sector_len self.old.version) self.old.bytes self.new.bytes }
-        ensures sectors { IsTrue F.tells → (i : ℕ) → i ≢ sector → SectorStays self.old.version i self.old.bytes self.new.bytes }
-        ensures words { IsTrue F.tells → OtherWordsStay (place_in_sector self.old sector 0) (sector_len self.old.version) self.old.bytes self.new.bytes }
-        ensures counts { IsTrue F.tells → CountsFailure F.write_faults result self.old.failures self.new.failures }
+        ensures ok { IsTrue F.tells
+            → OnOk result (self.new ≡ record self.old {
+              bytes = written self.old.bytes
+                  (place_in_sector self.old sector 0) (init_bytes self.old.version init);
+              len = max self.old.len (place_in_sector self.old sector (sector_len self.old.version));
+              num_sectors = max self.old.num_sectors (sector + 1);
+              begun = true;
+            }) }
+        ensures past { self.old.num_sectors < sector
+            → IsErrAnd result IsInvalidData × (self.new ≡ self.old) }
+        ensures inside { sector ≤ self.old.num_sectors → IfErr result IsMediumError × (self.new
+            ≡ record self.old {
+              len = self.new.len;
+              num_sectors = max self.old.num_sectors (sector
+                  + 1);
+              bytes = self.new.bytes;
+              failures = self.new.failures;
+              begun = true;
+            }) }
+        ensures len { MatchResult result (λ _. self.new.len
+            ≡ max self.old.len (place_in_sector self.old sector (sector_len self.old.version)))
+            (λ _. self.new.len ≡ self.old.len) }
+        ensures others { IsTrue F.tells → ChangesOnlyBytes (place_in_sector self.old sector 0)
+            (sector_len self.old.version) self.old.bytes self.new.bytes }
+        ensures sectors { IsTrue F.tells
+            → (i : ℕ) → i ≢ sector → SectorStays self.old.version i self.old.bytes self.new.bytes }
+        ensures words { IsTrue F.tells → OtherWordsStay (place_in_sector self.old sector 0)
+            (sector_len self.old.version) self.old.bytes self.new.bytes }
+        ensures counts { IsTrue F.tells
+            → CountsFailure F.write_faults result self.old.failures self.new.failures }
     {
         let num_sectors = self.num_sectors();
         if sector > num_sectors {
@@ -431,10 +512,15 @@ impl<F: Medium> Sectors<F> {
     /// Has the medium hand on what was written. `Medium` where it fails.
     pub fn flush(&mut self) -> Result<(), Error>
         ensures ok { IsTrue F.tells → OnOk result (self.new ≡ record self.old { begun = true }) }
-        ensures kept { self.new ≡ record self.old { bytes = self.new.bytes; failures = self.new.failures; begun = true } }
+        ensures kept { self.new ≡ record self.old {
+          bytes = self.new.bytes;
+          failures = self.new.failures;
+          begun = true;
+        } }
         ensures bytes { IsTrue F.tells → self.new.bytes ≡ self.old.bytes }
         ensures err { IfErr result IsMediumError }
-        ensures counts { IsTrue F.tells → CountsFailure F.write_faults result self.old.failures self.new.failures }
+        ensures counts { IsTrue F.tells
+            → CountsFailure F.write_faults result self.old.failures self.new.failures }
     {
         self.begun = true;
         self.medium.flush().map_err(Error::Medium)
@@ -446,7 +532,7 @@ fn beyond(sector: u32, num_sectors: u32) -> Error
     ensures { IsInvalidData result }
 {
     Error::InvalidData(Detail::numbers(
-        "beyond the sectors of the file",
+        "sector beyond the sectors of the file",
         sector as u64,
         num_sectors as u64,
     ))
@@ -561,9 +647,10 @@ impl<F: ReadMedium> Sectors<F> {
         requires { offset ≤ 512 }
         ensures same_file { (file_of result).ghost_name ≡ self.entry.ghost_name }
         ensures file { (file_of result).now ≡ self.old }
-        ensures there { (start_of result ≡ 0) × (len_of result ≡ 512) × (offset_of result ≡ offset) }
+        ensures there { (start_of result ≡ 0)
+            × (len_of result ≡ 512) × (offset_of result ≡ offset) }
     {
-        let _ = &self.medium;
+        let _fact = &self.medium;
         Sector {
             file: self,
             start: 0,
@@ -577,7 +664,8 @@ impl<F: ReadMedium> Sectors<F> {
         ensures* refused { sem 𝓛 (sectors_rest F.row F.ReadMedium self.entry result) }
         ensures same_file { IfOk result (λ s. (file_of s).ghost_name ≡ self.entry.ghost_name) }
         ensures file { IfOk result (λ s. (file_of s).now ≡ self.old) }
-        ensures there { IfOk result (λ s. (start_of s ≡ place_in_sector self.old sector 0) × (len_of s ≡ sector_len self.old.version) × (offset_of s ≡ 0)) }
+        ensures there { IfOk result (λ s. (start_of s ≡ place_in_sector self.old sector 0)
+            × (len_of s ≡ sector_len self.old.version) × (offset_of s ≡ 0)) }
         ensures known { IfOk result (λ s. sector < self.old.num_sectors) }
         ensures past { IfErr result (λ e. IsInvalidData e × (self.old.num_sectors ≤ sector)) }
     {
@@ -590,7 +678,8 @@ impl<F: ReadMedium> Sectors<F> {
         ensures* refused { sem 𝓛 (sectors_rest F.row F.ReadMedium self.entry result) }
         ensures same_file { IfOk result (λ s. (file_of s).ghost_name ≡ self.entry.ghost_name) }
         ensures file { IfOk result (λ s. (file_of s).now ≡ self.old) }
-        ensures there { IfOk result (λ s. (start_of s ≡ place_in_sector self.old sector 0) × (len_of s ≡ sector_len self.old.version) × (offset_of s ≡ offset)) }
+        ensures there { IfOk result (λ s. (start_of s ≡ place_in_sector self.old sector 0)
+            × (len_of s ≡ sector_len self.old.version) × (offset_of s ≡ offset)) }
         ensures known { IfOk result (λ s. sector < self.old.num_sectors) }
         ensures past { IfErr result (λ e. IsInvalidData e × (self.old.num_sectors ≤ sector)) }
     {
@@ -630,7 +719,8 @@ impl<'a, F: ReadMedium> Sector<'a, F> {
         requires { offset ≤ len_of self.old }
         ensures same_file { (file_of self.new).ghost_name ≡ (file_of self.old).ghost_name }
         ensures file { (file_of self.new).now ≡ (file_of self.old).now }
-        ensures there { (start_of self.new ≡ start_of self.old) × (len_of self.new ≡ len_of self.old) × (offset_of self.new ≡ offset) }
+        ensures there { (start_of self.new ≡ start_of self.old)
+            × (len_of self.new ≡ len_of self.old) × (offset_of self.new ≡ offset) }
     {
         self.offset = offset;
     }
@@ -642,7 +732,8 @@ impl<'a, F: ReadMedium> Sector<'a, F> {
         requires inside { start + len ≤ len_of self }
         ensures same_file { (file_of result).ghost_name ≡ (file_of self.entry).ghost_name }
         ensures file { (file_of result).now ≡ (file_of self.entry).now }
-        ensures there { (start_of result ≡ start_of self.entry + start) × (len_of result ≡ len) × (place_of result ≡ place_of self.entry) }
+        ensures there { (start_of result ≡ start_of self.entry + start)
+            × (len_of result ≡ len) × (place_of result ≡ place_of self.entry) }
     {
         let Sector {
             file,
@@ -663,16 +754,28 @@ impl<'a, F: ReadMedium> Sector<'a, F> {
     /// fails.
     pub fn read(&mut self, into: &mut [u8]) -> Result<usize, Error>
         ensures same_file { (file_of self.new).ghost_name ≡ (file_of self.old).ghost_name }
-        ensures place { (start_of self.new ≡ start_of self.old) × (len_of self.new ≡ len_of self.old) }
-        ensures kept { (file_of self.new).now ≡ record (file_of self.old).now { bytes = (file_of self.new).now.bytes; failures = (file_of self.new).now.failures } }
-        ensures count { IfOk result (λ n. n ≡ min (min (length into.old) (room_of self.old)) ((file_of self.old).now.len - place_of self.old)) }
-        ensures offset { MatchResult result (λ n. offset_of self.new ≡ offset_of self.old + n) (λ _. offset_of self.new ≡ offset_of self.old) }
-        ensures ok { IsTrue F.tells → IfOk result (λ n. take n into.new ≡ part (file_of self.old).now.bytes (place_of self.old) n) }
+        ensures place { (start_of self.new ≡ start_of self.old)
+            × (len_of self.new ≡ len_of self.old) }
+        ensures kept { (file_of self.new).now
+            ≡ record (file_of self.old).now {
+              bytes = (file_of self.new).now.bytes;
+              failures = (file_of self.new).now.failures;
+            } }
+        ensures count { IfOk result (λ n. n
+            ≡ min (min (length into.old) (room_of self.old)) ((file_of self.old).now.len
+            - place_of self.old)) }
+        ensures offset { MatchResult result (λ n. offset_of self.new
+            ≡ offset_of self.old + n) (λ _. offset_of self.new ≡ offset_of self.old) }
+        ensures ok { IsTrue F.tells → IfOk result (λ n. take n into.new
+            ≡ part (file_of self.old).now.bytes (place_of self.old) n) }
         ensures rest { IfOk result (λ n. drop n into.new ≡ drop n into.old) }
         ensures err { IfErr result IsMediumError }
-        ensures same { IsTrue F.tells → OnOk result ((file_of self.new).now ≡ (file_of self.old).now) }
-        ensures bytes { IsTrue F.tells → (file_of self.new).now.bytes ≡ (file_of self.old).now.bytes }
-        ensures counts { IsTrue F.tells → CountsFailure F.read_faults result (file_of self.old).now.failures (file_of self.new).now.failures }
+        ensures same { IsTrue F.tells
+            → OnOk result ((file_of self.new).now ≡ (file_of self.old).now) }
+        ensures bytes { IsTrue F.tells
+            → (file_of self.new).now.bytes ≡ (file_of self.old).now.bytes }
+        ensures counts { IsTrue F.tells → CountsFailure F.read_faults result
+            (file_of self.old).now.failures (file_of self.new).now.failures }
     {
         let room = into.len().min(self.remaining());
         let count = self
@@ -691,28 +794,40 @@ impl<'a, F: Medium> Sector<'a, F> {
     /// but where that beginning was to go, and past the old end.
     pub fn write(&mut self, from: &[u8]) -> Result<usize, Error>
         ensures same_file { (file_of self.new).ghost_name ≡ (file_of self.old).ghost_name }
-        ensures place { (start_of self.new ≡ start_of self.old) × (len_of self.new ≡ len_of self.old) }
+        ensures place { (start_of self.new ≡ start_of self.old)
+            × (len_of self.new ≡ len_of self.old) }
         ensures count { IfOk result (λ n. n ≡ min (length from.now) (room_of self.old)) }
-        ensures offset { MatchResult result (λ n. offset_of self.new ≡ offset_of self.old + n) (λ _. offset_of self.new ≡ offset_of self.old) }
-        ensures ok { IsTrue F.tells → IfOk result (λ n. 0 < n → (file_of self.new).now ≡ record (file_of self.old).now {
-          bytes = written (file_of self.old).now.bytes (place_of self.old) (take n from.now);
-          len = max (file_of self.old).now.len (place_of self.old + n);
-          begun = true;
-        }) }
-        ensures none { min (length from.now) (room_of self.old) ≡ 0 → (result ≡ Ok 0) × ((file_of self.new).now ≡ (file_of self.old).now) }
-        ensures kept { 0 < min (length from.now) (room_of self.old) → (file_of self.new).now ≡ record (file_of self.old).now {
-          len = (file_of self.new).now.len;
-          bytes = (file_of self.new).now.bytes;
-          failures = (file_of self.new).now.failures;
-          begun = true;
-        } }
-        ensures len { MatchResult result
-            (λ n. 0 < n → (file_of self.new).now.len ≡ max (file_of self.old).now.len (place_of self.old + n))
-            (λ e. IsMediumError e × ((file_of self.new).now.len ≡ (file_of self.old).now.len)) }
-        ensures others { IsTrue F.tells → ChangesOnlyBytes (place_of self.old) (min (length from.now) (room_of self.old)) (file_of self.old).now.bytes (file_of self.new).now.bytes }
-        ensures sectors { IsTrue F.tells → OtherSectorsStay (file_of self.old).now.version (place_of self.old) (min (length from.now) (room_of self.old)) (file_of self.old).now.bytes (file_of self.new).now.bytes }
-        ensures words { IsTrue F.tells → OtherWordsStay (place_of self.old) (min (length from.now) (room_of self.old)) (file_of self.old).now.bytes (file_of self.new).now.bytes }
-        ensures counts { IsTrue F.tells → CountsFailure F.write_faults result (file_of self.old).now.failures (file_of self.new).now.failures }
+        ensures offset { MatchResult result (λ n. offset_of self.new
+            ≡ offset_of self.old + n) (λ _. offset_of self.new ≡ offset_of self.old) }
+        ensures ok { IsTrue F.tells
+            → IfOk result (λ n. 0 < n → (file_of self.new).now ≡ record (file_of self.old).now {
+              bytes = written (file_of self.old).now.bytes (place_of self.old) (take n from.now);
+              len = max (file_of self.old).now.len (place_of self.old + n);
+              begun = true;
+            }) }
+        ensures none { min (length from.now) (room_of self.old) ≡ 0
+            → (result ≡ Ok 0) × ((file_of self.new).now ≡ (file_of self.old).now) }
+        ensures kept { 0 < min (length from.now) (room_of self.old) → (file_of self.new).now
+            ≡ record (file_of self.old).now {
+              len = (file_of self.new).now.len;
+              bytes = (file_of self.new).now.bytes;
+              failures = (file_of self.new).now.failures;
+              begun = true;
+            } }
+        ensures len { MatchResult result (λ n. 0 < n → (file_of self.new).now.len
+            ≡ max (file_of self.old).now.len (place_of self.old + n)) (λ e. IsMediumError e
+            × ((file_of self.new).now.len ≡ (file_of self.old).now.len)) }
+        ensures others { IsTrue F.tells
+            → ChangesOnlyBytes (place_of self.old) (min (length from.now) (room_of self.old))
+            (file_of self.old).now.bytes (file_of self.new).now.bytes }
+        ensures sectors { IsTrue F.tells → OtherSectorsStay (file_of self.old).now.version
+            (place_of self.old) (min (length from.now) (room_of self.old))
+            (file_of self.old).now.bytes (file_of self.new).now.bytes }
+        ensures words { IsTrue F.tells
+            → OtherWordsStay (place_of self.old) (min (length from.now) (room_of self.old))
+            (file_of self.old).now.bytes (file_of self.new).now.bytes }
+        ensures counts { IsTrue F.tells → CountsFailure F.write_faults result
+            (file_of self.old).now.failures (file_of self.new).now.failures }
     {
         let count = from.len().min(self.remaining());
         if count == 0 {

@@ -4,10 +4,10 @@ use Rattle.std.specs.Prelude.{Contains}
 use Rattle.std.proofs.lemmas.List.{same_from_push}
 use Rattle.cfb_format.specs.DirectoryEntry.{Entry}
 use Rattle.cfb_siblings.specs.declared.links.PathStep.{PathStep}
-use Rattle.cfb_siblings.specs.Painted.{Painted, Leaf, Node, top, tally, occurs, tree_numbers}
+use Rattle.cfb_siblings.specs.Painted.{Painted, Leaf, Node, top, times_in, occurs, tree_numbers}
 use Rattle.cfb_siblings.specs.Way.{Frame, HasTree, plug, close, beside, above, way, step_of, frame_number, red_top, At, Going}
 use Rattle.cfb_siblings.specs.Writes.{link_red, far_link}
-use Rattle.cfb_siblings.specs.Taking.{StandsAt, SpareAt}
+use Rattle.cfb_siblings.specs.Taking.{StandsInTree, SpareAt}
 use Rattle.cfb_siblings.specs.Touched.{IsNear, Tells, slot_of_link}
 use Rattle.cfb_siblings.proofs.Tallies.{hit-same, hit-cases, present}
 use Rattle.cfb_siblings.proofs.Zip.{Shape-top, split, occurs-plug}
@@ -25,7 +25,7 @@ pub near-range : (es : List Entry) (parent : ℕ) (t : Painted) → HasTree es p
 near-range es parent t st k near = elim near [ inl e ↦ rw e st.0 | inr o ↦ in-storage es parent k t st o ]
 
 pub near-list : (parent : ℕ) (t : Painted) (list : List ℕ) → tree_numbers t ≡ list → (k : ℕ) → IsNear parent t k → (k ≡ parent) ⊎ Contains list k
-near-list parent t list e k near = elim near [ inl p ↦ inl p | inr o ↦ inr (present k list (omega (arith, o, tally-numbers k t, ap (tally k) e))) ]
+near-list parent t list e k near = elim near [ inl p ↦ inl p | inr o ↦ inr (present k list (omega (arith, o, tally-numbers k t, ap (times_in k) e))) ]
 
 -- the entry with the link above a place
 pub near-link : (parent : ℕ) (fs : List Frame) (t : Painted) (o : Option PathStep) → o ≡ above fs → IsNear parent (plug fs t) (slot_of_link parent o)
@@ -44,8 +44,8 @@ near-new-range es parent n t st lt k near = elim near [
 ]
 
 pub near-new-list : (parent n : ℕ) (t : Painted) (list : List ℕ) → tree_numbers t ≡ list → (k : ℕ) → IsNear parent (Node false Leaf n t) k → (k ≡ parent) ⊎ Contains (n ∷ list) k
-unfolding tally
-near-new-list parent n t list e k near = elim near [ inl p ↦ inl p | inr o ↦ inr (present k (n ∷ list) (omega (arith, o, tally-numbers k t, ap (tally k) e))) ]
+unfolding times_in
+near-new-list parent n t list e k near = elim near [ inl p ↦ inl p | inr o ↦ inr (present k (n ∷ list) (omega (arith, o, tally-numbers k t, ap (times_in k) e))) ]
 
 -- ---- the repair after an insertion
 
@@ -104,7 +104,7 @@ going-tells old mid new parent x steps a b c fs t (kept, (gs, s, at, e, o)) u ne
 
 -- ---- an entry that is taken out
 
-pub near-stood : (es : List Entry) (parent : ℕ) (steps : List PathStep) (t : Painted) (n : ℕ) → StandsAt es steps t n → IsNear parent t n
+pub near-stood : (es : List Entry) (parent : ℕ) (steps : List PathStep) (t : Painted) (n : ℕ) → StandsInTree es steps t n → IsNear parent t n
 near-stood es parent steps t n (fs, c, a, b, s) = inr (omega (arith, hit-same n, ap (occurs n) s.part, occurs-plug n fs (Node c a n b)))
 
 pub near-spare : (es : List Entry) (parent : ℕ) (steps : List PathStep) (t : Painted) (n m : ℕ) → SpareAt es steps t n m → IsNear parent t m

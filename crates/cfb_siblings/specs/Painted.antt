@@ -41,9 +41,9 @@ unfoldable pub hit : ℕ → ℕ → ℕ
 hit n m = cond (eqb n m) 1 0
 
 -- how often a number stands in a list
-unfoldable pub tally : ℕ → List ℕ → ℕ
-tally k [] = 0
-tally k (n ∷ ns) = hit k n + tally k ns
+unfoldable pub times_in : ℕ → List ℕ → ℕ
+times_in k [] = 0
+times_in k (n ∷ ns) = hit k n + times_in k ns
 
 -- how often n stands in the tree
 abbrev pub occurs : ℕ → Painted → ℕ

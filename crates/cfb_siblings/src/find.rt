@@ -7,8 +7,9 @@ ghost use Rattle.cfb_format.specs.declared.objtype.ObjType.TheVariants.{Stream};
 ghost use Rattle.cfb_format.specs.Reading.{IsOutline, Outline, numbers};
 ghost use Rattle.cfb_format.specs.Siblings.{entry_at};
 
-use crate::links::{child_link, links};
+use crate::links::links;
 use cfb_codecs::direntry::DirEntry;
+use cfb_codecs::links::child_link;
 use cfb_codecs::path::{CaseMapper, compare_names, next_name, stays_below_root};
 use cfb_format::consts::NO_STREAM;
 use cfb_format::objtype::ObjType;
@@ -26,9 +27,12 @@ pub fn find_child<A: Allocator>(
     requires few { length (entries_of entries.now) ≤ NO_STREAM }
     requires stands { IsParent cases.now (entries_of entries.now) parent }
     ensures named { (list : List ℕ) → HasChildren cases.now (entries_of entries.now) parent list
-        → MatchOption result (IsAbsent cases.now (entries_of entries.now) (chars name.now) list) (λ k. IsChildNamed cases.now (entries_of entries.now) (chars name.now) list k) }
-    ensures reached { (outline : Outline) → IsOutline cases.now (entries_of entries.now) outline → Contains (0 ∷ numbers outline) parent
-        → (entry_at (entries_of entries.now) parent).obj_type ≢ Stream → IfSome result (λ k. Contains (numbers outline) k) }
+        → MatchOption result (IsAbsent cases.now (entries_of entries.now) (chars name.now) list)
+        (λ k. IsChildNamed cases.now (entries_of entries.now) (chars name.now) list k) }
+    ensures reached { (outline : Outline) → IsOutline cases.now (entries_of entries.now) outline
+        → Contains (0 ∷ numbers outline) parent
+        → (entry_at (entries_of entries.now) parent).obj_type ≢ Stream
+        → IfSome result (λ k. Contains (numbers outline) k) }
 {
     let mut link = child_link(entries, parent);
     while link != NO_STREAM {
@@ -51,7 +55,8 @@ fn find_below<A: Allocator>(
 ) -> Option<u32>
     requires few { length (entries_of entries.now) ≤ NO_STREAM }
     requires node_in { node < length entries.now }
-    requires stands { (entry_at (entries_of entries.now) node).obj_type ≢ Stream → IsParent cases.now (entries_of entries.now) node }
+    requires stands { (entry_at (entries_of entries.now) node).obj_type ≢ Stream
+        → IsParent cases.now (entries_of entries.now) node }
     ensures { LeadsOn cases.now (entries_of entries.now) node (chars name.now) result }
 {
     if is_stream(entries, node) {
@@ -69,8 +74,10 @@ pub fn find_path<A: Allocator>(
 ) -> Option<u32>
     requires few { length (entries_of entries.now) ≤ NO_STREAM }
     requires stands { HasOutline cases.now (entries_of entries.now) }
-    ensures found { (outline : Outline) → IsOutline cases.now (entries_of entries.now) outline → result ≡ number_at_path cases.now (entries_of entries.now) outline (chars path.now) }
-    ensures reached { (outline : Outline) → IsOutline cases.now (entries_of entries.now) outline → IfSome result (λ k. Contains (0 ∷ numbers outline) k) }
+    ensures found { (outline : Outline) → IsOutline cases.now (entries_of entries.now) outline
+        → result ≡ number_at_path cases.now (entries_of entries.now) outline (chars path.now) }
+    ensures reached { (outline : Outline) → IsOutline cases.now (entries_of entries.now) outline
+        → IfSome result (λ k. Contains (0 ∷ numbers outline) k) }
 {
     if !stays_below_root(path) {
         return None;
@@ -96,8 +103,11 @@ pub fn find_names<A: Allocator>(
 ) -> Option<u32>
     requires few { length (entries_of entries.now) ≤ NO_STREAM }
     requires stands { HasOutline cases.now (entries_of entries.now) }
-    ensures found { (outline : Outline) → IsOutline cases.now (entries_of entries.now) outline → result ≡ number_from cases.now (entries_of entries.now) 0 outline (map (λ name. chars name.now) names.now) }
-    ensures reached { (outline : Outline) → IsOutline cases.now (entries_of entries.now) outline → IfSome result (λ k. Contains (0 ∷ numbers outline) k) }
+    ensures found { (outline : Outline) → IsOutline cases.now (entries_of entries.now) outline
+        → result ≡ number_from cases.now (entries_of entries.now) 0 outline (map (λ name.
+        chars name.now) names.now) }
+    ensures reached { (outline : Outline) → IsOutline cases.now (entries_of entries.now) outline
+        → IfSome result (λ k. Contains (0 ∷ numbers outline) k) }
 {
     let mut node: u32 = 0;
     for name in names {

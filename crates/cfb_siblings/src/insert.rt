@@ -28,7 +28,8 @@ fn turn<A: Allocator>(entries: &mut [DirEntry<A>], p: PathStep, g: PathStep, x: 
     requires p_in { p.number < length entries.old }
     requires g_in { g.number < length entries.old }
     requires x_in { x < length entries.old }
-    ensures { (entries_of entries.new, result) ≡ turned_at p.left g.left (entries_of entries.old) p.number g.number x }
+    ensures { (entries_of entries.new, result)
+        ≡ turned_at p.left g.left (entries_of entries.old) p.number g.number x }
 {
     let (p_left, p_right) = links(entries, p.number);
     let (g_left, g_right) = links(entries, g.number);
@@ -66,9 +67,14 @@ fn lift<A: Allocator>(
     requires few { length (entries_of entries.old) ≤ NO_STREAM }
     requires stands { Somewhere (entries_of entries.old) parent path.old.items x }
     requires room { vec_len touched.old + 8 ≤ vec_capacity touched.old }
-    ensures lifted { (fs : List Frame) (t : Painted) → At (entries_of entries.old) parent path.old.items x fs t → Lifted (entries_of entries.old) (entries_of entries.new) parent path.new.items result fs t }
+    ensures lifted { (fs : List Frame) (t : Painted)
+        → At (entries_of entries.old) parent path.old.items x fs t → Lifted
+        (entries_of entries.old) (entries_of entries.new) parent path.new.items result fs t }
     ensures shorter { MatchOption result (Unit {0}) (λ _. vec_len path.new < vec_len path.old) }
-    ensures told { (fs : List Frame) (t : Painted) → At (entries_of entries.old) parent path.old.items x fs t → Tells (IsNear parent (plug fs t)) (entries_of entries.old) (entries_of entries.new) touched.old.items touched.new.items }
+    ensures told { (fs : List Frame) (t : Painted)
+        → At (entries_of entries.old) parent path.old.items x fs t
+        → Tells (IsNear parent (plug fs t))
+        (entries_of entries.old) (entries_of entries.new) touched.old.items touched.new.items }
     ensures len { vec_len touched.new ≤ vec_len touched.old + 5 }
     ensures capacity { vec_capacity touched.old ≤ vec_capacity touched.new }
 {
@@ -116,8 +122,13 @@ fn rebalance<A: Allocator>(
     requires few { length (entries_of entries.old) ≤ NO_STREAM }
     requires stands { Somewhere (entries_of entries.old) parent path.old.items x }
     requires room { vec_len touched.old + (8 * vec_len path.old + 8) ≤ vec_capacity touched.old }
-    ensures repaired { (fs : List Frame) (t : Painted) → At (entries_of entries.old) parent path.old.items x fs t → Repaired (entries_of entries.old) (entries_of entries.new) parent fs t }
-    ensures told { (fs : List Frame) (t : Painted) → At (entries_of entries.old) parent path.old.items x fs t → Tells (IsNear parent (plug fs t)) (entries_of entries.old) (entries_of entries.new) touched.old.items touched.new.items }
+    ensures repaired { (fs : List Frame) (t : Painted)
+        → At (entries_of entries.old) parent path.old.items x fs t
+        → Repaired (entries_of entries.old) (entries_of entries.new) parent fs t }
+    ensures told { (fs : List Frame) (t : Painted)
+        → At (entries_of entries.old) parent path.old.items x fs t
+        → Tells (IsNear parent (plug fs t))
+        (entries_of entries.old) (entries_of entries.new) touched.old.items touched.new.items }
 {
     let mut node = x;
     while let Some(next) = lift(entries, parent, path, node, touched) {
@@ -138,9 +149,16 @@ fn attach<A: Allocator>(
     requires beside { slot ≢ parent }
     requires place { MayJoin (entries_of entries.old) parent slot path.old.items }
     requires room { vec_len touched.old + (8 * vec_len path.old + 10) ≤ vec_capacity touched.old }
-    ensures added { (cases : Cases) (t : Painted) (fs : List Frame) → Joins cases (entries_of entries.old) parent slot path.old.items t fs → Attached cases (entries_of entries.old) (entries_of entries.new) parent slot t }
-    ensures kept { (cases : Cases) (t : Painted) (fs : List Frame) → Joins cases (entries_of entries.old) parent slot path.old.items t fs → KeptBeside (entries_of entries.old) (entries_of entries.new) parent slot t }
-    ensures told { (cases : Cases) (t : Painted) (fs : List Frame) → Joins cases (entries_of entries.old) parent slot path.old.items t fs → Tells (IsNear parent (Node false Leaf slot t)) (entries_of entries.old) (entries_of entries.new) touched.old.items touched.new.items }
+    ensures added { (cases : Cases) (t : Painted) (fs : List Frame)
+        → Joins cases (entries_of entries.old) parent slot path.old.items t fs
+        → Attached cases (entries_of entries.old) (entries_of entries.new) parent slot t }
+    ensures kept { (cases : Cases) (t : Painted) (fs : List Frame)
+        → Joins cases (entries_of entries.old) parent slot path.old.items t fs
+        → KeptBeside (entries_of entries.old) (entries_of entries.new) parent slot t }
+    ensures told { (cases : Cases) (t : Painted) (fs : List Frame)
+        → Joins cases (entries_of entries.old) parent slot path.old.items t fs
+        → Tells (IsNear parent (Node false Leaf slot t))
+        (entries_of entries.old) (entries_of entries.new) touched.old.items touched.new.items }
 {
     let above = last_step(path);
     join(entries, slot, NO_STREAM, NO_STREAM, true);
@@ -163,8 +181,10 @@ pub fn place_for<A: Allocator + Clone>(
 ) -> Result<Place<A>, AllocError>
     requires few { length (entries_of entries.now) ≤ NO_STREAM }
     requires stands { IsParent cases.now (entries_of entries.now) parent }
-    requires absent { (list : List ℕ) → HasChildren cases.now (entries_of entries.now) parent list → IsAbsent cases.now (entries_of entries.now) (chars name.now) list }
-    ensures { IfOk result (λ place. IsPlaceFor cases.now (entries_of entries.now) parent (chars name.now) (steps_of place)) }
+    requires absent { (list : List ℕ) → HasChildren cases.now (entries_of entries.now) parent list
+        → IsAbsent cases.now (entries_of entries.now) (chars name.now) list }
+    ensures { IfOk result (λ place.
+        IsPlaceFor cases.now (entries_of entries.now) parent (chars name.now) (steps_of place)) }
 {
     let mut touched = Vec::new(alloc.clone()?);
     let (_, path) = way_to(alloc, cases, entries, parent, name)?;
@@ -186,17 +206,26 @@ pub fn insert<A: Allocator>(
     requires few { length (entries_of entries.old) ≤ NO_STREAM }
     requires slot_in { slot < length entries.old }
     requires beside { slot ≢ parent }
-    requires vacant { (cases : Cases) × (list : List ℕ) × HasChildren cases (entries_of entries.old) parent list × (Contains list slot → ⊥) }
-    requires placed { (cases : Cases) × IsPlaceFor cases (entries_of entries.old) parent (chars (string_bytes entry.name)) (steps_of place) }
+    requires vacant { (cases : Cases) × (list : List ℕ)
+        × HasChildren cases (entries_of entries.old) parent list × (Contains list slot → ⊥) }
+    requires placed { (cases : Cases) × IsPlaceFor cases
+        (entries_of entries.old) parent (chars (string_bytes entry.name)) (steps_of place) }
 
-    ensures inserted { (cases : Cases) (list : List ℕ) → IsPlaceFor cases (entries_of entries.old) parent (chars (string_bytes entry.name)) (steps_of place)
-        → HasChildren cases (entries_of entries.old) parent list → Inserts cases (entries_of entries.old) (entries_of entries.new) parent slot (entry_of entry) list }
+    ensures inserted { (cases : Cases) (list : List ℕ)
+        → IsPlaceFor cases (entries_of entries.old) parent (chars (string_bytes entry.name))
+        (steps_of place) → HasChildren cases (entries_of entries.old) parent list → Inserts cases
+        (entries_of entries.old) (entries_of entries.new) parent slot (entry_of entry) list }
     ensures balanced { KeepsBalance (entries_of entries.old) (entries_of entries.new) parent }
-    ensures red_apart { (cases : Cases) (list : List ℕ) → IsPlaceFor cases (entries_of entries.old) parent (chars (string_bytes entry.name)) (steps_of place)
-        → HasChildren cases (entries_of entries.old) parent list → HasRedApart (entries_of entries.old) parent list
-        → (after : List ℕ) × HasChildren cases (entries_of entries.new) parent after × HasRedApart (entries_of entries.new) parent after }
+    ensures red_apart { (cases : Cases) (list : List ℕ)
+        → IsPlaceFor cases (entries_of entries.old) parent (chars (string_bytes entry.name))
+        (steps_of place) → HasChildren cases (entries_of entries.old) parent list
+        → HasRedApart (entries_of entries.old) parent list
+        → (after : List ℕ) × HasChildren cases (entries_of entries.new) parent after
+        × HasRedApart (entries_of entries.new) parent after }
     ensures touches { Touches (entries_of entries.old) (entries_of entries.new) result.items }
-    ensures touches_only { (cases : Cases) (list : List ℕ) → HasChildren cases (entries_of entries.old) parent list → TouchesOnly parent (slot ∷ list) result.items }
+    ensures touches_only { (cases : Cases) (list : List ℕ)
+        → HasChildren cases (entries_of entries.old) parent list
+        → TouchesOnly parent (slot ∷ list) result.items }
 {
     let Place {
         mut path,

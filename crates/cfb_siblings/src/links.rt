@@ -58,26 +58,13 @@ pub(crate) fn is_red_entry<A: Allocator>(entries: &[DirEntry<A>], n: u32) -> boo
 /// The links to the parts below the entry.
 pub(crate) fn links<A: Allocator>(entries: &[DirEntry<A>], n: u32) -> (u32, u32)
     requires { n < length entries.now }
-    ensures { result ≡ ((entry_at (entries_of entries.now) n).left_sibling, (entry_at (entries_of entries.now) n).right_sibling) }
+    ensures { result ≡ (
+      (entry_at (entries_of entries.now) n).left_sibling,
+      (entry_at (entries_of entries.now) n).right_sibling,
+    ) }
 {
     let entry = &entries[n as usize];
     (entry.left_sibling, entry.right_sibling)
-}
-
-/// The link to the part before the entry.
-pub(crate) fn left_link<A: Allocator>(entries: &[DirEntry<A>], n: u32) -> u32
-    requires { n < length entries.now }
-    ensures { result ≡ (entry_at (entries_of entries.now) n).left_sibling }
-{
-    entries[n as usize].left_sibling
-}
-
-/// The link to the part behind the entry.
-pub(crate) fn right_link<A: Allocator>(entries: &[DirEntry<A>], n: u32) -> u32
-    requires { n < length entries.now }
-    ensures { result ≡ (entry_at (entries_of entries.now) n).right_sibling }
-{
-    entries[n as usize].right_sibling
 }
 
 /// The link to the part below the entry that a step does not go to.
@@ -92,18 +79,12 @@ pub(crate) fn far_side<A: Allocator>(entries: &[DirEntry<A>], step: PathStep) ->
 /// The link to the part that takes the place of an entry with a missing part.
 pub(crate) fn only_part<A: Allocator>(entries: &[DirEntry<A>], n: u32) -> u32
     requires { n < length entries.now }
-    ensures { result ≡ cond ((entry_at (entries_of entries.now) n).right_sibling == NO_STREAM) (entry_at (entries_of entries.now) n).left_sibling (entry_at (entries_of entries.now) n).right_sibling }
+    ensures { result ≡ cond ((entry_at (entries_of entries.now) n).right_sibling == NO_STREAM)
+        (entry_at (entries_of entries.now) n).left_sibling
+        (entry_at (entries_of entries.now) n).right_sibling }
 {
     let (left, right) = links(entries, n);
     if right == NO_STREAM { left } else { right }
-}
-
-/// The link to the children of a storage.
-pub(crate) fn child_link<A: Allocator>(entries: &[DirEntry<A>], n: u32) -> u32
-    requires { n < length entries.now }
-    ensures { result ≡ (entry_at (entries_of entries.now) n).child }
-{
-    entries[n as usize].child
 }
 
 /// Whether a red entry may not hang below the step, nor at the top.
@@ -166,21 +147,24 @@ pub(crate) fn relink<A: Allocator>(
 
 fn set_child<A: Allocator>(entries: &mut [DirEntry<A>], n: u32, link: u32)
     requires { n < length entries.old }
-    ensures { entries_of entries.new ≡ slice_set (entries_of entries.old) n (record (entry_at (entries_of entries.old) n) { child = link }) }
+    ensures { entries_of entries.new ≡ slice_set
+        (entries_of entries.old) n (record (entry_at (entries_of entries.old) n) { child = link }) }
 {
     entries[n as usize].child = link;
 }
 
 fn set_left<A: Allocator>(entries: &mut [DirEntry<A>], n: u32, link: u32)
     requires { n < length entries.old }
-    ensures { entries_of entries.new ≡ slice_set (entries_of entries.old) n (record (entry_at (entries_of entries.old) n) { left_sibling = link }) }
+    ensures { entries_of entries.new ≡ slice_set (entries_of entries.old) n
+        (record (entry_at (entries_of entries.old) n) { left_sibling = link }) }
 {
     entries[n as usize].left_sibling = link;
 }
 
 fn set_right<A: Allocator>(entries: &mut [DirEntry<A>], n: u32, link: u32)
     requires { n < length entries.old }
-    ensures { entries_of entries.new ≡ slice_set (entries_of entries.old) n (record (entry_at (entries_of entries.old) n) { right_sibling = link }) }
+    ensures { entries_of entries.new ≡ slice_set (entries_of entries.old) n
+        (record (entry_at (entries_of entries.old) n) { right_sibling = link }) }
 {
     entries[n as usize].right_sibling = link;
 }

@@ -1,25 +1,24 @@
 //! An entry out of the children of a storage (MS-CFB 2.6.4): a node with at most one part below it
 //! is replaced by that, and in place of one with two its predecessor goes, whose entry then moves
 //! into the freed slot.
-ghost use Rattle.std.specs.Prelude.{◌≡◌, ◌≢◌, ◌⊎◌, ℕ, ◌+◌, ◌*◌, ◌<◌, ◌≤◌, length, chars, IfOk, OnErr, OnOk, List, [], vec_len, vec_capacity, true};
-ghost use Rattle.cfb_siblings.specs.Children.{HasChildren, HasRedApart, IsAbsent, IsParent, KeepsColors, Removes};
-ghost use Rattle.cfb_format.specs.Siblings.{entry_at};
-ghost use Rattle.cfb_format.specs.declared.color.Color.TheVariants.{Black};
+ghost use Rattle.std.specs.Prelude.{◌≡◌, ℕ, ◌+◌, ◌*◌, ◌<◌, ◌≤◌, length, chars, IfOk, OnErr, OnOk, List, [], vec_len, vec_capacity, true};
+ghost use Rattle.cfb_siblings.specs.Children.{HasChildren, HasRedApart, IsAbsent, IsParent, Removes};
 ghost use Rattle.cfb_siblings.specs.Order.{Dir, HasDir};
 ghost use Rattle.cfb_siblings.specs.Painted.{Painted, tree_numbers, occurs};
 ghost use Rattle.cfb_codecs.specs.EntryModel.{entries_of};
 ghost use Rattle.cfb_siblings.specs.Taking.{HasSpot, Spot};
-ghost use Rattle.cfb_siblings.specs.Taking.{Soothed, SpareAt, StandsAt, TakenOut};
+ghost use Rattle.cfb_siblings.specs.Taking.{Soothed, SpareAt, StandsInTree, TakenOut};
 ghost use Rattle.cfb_siblings.specs.Touched.{IsNear, Tells, Touches, TouchesOnly};
 ghost use Rattle.cfb_siblings.specs.Way.{Frame, KeptOutside, plug};
 
 use crate::links::{
     PathStep, is_red, is_red_above, is_red_entry, last_step, links, only_part, paint, relink,
-    right_link, vacate,
+    vacate,
 };
 use crate::touched::{link_slot, make_room, note};
 use crate::way::way_to;
 use cfb_codecs::direntry::DirEntry;
+use cfb_codecs::links::right_link;
 use cfb_codecs::path::CaseMapper;
 use cfb_format::consts::NO_STREAM;
 use std::alloc::{AllocError, Allocator};
@@ -43,8 +42,11 @@ fn spare<A: Allocator>(
     n: u32,
 ) -> Result<u32, AllocError>
     requires few { length (entries_of entries.now) ≤ NO_STREAM }
-    requires small { (t : Painted) × StandsAt (entries_of entries.now) path.old.items t n × ((k : ℕ) → occurs k t ≤ 1) }
-    ensures { IfOk result (λ m. (t : Painted) → ((k : ℕ) → occurs k t ≤ 1) → StandsAt (entries_of entries.now) path.old.items t n → SpareAt (entries_of entries.now) path.new.items t n m) }
+    requires small { (t : Painted)
+        × StandsInTree (entries_of entries.now) path.old.items t n × ((k : ℕ) → occurs k t ≤ 1) }
+    ensures { IfOk result (λ m. (t : Painted)
+        → ((k : ℕ) → occurs k t ≤ 1) → StandsInTree (entries_of entries.now) path.old.items t n
+        → SpareAt (entries_of entries.now) path.new.items t n m) }
 {
     let (left, right) = links(entries, n);
     if left == NO_STREAM {
@@ -81,12 +83,17 @@ fn take_out<A: Allocator>(
 ) -> Result<Gap<A>, AllocError>
     requires few { length (entries_of entries.old) ≤ NO_STREAM }
     requires stands { HasDir cases.now (entries_of entries.old) parent }
-    requires there { (t : Painted) → Dir cases.now (entries_of entries.old) parent t → IsAbsent cases.now (entries_of entries.old) (chars name.now) (tree_numbers t) → ⊥ }
-    ensures taken { IfOk result (λ gap. (t : Painted) → Dir cases.now (entries_of entries.old) parent t → TakenOut cases.now (entries_of entries.old) (entries_of entries.new) parent (chars name.now) t gap.freed gap.path.items gap.link gap.red) }
-    ensures told { OnOk result ((t : Painted) → Dir cases.now (entries_of entries.old) parent t → Tells (IsNear parent t) (entries_of entries.old) (entries_of entries.new) [] touched.new.items) }
-    ensures colors { IfOk result (λ gap. (k : ℕ) → k ≢ gap.freed → (entry_at (entries_of entries.new) k).color ≡ (entry_at (entries_of entries.old) k).color) }
-    ensures len { OnOk result (vec_len touched.new ≤ 3) }
-    ensures room { IfOk result (λ gap. vec_len touched.new + (8 * vec_len gap.path + 8) ≤ vec_capacity touched.new) }
+    requires there { (t : Painted) → Dir cases.now (entries_of entries.old) parent t
+        → IsAbsent cases.now (entries_of entries.old) (chars name.now) (tree_numbers t) → ⊥ }
+    ensures taken { IfOk result (λ gap. (t : Painted)
+        → Dir cases.now (entries_of entries.old) parent t
+        → TakenOut cases.now (entries_of entries.old) (entries_of entries.new) parent
+        (chars name.now) t gap.freed gap.path.items gap.link gap.red) }
+    ensures told { OnOk result ((t : Painted)
+        → Dir cases.now (entries_of entries.old) parent t → Tells
+        (IsNear parent t) (entries_of entries.old) (entries_of entries.new) [] touched.new.items) }
+    ensures room { IfOk result (λ gap. vec_len touched.new + (8 * vec_len gap.path + 8)
+        ≤ vec_capacity touched.new) }
     ensures refused { OnErr result (entries.new ≡ entries.old) }
 {
     let (n, mut path) = way_to(alloc, cases, entries, parent, name)?;
@@ -119,10 +126,13 @@ fn soothe<A: Allocator>(
     requires few { length (entries_of entries.old) ≤ NO_STREAM }
     requires stands { HasSpot (entries_of entries.old) parent path.now x }
     requires room { vec_len touched.old < vec_capacity touched.old }
-    ensures soothed { (fs : List Frame) (t : Painted) → Spot (entries_of entries.old) parent path.now x fs t → KeptOutside (entries_of entries.old) (entries_of entries.new) parent (plug fs t) × Soothed (entries_of entries.new) parent fs t }
-    ensures told { (fs : List Frame) (t : Painted) → Spot (entries_of entries.old) parent path.now x fs t → Tells (IsNear parent (plug fs t)) (entries_of entries.old) (entries_of entries.new) touched.old.items touched.new.items }
-    ensures colors { (k : ℕ) → ((entry_at (entries_of entries.new) k).color ≡ (entry_at (entries_of entries.old) k).color) ⊎ ((k ≡ x) × ((entry_at (entries_of entries.new) k).color ≡ Black)) }
-    ensures len { vec_len touched.new ≤ vec_len touched.old + 1 }
+    ensures soothed { (fs : List Frame) (t : Painted)
+        → Spot (entries_of entries.old) parent path.now x fs t
+        → KeptOutside (entries_of entries.old) (entries_of entries.new) parent (plug fs t)
+        × Soothed (entries_of entries.new) parent fs t }
+    ensures told { (fs : List Frame) (t : Painted)
+        → Spot (entries_of entries.old) parent path.now x fs t → Tells (IsNear parent (plug fs t))
+        (entries_of entries.old) (entries_of entries.new) touched.old.items touched.new.items }
 {
     if !is_red(entries, x) {
         return;
@@ -154,16 +164,23 @@ pub fn remove<A: Allocator>(
 ) -> Result<u32, AllocError>
     requires few { length (entries_of entries.old) ≤ NO_STREAM }
     requires stands { IsParent cases.now (entries_of entries.old) parent }
-    requires there { (list : List ℕ) → HasChildren cases.now (entries_of entries.old) parent list → IsAbsent cases.now (entries_of entries.old) (chars name.now) list → ⊥ }
+    requires there { (list : List ℕ) → HasChildren cases.now (entries_of entries.old) parent list
+        → IsAbsent cases.now (entries_of entries.old) (chars name.now) list → ⊥ }
 
-    ensures removed { IfOk result (λ freed. (list : List ℕ) → HasChildren cases.now (entries_of entries.old) parent list
-        → (after : List ℕ) × Removes cases.now (entries_of entries.old) (entries_of entries.new) parent (chars name.now) freed list after) }
-    ensures red_apart { OnOk result ((list : List ℕ) → HasChildren cases.now (entries_of entries.old) parent list → HasRedApart (entries_of entries.old) parent list
-        → (after : List ℕ) × HasChildren cases.now (entries_of entries.new) parent after × HasRedApart (entries_of entries.new) parent after) }
-    ensures colors { IfOk result (KeepsColors (entries_of entries.old) (entries_of entries.new)) }
-    ensures touches { OnOk result (Touches (entries_of entries.old) (entries_of entries.new) touched.new.items) }
-    ensures touches_only { OnOk result ((list : List ℕ) → HasChildren cases.now (entries_of entries.old) parent list → TouchesOnly parent list touched.new.items) }
-    ensures few_touched { OnOk result (vec_len touched.new ≤ 4) }
+    ensures removed { IfOk result (λ freed. (list : List ℕ)
+        → HasChildren cases.now (entries_of entries.old) parent list
+        → (after : List ℕ) × Removes cases.now (entries_of entries.old)
+        (entries_of entries.new) parent (chars name.now) freed list after) }
+    ensures red_apart { OnOk result ((list : List ℕ)
+        → HasChildren cases.now (entries_of entries.old) parent list
+        → HasRedApart (entries_of entries.old) parent list
+        → (after : List ℕ) × HasChildren cases.now (entries_of entries.new) parent after
+        × HasRedApart (entries_of entries.new) parent after) }
+    ensures touches { OnOk result
+        (Touches (entries_of entries.old) (entries_of entries.new) touched.new.items) }
+    ensures touches_only { OnOk result ((list : List ℕ)
+        → HasChildren cases.now (entries_of entries.old) parent list
+        → TouchesOnly parent list touched.new.items) }
     ensures refused { OnErr result (entries.new ≡ entries.old) }
 {
     let gap = take_out(alloc, cases, entries, parent, name, touched)?;

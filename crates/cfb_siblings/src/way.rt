@@ -6,8 +6,9 @@ ghost use Rattle.cfb_siblings.specs.Painted.{Painted};
 ghost use Rattle.cfb_codecs.specs.EntryModel.{entries_of};
 ghost use Rattle.cfb_siblings.specs.Way.{name_at};
 
-use crate::links::{PathStep, child_link, links};
+use crate::links::{PathStep, links};
 use cfb_codecs::direntry::DirEntry;
+use cfb_codecs::links::child_link;
 use cfb_codecs::path::{CaseMapper, compare_names};
 use cfb_format::consts::NO_STREAM;
 use std::alloc::{AllocError, Allocator};
@@ -24,8 +25,11 @@ pub(crate) fn way_to<A: Allocator>(
 ) -> Result<(u32, Vec<PathStep, A>), AllocError>
     requires few { length (entries_of entries.now) ≤ NO_STREAM }
     requires stands { HasDir cases.now (entries_of entries.now) parent }
-    ensures placed { IfOk result (λ r. (t : Painted) → Dir cases.now (entries_of entries.now) parent t → Placed cases.now (entries_of entries.now) (chars name.now) r.1.items r.0 t) }
-    ensures found { IfOk result (λ r. r.0 ≢ NO_STREAM → is_same_name cases.now (chars name.now) (name_at (entries_of entries.now) r.0) ≡ true) }
+    ensures placed { IfOk result (λ r. (t : Painted)
+        → Dir cases.now (entries_of entries.now) parent t
+        → Placed cases.now (entries_of entries.now) (chars name.now) r.1.items r.0 t) }
+    ensures found { IfOk result (λ r. r.0 ≢ NO_STREAM
+        → is_same_name cases.now (chars name.now) (name_at (entries_of entries.now) r.0) ≡ true) }
 {
     let mut path = Vec::new(alloc);
     let mut link = child_link(entries, parent);

@@ -7,7 +7,7 @@ use Rattle.cfb_format.specs.Content.{place_in_stream, readable}
 use Rattle.cfb_format.specs.DirectoryEntry.{Entry}
 use Rattle.cfb_format.specs.Reading.{Reading}
 use Rattle.cfb_soundness.specs.Layout.{IsWholeStream}
-use Rattle.cfb_soundness.specs.Places.{Stand, StandsAt}
+use Rattle.cfb_soundness.specs.Places.{Stand, ByteStandsAt}
 use Rattle.cfb_soundness.proofs.Placed.{stand-whole, whole-stand}
 use Rattle.cfb_sound_changes.specs.Contents.{ContentByPlaces, ContentIsOverwritten, ContentIsResized}
 
@@ -36,11 +36,11 @@ content-is-resized bytes bytes' r r' e e' whole kept zeros =
     elim (cases_lt k (length (readable bytes r e))) [
       | inl less ↦
           let same = get_or_append_left (take n c) (replicate (n - length c) 0) 0 k (omega (arith, less, below, front)) ∙ get_or-take n c k 0 below in
-          subst (StandsAt bytes' (place_in_stream bytes' r' e') k) (sym same) (kept k (omega (arith, less, whole)) below (slice_index c k) (stands bytes r e whole k less))
+          subst (ByteStandsAt bytes' (place_in_stream bytes' r' e') k) (sym same) (kept k (omega (arith, less, whole)) below (slice_index c k) (stands bytes r e whole k less))
       | inr more ↦
           let same = get_or-append_right (take n c) (replicate (n - length c) 0) (length c) k 0 (omega (arith, front, more, below)) more
           ∙ get_or-replicate (n - length c) (k - length c) 0 0 (omega (arith, more, below)) in
-          subst (StandsAt bytes' (place_in_stream bytes' r' e') k) (sym same) (zeros k (omega (arith, more, whole)) below)
+          subst (ByteStandsAt bytes' (place_in_stream bytes' r' e') k) (sym same) (zeros k (omega (arith, more, whole)) below)
     ])
 
 -- ---- written over
@@ -90,16 +90,16 @@ content-is-overwritten bytes bytes' r r' e e' at ys whole inside len kept there 
     elim (cases_lt k at) [
       | inl less ↦
           let in_old : k < e.stream_len = omega (arith, less, inside) in
-          subst (StandsAt bytes' (place_in_stream bytes' r' e') k) (sym (overwritten-before at ys c k within less))
+          subst (ByteStandsAt bytes' (place_in_stream bytes' r' e') k) (sym (overwritten-before at ys c k within less))
           (kept k in_old (inl less) (slice_index c k) (stands bytes r e whole k (omega (arith, in_old, whole))))
       | inr ge ↦ elim (cases_lt k (at + length ys)) [
         | inl less ↦
             let is : at + (k - at) ≡ k = omega (arith, ge) in
-            subst (StandsAt bytes' (place_in_stream bytes' r' e') k) (sym (overwritten-there at ys c k within ge less))
-            (subst (λ (m : ℕ). StandsAt bytes' (place_in_stream bytes' r' e') m (slice_index ys (k - at))) is (there (k - at) (omega (arith, ge, less))))
+            subst (ByteStandsAt bytes' (place_in_stream bytes' r' e') k) (sym (overwritten-there at ys c k within ge less))
+            (subst (λ (m : ℕ). ByteStandsAt bytes' (place_in_stream bytes' r' e') m (slice_index ys (k - at))) is (there (k - at) (omega (arith, ge, less))))
         | inr more ↦
             let in_old : k < e.stream_len = omega (arith, below, len, more) in
-            subst (StandsAt bytes' (place_in_stream bytes' r' e') k) (sym (overwritten-behind at ys c k within more))
+            subst (ByteStandsAt bytes' (place_in_stream bytes' r' e') k) (sym (overwritten-behind at ys c k within more))
             (kept k in_old (inr more) (slice_index c k) (stands bytes r e whole k (omega (arith, in_old, whole))))
       ]
     ])

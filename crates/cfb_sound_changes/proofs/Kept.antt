@@ -16,7 +16,7 @@ use Rattle.cfb_format.specs.Reading.{Reading, Reads, root_entry}
 use Rattle.cfb_format.specs.Siblings.{entry_at}
 use Rattle.cfb_format.specs.Soundness.{IsSound, PointsIntoFile, used_sectors, used_mini_sectors, sectors_of, mini_sectors_of, mini_stream_sectors, large_streams, small_streams}
 use Rattle.cfb_format.proofs.Chains.{chain_from-IsChain}
-use Rattle.cfb_alloc.specs.Agreement.{Agrees}
+use Rattle.cfb_alloc.specs.Agreement.{WordsAgree}
 use Rattle.cfb_alloc.specs.Alloc.{AllocatorState}
 use Rattle.cfb_tables.specs.Owners.{Uses, UseChanges}
 use Rattle.cfb_tables.proofs.ChainLemmas.{follows-busy}
@@ -95,7 +95,7 @@ module _ (cases : Cases) (bytes : List ℕ) (r : Reading) (reads : Reads cases b
 
 -- ---- the words of a FAT that agrees
 
-pub agreeing-points : (bytes : List ℕ) (r : Reading) → Agrees r.header.version bytes r.fat_sectors r.difat_sectors r.fat → PointsIntoFile bytes r
+pub agreeing-points : (bytes : List ℕ) (r : Reading) → WordsAgree r.header.version bytes r.fat_sectors r.difat_sectors r.fat → PointsIntoFile bytes r
 agreeing-points bytes r a i lt apart regular =
     let len = raw_length r.header.version bytes r.fat_sectors in
     let below : i < sector_count r.header.version bytes = omega (arith, lt, len) in

@@ -7,13 +7,13 @@ use Rattle.cfb_format.specs.DirectoryEntry.{Entry}
 use Rattle.cfb_format.specs.Reading.{Reading}
 use Rattle.cfb_tables.specs.Changes.{AreDisjoint}
 use Rattle.cfb_sectors.specs.Sectors.{SectorStays}
-use Rattle.cfb_sectors.specs.Words.{Stays}
+use Rattle.cfb_sectors.specs.Words.{RangeStays}
 use Rattle.cfb_soundness.specs.Layout.{IsWholeStream}
 use Rattle.cfb_soundness.specs.Places.{SamePiece, mini_start}
 
 -- what stays between two places stays in each piece there
 abbrev pub StayingIsSame : Type 0
-StayingIsSame = (from to len start : ℕ) (old new : List ℕ) → Stays from to old new → from ≤ start → start + len ≤ to → SamePiece len start old new
+StayingIsSame = (from to len start : ℕ) (old new : List ℕ) → RangeStays from to old new → from ≤ start → start + len ≤ to → SamePiece len start old new
 
 -- a sector that stays is the same piece, and so are the mini sectors in it
 abbrev pub SectorIsSame : Type 0

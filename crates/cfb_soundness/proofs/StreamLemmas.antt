@@ -14,7 +14,7 @@ use Rattle.cfb_format.specs.Reading.{Reading}
 use Rattle.cfb_format.specs.Siblings.{entry_at}
 use Rattle.cfb_format.proofs.Chains.{chain_from-IsChain}
 use Rattle.cfb_soundness.specs.Layout.{LiesInPieces, pieces_along}
-use Rattle.cfb_soundness.specs.Marks.{AreFresh, Marked, Holds}
+use Rattle.cfb_soundness.specs.Marks.{AreFresh, Marked, HoldsMarks}
 use Rattle.cfb_soundness.specs.Places.{mini_start}
 use Rattle.cfb_soundness.specs.Streams.{own_sectors, own_mini_sectors, StreamFits, StreamsFit}
 use Rattle.cfb_soundness.proofs.Layouts.{large-lies, small-lies}
@@ -161,14 +161,14 @@ module _ (bytes : List ℕ) (r : Reading) (used mini_used : List ℕ) where
   }
 
   -- the marks after one more stream
-  pub holds-stream : (f : ℕ → List ℕ) (base list : List ℕ) (i : ℕ) (old new : List Bool) → Holds (base ++ flat_map f list) old → AreFresh old (f i) → Marked old (f i) new
-      → Holds (base ++ flat_map f (list ++ i ∷ [])) new
+  pub holds-stream : (f : ℕ → List ℕ) (base list : List ℕ) (i : ℕ) (old new : List Bool) → HoldsMarks (base ++ flat_map f list) old → AreFresh old (f i) → Marked old (f i) new
+      → HoldsMarks (base ++ flat_map f (list ++ i ∷ [])) new
   holds-stream f base list i old new holds fresh marked =
-      subst (λ (z : List ℕ). Holds z new) (sym (flat-push f base list i)) (holds-more (base ++ flat_map f list) (f i) old new holds fresh marked)
+      subst (λ (z : List ℕ). HoldsMarks z new) (sym (flat-push f base list i)) (holds-more (base ++ flat_map f list) (f i) old new holds fresh marked)
 
   pub streams-more : (list : List ℕ) (i : ℕ) (marks mini_marks : List Bool) → StreamsFit bytes r list used mini_used
-      → Holds (used ++ flat_map (λ k. own_sectors r (entry_at r.entries k)) list) marks
-      → Holds (mini_used ++ flat_map (λ k. own_mini_sectors r (entry_at r.entries k)) list) mini_marks
+      → HoldsMarks (used ++ flat_map (λ k. own_sectors r (entry_at r.entries k)) list) marks
+      → HoldsMarks (mini_used ++ flat_map (λ k. own_mini_sectors r (entry_at r.entries k)) list) mini_marks
       → StreamFits bytes r (entry_at r.entries i) marks mini_marks → StreamsFit bytes r (list ++ i ∷ []) used mini_used
   unfolding sectors_at minis_at
   streams-more list i marks mini_marks s holds mini_holds f = record {
@@ -188,8 +188,8 @@ module _ (bytes : List ℕ) (r : Reading) (used mini_used : List ℕ) where
 
   -- where all streams fit, each does beside those before it
   pub streams-each : (list rest : List ℕ) (i : ℕ) (marks mini_marks : List Bool) → StreamsFit bytes r (list ++ i ∷ rest) used mini_used
-      → Holds (used ++ flat_map (λ k. own_sectors r (entry_at r.entries k)) list) marks
-      → Holds (mini_used ++ flat_map (λ k. own_mini_sectors r (entry_at r.entries k)) list) mini_marks
+      → HoldsMarks (used ++ flat_map (λ k. own_sectors r (entry_at r.entries k)) list) marks
+      → HoldsMarks (mini_used ++ flat_map (λ k. own_mini_sectors r (entry_at r.entries k)) list) mini_marks
       → StreamFits bytes r (entry_at r.entries i) marks mini_marks
   unfolding sectors_at minis_at
   streams-each list rest i marks mini_marks s holds mini_holds =
@@ -215,15 +215,15 @@ entry-past entries i ge = get_or_past (map entry_of entries) i unallocated_entry
 
 -- the streams gone over, and the marks then
 pub record Gone (r : Reading) (size : ℕ) (marks mini_marks : List Bool) (list : List ℕ) (marks' mini_marks' : List Bool) : Type 0 where
-  pub fit : (bytes used mini_used : List ℕ) → length bytes ≡ size → Holds used marks → Holds mini_used mini_marks → StreamsFit bytes r list used mini_used
-  pub marked : (used : List ℕ) → Holds used marks → Holds (used ++ flat_map (λ k. own_sectors r (entry_at r.entries k)) list) marks'
-  pub mini_marked : (used : List ℕ) → Holds used mini_marks → Holds (used ++ flat_map (λ k. own_mini_sectors r (entry_at r.entries k)) list) mini_marks'
+  pub fit : (bytes used mini_used : List ℕ) → length bytes ≡ size → HoldsMarks used marks → HoldsMarks mini_used mini_marks → StreamsFit bytes r list used mini_used
+  pub marked : (used : List ℕ) → HoldsMarks used marks → HoldsMarks (used ++ flat_map (λ k. own_sectors r (entry_at r.entries k)) list) marks'
+  pub mini_marked : (used : List ℕ) → HoldsMarks used mini_marks → HoldsMarks (used ++ flat_map (λ k. own_mini_sectors r (entry_at r.entries k)) list) mini_marks'
 
 pub gone-none : (r : Reading) (size : ℕ) (marks mini_marks : List Bool) → Gone r size marks mini_marks [] marks mini_marks
 gone-none r size marks mini_marks = record {
   fit = λ bytes used mini_used _s h m. streams-none bytes r used mini_used h.once m.once;
-  marked = λ used h. subst (λ (z : List ℕ). Holds z marks) (sym (append-nil used)) h;
-  mini_marked = λ used h. subst (λ (z : List ℕ). Holds z mini_marks) (sym (append-nil used)) h;
+  marked = λ used h. subst (λ (z : List ℕ). HoldsMarks z marks) (sym (append-nil used)) h;
+  mini_marked = λ used h. subst (λ (z : List ℕ). HoldsMarks z mini_marks) (sym (append-nil used)) h;
 }
 
 module _ (r : Reading) (size : ℕ) (marks mini_marks : List Bool) (list : List ℕ) (mid mini_mid new mini_new : List Bool) (gone : Gone r size marks mini_marks list mid mini_mid) (i : ℕ) where
@@ -239,7 +239,7 @@ module _ (r : Reading) (size : ℕ) (marks mini_marks : List Bool) (list : List 
       }
 
   -- a stream that doesn't fit beside those gone over
-  pub gone-refused : (bytes used mini_used rest : List ℕ) → length bytes ≡ size → Holds used marks → Holds mini_used mini_marks
+  pub gone-refused : (bytes used mini_used rest : List ℕ) → length bytes ≡ size → HoldsMarks used marks → HoldsMarks mini_used mini_marks
       → (StreamFits bytes r (entry_at r.entries i) mid mini_mid → ⊥) → StreamsFit bytes r (list ++ i ∷ rest) used mini_used → ⊥
   gone-refused bytes used mini_used rest s h m not f =
       not (streams-each bytes r used mini_used list rest i mid mini_mid f (gone.marked used h) (gone.mini_marked mini_used m))

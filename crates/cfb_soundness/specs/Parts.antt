@@ -36,8 +36,8 @@ header_of version = record {
 }
 
 -- a reading with these parts; soundness sees of the header only its version, and of the outline only its streams
-abbrev pub reading_of : {A : Type 0} → Parts A → Reading
-reading_of parts = record {
+abbrev pub parts_reading : {A : Type 0} → Parts A → Reading
+parts_reading parts = record {
   header = header_of parts.version;
   fat_sectors = parts.fat_sectors.now;
   difat_sectors = parts.difat_sectors.now;

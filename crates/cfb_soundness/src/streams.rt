@@ -5,8 +5,8 @@ ghost use Rattle.cfb_format.specs.Bytes.{sector_len};
 ghost use Rattle.cfb_format.specs.Content.{mini_sector_len, mini_stream_chain};
 ghost use Rattle.cfb_codecs.specs.EntryModel.{entry_of};
 ghost use Rattle.cfb_format.specs.Siblings.{entry_at};
-ghost use Rattle.cfb_soundness.specs.Marks.{Marked, Holds};
-ghost use Rattle.cfb_soundness.specs.Parts.{reading_of};
+ghost use Rattle.cfb_soundness.specs.Marks.{Marked, HoldsMarks};
+ghost use Rattle.cfb_soundness.specs.Parts.{parts_reading};
 ghost use Rattle.cfb_soundness.specs.Streams.{own_sectors, own_mini_sectors, StreamFits, StreamsFit};
 
 use crate::marks::walk_marking;
@@ -29,11 +29,16 @@ fn mark_stream<A: Allocator>(
 ) -> Result<bool, Error>
     requires marks { length marks.old ≡ length parts.now.fat.now }
     requires mini_marks { length mini_marks.old ≡ length parts.now.minifat.now }
-    requires root { mini_stream_chain (reading_of parts.now) ≡ Some root.now }
-    requires room { length parts.now.minifat.now * mini_sector_len ≤ length root.now * sector_len parts.now.version }
-    ensures fits { (bytes : List ℕ) → length bytes ≡ parts.now.len → IfOk result (λ fits. IsTrue fits ↔ StreamFits bytes (reading_of parts.now) (entry_of entry.now) marks.old mini_marks.old) }
-    ensures marked { IfOk result (λ fits. IsTrue fits → Marked marks.old (own_sectors (reading_of parts.now) (entry_of entry.now)) marks.new) }
-    ensures mini_marked { IfOk result (λ fits. IsTrue fits → Marked mini_marks.old (own_mini_sectors (reading_of parts.now) (entry_of entry.now)) mini_marks.new) }
+    requires root { mini_stream_chain (parts_reading parts.now) ≡ Some root.now }
+    requires room { length parts.now.minifat.now * mini_sector_len
+        ≤ length root.now * sector_len parts.now.version }
+    ensures fits { (bytes : List ℕ)
+        → length bytes ≡ parts.now.len → IfOk result (λ fits. IsTrue fits ↔ StreamFits bytes
+        (parts_reading parts.now) (entry_of entry.now) marks.old mini_marks.old) }
+    ensures marked { IfOk result (λ fits. IsTrue fits
+        → Marked marks.old (own_sectors (parts_reading parts.now) (entry_of entry.now)) marks.new) }
+    ensures mini_marked { IfOk result (λ fits. IsTrue fits → Marked mini_marks.old
+        (own_mini_sectors (parts_reading parts.now) (entry_of entry.now)) mini_marks.new) }
     ensures err { IfErr result (λ e. e ≡ Memory) }
 {
     if entry.stream_len >= MINI_STREAM_CUTOFF as u64 {
@@ -69,14 +74,20 @@ pub fn mark_streams<A: Allocator + Clone>(
 ) -> Result<bool, Error>
     requires marks { length marks.old ≡ length parts.now.fat.now }
     requires mini_marks { length mini_marks.old ≡ length parts.now.minifat.now }
-    requires root { mini_stream_chain (reading_of parts.now) ≡ Some root.now }
-    requires room { length parts.now.minifat.now * mini_sector_len ≤ length root.now * sector_len parts.now.version }
-    ensures fit { (bytes used mini_used : List ℕ) → length bytes ≡ parts.now.len → Holds used marks.old → Holds mini_used mini_marks.old
-        → IfOk result (λ fit. IsTrue fit ↔ StreamsFit bytes (reading_of parts.now) parts.now.streams.now used mini_used) }
-    ensures marked { (used : List ℕ) → Holds used marks.old → IfOk result (λ fit. IsTrue fit
-        → Holds (used ++ flat_map (λ i. own_sectors (reading_of parts.now) (entry_at (reading_of parts.now).entries i)) parts.now.streams.now) marks.new) }
-    ensures mini_marked { (mini_used : List ℕ) → Holds mini_used mini_marks.old → IfOk result (λ fit. IsTrue fit
-        → Holds (mini_used ++ flat_map (λ i. own_mini_sectors (reading_of parts.now) (entry_at (reading_of parts.now).entries i)) parts.now.streams.now) mini_marks.new) }
+    requires root { mini_stream_chain (parts_reading parts.now) ≡ Some root.now }
+    requires room { length parts.now.minifat.now * mini_sector_len
+        ≤ length root.now * sector_len parts.now.version }
+    ensures fit { (bytes used mini_used : List ℕ)
+        → length bytes ≡ parts.now.len → HoldsMarks used marks.old
+        → HoldsMarks mini_used mini_marks.old → IfOk result (λ fit. IsTrue fit
+        ↔ StreamsFit bytes (parts_reading parts.now) parts.now.streams.now used mini_used) }
+    ensures marked { (used : List ℕ) → HoldsMarks used marks.old → IfOk result (λ fit. IsTrue fit
+        → HoldsMarks (used ++ flat_map (λ i. own_sectors (parts_reading parts.now)
+        (entry_at (parts_reading parts.now).entries i)) parts.now.streams.now) marks.new) }
+    ensures mini_marked { (mini_used : List ℕ)
+        → HoldsMarks mini_used mini_marks.old → IfOk result (λ fit. IsTrue fit
+        → HoldsMarks (mini_used ++ flat_map (λ i. own_mini_sectors (parts_reading parts.now)
+        (entry_at (parts_reading parts.now).entries i)) parts.now.streams.now) mini_marks.new) }
     ensures err { IfErr result (λ e. e ≡ Memory) }
 {
     for number in parts.streams {

@@ -3,6 +3,7 @@ use Rattle.std.specs.Prelude.{ℕ, ◌+◌, ◌≡◌, ◌≤◌, ◌⊎◌, max
 use Rattle.cfb_format.specs.Refused.{HasReason, IsInvalidData, IsMediumAnd, no_error}
 use Rattle.cfb_format.specs.declared.error.Error.{Error}
 use Rattle.cfb_rules.specs.StreamCalls.{StreamSetting, resized}
+use Rattle.cfb_format.specs.Refused.{IsBreak}
 
 -- the length, the bytes that can be read, the greatest length that the version has, whether the file is sound, and whether it has failed
 pub record Stored : Type 0 where
@@ -13,12 +14,8 @@ pub record Stored : Type 0 where
   pub failed : Bool
 
 -- what stays the same
-abbrev pub setting_of : Stored → StreamSetting
-setting_of s = record { limit = s.limit; sound = s.sound }
-
--- the medium, memory or fullness refused; of fullness this holds
-abbrev pub IsBreak : Type 0 → Error → Type 0
-IsBreak full = HasReason (record no_error { medium = λ f. Unit {0}; memory = Unit {0}; full = full })
+abbrev pub stream_setting_of : Stored → StreamSetting
+stream_setting_of s = record { limit = s.limit; sound = s.sound }
 
 -- the medium refused
 abbrev pub IsMediumFault : Error → Type 0

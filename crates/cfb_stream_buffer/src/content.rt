@@ -1,9 +1,9 @@
 //! What buffered streams stand on: lists of bytes in a file, each under a number. Lengths and places
 //! are in bytes.
-ghost use Rattle.std.specs.Prelude.{◌≡◌, ◌<◌, ◌≤◌, ◌||◌, ℕ, Bool, false, IfOk, IfErr, OnOk, length};
-ghost use Rattle.cfb_format.specs.Refused.{CountsFailure, IsMemory};
+ghost use Rattle.std.specs.Prelude.{◌≡◌, ◌<◌, ◌≤◌, ◌||◌, ℕ, Bool, true, false, IfOk, IfErr, OnOk, OnErr, length};
+ghost use Rattle.cfb_format.specs.Refused.{CountsFailure, IsMemory, IsBreak};
 ghost use Rattle.cfb_format.specs.declared.medium.MediumFault.{MediumFault as Fault};
-ghost use Rattle.cfb_stream_buffer.specs.Contents.{Stored, TakesBytes, TakesLen, ReadsPart, WritesPart, IsBreak, IsMediumFault, IsRefusedRead, KeptOrFailed, Fails, stored_after_resize};
+ghost use Rattle.cfb_stream_buffer.specs.Contents.{Stored, TakesBytes, TakesLen, ReadsPart, WritesPart, IsMediumFault, IsRefusedRead, KeptOrFailed, Fails, stored_after_resize};
 
 use cfb_format::error::Error;
 
@@ -109,7 +109,9 @@ pub trait Contents: ReadContents {
         ensures ok { Self.tells self.old → TakesBytes (Self.stored self.old id) at (length bytes.now) → 0 < length bytes.now
             → IfOk result (WritesPart (Self.stored self.old id) at bytes.now (Self.stored self.new id)) }
         ensures refused { Self.tells self.old → TakesBytes (Self.stored self.old id) at (length bytes.now) → 0 < length bytes.now
-            → IfErr result (λ e. IsBreak ((Self.stored self.old id).size ≤ at × is_full self.new) e × KeptOrFailed (Self.stored self.old id) (Self.stored self.new id)) };
+            → IfErr result (λ e. IsBreak ((Self.stored self.old id).size ≤ at × is_full self.new) e × KeptOrFailed (Self.stored self.old id) (Self.stored self.new id)) }
+        ensures stays { Self.tells self.old → (Self.stored self.new id).failed ≡ false
+            → OnErr result (Self.kept self.new ≡ Self.kept self.old) };
 
     /// Cuts it to a length, or pads it with zeros. Where it is refused nothing has changed, or the file has
     /// failed: `Medium`, `Memory`, and `Full` where the length needs more numbers than are left.
@@ -121,7 +123,11 @@ pub trait Contents: ReadContents {
         ensures counts { Self.tells self.old → CountsFailure (λ f. Self.read_faults f || write_faults f) result (Self.failures self.old) (Self.failures self.new) }
         ensures ok { Self.tells self.old → TakesLen (Self.stored self.old id) len → OnOk result (Self.stored self.new id ≡ stored_after_resize (Self.stored self.old id) len) }
         ensures refused { Self.tells self.old → TakesLen (Self.stored self.old id) len
-            → IfErr result (λ e. IsBreak (is_too_long self.new id len) e × KeptOrFailed (Self.stored self.old id) (Self.stored self.new id)) };
+            → IfErr result (λ e. IsBreak (is_too_long self.new id len) e × KeptOrFailed (Self.stored self.old id) (Self.stored self.new id)) }
+        ensures stays { Self.tells self.old → (Self.stored self.new id).failed ≡ false
+            → OnErr result (Self.kept self.new ≡ Self.kept self.old) }
+        ensures foreseen { Self.tells self.old → TakesLen (Self.stored self.old id) len
+            → IfErr result (λ e. e ≡ Error.Full → self.new ≡ self.old) };
 
     /// Hands on what was written. `Medium`, and the file has failed then.
     fn flush(&mut self, id: u32) -> Result<(), Error>
@@ -131,7 +137,10 @@ pub trait Contents: ReadContents {
         ensures others { Self.tells self.old → (first : Self) → keeps id first self.old → keeps id first self.new }
         ensures counts { Self.tells self.old → CountsFailure (λ f. Self.read_faults f || write_faults f) result (Self.failures self.old) (Self.failures self.new) }
         ensures ok { Self.tells self.old → (Self.stored self.old id).failed ≡ false → OnOk result (Self.stored self.new id ≡ Self.stored self.old id) }
-        ensures refused { Self.tells self.old → (Self.stored self.old id).failed ≡ false → IfErr result (λ e. IsMediumFault e × Fails (Self.stored self.old id) (Self.stored self.new id)) };
+        ensures refused { Self.tells self.old → (Self.stored self.old id).failed ≡ false → IfErr result (λ e. IsMediumFault e × Fails (Self.stored self.old id) (Self.stored self.new id)) }
+        ensures ended { OnErr result ((Self.stored self.new id).failed ≡ true) }
+        ensures kept { Self.tells self.old → (Self.stored self.new id).failed ≡ false
+            → Self.kept self.new ≡ Self.kept self.old };
 
     /// Reading is no change.
     ghost reads_keep: { (id : ℕ) (first old new : Self) → Self.kept new ≡ Self.kept old → keeps id first old → keeps id first new };

@@ -1,7 +1,8 @@
 //! Contents that are read and written whole, call by call, and given up.
-ghost use Rattle.std.specs.Prelude.{◌≡◌, ◌+◌, ◌-◌, ◌^◌, ◌<◌, ◌≤◌, ◌++◌, true, false, OnOk, OnErr, IfErr, length, take, drop};
-ghost use Rattle.cfb_stream_buffer.specs.Contents.{IsBreak, Fails, SameLimits, TakesBytes, stored_after_write};
-ghost use Rattle.cfb_stream_buffer.specs.Touched.{IsRead, IsWritten};
+ghost use Rattle.std.specs.Prelude.{◌≡◌, ◌+◌, ◌-◌, ◌^◌, ◌<◌, ◌≤◌, ◌++◌, ◌||◌, true, false, OnOk, OnErr, IfErr, length, take, drop};
+ghost use Rattle.cfb_format.specs.Refused.{CountsFailure, IsBreak};
+ghost use Rattle.cfb_stream_buffer.specs.Contents.{Fails, SameLimits, TakesBytes, stored_after_write};
+ghost use Rattle.cfb_stream_buffer.specs.Touched.{IsRead};
 
 use crate::content::{Contents, ReadContents};
 use cfb_format::error::{Detail, Error};
@@ -107,7 +108,11 @@ pub fn write_all<C: Contents>(content: &mut C, id: u32, at: u64, bytes: &[u8]) -
     requires there { C.has content.old id }
     requires bound { at + length bytes.now < 2 ^ 64 }
     ensures there { C.has content.new id }
-    ensures around { C.tells content.old → IsWritten C.ReadContents C.Contents.own content.old content.new id result }
+    ensures told { C.tells content.old → C.tells content.new }
+    ensures others { C.tells content.old → (first : C) → C.keeps id first content.old
+        → C.keeps id first content.new }
+    ensures counts { C.tells content.old → CountsFailure (λ f. C.read_faults f || C.write_faults f) result
+        (C.failures content.old) (C.failures content.new) }
     ensures ok { C.tells content.old → TakesBytes (C.stored content.old id) at (length bytes.now) → at ≤ length (C.stored content.old id).content
         → OnOk result (C.stored content.new id ≡ stored_after_write (C.stored content.old id) at bytes.now) }
     ensures refused { C.tells content.old → TakesBytes (C.stored content.old id) at (length bytes.now) → at ≤ length (C.stored content.old id).content

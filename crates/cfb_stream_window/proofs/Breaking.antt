@@ -1,17 +1,17 @@
 -- Breaking off: what the rules say of a refusal by the medium, for memory or fullness.
-use Rattle.std.proofs.Common.{refl, ℕ, ◌≡◌, ◌⊎◌, ◌==◌, Bool, true, false, IsTrue, sym, ap, subst, inl, inr}
+use Rattle.std.proofs.Common.{refl, ℕ, ◌+◌, ◌<◌, ◌≤◌, ◌≡◌, ◌⊎◌, ◌==◌, Bool, true, false, IsTrue, sym, ap, subst, inl, inr, arith}
 use Rattle.std.specs.Bool.{MatchBool}
 use Rattle.std.specs.Prelude.{⊤, Some}
 use Rattle.cfb_format.specs.Medium.{Rises}
-use Rattle.cfb_format.specs.Refused.{CountsError, IsMemory, number_of}
+use Rattle.cfb_format.specs.Refused.{CountsError, IsMemory, number_of, IsBreak}
 use Rattle.cfb_format.specs.declared.medium.MediumFault.{MediumFault}
 use Rattle.cfb_format.specs.declared.error.Error.{Error}
-use Rattle.cfb_format.specs.declared.error.Error.TheVariants.{NotFound, AlreadyExists, InvalidInput, InvalidData, Medium, Memory, Full, Unsound, Failed, Unsupported}
+use Rattle.cfb_format.specs.declared.error.Error.TheVariants.{NotFound, AlreadyExists, InvalidInput, InvalidData, Medium, Memory, Full, Unsound, Failed}
 use Rattle.cfb_rules.specs.Refusal.{Refusal, IsRefusal, not_found, already_exists, invalid_input, invalid_data, medium_failed, out_of_memory, file_full, not_sound, failed_earlier}
 use Rattle.cfb_rules.specs.StreamCalls.{StreamCall}
-use Rattle.cfb_rules.specs.Runs.{Causes, Work, reading, moving, writing_out, taking, resizing, work_of, WorkMayBreak, BlamesOneOf, StaysUnfailed, may_leave_failed, StreamBreaksOff, Closes}
-use Rattle.cfb_stream_buffer.specs.Contents.{Stored, IsBreak, IsMediumFault, KeptOrFailed}
-use Rattle.cfb_stream_window.specs.Windows.{Window, Stays, BrokeOff, CalmBrokeOff, ReadBrokeOff, WriteBrokeOff, LengthBrokeOff, IsMemoryOrFull, IsLost, Runs, IsRefused, state_of, run_of}
+use Rattle.cfb_rules.specs.Runs.{Causes, Work, reading, moving, writing_out, overwriting, appending, resizing, work_of, WorkMayBreak, BlamesOneOf, StaysUnfailed, may_leave_failed, StreamBreaksOff, Closes}
+use Rattle.cfb_stream_buffer.specs.Contents.{Stored, IsMediumFault, KeptOrFailed}
+use Rattle.cfb_stream_window.specs.Windows.{Window, Stays, BrokeOff, CalmBrokeOff, ReadBrokeOff, WriteBrokeOff, LengthBrokeOff, IsMemoryOrFull, IsLost, Runs, IsCallRefused, state_of, run_of}
 use Rattle.cfb_stream_window.specs.Answers.{AtRefusal}
 
 pub match_true : (b : Bool) (P Q : Type 0) → b ≡ true → P → MatchBool b P Q
@@ -35,7 +35,6 @@ break_more P Q f (InvalidInput d) b = absurd b
 break_more P Q f (InvalidData d) b = absurd b
 break_more P Q f Unsound b = absurd b
 break_more P Q f Failed b = absurd b
-break_more P Q f Unsupported b = absurd b
 
 pub not_full : (Q : Type 0) (e : Error) → IsBreak ⊥ e → IsBreak Q e
 not_full Q e b = break_more ⊥ Q (λ (h : ⊥). absurd h) e b
@@ -51,7 +50,6 @@ break_untouched P Q R (InvalidInput d) b = absurd b
 break_untouched P Q R (InvalidData d) b = absurd b
 break_untouched P Q R Unsound b = absurd b
 break_untouched P Q R Failed b = absurd b
-break_untouched P Q R Unsupported b = absurd b
 
 pub memory_break : (P : Type 0) (e : Error) → IsMemory e → IsBreak P e
 memory_break P e h = subst (λ (z : Error). IsBreak P z) (sym h) tt
@@ -67,7 +65,6 @@ not_fault P (InvalidInput d) b h = absurd b
 not_fault P (InvalidData d) b h = absurd b
 not_fault P Unsound b h = absurd b
 not_fault P Failed b h = absurd b
-not_fault P Unsupported b h = absurd b
 
 -- the kind of an error
 abbrev kind : Error → Refusal
@@ -80,7 +77,6 @@ kind Memory = out_of_memory
 kind Full = file_full
 kind Unsound = not_sound
 kind Failed = failed_earlier
-kind Unsupported = failed_earlier
 
 kind_is : (P : Type 0) (e : Error) → IsBreak P e → IsRefusal (kind e) e
 kind_is P (Medium fault) b = refl
@@ -92,7 +88,6 @@ kind_is P (InvalidInput d) b = absurd b
 kind_is P (InvalidData d) b = absurd b
 kind_is P Unsound b = absurd b
 kind_is P Failed b = absurd b
-kind_is P Unsupported b = absurd b
 
 -- memory and fullness are the kinds that spare a file with bytes pending
 spared_kind : (e : Error) → IsMemoryOrFull e → (kind e ≡ out_of_memory) ⊎ (kind e ≡ file_full)
@@ -105,7 +100,6 @@ spared_kind (InvalidInput d) b = absurd b
 spared_kind (InvalidData d) b = absurd b
 spared_kind Unsound b = absurd b
 spared_kind Failed b = absurd b
-spared_kind Unsupported b = absurd b
 
 -- it blames what refused
 blames : (P : Type 0) (can : MediumFault → Bool) (m n : ℕ) (e : Error) → IsBreak P e → CountsError can m n e → BlamesOneOf (Rises m n) ⊤ P (kind e)
@@ -118,7 +112,6 @@ blames P can m n (InvalidInput d) b k = absurd b
 blames P can m n (InvalidData d) b k = absurd b
 blames P can m n Unsound b k = absurd b
 blames P can m n Failed b k = absurd b
-blames P can m n Unsupported b k = absurd b
 
 blames_more : (M P Q : Type 0) (r : Refusal) → (P → Q) → BlamesOneOf M ⊤ P r → BlamesOneOf M ⊤ Q r
 blames_more M P Q medium_failed f b = b
@@ -142,7 +135,6 @@ fault_is (InvalidInput d) b = absurd b
 fault_is (InvalidData d) b = absurd b
 fault_is Unsound b = absurd b
 fault_is Failed b = absurd b
-fault_is Unsupported b = absurd b
 
 faults : (can : MediumFault → Bool) (m n : ℕ) (e : Error) → IsMediumFault e → CountsError can m n e → BlamesOneOf (Rises m n) ⊥ ⊥ (kind e)
 faults can m n (Medium fault) b k = k.rises
@@ -154,7 +146,6 @@ faults can m n (InvalidInput d) b k = absurd b
 faults can m n (InvalidData d) b k = absurd b
 faults can m n Unsound b k = absurd b
 faults can m n Failed b k = absurd b
-faults can m n Unsupported b k = absurd b
 
 module _ (full : Type 0) (can : MediumFault → Bool) (m n : ℕ) (s : Stored) (w : Window) (s' : Stored) (w' : Window) (call : StreamCall) (e : Error) where
   abbrev causes : Causes
@@ -162,7 +153,7 @@ module _ (full : Type 0) (can : MediumFault → Bool) (m n : ℕ) (s : Stored) (
 
   -- what the rules ask of a refusal of this work
   broken : (work : Work) (P : Type 0) → work_of (state_of s w) call ≡ work → s.failed ≡ false → IsBreak P e
-      → WorkMayBreak causes w.pending work (kind e) × StreamBreaksOff (state_of s w) work (kind e) (run_of s' w') → IsRefused causes s w call s' w' e
+      → WorkMayBreak causes w.pending work (kind e) × StreamBreaksOff (state_of s w) work (kind e) (run_of s' w') → IsCallRefused causes s w call s' w' e
   unfolding Runs
   broken work P is f b h = (kind e, kind_is P e b, match_false s.failed _ _ f (inr (kind e, there.0, refl, there.1)))
     where
@@ -179,7 +170,7 @@ module _ (full : Type 0) (can : MediumFault → Bool) (m n : ℕ) (s : Stored) (
       let calm = k.carries.agrees.unfailed in
       cc
 
-  pub read_broken : work_of (state_of s w) call ≡ reading → s.failed ≡ false → CountsError can m n e → ReadBrokeOff full s w s' w' e → IsRefused causes s w call s' w' e
+  pub read_broken : work_of (state_of s w) call ≡ reading → s.failed ≡ false → CountsError can m n e → ReadBrokeOff full s w s' w' e → IsCallRefused causes s w call s' w' e
   read_broken is f counts b = broken reading _ is f b.0 (go w.pending refl)
     where
       go : (p : Bool) → w.pending ≡ p → WorkMayBreak causes p reading (kind e)
@@ -194,16 +185,35 @@ module _ (full : Type 0) (can : MediumFault → Bool) (m n : ℕ) (s : Stored) (
         elim b.1 [ inl k ↦ inl (tt, stays_new k.0) | inr k ↦ absurd (let t = k.1 in cc) ],
       )
 
-  pub taken_broken : work_of (state_of s w) call ≡ taking → s.failed ≡ false → CountsError can m n e → WriteBrokeOff full s w s' w' e → IsRefused causes s w call s' w' e
-  taken_broken is f counts b = broken taking _ is f b.0 (go w.pending refl)
+  -- bytes that are taken over others, and bytes at the end
+  pub overwritten_broken : work_of (state_of s w) call ≡ overwriting → w.base + w.cursor < w.size → s.failed ≡ false → CountsError can m n e → WriteBrokeOff full s w s' w' e → IsCallRefused causes s w call s' w' e
+  overwritten_broken is before f counts b = broken overwriting _ is f b.0 (go w.pending refl)
     where
-      go : (p : Bool) → w.pending ≡ p → WorkMayBreak causes p taking (kind e)
-          × ((StaysUnfailed p taking (kind e) × (run_of s' w' ≡ record { stream = record (state_of s w) { ahead = 0 }; failed = false }))
-          ⊎ (IsTrue (may_leave_failed p taking) × (s'.failed ≡ true)))
-      go true eq = (blames _ can m n e b.0 counts, elim b.1 [ inl k ↦ inl (ap kind (k.1 eq), stays_new k.0) | inr k ↦ inr (refl, k.0.is_failed) ])
-      go false eq = (blames _ can m n e b.0 counts, elim b.1 [ inl k ↦ inl (tt, stays_new k.0) | inr k ↦ inr (refl, k.0.is_failed) ])
+      go : (p : Bool) → w.pending ≡ p → WorkMayBreak causes p overwriting (kind e)
+          × ((StaysUnfailed p overwriting (kind e) × (run_of s' w' ≡ record { stream = record (state_of s w) { ahead = 0 }; failed = false }))
+          ⊎ (IsTrue (may_leave_failed p overwriting) × (s'.failed ≡ true)))
+      go true eq = (
+        blames_more _ _ full (kind e) (λ (h : (w.pending ≡ false → w.size ≤ w.base + w.cursor) × full). h.1) (blames _ can m n e b.0 counts),
+        elim b.1 [ inl k ↦ inl (ap kind (k.1 eq), stays_new k.0) | inr k ↦ inr (refl, k.0.is_failed) ],
+      )
+      go false eq = (
+        blames_more _ _ ⊥ (kind e) (λ (h : (w.pending ≡ false → w.size ≤ w.base + w.cursor) × full). absurd (omega (arith, before, h.0 eq))) (blames _ can m n e b.0 counts),
+        elim b.1 [ inl k ↦ inl (tt, stays_new k.0) | inr k ↦ inr (refl, k.0.is_failed) ],
+      )
 
-  pub length_broken : work_of (state_of s w) call ≡ resizing → s.failed ≡ false → CountsError can m n e → LengthBrokeOff full s w s' w' e → IsRefused causes s w call s' w' e
+  pub appended_broken : work_of (state_of s w) call ≡ appending → s.failed ≡ false → CountsError can m n e → WriteBrokeOff full s w s' w' e → IsCallRefused causes s w call s' w' e
+  appended_broken is f counts b = broken appending _ is f b.0 (go w.pending refl)
+    where
+      all : BlamesOneOf (Rises m n) ⊤ full (kind e)
+      all = blames_more _ _ full (kind e) (λ (h : (w.pending ≡ false → w.size ≤ w.base + w.cursor) × full). h.1) (blames _ can m n e b.0 counts)
+
+      go : (p : Bool) → w.pending ≡ p → WorkMayBreak causes p appending (kind e)
+          × ((StaysUnfailed p appending (kind e) × (run_of s' w' ≡ record { stream = record (state_of s w) { ahead = 0 }; failed = false }))
+          ⊎ (IsTrue (may_leave_failed p appending) × (s'.failed ≡ true)))
+      go true eq = (all, elim b.1 [ inl k ↦ inl (ap kind (k.1 eq), stays_new k.0) | inr k ↦ inr (refl, k.0.is_failed) ])
+      go false eq = (all, elim b.1 [ inl k ↦ inl (tt, stays_new k.0) | inr k ↦ inr (refl, k.0.is_failed) ])
+
+  pub length_broken : work_of (state_of s w) call ≡ resizing → s.failed ≡ false → CountsError can m n e → LengthBrokeOff full s w s' w' e → IsCallRefused causes s w call s' w' e
   length_broken is f counts b = broken resizing _ is f b.0 (go w.pending refl)
     where
       go : (p : Bool) → w.pending ≡ p → WorkMayBreak causes p resizing (kind e)
@@ -212,7 +222,7 @@ module _ (full : Type 0) (can : MediumFault → Bool) (m n : ℕ) (s : Stored) (
       go true eq = (blames _ can m n e b.0 counts, elim b.1 [ inl k ↦ inl (spared_kind e (k.1 eq), stays_new k.0) | inr k ↦ inr (refl, k.0.is_failed) ])
       go false eq = (blames _ can m n e b.0 counts, elim b.1 [ inl k ↦ inl (tt, stays_new k.0) | inr k ↦ inr (refl, k.0.is_failed) ])
 
-  pub lost_moving : work_of (state_of s w) call ≡ moving → s.failed ≡ false → CountsError can m n e → IsLost full s w s' e → IsRefused causes s w call s' w' e
+  pub lost_moving : work_of (state_of s w) call ≡ moving → s.failed ≡ false → CountsError can m n e → IsLost full s w s' e → IsCallRefused causes s w call s' w' e
   lost_moving is f counts b = broken moving full is f b.0 (go w.pending refl)
     where
       go : (p : Bool) → w.pending ≡ p → WorkMayBreak causes p moving (kind e)
@@ -221,7 +231,7 @@ module _ (full : Type 0) (can : MediumFault → Bool) (m n : ℕ) (s : Stored) (
       go true eq = (blames _ can m n e b.0 counts, inr (refl, b.2.is_failed))
       go false eq = absurd (let t = b.1 in cc)
 
-  pub lost_flushing : work_of (state_of s w) call ≡ writing_out → s.failed ≡ false → CountsError can m n e → IsLost full s w s' e → IsRefused causes s w call s' w' e
+  pub lost_flushing : work_of (state_of s w) call ≡ writing_out → s.failed ≡ false → CountsError can m n e → IsLost full s w s' e → IsCallRefused causes s w call s' w' e
   lost_flushing is f counts b = broken writing_out full is f b.0 (go w.pending refl)
     where
       go : (p : Bool) → w.pending ≡ p → WorkMayBreak causes p writing_out (kind e)
@@ -230,7 +240,7 @@ module _ (full : Type 0) (can : MediumFault → Bool) (m n : ℕ) (s : Stored) (
       go true eq = (blames _ can m n e b.0 counts, inr (refl, b.2.is_failed))
       go false eq = absurd (let t = b.1 in cc)
 
-  pub flush_broken : work_of (state_of s w) call ≡ writing_out → s.failed ≡ false → CountsError can m n e → IsMediumFault e → s'.failed ≡ true → IsRefused causes s w call s' w' e
+  pub flush_broken : work_of (state_of s w) call ≡ writing_out → s.failed ≡ false → CountsError can m n e → IsMediumFault e → s'.failed ≡ true → IsCallRefused causes s w call s' w' e
   flush_broken is f counts b failed = broken writing_out ⊥ is f (fault_is e b) (go w.pending refl)
     where
       go : (p : Bool) → w.pending ≡ p → WorkMayBreak causes p writing_out (kind e)

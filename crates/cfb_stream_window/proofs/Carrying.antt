@@ -3,7 +3,7 @@ use Rattle.std.proofs.Common.{refl, ℕ, ◌+◌, ◌≡◌, ◌<◌, ◌≤◌,
 use Rattle.cfb_format.specs.declared.error.Error.{Error}
 use Rattle.cfb_stream_buffer.specs.Contents.{Stored, laid, IsFitting, IsRefusedRead}
 use Rattle.cfb_rules.specs.StreamCalls.{opened}
-use Rattle.cfb_stream_window.specs.Windows.{Window, Agrees, Suits, Carries, Stays, CalmBrokeOff, Unreadable, state_of, settled, window_settled, window_at, IsLoaded, window_over}
+use Rattle.cfb_stream_window.specs.Windows.{Window, LiesOver, Suits, Carries, Stays, CalmBrokeOff, Unreadable, state_of, settled, window_settled, window_at, IsLoaded, window_over}
 use Rattle.cfb_stream_buffer.specs.Buffers.{Buffered}
 use Rattle.cfb_stream_buffer.proofs.Lists.{length-laid, laid-nothing, laid-own, laid-twice}
 
@@ -16,14 +16,14 @@ pub settled-list : (at : ℕ) (f c : List ℕ) → (0 < length f → at ≤ leng
 settled-list at [] c within = laid-nothing at (laid at [] c)
 settled-list at (x ∷ xs) c within = laid-twice at (x ∷ xs) c (within (omega arith))
 
-module _ (s : Stored) (w : Window) (a : Agrees s w) where
+module _ (s : Stored) (w : Window) (a : LiesOver s w) where
   settled_readable : length (laid w.base w.filled s.content) ≤ w.size
   settled_readable = omega (arith, length-over w.base w.filled s.content a.placed, a.total, a.readable)
 
   pub settled_whole : s.sound ≡ true → length (laid w.base w.filled s.content) ≡ w.size
   settled_whole sound = omega (arith, length-laid w.base w.filled s.content (omega (arith, a.whole sound, a.begins)), a.total, a.whole sound)
 
-  left_agrees : w.base + w.cursor ≤ w.size → Agrees (settled s w) (window_at (w.base + w.cursor) w)
+  left_agrees : w.base + w.cursor ≤ w.size → LiesOver (settled s w) (window_at (w.base + w.cursor) w)
   left_agrees inside = record {
     unfailed = a.unfailed;
     begins = inside;
@@ -74,10 +74,10 @@ module _ (s : Stored) (w : Window) (a : Agrees s w) where
     };
   }
 
-pub left_to : (s s' : Stored) (w w' : Window) → Agrees s w → w.base + w.cursor ≤ w.size → s' ≡ settled s w → w' ≡ window_at (w.base + w.cursor) w → Carries s w s' w'
+pub left_to : (s s' : Stored) (w w' : Window) → LiesOver s w → w.base + w.cursor ≤ w.size → s' ≡ settled s w → w' ≡ window_at (w.base + w.cursor) w → Carries s w s' w'
 left_to s s' w w' a inside is at = subst (λ (t : Stored). Carries s w t w') (sym is) (subst (λ (v : Window). Carries s w (settled s w) v) (sym at) (left s w a inside))
 
-pub flushed_to : (s s' : Stored) (w w' : Window) → Agrees s w → w.base + length w.filled ≤ w.size → s' ≡ settled s w → w' ≡ window_settled w → Carries s w s' w'
+pub flushed_to : (s s' : Stored) (w w' : Window) → LiesOver s w → w.base + length w.filled ≤ w.size → s' ≡ settled s w → w' ≡ window_settled w → Carries s w s' w'
 flushed_to s s' w w' a inside is at = subst (λ (t : Stored). Carries s w t w') (sym is) (subst (λ (v : Window). Carries s w (settled s w) v) (sym at) (flushed s w a inside))
 
 pub carries_trans : (s t u : Stored) (w x y : Window) → Carries s w t x → Carries t x u y → Carries s w u y
@@ -93,7 +93,7 @@ carries_trans s t u w x y a b = record {
 }
 
 -- bytes read into the empty window
-module _ (s : Stored) (w : Window) (a : Agrees s w) (none : w.filled ≡ []) (at : w.cursor ≡ 0) (calm : w.pending ≡ false) where
+module _ (s : Stored) (w : Window) (a : LiesOver s w) (none : w.filled ≡ []) (at : w.cursor ≡ 0) (calm : w.pending ≡ false) where
   loaded_is : (f : List ℕ) → f ≡ take (length f) (drop w.base s.content) → laid w.base f s.content ≡ s.content
   loaded_is f is = ap (λ (xs : List ℕ). laid w.base xs s.content) is ∙ laid-own w.base (length f) s.content
 
@@ -124,8 +124,8 @@ module _ (s : Stored) (w : Window) (a : Agrees s w) (none : w.filled ≡ []) (at
   loaded t v same is l = subst (λ (z : Stored). Carries s w z v) (sym same) (subst (λ (u : Window). Carries s w s u) (sym is) (loaded_in v.filled l.gives l.inside))
 
 -- what is stored after everything was written out fits the old window too
-pub settled_agrees : (s t : Stored) (w : Window) → Agrees s w → t ≡ settled s w → Agrees t w
-settled_agrees s t w a is = subst (λ (z : Stored). Agrees z w) (sym is) (record {
+pub settled_agrees : (s t : Stored) (w : Window) → LiesOver s w → t ≡ settled s w → LiesOver t w
+settled_agrees s t w a is = subst (λ (z : Stored). LiesOver z w) (sym is) (record {
   unfailed = a.unfailed;
   begins = omega (arith, a.total, a.begins);
   total = omega (arith, a.total);
@@ -138,7 +138,7 @@ settled_agrees s t w a is = subst (λ (z : Stored). Agrees z w) (sym is) (record
   trusted = a.trusted;
 })
 
-pub opened_agrees : (s : Stored) (buffer : Buffered) → s.failed ≡ false → IsFitting s → Agrees s (window_over s.size buffer)
+pub opened_agrees : (s : Stored) (buffer : Buffered) → s.failed ≡ false → IsFitting s → LiesOver s (window_over s.size buffer)
 opened_agrees s buffer f k = record {
   unfailed = f;
   begins = omega arith;
@@ -159,17 +159,17 @@ opened_state s buffer w is = subst (λ (z : Window). state_of s z ≡ opened s.s
 
 -- and it is open, failed or not
 pub opened_suits : (s : Stored) (buffer : Buffered) (w : Window) → IsFitting s → w ≡ window_over s.size buffer → Suits s w
-opened_suits s buffer w k is = λ (f : s.failed ≡ false). subst (λ (z : Window). Agrees s z) (sym is) (opened_agrees s buffer f k)
+opened_suits s buffer w k is = λ (f : s.failed ≡ false). subst (λ (z : Window). LiesOver s z) (sym is) (opened_agrees s buffer f k)
 
 -- ---- the window let go where nothing is pending
 
 -- all is written out then
-pub settled_calm : (s : Stored) (w : Window) → Agrees s w → w.pending ≡ false → settled s w ≡ s
+pub settled_calm : (s : Stored) (w : Window) → LiesOver s w → w.pending ≡ false → settled s w ≡ s
 settled_calm s w a calm =
     ap (λ (n : ℕ). record s { size = n; content = laid w.base w.filled s.content }) (a.clean_size calm)
     ∙ ap (λ (xs : List ℕ). record s { content = xs }) (a.clean calm)
 
-let_go_in : (s : Stored) (w : Window) → Agrees s w → w.pending ≡ false → w.base + w.cursor ≤ w.size → Carries s w s (window_at (w.base + w.cursor) w)
+let_go_in : (s : Stored) (w : Window) → LiesOver s w → w.pending ≡ false → w.base + w.cursor ≤ w.size → Carries s w s (window_at (w.base + w.cursor) w)
 let_go_in s w a calm inside = subst (λ (z : Stored). Carries s w z (window_at (w.base + w.cursor) w)) (settled_calm s w a calm) (left s w a inside)
 
 -- however much room there is
@@ -196,7 +196,7 @@ roomier s t w v n k = record {
   };
 }
 
-pub let_go : (s : Stored) (w u v : Window) (n : ℕ) → Agrees s w → w.pending ≡ false → w.base + w.cursor ≤ w.size → u ≡ record w { room = n } → v ≡ window_at (u.base + u.cursor) u → Carries s w s v
+pub let_go : (s : Stored) (w u v : Window) (n : ℕ) → LiesOver s w → w.pending ≡ false → w.base + w.cursor ≤ w.size → u ≡ record w { room = n } → v ≡ window_at (u.base + u.cursor) u → Carries s w s v
 let_go s w u v n a calm inside grown is =
     subst (λ (z : Window). Carries s w s z) (sym (is ∙ ap (λ (z : Window). window_at (z.base + z.cursor) z) grown))
     (roomier s s w (window_at (w.base + w.cursor) w) n (let_go_in s w a calm inside))

@@ -10,7 +10,7 @@ use Rattle.cfb_rules.specs.Refusal.{invalid_data}
 use Rattle.cfb_rules.specs.StreamCalls.{read_to_end, StreamReply, got, Moves}
 use Rattle.cfb_rules.specs.Runs.{Causes}
 use Rattle.cfb_stream_buffer.specs.Contents.{Stored, laid}
-use Rattle.cfb_stream_window.specs.Windows.{Window, Agrees, Carries, ReadBrokeOff, Runs, IsRefused, state_of, window_at, WentTo, IsReadable, IsUnreadable, Appended}
+use Rattle.cfb_stream_window.specs.Windows.{Window, LiesOver, Carries, ReadBrokeOff, Runs, IsCallRefused, state_of, window_at, WentTo, IsReadable, IsUnreadable, Appended}
 use Rattle.cfb_stream_buffer.proofs.Lists.{rest-laid}
 use Rattle.cfb_stream_window.proofs.Carrying.{settled_whole, length-over}
 use Rattle.cfb_stream_window.proofs.Breaking.{match_true, match_false, memory_break}
@@ -18,7 +18,7 @@ use Rattle.cfb_stream_window.proofs.Reading.{step_runs, went, went_moves}
 use Rattle.cfb_stream_window.proofs.Writing.{unlent}
 
 -- the rest of bytes that are pending can be read
-pub pending_readable : (s : Stored) (w : Window) → Agrees s w → w.pending ≡ true → IsReadable s w
+pub pending_readable : (s : Stored) (w : Window) → LiesOver s w → w.pending ≡ true → IsReadable s w
 pending_readable s w a is = λ (h : w.base + w.cursor < w.size). settled_whole s w a (a.trusted is)
 
 both_false : (a b : Bool) → (a ≡ false) ⊎ (b ≡ false) → a && b ≡ false
@@ -43,7 +43,7 @@ ends : (causes : Causes) (s t : Stored) (w x : Window) (reply : StreamReply) →
 ends causes s t w x reply f f' whole is moves = step_runs causes s w t x read_to_end reply f f'
     (match_false (nat_lt (w.base + w.cursor) w.size && nat_lt (length (laid w.base w.filled s.content)) w.size) _ _ (no_rest (w.base + w.cursor) w.size (length (laid w.base w.filled s.content)) whole) (is, moves))
 
-pub unreadable_refused : (causes : Causes) (s : Stored) (w x : Window) (e : Error) → s.failed ≡ false → IsUnreadable s w x e → IsRefused causes s w read_to_end s x e
+pub unreadable_refused : (causes : Causes) (s : Stored) (w x : Window) (e : Error) → s.failed ≡ false → IsUnreadable s w x e → IsCallRefused causes s w read_to_end s x e
 unreadable_refused causes s w x e f u = (
   invalid_data,
   u.is,
@@ -54,7 +54,7 @@ unreadable_refused causes s w x e f u = (
 )
 
 -- what is held reaches to the end
-held_rest : (s : Stored) (w : Window) (f : List ℕ) → w.filled ≡ f → Agrees s w → w.cursor ≤ length f → w.base + length f ≡ w.size → length (laid w.base w.filled s.content) ≤ w.size
+held_rest : (s : Stored) (w : Window) (f : List ℕ) → w.filled ≡ f → LiesOver s w → w.cursor ≤ length f → w.base + length f ≡ w.size → length (laid w.base w.filled s.content) ≤ w.size
     → drop (w.base + w.cursor) (laid w.base w.filled s.content) ≡ drop w.cursor w.filled
 held_rest s w [] is a behind end whole =
     drop_all (w.base + w.cursor) (laid w.base w.filled s.content) (omega arith) ∙ sym (drop_all w.cursor w.filled (omega (arith, ap length is)))
@@ -64,14 +64,14 @@ held_rest s w (y ∷ ys) is a behind end whole =
 appended_drop : (old new more : List ℕ) → new ≡ old ++ more → drop (length old) new ≡ more
 appended_drop old new more is = ap (λ (xs : List ℕ). drop (length old) xs) is ∙ drop_at old more (length old) refl
 
-held_end : (causes : Causes) (s : Stored) (w x : Window) (old new : List ℕ) → Agrees s w → IsReadable s w → w.cursor ≤ length w.filled → w.base + length w.filled ≡ w.size
+held_end : (causes : Causes) (s : Stored) (w x : Window) (old new : List ℕ) → LiesOver s w → IsReadable s w → w.cursor ≤ length w.filled → w.base + length w.filled ≡ w.size
     → new ≡ old ++ drop w.cursor w.filled → x ≡ record w { cursor = length w.filled; ahead = 0 } → Runs causes s w read_to_end (got (drop (length old) new)) s x
 held_end causes s w x old new a whole behind end is at =
     ends causes s s w x _ a.unfailed a.unfailed whole
     (ap got (appended_drop old new (drop w.cursor w.filled) is ∙ sym (held_rest s w w.filled refl a behind end (omega (arith, length-over w.base w.filled s.content a.placed, a.total, a.readable)))))
     (subst (λ (z : Window). Moves (state_of s w) (state_of s z) w.size 0) (sym at) (record { len = refl; content = refl; position = end; ahead = refl; pending = λ (h : IsTrue w.pending). h }))
 
-pub held_end_runs : (causes : Causes) (s : Stored) (w v x : Window) (old new : List ℕ) → Agrees s w → IsReadable s w → v ≡ w → v.cursor ≤ length v.filled → v.base + length v.filled ≡ v.size
+pub held_end_runs : (causes : Causes) (s : Stored) (w v x : Window) (old new : List ℕ) → LiesOver s w → IsReadable s w → v ≡ w → v.cursor ≤ length v.filled → v.base + length v.filled ≡ v.size
     → new ≡ old ++ drop v.cursor v.filled → x ≡ record v { cursor = length v.filled; ahead = 0 } → Runs causes s w read_to_end (got (drop (length old) new)) s x
 held_end_runs causes s w v x old new a whole is = subst (λ (u : Window). u.cursor ≤ length u.filled → u.base + length u.filled ≡ u.size → new ≡ old ++ drop u.cursor u.filled
     → x ≡ record u { cursor = length u.filled; ahead = 0 } → Runs causes s w read_to_end (got (drop (length old) new)) s x) (sym is) (held_end causes s w x old new a whole)
@@ -107,7 +107,7 @@ pub readable_same : (s : Stored) (w v : Window) → v ≡ w → IsReadable s w �
 readable_same s w v h r = subst (λ (z : Window). IsReadable s z) (sym h) r
 
 -- there was no memory to look, or for what is held
-pub memory_broke : (full : Type 0) (s : Stored) (w x : Window) (e : Error) → Agrees s w → IsMemory e → x ≡ record w { ahead = 0 } → ReadBrokeOff full s w s x e
+pub memory_broke : (full : Type 0) (s : Stored) (w x : Window) (e : Error) → LiesOver s w → IsMemory e → x ≡ record w { ahead = 0 } → ReadBrokeOff full s w s x e
 memory_broke full s w x e a memory is = (memory_break ((w.pending ≡ true) × full) e memory, inl (unlent s s w x a refl is, λ (p : w.pending ≡ true). memory))
 
 pub memory_counts : (can : MediumFault → Bool) (n : ℕ) (e : Error) → IsMemory e → CountsError can n n e
@@ -126,5 +126,5 @@ appended_from s u w v x old new is k = subst (λ (z : Window). Appended old new 
 pub broken_from : (full : Type 0) (s u : Stored) (w v x : Window) (e : Error) → v ≡ w → ReadBrokeOff full s v u x e → ReadBrokeOff full s w u x e
 broken_from full s u w v x e is k = subst (λ (z : Window). ReadBrokeOff full s z u x e) is k
 
-pub agrees_same : (s : Stored) (w v : Window) → v ≡ w → Agrees s w → Agrees s v
-agrees_same s w v is a = subst (λ (z : Window). Agrees s z) (sym is) a
+pub agrees_same : (s : Stored) (w v : Window) → v ≡ w → LiesOver s w → LiesOver s v
+agrees_same s w v is a = subst (λ (z : Window). LiesOver s z) (sym is) a

@@ -14,8 +14,8 @@ use Rattle.cfb_format.specs.declared.error.Detail.{Detail}
 use Rattle.cfb_rules.specs.Refusal.{invalid_input, invalid_data, failed_earlier}
 use Rattle.cfb_rules.specs.StreamCalls.{StreamState, StreamCall, read, fill_buf, seek, flush, StreamReply, ready, got, offset, Moves, Refuses, Serves, ReadsOn, sought, StreamStep}
 use Rattle.cfb_rules.specs.Runs.{Causes, is_never_refused}
-use Rattle.cfb_stream_buffer.specs.Contents.{Stored, setting_of, laid}
-use Rattle.cfb_stream_window.specs.Windows.{Window, Agrees, Carries, ReadBrokeOff, Unreadable, Runs, IsRefused, state_of, window_settled, window_at, WentTo, target_of, whence_of}
+use Rattle.cfb_stream_buffer.specs.Contents.{Stored, stream_setting_of, laid}
+use Rattle.cfb_stream_window.specs.Windows.{Window, LiesOver, Carries, ReadBrokeOff, Unreadable, Runs, IsCallRefused, state_of, window_settled, window_at, WentTo, target_of, whence_of}
 use Rattle.cfb_stream_buffer.proofs.Lists.{length-laid, part-laid, laid-nothing}
 use Rattle.cfb_stream_window.proofs.Asking.{agrees_moved}
 use Rattle.cfb_stream_window.proofs.Breaking.{match_true, match_false, read_broken}
@@ -26,13 +26,13 @@ pending_kept false b h t = absurd (let e = h refl in cc)
 
 module _ (causes : Causes) (s : Stored) (w : Window) (s' : Stored) (w' : Window) where
   -- on a failed file
-  pub failed_refused : (call : StreamCall) → s.failed ≡ true → s'.failed ≡ true → is_never_refused call ≡ false → IsRefused causes s w call s' w' Failed
+  pub failed_refused : (call : StreamCall) → s.failed ≡ true → s'.failed ≡ true → is_never_refused call ≡ false → IsCallRefused causes s w call s' w' Failed
   unfolding Runs
   failed_refused call f f' c = (failed_earlier, refl, match_true s.failed _ _ f (f', match_false (is_never_refused call) _ _ c refl))
 
   -- by a step of the rules
   pub step_runs : (call : StreamCall) (reply : StreamReply) → s.failed ≡ false → s'.failed ≡ false
-      → StreamStep (setting_of s) (state_of s w) call reply (state_of s' w') → Runs causes s w call reply s' w'
+      → StreamStep (stream_setting_of s) (state_of s w) call reply (state_of s' w') → Runs causes s w call reply s' w'
   unfolding Runs
   step_runs call reply f f' step = match_false s.failed _ _ f (inl (step, f'))
 
@@ -55,7 +55,7 @@ moved s t w v x k c a is p at = subst (λ (z : Window). Moves (state_of s w) (st
   pending = pending_kept w.pending v.pending k.calm;
 })
 
-pub moved_agrees : (s t : Stored) (w v x : Window) → Carries s w t v → (c a : ℕ) → x ≡ record v { cursor = c; ahead = a } → Agrees t x
+pub moved_agrees : (s t : Stored) (w v x : Window) → Carries s w t v → (c a : ℕ) → x ≡ record v { cursor = c; ahead = a } → LiesOver t x
 moved_agrees s t w v x k c a is = agrees_moved t v x c a k.agrees is
 
 -- bytes held are served
@@ -146,7 +146,7 @@ module _ (causes : Causes) (s t : Stored) (w v x : Window) (f : s.failed ≡ fal
       (moved s t w v x k v.cursor n is (w.base + w.cursor) k.place)))
 
 -- a read at or past the readable part
-module _ (causes : Causes) (s t : Stored) (w x : Window) (e : Error) (a : Agrees s w) (u : Unreadable s w t x e) (before : w.base + w.cursor < w.size) where
+module _ (causes : Causes) (s t : Stored) (w x : Window) (e : Error) (a : LiesOver s w) (u : Unreadable s w t x e) (before : w.base + w.cursor < w.size) where
   unread_same : state_of t x ≡ state_of s w
   unread_same =
       let len = u.carries.same_size in
@@ -159,7 +159,7 @@ module _ (causes : Causes) (s t : Stored) (w x : Window) (e : Error) (a : Agrees
   unread_past : length (laid w.base w.filled s.content) ≤ w.base + w.cursor
   unread_past = rw (a.clean u.clean) u.past
 
-  pub unreadable_read : (wanted : ℕ) → 0 < wanted → IsRefused causes s w (read wanted) t x e
+  pub unreadable_read : (wanted : ℕ) → 0 < wanted → IsCallRefused causes s w (read wanted) t x e
   unreadable_read wanted some = (
     invalid_data,
     u.is,
@@ -167,7 +167,7 @@ module _ (causes : Causes) (s t : Stored) (w x : Window) (e : Error) (a : Agrees
         (reads_none (wanted == 0) _ _ wanted (state_of s w) _ (state_of t x) (grind (arith, nat_tests)) before unread_past (refl, unread_same)),
   )
 
-  pub unreadable_lent : IsRefused causes s w fill_buf t x e
+  pub unreadable_lent : IsCallRefused causes s w fill_buf t x e
   unreadable_lent = (
     invalid_data,
     u.is,
@@ -175,12 +175,12 @@ module _ (causes : Causes) (s t : Stored) (w x : Window) (e : Error) (a : Agrees
         (reads_none false _ _ (length (laid w.base w.filled s.content)) (state_of s w) _ (state_of t x) refl before unread_past (refl, unread_same)),
   )
 
-module _ (full : Type 0) (can : MediumFault → Bool) (m n : ℕ) (s : Stored) (w : Window) (t : Stored) (x : Window) (e : Error) (a : Agrees s w) (before : w.base + w.cursor < w.size)
+module _ (full : Type 0) (can : MediumFault → Bool) (m n : ℕ) (s : Stored) (w : Window) (t : Stored) (x : Window) (e : Error) (a : LiesOver s w) (before : w.base + w.cursor < w.size)
     (counts : CountsError can m n e) (h : ReadBrokeOff full s w t x e ⊎ Unreadable s w t x e) where
-  pub refused_read : (wanted : ℕ) → 0 < wanted → IsRefused (record { medium = Rises m n; full = full }) s w (read wanted) t x e
+  pub refused_read : (wanted : ℕ) → 0 < wanted → IsCallRefused (record { medium = Rises m n; full = full }) s w (read wanted) t x e
   refused_read wanted some = elim h [ inl b ↦ read_broken full can m n s w t x (read wanted) e refl a.unfailed counts b | inr u ↦ unreadable_read _ s t w x e a u before wanted some ]
 
-  pub refused_fill : IsRefused (record { medium = Rises m n; full = full }) s w fill_buf t x e
+  pub refused_fill : IsCallRefused (record { medium = Rises m n; full = full }) s w fill_buf t x e
   refused_fill = elim h [ inl b ↦ read_broken full can m n s w t x fill_buf e refl a.unfailed counts b | inr u ↦ unreadable_lent _ s t w x e a u before ]
 
 -- ---- seeking
@@ -197,7 +197,7 @@ none_matches : (o : Option ℕ) (P : Type 0) (Q : ℕ → Type 0) → None ≡ o
 none_matches o P Q is p = subst (λ (z : Option ℕ). MatchOption z P Q) is p
 
 pub nowhere_runs : (causes : Causes) (s : Stored) (w : Window) (to : SeekFrom) (d : Detail) → s.failed ≡ false → None ≡ target_of w.size (w.base + w.cursor) to
-    → IsRefused causes s w (seek (whence_of to)) s w (InvalidInput d)
+    → IsCallRefused causes s w (seek (whence_of to)) s w (InvalidInput d)
 nowhere_runs causes s w to d f is = (
   invalid_input,
   refl,
@@ -239,7 +239,7 @@ went s t w v x at k none calm inside is = subst (λ (z : Window). WentTo at s w 
 
 -- ---- flushing
 
-pub flushed_runs : (causes : Causes) (s t u : Stored) (w x : Window) → Agrees s w → Carries s w t x → x ≡ window_settled w → u ≡ t → Runs causes s w flush ready u x
+pub flushed_runs : (causes : Causes) (s t u : Stored) (w x : Window) → LiesOver s w → Carries s w t x → x ≡ window_settled w → u ≡ t → Runs causes s w flush ready u x
 flushed_runs causes s t u w x a k is same = subst (λ (z : Stored). Runs causes s w flush ready z x) (sym same)
     (step_runs causes s w t x flush _ a.unfailed k.agrees.unfailed
     (refl, carried_moves s t w x k _ 0 refl (ap (λ (z : Window). z.ahead) is), ap (λ (z : Window). z.pending) is))

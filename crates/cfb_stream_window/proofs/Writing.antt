@@ -1,19 +1,22 @@
 -- What the rules say of a write and of a length that is set, from what the windows say.
-use Rattle.std.proofs.Common.{refl, ℕ, ◌+◌, ◌-◌, ◌≡◌, ◌≢◌, ◌<◌, ◌≤◌, min, max, Bool, true, false, ◌==◌, IsTrue, List, [], ◌++◌, length, take, drop, sym, ◌∙◌, ap, subst, arith, length-append, length-drop, length-take, replicate, nat_lt, nat_le, if◌then◌else◌, inl, inr}
+use Rattle.std.proofs.Common.{refl, ℕ, ◌+◌, ◌-◌, ◌≡◌, ◌≢◌, ◌<◌, ◌≤◌, ◌⊎◌, min, max, Bool, true, false, ◌==◌, IsTrue, List, [], ◌++◌, length, take, drop, sym, ◌∙◌, ap, subst, arith, length-append, length-drop, length-take, replicate, nat_lt, nat_le, if◌then◌else◌, inl, inr}
 use Rattle.std.proofs.lemmas.Bool.{cases_lt}
 use Rattle.std.proofs.lemmas.Bool.Decides.{nat_tests}
 use Rattle.std.proofs.lemmas.List.{length-replicate}
 use Rattle.cfb_format.specs.declared.error.Detail.{Detail}
 use Rattle.cfb_format.specs.declared.error.Error.{Error}
 use Rattle.cfb_format.specs.declared.error.Error.TheVariants.{InvalidInput, Unsound}
+use Rattle.cfb_format.specs.declared.medium.MediumFault.{MediumFault}
+use Rattle.cfb_format.specs.Medium.{Rises}
+use Rattle.cfb_format.specs.Refused.{CountsError, IsBreak}
 use Rattle.cfb_rules.specs.Refusal.{invalid_input, not_sound}
 use Rattle.cfb_rules.specs.StreamCalls.{write, set_len, ready, count, Wrote, resized}
-use Rattle.cfb_rules.specs.Runs.{Causes, no_work, taking, resizing, work_of}
-use Rattle.cfb_stream_buffer.specs.Contents.{Stored, laid, IsBreak, stored_after_write, stored_after_resize}
-use Rattle.cfb_stream_window.specs.Windows.{Window, Agrees, Carries, Stays, IsLost, LengthBrokeOff, Runs, IsRefused, state_of, window_kept, window_past, window_settled, window_within, WroteStraight, Resized}
+use Rattle.cfb_rules.specs.Runs.{Causes, no_work, overwriting, appending, resizing, work_of}
+use Rattle.cfb_stream_buffer.specs.Contents.{Stored, laid, stored_after_write, stored_after_resize}
+use Rattle.cfb_stream_window.specs.Windows.{Window, LiesOver, Carries, Stays, IsLost, LengthBrokeOff, WriteBrokeOff, Runs, IsCallRefused, state_of, window_kept, window_past, window_settled, window_within, WroteStraight, Resized}
 use Rattle.cfb_stream_buffer.proofs.Lists.{length-laid, laid-nothing, laid-resized, laid-write, resized-before}
 use Rattle.cfb_stream_window.proofs.Asking.{agrees_moved}
-use Rattle.cfb_stream_window.proofs.Breaking.{match_true, match_false, not_full}
+use Rattle.cfb_stream_window.proofs.Breaking.{match_true, match_false, not_full, overwritten_broken, appended_broken}
 use Rattle.cfb_stream_window.proofs.Reading.{step_runs, stays, eq_test}
 
 -- ---- writing
@@ -54,7 +57,7 @@ module _ (causes : Causes) (s t : Stored) (w v x : Window) (bytes piece : List �
     ahead = refl;
   }
 
-  kept_in : Agrees t (window_kept v piece)
+  kept_in : LiesOver t (window_kept v piece)
   kept_in = record {
     unfailed = k.agrees.unfailed;
     begins = k.agrees.begins;
@@ -71,8 +74,8 @@ module _ (causes : Causes) (s t : Stored) (w v x : Window) (bytes piece : List �
   pub kept_runs : 1 ≤ n → n ≤ length bytes → Runs causes s w (write bytes) (count n) t x
   kept_runs some most = wrote_runs causes s t w x bytes n f k.agrees.unfailed sound some most fits (subst (λ (z : Window). Wrote bytes n (state_of s w) (state_of t z)) (sym is) kept_wrote)
 
-  pub kept_agrees : Agrees t x
-  kept_agrees = subst (λ (z : Window). Agrees t z) (sym is) kept_in
+  pub kept_agrees : LiesOver t x
+  kept_agrees = subst (λ (z : Window). LiesOver t z) (sym is) kept_in
 
 pub straight_runs : (causes : Causes) (s t : Stored) (w x : Window) (bytes piece : List ℕ) (n : ℕ) → s.failed ≡ false → s.sound ≡ true → 1 ≤ n → n ≤ length bytes → w.base + w.cursor + n ≤ s.limit
     → piece ≡ take n bytes → length piece ≡ n → WroteStraight piece s w t x → Runs causes s w (write bytes) (count n) t x
@@ -90,7 +93,7 @@ module _ (causes : Causes) (s : Stored) (w : Window) (bytes : List ℕ) (f : s.f
   pub nothing_written : (x : Window) → x ≡ record w { ahead = 0 } → length bytes ≡ 0 → Runs causes s w (write bytes) (count 0) s x
   nothing_written x is none = step_runs causes s w s x (write bytes) _ f f (match_true (length bytes == 0) _ _ (eq_test _ _ none) (refl, stays s w x is))
 
-  pub no_room_refused : (d : Detail) → 0 < length bytes → s.limit ≤ w.base + w.cursor → IsRefused causes s w (write bytes) s w (InvalidInput d)
+  pub no_room_refused : (d : Detail) → 0 < length bytes → s.limit ≤ w.base + w.cursor → IsCallRefused causes s w (write bytes) s w (InvalidInput d)
   no_room_refused d some at = (
     invalid_input,
     refl,
@@ -98,7 +101,7 @@ module _ (causes : Causes) (s : Stored) (w : Window) (bytes : List ℕ) (f : s.f
         (match_false (length bytes == 0) _ _ (grind (arith, nat_tests)) (match_true (nat_le s.limit (w.base + w.cursor)) _ _ (grind (arith, nat_tests)) (refl, refl))),
   )
 
-  pub unsound_refused : 0 < length bytes → w.base + w.cursor < s.limit → s.sound ≡ false → IsRefused causes s w (write bytes) s w Unsound
+  pub unsound_refused : 0 < length bytes → w.base + w.cursor < s.limit → s.sound ≡ false → IsCallRefused causes s w (write bytes) s w Unsound
   unsound_refused some at unsound = (
     not_sound,
     refl,
@@ -107,11 +110,31 @@ module _ (causes : Causes) (s : Stored) (w : Window) (bytes : List ℕ) (f : s.f
         (match_false s.sound _ _ unsound (refl, refl)))),
   )
 
--- some bytes are to be taken
-pub some_work : (s : Stored) (w : Window) (bytes : List ℕ) → 0 < length bytes → work_of (state_of s w) (write bytes) ≡ taking
+-- some bytes are to be taken, over others or at the end
+some_work : (s : Stored) (w : Window) (bytes : List ℕ) → 0 < length bytes
+    → ((work_of (state_of s w) (write bytes) ≡ overwriting) × (w.base + w.cursor < w.size)) ⊎ (work_of (state_of s w) (write bytes) ≡ appending)
 some_work s w bytes some =
     let e : (length bytes == 0) ≡ false = grind (arith, nat_tests) in
-    ap (λ (b : Bool). if b then no_work else taking) e
+    let some_is : work_of (state_of s w) (write bytes) ≡ (if nat_lt (w.base + w.cursor) w.size then overwriting else appending) =
+    ap (λ (b : Bool). if b then no_work else if nat_lt (w.base + w.cursor) w.size then overwriting else appending) e in
+    elim (cases_lt (w.base + w.cursor) w.size) [
+      | inl before ↦ (
+          let over : nat_lt (w.base + w.cursor) w.size ≡ true = grind (arith, nat_tests, before) in
+          inl (some_is ∙ ap (λ (b : Bool). if b then overwriting else appending) over, before)
+          )
+      | inr end ↦ (
+          let past : nat_lt (w.base + w.cursor) w.size ≡ false = grind (arith, nat_tests, end) in
+          inr (some_is ∙ ap (λ (b : Bool). if b then overwriting else appending) past)
+          )
+    ]
+
+-- they were not
+pub written_broken : (full : Type 0) (can : MediumFault → Bool) (m n : ℕ) (s : Stored) (w : Window) (s' : Stored) (w' : Window) (bytes : List ℕ) (e : Error) → 0 < length bytes → s.failed ≡ false
+    → CountsError can m n e → WriteBrokeOff full s w s' w' e → IsCallRefused (record { medium = Rises m n; full = full }) s w (write bytes) s' w' e
+written_broken full can m n s w s' w' bytes e some f counts b = elim (some_work s w bytes some) [
+  | inl k ↦ overwritten_broken full can m n s w s' w' (write bytes) e k.0 k.1 f counts b
+  | inr k ↦ appended_broken full can m n s w s' w' (write bytes) e k f counts b
+]
 
 -- bytes written past the empty window
 module _ (s t : Stored) (w v : Window) (bytes : List ℕ) (k : Carries s w t v) (sound : s.sound ≡ true) (none : v.filled ≡ []) (start : v.cursor ≡ 0) (calm : v.pending ≡ false) (unlent : v.ahead ≡ 0)
@@ -158,12 +181,12 @@ length-resized c n = omega (arith, length-append (take n c) (replicate (n - leng
 
 -- the window in a stream of another length, over the list that was cut or padded
 pub record Cut (size : ℕ) (s : Stored) (w : Window) (t : Stored) (v : Window) : Type 0 where
-  pub agrees : Agrees t v
+  pub agrees : LiesOver t v
   pub list : laid v.base v.filled t.content ≡ resized (laid w.base w.filled s.content) size
   pub place : v.base + v.cursor ≡ min (w.base + w.cursor) size
   pub new_size : v.size ≡ size
 
-module _ (s : Stored) (w : Window) (size : ℕ) (a : Agrees s w) (sound : s.sound ≡ true) (fits : size ≤ s.limit) where
+module _ (s : Stored) (w : Window) (size : ℕ) (a : LiesOver s w) (sound : s.sound ≡ true) (fits : size ≤ s.limit) where
   cut_placed : w.base ≤ length s.content
   cut_placed = omega (arith, a.whole sound, a.begins)
 
@@ -252,7 +275,7 @@ module _ (causes : Causes) (s : Stored) (w : Window) (size : ℕ) (f : s.failed 
   pub same_len_runs : (x : Window) → x ≡ record w { ahead = 0 } → size ≡ w.size → Runs causes s w (set_len size) ready s x
   same_len_runs x is same = step_runs causes s w s x (set_len size) _ f f (match_true (size == w.size) _ _ (eq_test _ _ same) (refl, stays s w x is))
 
-  pub too_long_refused : (d : Detail) → size ≢ w.size → s.limit < size → IsRefused causes s w (set_len size) s w (InvalidInput d)
+  pub too_long_refused : (d : Detail) → size ≢ w.size → s.limit < size → IsCallRefused causes s w (set_len size) s w (InvalidInput d)
   too_long_refused d other over = (
     invalid_input,
     refl,
@@ -260,7 +283,7 @@ module _ (causes : Causes) (s : Stored) (w : Window) (size : ℕ) (f : s.failed 
         (match_false (size == w.size) _ _ (grind (arith, nat_tests)) (match_true (nat_lt s.limit size) _ _ (grind (arith, nat_tests)) (refl, refl))),
   )
 
-  pub unsound_len_refused : size ≢ w.size → size ≤ s.limit → s.sound ≡ false → IsRefused causes s w (set_len size) s w Unsound
+  pub unsound_len_refused : size ≢ w.size → size ≤ s.limit → s.sound ≡ false → IsCallRefused causes s w (set_len size) s w Unsound
   unsound_len_refused other fits unsound = (
     not_sound,
     refl,
@@ -280,7 +303,7 @@ len_work s w size other =
     ap (λ (b : Bool). if b then no_work else resizing) e
 
 -- nothing changed but what was lent
-pub unlent : (s t : Stored) (w x : Window) → Agrees s w → t ≡ s → x ≡ record w { ahead = 0 } → Stays s w t x
+pub unlent : (s t : Stored) (w x : Window) → LiesOver s w → t ≡ s → x ≡ record w { ahead = 0 } → Stays s w t x
 unlent s t w x a same is = subst (λ (z : Stored). Stays s w z x) (sym same) (record {
   same = refl;
   carries = subst (λ (z : Window). Carries s w s z) (sym is) (record {

@@ -1,5 +1,5 @@
 -- What a call on a buffered stream answers, and what it leaves.
-use Rattle.std.specs.Prelude.{ℕ, ◌≡◌, ◌⊎◌, Option, Some, Result}
+use Rattle.std.specs.Prelude.{ℕ, ◌≡◌, ◌⊎◌, false, Option, Some, Result, OnErr}
 use Rattle.cfb_format.specs.Medium.{Rises}
 use Rattle.cfb_format.specs.Refused.{CountsFailure, HasReason, at_every_error}
 use Rattle.cfb_format.specs.declared.error.Error.{Error}
@@ -10,7 +10,7 @@ use Rattle.cfb_stream_buffer.specs.declared.content.ReadContents as reading
 use Rattle.cfb_stream_buffer.specs.declared.content.Contents as writing
 use Rattle.cfb_stream_buffer.specs.Contents.{KeptOrFailed}
 use Rattle.cfb_stream_buffer.specs.Touched.{faults_of}
-use Rattle.cfb_stream_window.specs.Windows.{Window, Agrees, Suits, Runs, IsRefused, run_of}
+use Rattle.cfb_stream_window.specs.Windows.{Window, LiesOver, Suits, Runs, IsCallRefused, run_of}
 
 -- at a refusal of the input, of a file that is not sound or of one that failed earlier so much holds, and so much where bytes can't
 -- be read
@@ -26,7 +26,7 @@ module _ {C : Type 0} (r : reading.Ghosts C) where
   -- and it has not failed
   pub record IsReady (content : C) (id : ℕ) (w : Window) : Type 0 where
     pub told : r.tells content
-    pub agrees : Agrees (r.stored content id) w
+    pub agrees : LiesOver (r.stored content id) w
 
   -- after any call the stream is open as before, with the same limits
   pub record GoesOn (old new : C) (id : ℕ) (w' : Window) : Type 0 where
@@ -37,7 +37,7 @@ module _ {C : Type 0} (r : reading.Ghosts C) where
   -- it was refused as the rules say, and what is stored is as it was or the file has failed; what the rules themselves refuse
   -- changes nothing
   pub record IsRefusedFor (causes : Causes) (old : C) (id : ℕ) (w : Window) (call : StreamCall) (new : C) (w' : Window) (e : Error) : Type 0 where
-    pub rules : IsRefused causes (r.stored old id) w call (r.stored new id) w' e
+    pub rules : IsCallRefused causes (r.stored old id) w call (r.stored new id) w' e
     pub stops : KeptOrFailed (r.stored old id) (r.stored new id)
     pub untouched : AtRefusal ((new ≡ old) × (w' ≡ w)) (r.kept new ≡ r.kept old) e
 
@@ -53,11 +53,13 @@ module _ {C : Type 0} (r : reading.Ghosts C) where
   IsRefusedReading old id w call new w' e = IsRefusedFor (causes_of_read old new) old id w call new w' e
 
 module _ {C : Type 0} (r : reading.Ghosts C) (g : writing.Ghosts C) where
-  -- nothing has changed, or the length was changed once, with what comes of it
+  -- nothing has changed, or the length was changed once, with what comes of it; and where this was refused all but the count of failures is
+  -- as it was, or the file has failed
   pub record IsResized {T : Type 0} (old new : C) (id : ℕ) (result : Result T Error) : Type 0 where
     pub told : r.tells new
     pub others : (new ≡ old) ⊎ g.keeps id old new
     pub counts : CountsFailure (faults_of r g) result (r.failures old) (r.failures new)
+    pub stays : (r.stored new id).failed ≡ false → OnErr result (r.kept new ≡ r.kept old)
 
   -- the medium is blamed only where its count of failures rose, and the numbers only where the file is full then
   abbrev pub causes_of : C → C → Causes

@@ -2,13 +2,13 @@
 use Rattle.std.specs.Prelude.{ℕ, ◌+◌, ◌-◌, ◌≡◌, ◌<◌, ◌≤◌, ◌⊎◌, min, max, List, [], ◌++◌, Bool, true, false, length, take, drop, Option, option_and_then, ℤ}
 use Rattle.std.specs.declared.io.traits.SeekFrom.{SeekFrom}
 use Rattle.std.specs.declared.io.traits.SeekFrom.TheVariants.{Start, End, Current}
-use Rattle.cfb_format.specs.Refused.{HasReason, IsInvalidData, IsMemory, no_error}
+use Rattle.cfb_format.specs.Refused.{HasReason, IsInvalidData, IsMemory, no_error, IsBreak}
 use Rattle.cfb_format.specs.declared.error.Error.{Error}
 use Rattle.cfb_rules.specs.Refusal.{Refusal, IsRefusal}
 use Rattle.cfb_rules.specs.StreamCalls.{StreamState, StreamCall, StreamReply, not_done, Whence, from_start, from_end, from_current, place_within, place_from, resized}
 use Rattle.cfb_rules.specs.Runs.{Causes, StreamRun, StreamCallRuns}
 use Rattle.cfb_stream_buffer.specs.Buffers.{Buffered}
-use Rattle.cfb_stream_buffer.specs.Contents.{Stored, setting_of, laid, IsBreak, Fails}
+use Rattle.cfb_stream_buffer.specs.Contents.{Stored, stream_setting_of, laid, Fails}
 
 -- the bytes held, which of them is the next, how many there is room for and can be, where they lie in the stream,
 -- the stream's length, how many bytes are lent, and whether bytes are not yet written out
@@ -38,11 +38,11 @@ run_of s w = record { stream = state_of s w; failed = s.failed }
 
 -- one call is as the rules of calls on streams say
 unfoldable pub Runs : Causes → Stored → Window → StreamCall → StreamReply → Stored → Window → Type 0
-Runs causes s w call reply s' w' = StreamCallRuns causes (setting_of s) (run_of s w) call reply (run_of s' w')
+Runs causes s w call reply s' w' = StreamCallRuns causes (stream_setting_of s) (run_of s w) call reply (run_of s' w')
 
 -- it was refused as they say
-abbrev pub IsRefused : Causes → Stored → Window → StreamCall → Stored → Window → Error → Type 0
-IsRefused causes s w call s' w' e = (refusal : Refusal) × IsRefusal refusal e × Runs causes s w call (not_done refusal) s' w'
+abbrev pub IsCallRefused : Causes → Stored → Window → StreamCall → Stored → Window → Error → Type 0
+IsCallRefused causes s w call s' w' e = (refusal : Refusal) × IsRefusal refusal e × Runs causes s w call (not_done refusal) s' w'
 
 -- where a seek leads to
 abbrev pub whence_of : SeekFrom → Whence
@@ -62,7 +62,7 @@ target_of size at (Current distance) = place_at_distance at distance size
 
 -- The file has not failed, and the window fits what is stored. Bytes that are not written out are the window's; else it
 -- holds what is stored. Only the stream of a sound file has such bytes.
-pub record Agrees (s : Stored) (w : Window) : Type 0 where
+pub record LiesOver (s : Stored) (w : Window) : Type 0 where
   pub unfailed : s.failed ≡ false
   pub begins : w.base ≤ s.size
   pub total : w.size ≡ max s.size (w.base + length w.filled)
@@ -76,7 +76,7 @@ pub record Agrees (s : Stored) (w : Window) : Type 0 where
 
 -- unless the file has failed
 abbrev pub Suits : Stored → Window → Type 0
-Suits s w = s.failed ≡ false → Agrees s w
+Suits s w = s.failed ≡ false → LiesOver s w
 
 -- the window at the start of a stream of this length, over a buffer that holds nothing
 abbrev pub window_over : ℕ → Buffered → Window
@@ -98,12 +98,12 @@ abbrev pub window_settled : Window → Window
 window_settled w = record w { pending = false; ahead = 0 }
 
 -- nothing has to be written out, or read, for a read here: a byte is held, or this is the end
-abbrev pub IsInside : Window → Type 0
-IsInside w = (w.cursor < length w.filled) ⊎ (w.base + w.cursor ≡ w.size)
+abbrev pub StandsInside : Window → Type 0
+StandsInside w = (w.cursor < length w.filled) ⊎ (w.base + w.cursor ≡ w.size)
 
 -- nor for a small write
-abbrev pub HasRoom : Window → Type 0
-HasRoom w = (w.cursor < w.room) ⊎ (w.room < w.bound)
+abbrev pub HasBufferRoom : Window → Type 0
+HasBufferRoom w = (w.cursor < w.room) ⊎ (w.room < w.bound)
 
 -- the empty window at a place
 abbrev pub window_at : ℕ → Window → Window
@@ -124,7 +124,7 @@ pub record Carries (s : Stored) (w : Window) (s' : Stored) (w' : Window) : Type 
   pub sound : s'.sound ≡ s.sound
   pub calm : w.pending ≡ false → w'.pending ≡ false
   pub bound : w'.bound ≡ w.bound
-  pub agrees : Agrees s' w'
+  pub agrees : LiesOver s' w'
 
 -- all but what was lent is as before, and nothing was written out
 pub record Stays (s : Stored) (w : Window) (s' : Stored) (w' : Window) : Type 0 where
@@ -147,9 +147,9 @@ CalmBrokeOff s w s' w' e = IsBreak ⊥ e × Stays s w s' w'
 abbrev pub ReadBrokeOff : Type 0 → Stored → Window → Stored → Window → Error → Type 0
 ReadBrokeOff full s w s' w' e = BrokeOff (w.pending ≡ true) ((w.pending ≡ true) × full) IsMemory s w s' w' e
 
--- a write does
+-- a write does; with nothing pending it needs a number at the end alone
 abbrev pub WriteBrokeOff : Type 0 → Stored → Window → Stored → Window → Error → Type 0
-WriteBrokeOff full s w s' w' e = BrokeOff Unit full IsMemory s w s' w' e
+WriteBrokeOff full s w s' w' e = BrokeOff Unit ((w.pending ≡ false → w.size ≤ w.base + w.cursor) × full) IsMemory s w s' w' e
 
 -- a change of the length does: whether it can be had is found before anything is written
 abbrev pub LengthBrokeOff : Type 0 → Stored → Window → Stored → Window → Error → Type 0
@@ -183,7 +183,7 @@ pub record WentTo (at : ℕ) (s : Stored) (w : Window) (s' : Stored) (w' : Windo
   pub sound : s'.sound ≡ s.sound
   pub calm : w.pending ≡ false → w'.pending ≡ false
   pub ahead : w'.ahead ≡ 0
-  pub agrees : Agrees s' w'
+  pub agrees : LiesOver s' w'
 
 -- bytes kept back at the cursor
 abbrev pub window_kept : Window → List ℕ → Window
@@ -211,7 +211,7 @@ pub record WroteStraight (bytes : List ℕ) (s : Stored) (w : Window) (s' : Stor
   pub limit : s'.limit ≡ s.limit
   pub sound : s'.sound ≡ s.sound
   pub ahead : w'.ahead ≡ 0
-  pub agrees : Agrees s' w'
+  pub agrees : LiesOver s' w'
 
 -- cut or padded
 pub record Resized (size : ℕ) (s : Stored) (w : Window) (s' : Stored) (w' : Window) : Type 0 where
@@ -222,7 +222,7 @@ pub record Resized (size : ℕ) (s : Stored) (w : Window) (s' : Stored) (w' : Wi
   pub sound : s'.sound ≡ s.sound
   pub ahead : w'.ahead ≡ 0
   pub calm : w'.pending ≡ false
-  pub agrees : Agrees s' w'
+  pub agrees : LiesOver s' w'
 
 -- the rest can all be read
 abbrev pub IsReadable : Stored → Window → Type 0

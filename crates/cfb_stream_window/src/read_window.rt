@@ -2,8 +2,8 @@
 ghost use Rattle.std.specs.Prelude.{◌≡◌, ◌+◌, ◌-◌, ◌<◌, ◌≤◌, ◌==◌, ◌⊎◌, ◌++◌, min, max, false, OnOk, OnErr, IfOk, IfErr, length, take, drop, Some, None};
 ghost use Rattle.cfb_format.specs.Refused.{IsMemory};
 ghost use Rattle.cfb_rules.specs.StreamCalls.{StreamStep, read, fill_buf, consume, seek, read_to_end, ask_len, ask_position, ask_is_empty, ready, got, offset, answered, opened};
-ghost use Rattle.cfb_stream_buffer.specs.Contents.{Stored, setting_of, IsFitting};
-ghost use Rattle.cfb_stream_window.specs.Windows.{state_of, Agrees, Carries, ReadBrokeOff, Unreadable, IsInside, WentTo, window_opened, target_of, whence_of};
+ghost use Rattle.cfb_stream_buffer.specs.Contents.{Stored, stream_setting_of, IsFitting};
+ghost use Rattle.cfb_stream_window.specs.Windows.{state_of, LiesOver, Carries, ReadBrokeOff, Unreadable, StandsInside, WentTo, window_opened, target_of, whence_of};
 ghost use Rattle.cfb_stream_window.specs.Answers.{IsOpen, IsReady, RunsReading, IsRefusedReading, GoesOn};
 ghost use Rattle.cfb_stream_buffer.specs.Touched.{IsRead};
 
@@ -52,7 +52,7 @@ impl<A: Allocator> ReadWindow<A> {
     /// The length of the stream.
     pub fn len(&self) -> u64
         ensures value { result ≡ self.now.size }
-        ensures runs { (s : Stored) → StreamStep (setting_of s) (state_of s self.now) ask_len (offset result) (state_of s self.now) }
+        ensures runs { (s : Stored) → StreamStep (stream_setting_of s) (state_of s self.now) ask_len (offset result) (state_of s self.now) }
     {
         self.window.len()
     }
@@ -60,7 +60,7 @@ impl<A: Allocator> ReadWindow<A> {
     /// Whether the stream is empty.
     pub fn is_empty(&self) -> bool
         ensures value { result ≡ (self.now.size == 0) }
-        ensures runs { (s : Stored) → StreamStep (setting_of s) (state_of s self.now) ask_is_empty (answered result) (state_of s self.now) }
+        ensures runs { (s : Stored) → StreamStep (stream_setting_of s) (state_of s self.now) ask_is_empty (answered result) (state_of s self.now) }
     {
         self.window.is_empty()
     }
@@ -68,7 +68,7 @@ impl<A: Allocator> ReadWindow<A> {
     /// The place of the next byte.
     pub fn position(&self) -> u64
         ensures value { result ≡ self.now.base + self.now.cursor }
-        ensures runs { (s : Stored) → StreamStep (setting_of s) (state_of s self.now) ask_position (offset result) (state_of s self.now) }
+        ensures runs { (s : Stored) → StreamStep (stream_setting_of s) (state_of s self.now) ask_position (offset result) (state_of s self.now) }
         ensures inside { self.now.base + self.now.cursor ≤ self.now.size }
         ensures filled { self.now.base + length self.now.filled ≤ self.now.size }
         ensures behind { self.now.cursor ≤ length self.now.filled }
@@ -80,8 +80,8 @@ impl<A: Allocator> ReadWindow<A> {
     /// Goes on by `amount` bytes, but by no more than were lent by `fill` and still count as lent.
     pub fn consume(&mut self, amount: usize)
         ensures value { self.new ≡ record self.old { cursor = self.old.cursor + min amount self.old.ahead; ahead = self.old.ahead - min amount self.old.ahead } }
-        ensures runs { (s : Stored) → StreamStep (setting_of s) (state_of s self.old) (consume amount) ready (state_of s self.new) }
-        ensures agrees { (s : Stored) → Agrees s self.old → Agrees s self.new }
+        ensures runs { (s : Stored) → StreamStep (stream_setting_of s) (state_of s self.old) (consume amount) ready (state_of s self.new) }
+        ensures agrees { (s : Stored) → LiesOver s self.old → LiesOver s self.new }
     {
         self.window.consume(amount);
     }
@@ -104,6 +104,8 @@ impl<A: Allocator> ReadWindow<A> {
         ensures held { self.old.cursor < length self.old.filled → content.new ≡ content.old }
         ensures refused { IsReady C.ReadContents content.old id self.old
             → IfErr result (λ e. ReadBrokeOff ⊥ (C.stored content.old id) self.old (C.stored content.new id) self.new e ⊎ Unreadable (C.stored content.old id) self.old (C.stored content.new id) self.new e) }
+        ensures grown { self.new.room < min (self.old.size - (self.old.base + self.old.cursor)) self.old.bound
+            → content.new ≡ content.old }
         ensures bound { self.new.bound ≡ self.old.bound }
         ensures lean { self.new.room ≤ max self.old.room (min (self.old.size - (self.old.base + self.old.cursor)) self.old.bound) }
     {
@@ -131,7 +133,9 @@ impl<A: Allocator> ReadWindow<A> {
             → IfErr result (IsRefusedReading C.ReadContents content.old id self.old (read (length into.old)) content.new self.new) }
         ensures goes_on { IsOpen C.ReadContents content.old id self.old → GoesOn C.ReadContents content.old content.new id self.new }
         ensures none { length into.old ≡ 0 → content.new ≡ content.old }
-        ensures held { IsInside self.old → content.new ≡ content.old }
+        ensures held { StandsInside self.old → content.new ≡ content.old }
+        ensures grown { self.new.room < min (self.old.size - (self.old.base + self.old.cursor)) self.old.bound
+            → content.new ≡ content.old }
         ensures bound { self.new.bound ≡ self.old.bound }
         ensures lean { self.new.room ≤ max self.old.room (min (self.old.size - (self.old.base + self.old.cursor)) self.old.bound) }
         ensures around { C.tells content.old → IsRead C.ReadContents content.old content.new id result }
@@ -161,7 +165,9 @@ impl<A: Allocator> ReadWindow<A> {
         ensures refused { IsOpen C.ReadContents content.old id self.old
             → IfErr result (IsRefusedReading C.ReadContents content.old id self.old fill_buf content.new self.new) }
         ensures goes_on { IsOpen C.ReadContents content.old id self.old → GoesOn C.ReadContents content.old content.new id self.new }
-        ensures held { IsInside self.old → content.new ≡ content.old }
+        ensures held { StandsInside self.old → content.new ≡ content.old }
+        ensures grown { self.new.room < min (self.old.size - (self.old.base + self.old.cursor)) self.old.bound
+            → content.new ≡ content.old }
         ensures bound { self.new.bound ≡ self.old.bound }
         ensures lean { self.new.room ≤ max self.old.room (min (self.old.size - (self.old.base + self.old.cursor)) self.old.bound) }
         ensures around { C.tells content.old → IsRead C.ReadContents content.old content.new id result }
@@ -207,7 +213,7 @@ impl<A: Allocator> ReadWindow<A> {
 
     fn go(&mut self, at: u64)
         requires inside { at ≤ self.old.size }
-        ensures went { (s : Stored) → Agrees s self.old → WentTo at s self.old s self.new }
+        ensures went { (s : Stored) → LiesOver s self.old → WentTo at s self.old s self.new }
         ensures bound { self.new.bound ≡ self.old.bound }
         ensures room { self.new.room ≡ self.old.room }
     {

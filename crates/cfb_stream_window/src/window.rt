@@ -2,8 +2,8 @@
 ghost use Rattle.std.specs.Prelude.{◌≡◌, ◌+◌, ◌-◌, ◌<◌, ◌≤◌, ◌==◌, ◌⊎◌, ◌↔◌, ◌++◌, min, max, [], false, IsTrue, OnOk, OnErr, IfOk, IfErr, IfSome, length, take, drop, nat_lt};
 ghost use Rattle.cfb_format.specs.Refused.{IsInvalidOrMemory, IsMemory};
 ghost use Rattle.cfb_rules.specs.StreamCalls.{StreamStep, consume, ask_len, ask_position, ask_is_empty, ready, offset, answered, opened};
-ghost use Rattle.cfb_stream_buffer.specs.Contents.{Stored, setting_of, IsRefusedRead, IsFitting};
-ghost use Rattle.cfb_stream_window.specs.Windows.{state_of, Agrees, Carries, CalmBrokeOff, Unreadable, window_at, window_opened, window_over, IsLoaded, target_of, IsReadable, IsUnreadable, Appended};
+ghost use Rattle.cfb_stream_buffer.specs.Contents.{Stored, stream_setting_of, IsRefusedRead, IsFitting};
+ghost use Rattle.cfb_stream_window.specs.Windows.{state_of, LiesOver, Carries, CalmBrokeOff, Unreadable, window_at, window_opened, window_over, IsLoaded, target_of, IsReadable, IsUnreadable, Appended};
 ghost use Rattle.cfb_stream_window.specs.Answers.{IsOpen, IsReady};
 ghost use Rattle.cfb_stream_buffer.specs.Touched.{IsRead};
 
@@ -87,7 +87,7 @@ impl<A: Allocator> Window<A> {
     /// The length of the stream.
     pub fn len(&self) -> u64
         ensures value { result ≡ self.now.size }
-        ensures runs { (s : Stored) → StreamStep (setting_of s) (state_of s self.now) ask_len (offset result) (state_of s self.now) }
+        ensures runs { (s : Stored) → StreamStep (stream_setting_of s) (state_of s self.now) ask_len (offset result) (state_of s self.now) }
     {
         self.size
     }
@@ -95,7 +95,7 @@ impl<A: Allocator> Window<A> {
     /// Whether the stream is empty.
     pub fn is_empty(&self) -> bool
         ensures value { result ≡ (self.now.size == 0) }
-        ensures runs { (s : Stored) → StreamStep (setting_of s) (state_of s self.now) ask_is_empty (answered result) (state_of s self.now) }
+        ensures runs { (s : Stored) → StreamStep (stream_setting_of s) (state_of s self.now) ask_is_empty (answered result) (state_of s self.now) }
     {
         self.size == 0
     }
@@ -103,7 +103,7 @@ impl<A: Allocator> Window<A> {
     /// The place of the next byte.
     pub fn position(&self) -> u64
         ensures value { result ≡ self.now.base + self.now.cursor }
-        ensures runs { (s : Stored) → StreamStep (setting_of s) (state_of s self.now) ask_position (offset result) (state_of s self.now) }
+        ensures runs { (s : Stored) → StreamStep (stream_setting_of s) (state_of s self.now) ask_position (offset result) (state_of s self.now) }
         ensures inside { self.now.base + self.now.cursor ≤ self.now.size }
         ensures filled { self.now.base + length self.now.filled ≤ self.now.size }
         ensures behind { self.now.cursor ≤ length self.now.filled }
@@ -119,8 +119,8 @@ impl<A: Allocator> Window<A> {
     #[tactic(auto, using(crate::proofs::Asking::consumed_step))]
     pub fn consume(&mut self, amount: usize)
         ensures value { self.new ≡ record self.old { cursor = self.old.cursor + min amount self.old.ahead; ahead = self.old.ahead - min amount self.old.ahead } }
-        ensures runs { (s : Stored) → StreamStep (setting_of s) (state_of s self.old) (consume amount) ready (state_of s self.new) }
-        ensures agrees { (s : Stored) → Agrees s self.old → Agrees s self.new }
+        ensures runs { (s : Stored) → StreamStep (stream_setting_of s) (state_of s self.old) (consume amount) ready (state_of s self.new) }
+        ensures agrees { (s : Stored) → LiesOver s self.old → LiesOver s self.new }
     {
         self.use_up(amount);
     }
@@ -217,6 +217,8 @@ impl<A: Allocator> Window<A> {
         ensures refused { IsReady C.ReadContents content.old id self.old
             → IfErr result (λ e. CalmBrokeOff (C.stored content.old id) self.old (C.stored content.new id) self.new e ⊎ Unreadable (C.stored content.old id) self.old (C.stored content.new id) self.new e) }
         ensures room { self.old.room ≤ self.new.room }
+        ensures grown { self.new.room < min (self.old.size - (self.old.base + self.old.cursor)) self.old.bound
+            → content.new ≡ content.old }
         ensures bound { self.new.bound ≡ self.old.bound }
         ensures lean { self.new.room ≤ max self.old.room (min (self.old.size - (self.old.base + self.old.cursor)) self.old.bound) }
     {

@@ -1,7 +1,7 @@
 -- From the number of an error to what holds of it.
 use Rattle.std.proofs.Common.{arith}
 use Rattle.cfb_format.specs.declared.error.Error.{Error}
-use Rattle.cfb_format.specs.declared.error.Error.TheVariants.{NotFound, AlreadyExists, InvalidInput, InvalidData, Medium, Memory, Full, Unsound, Failed, Unsupported}
+use Rattle.cfb_format.specs.declared.error.Error.TheVariants.{NotFound, AlreadyExists, InvalidInput, InvalidData, Medium, Memory, Full, Unsound, Failed}
 use Rattle.cfb_format.specs.Refused.{IsInvalidData}
 use Rattle.cfb_tables.specs.Refused.{TableRefused}
 
@@ -15,4 +15,3 @@ refused-invalid invalid memory full Memory is h = absurd (omega arith)
 refused-invalid invalid memory full Full is h = absurd (omega arith)
 refused-invalid invalid memory full Unsound is h = absurd (omega arith)
 refused-invalid invalid memory full Failed is h = absurd (omega arith)
-refused-invalid invalid memory full Unsupported is h = absurd (omega arith)

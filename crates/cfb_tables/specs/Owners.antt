@@ -45,8 +45,8 @@ tally k [] = 0
 tally k (n ∷ list) = if nat_eq k n then suc (tally k list) else tally k list
 
 -- what a member of the list points to is a member
-abbrev pub IsClosed : List ℕ → List ℕ → Type 0
-IsClosed table xs = (i : ℕ) → Contains xs i → IsTrue (is_regular (value table i)) → Contains xs (value table i)
+abbrev pub IsClosedUnder : List ℕ → List ℕ → Type 0
+IsClosedUnder table xs = (i : ℕ) → Contains xs i → IsTrue (is_regular (value table i)) → Contains xs (value table i)
 
 -- ---- laws
 
@@ -94,16 +94,16 @@ FreeingByCount = (old new xs gone used used' : List ℕ) → Frees old new xs go
 -- ---- laws of closed lists
 
 abbrev pub ChainsAreClosed : Type 0
-ChainsAreClosed = (table : List ℕ) (start : ℕ) (list : List ℕ) → IsChain table start list → IsClosed table list
+ChainsAreClosed = (table : List ℕ) (start : ℕ) (list : List ℕ) → IsChain table start list → IsClosedUnder table list
 
 -- marks point nowhere
 abbrev pub MarksAreClosed : Type 0
-MarksAreClosed = (table xs : List ℕ) → ((i : ℕ) → Contains xs i → IsTrue (is_regular (value table i)) → ⊥) → IsClosed table xs
+MarksAreClosed = (table xs : List ℕ) → ((i : ℕ) → Contains xs i → IsTrue (is_regular (value table i)) → ⊥) → IsClosedUnder table xs
 
 abbrev pub ClosedTogether : Type 0
-ClosedTogether = (table xs ys : List ℕ) → IsClosed table xs → IsClosed table ys → IsClosed table (xs ++ ys)
+ClosedTogether = (table xs ys : List ℕ) → IsClosedUnder table xs → IsClosedUnder table ys → IsClosedUnder table (xs ++ ys)
 
 -- nothing names the start of a chain in use
 abbrev pub OwnedStartIsUnnamed : Type 0
 OwnedStartIsUnnamed = (table front list back : List ℕ) (start : ℕ) → Uses table (front ++ list ++ back) → IsChain table start list → 0 < length list
-    → IsClosed table front → IsClosed table back → IsUnnamed table start
+    → IsClosedUnder table front → IsClosedUnder table back → IsUnnamed table start

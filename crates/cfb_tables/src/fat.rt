@@ -32,8 +32,10 @@ pub fn read_fat<A: Allocator>(
     difat_sectors: &[u32],
     validation: Validation,
 ) -> Result<Vec<u32, A>, Error>
-    ensures ok { IfOk result (λ fat. AcceptsFat validation num_sectors words.items fat_sectors.now difat_sectors.now fat.items) }
-    ensures err { IfErr result (TableRefused (AcceptsNoFat validation num_sectors words.items fat_sectors.now difat_sectors.now) Unit ⊥) }
+    ensures ok { IfOk result (λ fat.
+        AcceptsFat validation num_sectors words.items fat_sectors.now difat_sectors.now fat.items) }
+    ensures err { IfErr result (TableRefused (AcceptsNoFat
+        validation num_sectors words.items fat_sectors.now difat_sectors.now) Unit ⊥) }
 {
     let len = num_sectors as usize;
     if !are_padding(past(&words, len), validation) {
@@ -123,8 +125,10 @@ fn check_strictly(
     fat_sectors: &[u32],
     difat_sectors: &[u32],
 ) -> Result<(), Error>
-    ensures ok { OnOk result (HasStrictWords num_sectors words.now fat_sectors.now difat_sectors.now) }
-    ensures err { IfErr result (TableRefused (HasStrictWords num_sectors words.now fat_sectors.now difat_sectors.now → ⊥) ⊥ ⊥) }
+    ensures ok { OnOk result
+        (HasStrictWords num_sectors words.now fat_sectors.now difat_sectors.now) }
+    ensures err { IfErr result (TableRefused
+        (HasStrictWords num_sectors words.now fat_sectors.now difat_sectors.now → ⊥) ⊥ ⊥) }
 {
     if !are_marked(words, fat_sectors, FAT_SECTOR) {
         return Err(invalid("FAT sector is not marked as one"));
@@ -145,8 +149,10 @@ fn check_in_mode(
     difat_sectors: &[u32],
     validation: Validation,
 ) -> Result<(), Error>
-    ensures ok { OnOk result (IfStrict validation (HasStrictWords num_sectors words.now fat_sectors.now difat_sectors.now)) }
-    ensures err { IfErr result (TableRefused (IfStrict validation (HasStrictWords num_sectors words.now fat_sectors.now difat_sectors.now) → ⊥) ⊥ ⊥) }
+    ensures ok { OnOk result (IfStrict validation
+        (HasStrictWords num_sectors words.now fat_sectors.now difat_sectors.now)) }
+    ensures err { IfErr result (TableRefused (IfStrict validation
+        (HasStrictWords num_sectors words.now fat_sectors.now difat_sectors.now) → ⊥) ⊥ ⊥) }
 {
     match validation {
         Validation::Permissive => Ok(()),
@@ -177,7 +183,8 @@ fn end_past_file(fat: &mut [u32])
 /// Gives each listed sector this value. A number past the last sector is no sector's.
 fn mark(fat: &mut [u32], listed: &[u32], mark: u32)
     ensures len { length fat.new ≡ length fat.old }
-    ensures values { (i : ℕ) → i < length fat.old → slice_index fat.new i ≡ (if is_among listed.now i then mark else slice_index fat.old i) }
+    ensures values { (i : ℕ) → i < length fat.old
+        → slice_index fat.new i ≡ (if is_among listed.now i then mark else slice_index fat.old i) }
 {
     for sector in listed {
         if (*sector as usize) < fat.len() {
@@ -188,7 +195,8 @@ fn mark(fat: &mut [u32], listed: &[u32], mark: u32)
 
 /// Makes of each sector's word its value.
 fn set_values(fat: &mut [u32], fat_sectors: &[u32], difat_sectors: &[u32])
-    ensures { fat.new ≡ map (fat_value (length fat.old) fat_sectors.now difat_sectors.now fat.old) (range_with_len 0 (length fat.old)) }
+    ensures { fat.new ≡ map (fat_value (length fat.old) fat_sectors.now difat_sectors.now fat.old)
+        (range_with_len 0 (length fat.old)) }
 {
     end_past_file(fat);
     mark(fat, difat_sectors, DIFAT_SECTOR);
@@ -202,7 +210,8 @@ fn values_of<A: Allocator>(
     fat_sectors: &[u32],
     difat_sectors: &[u32],
 ) -> Result<Vec<u32, A>, Error>
-    ensures ok { IfOk result (λ fat. fat.items ≡ fat_of_words num_sectors words.items fat_sectors.now difat_sectors.now) }
+    ensures ok { IfOk result (λ fat. fat.items
+        ≡ fat_of_words num_sectors words.items fat_sectors.now difat_sectors.now) }
     ensures err { IfErr result (TableRefused ⊥ Unit ⊥) }
 {
     let mut fat = words;
@@ -217,8 +226,8 @@ fn has_no_invalid_mark(fat: &[u32]) -> bool
     fat.iter().all(|value| *value != INVALID_SECTOR)
 }
 
-/// Whether no sector is pointed to twice. `Memory`.
-fn names_once<A: Allocator>(alloc: A, fat: &[u32]) -> Result<bool, Error>
+/// Whether no number is pointed to twice. `Memory`.
+pub fn names_once<A: Allocator>(alloc: A, fat: &[u32]) -> Result<bool, Error>
     requires within { PointsWithin fat.now }
     ensures once { IfOk result (λ once. once ≡ true → HasDistinctPointers fat.now) }
     ensures twice { IfOk result (λ once. HasDistinctPointers fat.now → once ≡ true) }

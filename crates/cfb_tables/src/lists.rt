@@ -8,9 +8,10 @@ ghost use Rattle.std.specs.List.{IsDistinct};
 ghost use Rattle.cfb_tables.specs.Changes.{IsNextOf, ListsFree, GivesBack};
 ghost use Rattle.cfb_tables.specs.Tables.{TableState, Kept, IsKept, AreSizes, CanHold, TakesNext, IsPrepared, IsTooFew, PassesLimit, HasTaken, Added, Extended, first_or_end, wiped, tables_of, sizes_of, sizes_after, grown_sizes, numbers_needed, grown, grown_fats, grown_difats};
 ghost use Rattle.cfb_tables.specs.Room.{IsTooFewAfter};
-ghost use Rattle.cfb_tables.specs.Listed.{EndsChain, ends_of, gained, last_or_end};
+ghost use Rattle.cfb_tables.specs.Listed.{EndsChain, ends_of, gained};
 ghost use Rattle.cfb_tables.specs.Refused.{TableRefused, WalkRefused, LastRefused, NextRefused, ExtendRefused};
 
+use crate::ends::last_number;
 use crate::walk::{last_of, next_in, walk};
 use cfb_format::consts::{
     DIFAT_SECTOR, END_OF_CHAIN, FAT_SECTOR, FREE_SECTOR, MAX_REGULAR_SECTOR,
@@ -49,7 +50,8 @@ impl Sizes {
     fn with_one_more(self, version: Version, limit: usize) -> Option<Sizes>
         requires are { AreSizes version self }
         requires limit { limit ≤ max_regular_sector }
-        ensures sizes { IfSome result (λ sizes. sizes ≡ grown_sizes self (numbers_needed version self)) }
+        ensures sizes { IfSome result (λ sizes. sizes
+            ≡ grown_sizes self (numbers_needed version self)) }
         ensures are { IfSome result (λ sizes. AreSizes version sizes) }
         ensures limited { IfSome result (λ sizes. sizes.sectors ≤ limit) }
         ensures none { IfNone result (limit - self.sectors < numbers_needed version self) }
@@ -77,7 +79,8 @@ impl Sizes {
     fn covered(self, version: Version, limit: usize, more: usize) -> usize
         requires are { AreSizes version self }
         ensures few { result ≤ more }
-        ensures words { (0 < result) → self.sectors + result ≤ self.fats * words_per_sector version }
+        ensures words { (0 < result)
+            → self.sectors + result ≤ self.fats * words_per_sector version }
         ensures limited { (0 < result) → self.sectors + result ≤ limit }
     {
         let words = (self.fats * version.words_per_sector()).saturating_sub(self.sectors);
@@ -176,12 +179,15 @@ fn grow<A: Allocator>(
     requires few { numbers < 4 }
     requires room { vec_len fat.old + numbers ≤ vec_capacity fat.old }
     requires fat_room { (1 < numbers) → vec_len fat_sectors.old < vec_capacity fat_sectors.old }
-    requires difat_room { (2 < numbers) → vec_len difat_sectors.old < vec_capacity difat_sectors.old }
+    requires difat_room { (2 < numbers)
+        → vec_len difat_sectors.old < vec_capacity difat_sectors.old }
     requires short { vec_len fat.old + numbers ≤ max_regular_sector }
     ensures number { result + 1 ≡ vec_len fat.old + numbers }
     ensures fat { fat.new.items ≡ fat.old.items ++ grown numbers }
-    ensures fat_sectors { fat_sectors.new.items ≡ fat_sectors.old.items ++ grown_fats numbers (vec_len fat.old) }
-    ensures difat_sectors { difat_sectors.new.items ≡ difat_sectors.old.items ++ grown_difats numbers (vec_len fat.old) }
+    ensures fat_sectors { fat_sectors.new.items
+        ≡ fat_sectors.old.items ++ grown_fats numbers (vec_len fat.old) }
+    ensures difat_sectors { difat_sectors.new.items
+        ≡ difat_sectors.old.items ++ grown_difats numbers (vec_len fat.old) }
     ensures capacity { vec_capacity fat.new ≡ vec_capacity fat.old }
     ensures fat_capacity { vec_capacity fat_sectors.new ≡ vec_capacity fat_sectors.old }
     ensures difat_capacity { vec_capacity difat_sectors.new ≡ vec_capacity difat_sectors.old }
@@ -215,13 +221,6 @@ fn free_numbers<A: Allocator>(alloc: A, fat: &[u32]) -> Result<Vec<u32, A>, Erro
     Ok(free)
 }
 
-/// The last number of a list, or END.
-fn last_number(numbers: &[u32]) -> u32
-    ensures { result ≡ last_or_end numbers.now }
-{
-    numbers.last().copied().unwrap_or(END_OF_CHAIN)
-}
-
 /// The tables, and the numbers that are free, the one freed last at the end. Their list always has room for all numbers, so
 /// that freeing asks for no memory.
 #[derive(Drop)]
@@ -241,7 +240,8 @@ impl<A: Allocator> Model for Lists<A> {
     ghost Value = { Kept };
 
     ghost view = { λ l. record {
-      state = tables_of l.version l.max_sectors l.fat.items l.fat_sectors.items l.difat_sectors.items;
+      state = tables_of l.version
+          l.max_sectors l.fat.items l.fat_sectors.items l.difat_sectors.items;
       free = l.free.items;
       fat_capacity = vec_capacity l.fat;
       fats_capacity = vec_capacity l.fat_sectors;
@@ -250,7 +250,8 @@ impl<A: Allocator> Model for Lists<A> {
     } };
 
     ghost invariant = { λ l. IsHeld (record {
-      state = tables_of l.version l.max_sectors l.fat.items l.fat_sectors.items l.difat_sectors.items;
+      state = tables_of l.version
+          l.max_sectors l.fat.items l.fat_sectors.items l.difat_sectors.items;
       free = l.free.items;
       fat_capacity = vec_capacity l.fat;
       fats_capacity = vec_capacity l.fat_sectors;
@@ -268,8 +269,13 @@ impl<A: Allocator> Lists<A> {
         fat_sectors: Vec<u32, A>,
         difat_sectors: Vec<u32, A>,
     ) -> Result<Lists<A>, Error>
-        requires sizes { AreSizes version (record { sectors = vec_len fat; fats = vec_len fat_sectors; difats = vec_len difat_sectors }) }
-        ensures ok { IfOk result (λ lists. lists.state ≡ tables_of version max_regular_sector fat.items fat_sectors.items difat_sectors.items) }
+        requires sizes { AreSizes version (record {
+          sectors = vec_len fat;
+          fats = vec_len fat_sectors;
+          difats = vec_len difat_sectors;
+        }) }
+        ensures ok { IfOk result (λ lists. lists.state ≡ tables_of
+            version max_regular_sector fat.items fat_sectors.items difat_sectors.items) }
         ensures err { IfErr result (TableRefused ⊥ Unit ⊥) }
     {
         let free = free_numbers(alloc, &fat)?;
@@ -298,7 +304,12 @@ impl<A: Allocator> Lists<A> {
     /// Reserves the memory for lists of these sizes. `Memory`.
     fn reserve(&mut self, sizes: Sizes) -> Result<(), Error>
         ensures ok { OnOk result (CanHold self.new sizes) }
-        ensures rest { self.new ≡ record self.old { fat_capacity = self.new.fat_capacity; fats_capacity = self.new.fats_capacity; difats_capacity = self.new.difats_capacity; free_capacity = self.new.free_capacity } }
+        ensures rest { self.new ≡ record self.old {
+          fat_capacity = self.new.fat_capacity;
+          fats_capacity = self.new.fats_capacity;
+          difats_capacity = self.new.difats_capacity;
+          free_capacity = self.new.free_capacity;
+        } }
         ensures err { IfErr result (TableRefused ⊥ Unit ⊥) }
     {
         self.fat
@@ -348,8 +359,14 @@ impl<A: Allocator> Lists<A> {
     pub fn prepare(&mut self, count: usize) -> Result<(), Error>
         ensures ok { OnOk result (IsPrepared self.new count) }
         ensures sizes { AreSizes self.old.state.version (sizes_of self.old.state) }
-        ensures rest { self.new ≡ record self.old { fat_capacity = self.new.fat_capacity; fats_capacity = self.new.fats_capacity; difats_capacity = self.new.difats_capacity; free_capacity = self.new.free_capacity } }
-        ensures err { IfErr result (TableRefused ⊥ (IsTooFew self.old.state count → ⊥) (IsTooFew self.old.state count)) }
+        ensures rest { self.new ≡ record self.old {
+          fat_capacity = self.new.fat_capacity;
+          fats_capacity = self.new.fats_capacity;
+          difats_capacity = self.new.difats_capacity;
+          free_capacity = self.new.free_capacity;
+        } }
+        ensures err { IfErr result (TableRefused ⊥ (IsTooFew self.old.state count
+            → ⊥) (IsTooFew self.old.state count)) }
         ensures enough { OnOk result (IsTooFew self.old.state count → ⊥) }
     {
         let missing = self.missing(count);
@@ -362,8 +379,11 @@ impl<A: Allocator> Lists<A> {
     /// Takes a sector, as the only one of a new chain: the one that was freed last, or one past the end, before which the
     /// tables grow by the sectors that they need.
     pub fn take_prepared(&mut self) -> u32
-        requires held { (self.old.free ≡ []) → CanHold self.old (grown_sizes (sizes_of self.old.state) (numbers_needed self.old.state.version (sizes_of self.old.state))) }
-        requires short { (self.old.free ≡ []) → length self.old.state.fat + numbers_needed self.old.state.version (sizes_of self.old.state) ≤ max_regular_sector }
+        requires held { (self.old.free ≡ [])
+            → CanHold self.old (grown_sizes (sizes_of self.old.state)
+            (numbers_needed self.old.state.version (sizes_of self.old.state))) }
+        requires short { (self.old.free ≡ []) → length self.old.state.fat
+            + numbers_needed self.old.state.version (sizes_of self.old.state) ≤ max_regular_sector }
         ensures next { TakesNext self.old self.new result }
         ensures kept { IsKept self.old.state self.old.free }
     {
@@ -384,7 +404,8 @@ impl<A: Allocator> Lists<A> {
     pub fn link(&mut self, last: u32, next: u32)
         requires ended { value self.old.state.fat last ≡ end_of_chain }
         requires regular { next ≤ max_regular_sector }
-        ensures { self.new ≡ record self.old { state = record self.old.state { fat = slice_set self.old.state.fat last next } } }
+        ensures { self.new ≡ record self.old
+            { state = record self.old.state { fat = slice_set self.old.state.fat last next } } }
     {
         self.fat[last as usize] = next;
     }
@@ -392,7 +413,10 @@ impl<A: Allocator> Lists<A> {
     /// Makes a sector in use the last one of its chain.
     pub fn end(&mut self, last: u32)
         requires busy { value self.old.state.fat last ≢ free_sector }
-        ensures { self.new ≡ record self.old { state = record self.old.state { fat = slice_set self.old.state.fat last end_of_chain } } }
+        ensures { self.new ≡ record self.old {
+          state
+              = record self.old.state { fat = slice_set self.old.state.fat last end_of_chain };
+        } }
     {
         self.fat[last as usize] = END_OF_CHAIN;
     }
@@ -400,7 +424,11 @@ impl<A: Allocator> Lists<A> {
     /// Frees a sector.
     fn release(&mut self, sector: u32)
         requires busy { value self.old.state.fat sector ≢ free_sector }
-        ensures { self.new ≡ record self.old { free = self.old.free ++ sector ∷ []; state = record self.old.state { fat = slice_set self.old.state.fat sector free_sector } } }
+        ensures { self.new ≡ record self.old {
+          free = self.old.free ++ sector ∷ [];
+          state
+              = record self.old.state { fat = slice_set self.old.state.fat sector free_sector };
+        } }
     {
         self.fat[sector as usize] = FREE_SECTOR;
         self.free.push_reserved(sector);
@@ -415,11 +443,12 @@ impl<A: Allocator> Lists<A> {
         requires room { vec_len list.old + count ≤ vec_capacity list.old }
         ensures added { Added self.old.state self.new.state last list.old.items list.new.items }
         ensures count { vec_len list.new ≡ vec_len list.old + count }
-        ensures none { count ≡ 0 → (self.new.state ≡ self.old.state) × (list.new.items ≡ list.old.items) }
+        ensures none { count ≡ 0
+            → (self.new.state ≡ self.old.state) × (list.new.items ≡ list.old.items) }
     {
         let mut end = last;
         for turn in 0..count {
-            let _taken = turn;
+            let _fact = turn;
             let next = self.take_prepared();
             self.link(end, next);
             list.push_reserved(next);
@@ -436,7 +465,8 @@ impl<A: Allocator> Lists<A> {
         ensures taken { HasTaken self.old.state self.new.state [] list.new.items }
         ensures chain { IsChain self.new.state.fat (first_or_end list.new.items) list.new.items }
         ensures count { vec_len list.new ≡ count }
-        ensures none { count ≡ 0 → (self.new.state ≡ self.old.state) × (list.new.items ≡ list.old.items) }
+        ensures none { count ≡ 0
+            → (self.new.state ≡ self.old.state) × (list.new.items ≡ list.old.items) }
     {
         if count > 0 {
             let first = self.take_prepared();
@@ -454,11 +484,15 @@ impl<A: Allocator> Lists<A> {
         requires room { vec_len list.old + count ≤ vec_capacity list.old }
         ensures listed { list.new.items ≡ list.old.items ++ gained list.old.items list.new.items }
         ensures count { length (gained list.old.items list.new.items) ≡ count }
-        ensures taken { HasTaken self.old.state self.new.state (ends_of list.old.items) (gained list.old.items list.new.items) }
-        ensures behind { IsChain self.new.state.fat (first_or_end (ends_of list.old.items ++ gained list.old.items list.new.items))
-            (ends_of list.old.items ++ gained list.old.items list.new.items) }
-        ensures chain { IsChain self.old.state.fat (first_or_end list.old.items) list.old.items → IsChain self.new.state.fat (first_or_end list.new.items) list.new.items }
-        ensures none { count ≡ 0 → (self.new.state ≡ self.old.state) × (list.new.items ≡ list.old.items) }
+        ensures taken { HasTaken self.old.state self.new.state
+            (ends_of list.old.items) (gained list.old.items list.new.items) }
+        ensures behind { IsChain self.new.state.fat (first_or_end (ends_of list.old.items
+            ++ gained list.old.items list.new.items)) (ends_of list.old.items
+            ++ gained list.old.items list.new.items) }
+        ensures chain { IsChain self.old.state.fat (first_or_end list.old.items) list.old.items
+            → IsChain self.new.state.fat (first_or_end list.new.items) list.new.items }
+        ensures none { count ≡ 0
+            → (self.new.state ≡ self.old.state) × (list.new.items ≡ list.old.items) }
     {
         if list.is_empty() {
             return self.take_all_prepared(count, list);
@@ -471,7 +505,10 @@ impl<A: Allocator> Lists<A> {
     pub fn free_all(&mut self, list: &[u32])
         requires busy { (i : ℕ) → Contains list.now i → value self.old.state.fat i ≢ free_sector }
         requires once { IsDistinct nat_eq list.now }
-        ensures { self.new ≡ record self.old { free = self.old.free ++ list.now; state = record self.old.state { fat = wiped self.old.state.fat list.now } } }
+        ensures { self.new ≡ record self.old {
+          free = self.old.free ++ list.now;
+          state = record self.old.state { fat = wiped self.old.state.fat list.now };
+        } }
     {
         for sector in list {
             self.release(*sector);
@@ -485,7 +522,8 @@ impl<A: Allocator> Lists<A> {
         ensures chain { IfOk result (λ x. IsChain self.new.state.fat x (x ∷ [])) }
         ensures enough { OnOk result (IsTooFew self.old.state 1 → ⊥) }
         ensures unchanged { OnErr result (self.new.state ≡ self.old.state) }
-        ensures err { IfErr result (TableRefused ⊥ (IsTooFew self.old.state 1 → ⊥) (IsTooFew self.old.state 1)) }
+        ensures err { IfErr result (TableRefused ⊥ (IsTooFew self.old.state 1
+            → ⊥) (IsTooFew self.old.state 1)) }
     {
         self.prepare(1)?;
         Ok(self.take_prepared())
@@ -495,11 +533,13 @@ impl<A: Allocator> Lists<A> {
     pub fn attach(&mut self, last: u32) -> Result<u32, Error>
         requires ended { value self.old.state.fat last ≡ end_of_chain }
         requires regular { last ≤ max_regular_sector }
-        ensures taken { IfOk result (λ x. HasTaken self.old.state self.new.state (last ∷ []) (x ∷ [])) }
+        ensures taken { IfOk result (λ x.
+            HasTaken self.old.state self.new.state (last ∷ []) (x ∷ [])) }
         ensures chain { IfOk result (λ x. IsChain self.new.state.fat last (last ∷ x ∷ [])) }
         ensures enough { OnOk result (IsTooFew self.old.state 1 → ⊥) }
         ensures unchanged { OnErr result (self.new.state ≡ self.old.state) }
-        ensures err { IfErr result (TableRefused ⊥ (IsTooFew self.old.state 1 → ⊥) (IsTooFew self.old.state 1)) }
+        ensures err { IfErr result (TableRefused ⊥ (IsTooFew self.old.state 1
+            → ⊥) (IsTooFew self.old.state 1)) }
     {
         let sector = self.take()?;
         self.link(last, sector);
@@ -532,12 +572,14 @@ impl<A: Allocator> Lists<A> {
     pub fn attach_by(&mut self, alloc: A, last: u32, count: usize) -> Result<Vec<u32, A>, Error>
         requires ended { value self.old.state.fat last ≡ end_of_chain }
         requires regular { last ≤ max_regular_sector }
-        ensures taken { IfOk result (λ list. HasTaken self.old.state self.new.state (last ∷ []) list.items) }
+        ensures taken { IfOk result (λ list.
+            HasTaken self.old.state self.new.state (last ∷ []) list.items) }
         ensures chain { IfOk result (λ list. IsChain self.new.state.fat last (last ∷ list.items)) }
         ensures count { IfOk result (λ list. vec_len list ≡ count) }
         ensures enough { OnOk result (IsTooFew self.old.state count → ⊥) }
         ensures unchanged { OnErr result (self.new.state ≡ self.old.state) }
-        ensures err { IfErr result (TableRefused ⊥ (IsTooFew self.old.state count → ⊥) (IsTooFew self.old.state count)) }
+        ensures err { IfErr result (TableRefused ⊥ (IsTooFew self.old.state count
+            → ⊥) (IsTooFew self.old.state count)) }
     {
         self.prepare(count)?;
         let mut list = Vec::with_capacity(alloc, count)?;
@@ -548,11 +590,13 @@ impl<A: Allocator> Lists<A> {
     /// Takes so many sectors, as a new chain, and gives their numbers. `Full` and `Memory`.
     pub fn take_by(&mut self, alloc: A, count: usize) -> Result<Vec<u32, A>, Error>
         ensures taken { IfOk result (λ list. HasTaken self.old.state self.new.state [] list.items) }
-        ensures chain { IfOk result (λ list. IsChain self.new.state.fat (first_or_end list.items) list.items) }
+        ensures chain { IfOk result (λ list.
+            IsChain self.new.state.fat (first_or_end list.items) list.items) }
         ensures count { IfOk result (λ list. vec_len list ≡ count) }
         ensures enough { OnOk result (IsTooFew self.old.state count → ⊥) }
         ensures unchanged { OnErr result (self.new.state ≡ self.old.state) }
-        ensures err { IfErr result (TableRefused ⊥ (IsTooFew self.old.state count → ⊥) (IsTooFew self.old.state count)) }
+        ensures err { IfErr result (TableRefused ⊥ (IsTooFew self.old.state count
+            → ⊥) (IsTooFew self.old.state count)) }
     {
         self.prepare(count)?;
         let mut list = Vec::with_capacity(alloc, count)?;
@@ -584,7 +628,8 @@ impl<A: Allocator> Lists<A> {
 
     /// The last sector of the chain from `start`. `InvalidData` where there is no such chain and where it is empty.
     pub fn last(&self, start: u32) -> Result<u32, Error>
-        ensures ok { IfOk result (λ last. (front : List ℕ) × IsChain self.now.state.fat start (front ++ last ∷ [])) }
+        ensures ok { IfOk result (λ last. (front : List ℕ)
+            × IsChain self.now.state.fat start (front ++ last ∷ [])) }
         ensures err { IfErr result (LastRefused self.now.state.fat start) }
     {
         last_of(&self.fat, start)
@@ -593,8 +638,10 @@ impl<A: Allocator> Lists<A> {
     /// The sectors behind this one in its chain.
     fn behind(&self, alloc: A, sector: u32) -> Result<Vec<u32, A>, Error>
         requires below { sector < length self.now.state.fat }
-        ensures ok { IfOk result (λ list. IsChain self.now.state.fat (value self.now.state.fat sector) list.items) }
-        ensures err { IfErr result (WalkRefused self.now.state.fat (value self.now.state.fat sector)) }
+        ensures ok { IfOk result (λ list.
+            IsChain self.now.state.fat (value self.now.state.fat sector) list.items) }
+        ensures err { IfErr result
+            (WalkRefused self.now.state.fat (value self.now.state.fat sector)) }
         ensures short { length self.now.state.fat ≤ max_regular_sector }
     {
         walk(alloc, &self.fat, self.fat[sector as usize])
@@ -604,7 +651,8 @@ impl<A: Allocator> Lists<A> {
     /// `Memory`.
     pub fn free(&mut self, alloc: A, start: u32) -> Result<Vec<u32, A>, Error>
         ensures ok { IfOk result (λ list. IsChain self.old.state.fat start list.items) }
-        ensures freed { IfOk result (λ list. GivesBack [] list.items self.old.state.fat self.new.state.fat) }
+        ensures freed { IfOk result (λ list.
+            GivesBack [] list.items self.old.state.fat self.new.state.fat) }
         ensures rest { self.new.state ≡ record self.old.state { fat = self.new.state.fat } }
         ensures unchanged { OnErr result (self.new.state ≡ self.old.state) }
         ensures err { IfErr result (WalkRefused self.old.state.fat start) }
@@ -618,11 +666,14 @@ impl<A: Allocator> Lists<A> {
     /// on from the sector, and `Memory`.
     pub fn free_after(&mut self, alloc: A, sector: u32) -> Result<Vec<u32, A>, Error>
         requires below { sector < length self.old.state.fat }
-        ensures ok { IfOk result (λ list. IsChain self.old.state.fat (value self.old.state.fat sector) list.items) }
-        ensures cut { IfOk result (λ list. GivesBack (sector ∷ []) list.items self.old.state.fat self.new.state.fat) }
+        ensures ok { IfOk result (λ list.
+            IsChain self.old.state.fat (value self.old.state.fat sector) list.items) }
+        ensures cut { IfOk result (λ list.
+            GivesBack (sector ∷ []) list.items self.old.state.fat self.new.state.fat) }
         ensures rest { self.new.state ≡ record self.old.state { fat = self.new.state.fat } }
         ensures unchanged { OnErr result (self.new.state ≡ self.old.state) }
-        ensures err { IfErr result (WalkRefused self.old.state.fat (value self.old.state.fat sector)) }
+        ensures err { IfErr result
+            (WalkRefused self.old.state.fat (value self.old.state.fat sector)) }
     {
         let list = self.behind(alloc, sector)?;
         self.end(sector);
@@ -634,16 +685,24 @@ impl<A: Allocator> Lists<A> {
     /// appends them to the list. `Full` and `Memory`: then nothing has changed.
     pub fn extend_listed(&mut self, list: &mut Vec<u32, A>, count: usize) -> Result<(), Error>
         requires ends { EndsChain self.old.state.fat list.old.items }
-        ensures listed { OnOk result (list.new.items ≡ list.old.items ++ gained list.old.items list.new.items) }
+        ensures listed { OnOk result (list.new.items
+            ≡ list.old.items ++ gained list.old.items list.new.items) }
         ensures count { OnOk result (length (gained list.old.items list.new.items) ≡ count) }
-        ensures taken { OnOk result (HasTaken self.old.state self.new.state (ends_of list.old.items) (gained list.old.items list.new.items)) }
-        ensures behind { OnOk result (IsChain self.new.state.fat (first_or_end (ends_of list.old.items ++ gained list.old.items list.new.items))
-            (ends_of list.old.items ++ gained list.old.items list.new.items)) }
-        ensures chain { IsChain self.old.state.fat (first_or_end list.old.items) list.old.items → IsChain self.new.state.fat (first_or_end list.new.items) list.new.items }
-        ensures none { count ≡ 0 → (self.new.state ≡ self.old.state) × (list.new.items ≡ list.old.items) }
+        ensures taken { OnOk result (HasTaken self.old.state self.new.state
+            (ends_of list.old.items) (gained list.old.items list.new.items)) }
+        ensures behind { OnOk result
+            (IsChain self.new.state.fat (first_or_end (ends_of list.old.items
+            ++ gained list.old.items list.new.items)) (ends_of list.old.items
+            ++ gained list.old.items list.new.items)) }
+        ensures chain { IsChain self.old.state.fat (first_or_end list.old.items) list.old.items
+            → IsChain self.new.state.fat (first_or_end list.new.items) list.new.items }
+        ensures none { count ≡ 0
+            → (self.new.state ≡ self.old.state) × (list.new.items ≡ list.old.items) }
         ensures enough { OnOk result (IsTooFew self.old.state count → ⊥) }
-        ensures unchanged { OnErr result ((self.new.state ≡ self.old.state) × (list.new.items ≡ list.old.items)) }
-        ensures err { IfErr result (TableRefused ⊥ (IsTooFew self.old.state count → ⊥) (IsTooFew self.old.state count)) }
+        ensures unchanged { OnErr result ((self.new.state ≡ self.old.state)
+            × (list.new.items ≡ list.old.items)) }
+        ensures err { IfErr result (TableRefused ⊥ (IsTooFew self.old.state count
+            → ⊥) (IsTooFew self.old.state count)) }
     {
         self.prepare(count)?;
         list.reserve(count)?;
@@ -664,7 +723,8 @@ impl<A: Allocator> Lists<A> {
     pub fn cut_listed(&mut self, list: &[u32], left: usize)
         requires chain { IsChain self.old.state.fat (first_or_end list.now) list.now }
         requires fewer { left ≤ length list.now }
-        ensures cut { GivesBack (ends_of (take left list.now)) (drop left list.now) self.old.state.fat self.new.state.fat }
+        ensures cut { GivesBack (ends_of (take left list.now))
+            (drop left list.now) self.old.state.fat self.new.state.fat }
         ensures rest { self.new.state ≡ record self.old.state { fat = self.new.state.fat } }
     {
         if left == 0 {
@@ -676,7 +736,8 @@ impl<A: Allocator> Lists<A> {
 
     /// Lets the file grow to so many sectors, and to no more.
     pub fn set_max_sectors(&mut self, max_sectors: u32)
-        ensures { self.new ≡ record self.old { state = record self.old.state { max_sectors = min max_sectors max_regular_sector } } }
+        ensures { self.new ≡ record self.old
+            { state = record self.old.state { max_sectors = min max_sectors max_regular_sector } } }
     {
         self.max_sectors = max_sectors.min(MAX_REGULAR_SECTOR);
     }

@@ -39,8 +39,13 @@ impl<A: Allocator> Tables<A> {
         fat_sectors: Vec<u32, A>,
         difat_sectors: Vec<u32, A>,
     ) -> Result<Tables<A>, Error>
-        requires sizes { AreSizes version (record { sectors = vec_len fat; fats = vec_len fat_sectors; difats = vec_len difat_sectors }) }
-        ensures ok { IfOk result (λ tables. tables ≡ tables_of version max_regular_sector fat.items fat_sectors.items difat_sectors.items) }
+        requires sizes { AreSizes version (record {
+          sectors = vec_len fat;
+          fats = vec_len fat_sectors;
+          difats = vec_len difat_sectors;
+        }) }
+        ensures ok { IfOk result (λ tables. tables ≡ tables_of
+            version max_regular_sector fat.items fat_sectors.items difat_sectors.items) }
         ensures err { IfErr result (TableRefused ⊥ Unit ⊥) }
     {
         let lists = Lists::new(alloc, version, fat, fat_sectors, difat_sectors)?;
@@ -108,7 +113,8 @@ impl<A: Allocator> Tables<A> {
 
     /// The last sector of the chain from `start`. `InvalidData` where there is no such chain and where it is empty.
     pub fn last(&self, start: u32) -> Result<u32, Error>
-        ensures ok { IfOk result (λ last. (front : List ℕ) × IsChain self.now.fat start (front ++ last ∷ [])) }
+        ensures ok { IfOk result (λ last. (front : List ℕ)
+            × IsChain self.now.fat start (front ++ last ∷ [])) }
         ensures err { IfErr result (LastRefused self.now.fat start) }
     {
         self.lists.last(start)
@@ -122,7 +128,8 @@ impl<A: Allocator> Tables<A> {
         ensures chain { IfOk result (λ x. IsChain self.new.fat x (x ∷ [])) }
         ensures enough { OnOk result (IsTooFew self.old 1 → ⊥) }
         ensures unchanged { OnErr result (self.new ≡ self.old) }
-        ensures err { IfErr result (TableRefused ⊥ (IsTooFew self.old 1 → ⊥) (IsTooFew self.old 1)) }
+        ensures err { IfErr result (TableRefused ⊥ (IsTooFew self.old 1
+            → ⊥) (IsTooFew self.old 1)) }
     {
         self.lists.take()
     }
@@ -131,11 +138,13 @@ impl<A: Allocator> Tables<A> {
     /// are too few numbers, and `Memory`; the tables then stay as they were.
     pub fn take_by(&mut self, alloc: A, count: usize) -> Result<Vec<u32, A>, Error>
         ensures taken { IfOk result (λ list. HasTaken self.old self.new [] list.items) }
-        ensures chain { IfOk result (λ list. IsChain self.new.fat (first_or_end list.items) list.items) }
+        ensures chain { IfOk result (λ list.
+            IsChain self.new.fat (first_or_end list.items) list.items) }
         ensures count { IfOk result (λ list. vec_len list ≡ count) }
         ensures enough { OnOk result (IsTooFew self.old count → ⊥) }
         ensures unchanged { OnErr result (self.new ≡ self.old) }
-        ensures err { IfErr result (TableRefused ⊥ (IsTooFew self.old count → ⊥) (IsTooFew self.old count)) }
+        ensures err { IfErr result (TableRefused ⊥ (IsTooFew self.old count
+            → ⊥) (IsTooFew self.old count)) }
     {
         self.lists.take_by(alloc, count)
     }
@@ -149,7 +158,8 @@ impl<A: Allocator> Tables<A> {
         ensures chain { IfOk result (λ x. IsChain self.new.fat last (last ∷ x ∷ [])) }
         ensures enough { OnOk result (IsTooFew self.old 1 → ⊥) }
         ensures unchanged { OnErr result (self.new ≡ self.old) }
-        ensures err { IfErr result (TableRefused ⊥ (IsTooFew self.old 1 → ⊥) (IsTooFew self.old 1)) }
+        ensures err { IfErr result (TableRefused ⊥ (IsTooFew self.old 1
+            → ⊥) (IsTooFew self.old 1)) }
     {
         self.lists.attach(last)
     }
@@ -184,7 +194,8 @@ impl<A: Allocator> Tables<A> {
         ensures count { IfOk result (λ list. vec_len list ≡ count) }
         ensures enough { OnOk result (IsTooFew self.old count → ⊥) }
         ensures unchanged { OnErr result (self.new ≡ self.old) }
-        ensures err { IfErr result (TableRefused ⊥ (IsTooFew self.old count → ⊥) (IsTooFew self.old count)) }
+        ensures err { IfErr result (TableRefused ⊥ (IsTooFew self.old count
+            → ⊥) (IsTooFew self.old count)) }
     {
         self.lists.attach_by(alloc, last, count)
     }
@@ -218,8 +229,10 @@ impl<A: Allocator> Tables<A> {
     /// on from the sector, and `Memory`; the tables then stay as they were.
     pub fn free_after(&mut self, alloc: A, sector: u32) -> Result<Vec<u32, A>, Error>
         requires below { sector < length self.old.fat }
-        ensures ok { IfOk result (λ list. IsChain self.old.fat (value self.old.fat sector) list.items) }
-        ensures cut { IfOk result (λ list. GivesBack (sector ∷ []) list.items self.old.fat self.new.fat) }
+        ensures ok { IfOk result (λ list.
+            IsChain self.old.fat (value self.old.fat sector) list.items) }
+        ensures cut { IfOk result (λ list.
+            GivesBack (sector ∷ []) list.items self.old.fat self.new.fat) }
         ensures rest { self.new ≡ record self.old { fat = self.new.fat } }
         ensures unchanged { OnErr result (self.new ≡ self.old) }
         ensures err { IfErr result (WalkRefused self.old.fat (value self.old.fat sector)) }
@@ -248,7 +261,8 @@ impl<A: Allocator> Tables<A> {
     pub fn reserve(&mut self, count: usize) -> Result<(), Error>
         ensures enough { OnOk result (IsTooFew self.old count → ⊥) }
         ensures unchanged { self.new ≡ self.old }
-        ensures err { IfErr result (TableRefused ⊥ (IsTooFew self.old count → ⊥) (IsTooFew self.old count)) }
+        ensures err { IfErr result (TableRefused ⊥ (IsTooFew self.old count
+            → ⊥) (IsTooFew self.old count)) }
     {
         self.lists.prepare(count)
     }
@@ -259,16 +273,22 @@ impl<A: Allocator> Tables<A> {
     /// it and the list has room. `Full` where there are too few numbers, and `Memory`; tables and list then stay as they were.
     pub fn extend_listed(&mut self, list: &mut Vec<u32, A>, count: usize) -> Result<(), Error>
         requires ends { EndsChain self.old.fat list.old.items }
-        ensures listed { OnOk result (list.new.items ≡ list.old.items ++ gained list.old.items list.new.items) }
+        ensures listed { OnOk result (list.new.items
+            ≡ list.old.items ++ gained list.old.items list.new.items) }
         ensures count { OnOk result (length (gained list.old.items list.new.items) ≡ count) }
-        ensures taken { OnOk result (HasTaken self.old self.new (ends_of list.old.items) (gained list.old.items list.new.items)) }
-        ensures behind { OnOk result (IsChain self.new.fat (first_or_end (ends_of list.old.items ++ gained list.old.items list.new.items))
-            (ends_of list.old.items ++ gained list.old.items list.new.items)) }
-        ensures chain { IsChain self.old.fat (first_or_end list.old.items) list.old.items → IsChain self.new.fat (first_or_end list.new.items) list.new.items }
+        ensures taken { OnOk result (HasTaken self.old self.new
+            (ends_of list.old.items) (gained list.old.items list.new.items)) }
+        ensures behind { OnOk result (IsChain self.new.fat (first_or_end (ends_of list.old.items
+            ++ gained list.old.items list.new.items)) (ends_of list.old.items
+            ++ gained list.old.items list.new.items)) }
+        ensures chain { IsChain self.old.fat (first_or_end list.old.items) list.old.items
+            → IsChain self.new.fat (first_or_end list.new.items) list.new.items }
         ensures none { count ≡ 0 → (self.new ≡ self.old) × (list.new.items ≡ list.old.items) }
         ensures enough { OnOk result (IsTooFew self.old count → ⊥) }
-        ensures unchanged { OnErr result ((self.new ≡ self.old) × (list.new.items ≡ list.old.items)) }
-        ensures err { IfErr result (TableRefused ⊥ (IsTooFew self.old count → ⊥) (IsTooFew self.old count)) }
+        ensures unchanged { OnErr result ((self.new ≡ self.old)
+            × (list.new.items ≡ list.old.items)) }
+        ensures err { IfErr result (TableRefused ⊥ (IsTooFew self.old count
+            → ⊥) (IsTooFew self.old count)) }
     {
         self.lists.extend_listed(list, count)
     }
@@ -286,7 +306,8 @@ impl<A: Allocator> Tables<A> {
     pub fn cut_listed(&mut self, list: &[u32], left: usize)
         requires chain { IsChain self.old.fat (first_or_end list.now) list.now }
         requires fewer { left ≤ length list.now }
-        ensures cut { GivesBack (ends_of (take left list.now)) (drop left list.now) self.old.fat self.new.fat }
+        ensures cut { GivesBack
+            (ends_of (take left list.now)) (drop left list.now) self.old.fat self.new.fat }
         ensures rest { self.new ≡ record self.old { fat = self.new.fat } }
     {
         self.lists.cut_listed(list, left);

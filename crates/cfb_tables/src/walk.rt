@@ -40,7 +40,8 @@ pub fn walk<A: Allocator>(alloc: A, table: &[u32], start: u32) -> Result<Vec<u32
 /// The last sector of the chain that begins at `start`. `InvalidData` where the table has no such chain, and where it is
 /// empty.
 pub fn last_of(table: &[u32], start: u32) -> Result<u32, Error>
-    ensures ok { IfOk result (λ last. (front : List ℕ) × IsChain table.now start (front ++ last ∷ [])) }
+    ensures ok { IfOk result (λ last. (front : List ℕ)
+        × IsChain table.now start (front ++ last ∷ [])) }
     ensures err { IfErr result (LastRefused table.now start) }
 {
     if start == END_OF_CHAIN {
@@ -48,7 +49,7 @@ pub fn last_of(table: &[u32], start: u32) -> Result<u32, Error>
     }
     let mut last = start;
     for turn in 0..table.len() {
-        let _met = turn;
+        let _fact = turn;
         if last > MAX_REGULAR_SECTOR || last as usize >= table.len() {
             return Err(no_chain(start));
         }

@@ -9,7 +9,7 @@ use Rattle.cfb_format.specs.declared.color.Color.{Color}
 use Rattle.cfb_format.specs.DirectoryEntry.{Entry, unallocated_entry}
 use Rattle.cfb_format.specs.Siblings.{entry_at, SiblingTree, leaf, node, HangsAt, in_order, Below, is_red_color, is_red_at, is_red_apart}
 use Rattle.cfb_format.specs.Reading.{Outline, numbers}
-use Rattle.cfb_siblings.specs.Painted.{hit, tally}
+use Rattle.cfb_siblings.specs.Painted.{hit, times_in}
 use Rattle.cfb_siblings.proofs.Tallies.{hit-same, hit-cases, tally-append}
 use Rattle.cfb_trees.specs.Changes.{ButFields}
 use Rattle.cfb_trees.specs.Colors.{AreColored, GrowthKeepsColors, FieldsKeepColors}
@@ -21,15 +21,15 @@ and-parts : (x y : Bool) → (x && y) ≡ true → (x ≡ true) × (y ≡ true)
 and-parts true y e = (refl, e)
 and-parts false y e = let q : false ≡ true = e in cc
 
-pub all-true : (test : ℕ → Bool) (list : List ℕ) (k : ℕ) → list_all test list ≡ true → 1 ≤ tally k list → test k ≡ true
-unfolding tally
+pub all-true : (test : ℕ → Bool) (list : List ℕ) (k : ℕ) → list_all test list ≡ true → 1 ≤ times_in k list → test k ≡ true
+unfolding times_in
 all-true test [] k e m = absurd (omega (arith, m))
 all-true test (x ∷ list) k e m =
     let (here, rest) = and-parts (test x) (list_all test list) e in
     elim (hit-cases k x) [ inl q ↦ ap test q ∙ here | inr z ↦ all-true test list k rest (omega (arith, m, z)) ]
 
-pub true-all : (test : ℕ → Bool) (list : List ℕ) → ((k : ℕ) → 1 ≤ tally k list → test k ≡ true) → list_all test list ≡ true
-unfolding tally
+pub true-all : (test : ℕ → Bool) (list : List ℕ) → ((k : ℕ) → 1 ≤ times_in k list → test k ≡ true) → list_all test list ≡ true
+unfolding times_in
 true-all test [] f = refl
 true-all test (x ∷ list) f =
     let here : test x ≡ true = f x (omega (arith, hit-same x)) in
@@ -83,33 +83,33 @@ fields-keep-colors cases es i e o is but c = colors-same es (slice_set es i e) o
 
 -- the link leads nowhere, or to a number of the list
 abbrev pub LeadsInto : List ℕ → ℕ → Type 0
-LeadsInto list link = (link ≡ no_stream) ⊎ (1 ≤ tally link list)
+LeadsInto list link = (link ≡ no_stream) ⊎ (1 ≤ times_in link list)
 
-leads-on : (list whole : List ℕ) (link : ℕ) → ((k : ℕ) → tally k list ≤ tally k whole) → LeadsInto list link → LeadsInto whole link
+leads-on : (list whole : List ℕ) (link : ℕ) → ((k : ℕ) → times_in k list ≤ times_in k whole) → LeadsInto list link → LeadsInto whole link
 leads-on list whole link f (inl e) = inl e
 leads-on list whole link f (inr m) = inr (omega (arith, m, f link))
 
 module _ (es : List Entry) where
   top-leads : (top : ℕ) (t : SiblingTree) → HangsAt es top t → LeadsInto (in_order t) top
-  unfolding tally
+  unfolding times_in
   top-leads top leaf h = inl h
   top-leads top (node l i r) h = inr (omega (arith, tally-append top (in_order l) (i ∷ in_order r), hit-same i, ap (λ (j : ℕ). hit j i) h.0))
 
-  links-lead : (top k : ℕ) (t : SiblingTree) → HangsAt es top t → 1 ≤ tally k (in_order t)
+  links-lead : (top k : ℕ) (t : SiblingTree) → HangsAt es top t → 1 ≤ times_in k (in_order t)
       → LeadsInto (in_order t) (entry_at es k).left_sibling × LeadsInto (in_order t) (entry_at es k).right_sibling
-  unfolding tally
+  unfolding times_in
   links-lead top k leaf h m = absurd (omega (arith, m))
   links-lead top k (node l i r) h m =
-      let s : (j : ℕ) → tally j (in_order l ++ i ∷ in_order r) ≡ tally j (in_order l) + (hit j i + tally j (in_order r)) = λ j. tally-append j (in_order l) (i ∷ in_order r) in
-      let in-left : (j : ℕ) → tally j (in_order l) ≤ tally j (in_order l ++ i ∷ in_order r) = λ j. omega (arith, s j) in
-      let in-right : (j : ℕ) → tally j (in_order r) ≤ tally j (in_order l ++ i ∷ in_order r) = λ j. omega (arith, s j) in
+      let s : (j : ℕ) → times_in j (in_order l ++ i ∷ in_order r) ≡ times_in j (in_order l) + (hit j i + times_in j (in_order r)) = λ j. tally-append j (in_order l) (i ∷ in_order r) in
+      let in-left : (j : ℕ) → times_in j (in_order l) ≤ times_in j (in_order l ++ i ∷ in_order r) = λ j. omega (arith, s j) in
+      let in-right : (j : ℕ) → times_in j (in_order r) ≤ times_in j (in_order l ++ i ∷ in_order r) = λ j. omega (arith, s j) in
       let whole : List ℕ = in_order l ++ i ∷ in_order r in
       elim (hit-cases k i) [
         | inl e ↦ (
           subst (λ (j : ℕ). LeadsInto whole (entry_at es j).left_sibling) (sym e) (leads-on (in_order l) whole (entry_at es i).left_sibling in-left (top-leads (entry_at es i).left_sibling l h.3)),
           subst (λ (j : ℕ). LeadsInto whole (entry_at es j).right_sibling) (sym e) (leads-on (in_order r) whole (entry_at es i).right_sibling in-right (top-leads (entry_at es i).right_sibling r h.4)),
         )
-        | inr z ↦ elim (cases_lt 0 (tally k (in_order l))) [
+        | inr z ↦ elim (cases_lt 0 (times_in k (in_order l))) [
           | inl some ↦
               let (a, b) = links-lead (entry_at es i).left_sibling k l h.3 (omega (arith, some)) in
               (leads-on (in_order l) whole (entry_at es k).left_sibling in-left a, leads-on (in_order l) whole (entry_at es k).right_sibling in-left b)
@@ -124,7 +124,7 @@ module _ (es : List Entry) where
     pub child-leads : LeadsInto list top
     child-leads = subst (λ l. LeadsInto l top) (sym b.is_in_order) (top-leads top b.tree b.hangs)
 
-    pub siblings-lead : (k : ℕ) → 1 ≤ tally k list → LeadsInto list (entry_at es k).left_sibling × LeadsInto list (entry_at es k).right_sibling
+    pub siblings-lead : (k : ℕ) → 1 ≤ times_in k list → LeadsInto list (entry_at es k).left_sibling × LeadsInto list (entry_at es k).right_sibling
     siblings-lead k m =
         subst (λ l. LeadsInto l (entry_at es k).left_sibling × LeadsInto l (entry_at es k).right_sibling) (sym b.is_in_order)
-        (links-lead top k b.tree b.hangs (subst (λ l. 1 ≤ tally k l) b.is_in_order m))
+        (links-lead top k b.tree b.hangs (subst (λ l. 1 ≤ times_in k l) b.is_in_order m))

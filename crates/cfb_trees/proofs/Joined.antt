@@ -12,7 +12,7 @@ use Rattle.cfb_format.specs.Reading.{Outline, no_more, storage_at, stream_at, si
 use Rattle.cfb_format.specs.Tree.{Objects, nothing, storage, stream}
 use Rattle.cfb_format.specs.Meaning.{storage_info, stream_info, objects_from}
 use Rattle.cfb_format.proofs.Unique.{Below-unique, IsOutline-unique}
-use Rattle.cfb_siblings.specs.Painted.{hit, tally}
+use Rattle.cfb_siblings.specs.Painted.{hit, times_in}
 use Rattle.cfb_siblings.specs.Way.{unlinked}
 use Rattle.cfb_siblings.specs.Children.{ButLinks, HasInserted}
 use Rattle.cfb_siblings.proofs.Tallies.{hit-same, hit-cases, hit-none, hit-small, counted, present, outside}
@@ -34,7 +34,7 @@ pub record AddedTo (cases : Cases) (new : List Entry) (n : ℕ) : Type 0 where
   pub adds : Adds cases new none n add one
 
 added : (cases : Cases) (new : List Entry) (n : ℕ) → IsObject (entry_at new n) → (entry_at new n).child ≡ no_stream → AddedTo cases new n
-unfolding tally objects_from IsDistinct
+unfolding times_in objects_from IsDistinct
 added cases new n (inl kind) child = record {
   add = λ o. storage_at n no_more o;
   one = storage (entry_at new n).name (storage_info (entry_at new n)) nothing;
@@ -56,8 +56,8 @@ added cases new n (inr kind) child = record {
   };
 }
 
-root-reached : (o : Outline) → 1 ≤ tally 0 (0 ∷ numbers o)
-unfolding tally
+root-reached : (o : Outline) → 1 ≤ times_in 0 (0 ∷ numbers o)
+unfolding times_in
 root-reached o = omega (arith, hit-same 0)
 
 -- the other level has n too, at its place
@@ -65,24 +65,24 @@ pub record More (cases : Cases) (new : List Entry) (n : ℕ) (list : List ℕ) (
   pub inside : Outline
   pub siblings_are : siblings inside ≡ list
   pub contents : HasContents cases new inside
-  pub counts : (k : ℕ) → tally k (numbers inside) ≡ hit k n + tally k (numbers x)
+  pub counts : (k : ℕ) → times_in k (numbers inside) ≡ hit k n + times_in k (numbers x)
 
 object-kept : (a b : Entry) → ButLinks a b → IsObject a → IsObject b
 object-kept a b e (inl s) = inl (links-kind a b e ∙ s)
 object-kept a b e (inr s) = inr (links-kind a b e ∙ s)
 
 module _ (cases : Cases) (old new : List Entry) (o : Outline) (parent n : ℕ) (entry : Entry) (xs ys : List ℕ)
-    (is : IsOutline cases old o) (reached : 1 ≤ tally parent (0 ∷ numbers o)) (ne : (entry_at old parent).obj_type ≢ Stream) (free : (entry_at old n).obj_type ≡ Unallocated)
+    (is : IsOutline cases old o) (reached : 1 ≤ times_in parent (0 ∷ numbers o)) (ne : (entry_at old parent).obj_type ≢ Stream) (free : (entry_at old n).obj_type ≡ Unallocated)
     (object : IsObject entry) (childless : entry.child ≡ no_stream) (ins : HasInserted cases old new parent n entry xs ys) where
-  fresh : tally n (0 ∷ numbers o) ≡ 0
+  fresh : times_in n (0 ∷ numbers o) ≡ 0
   fresh = free-is-apart cases old o is n free
 
-  not-n : (k : ℕ) → 1 ≤ tally k (0 ∷ numbers o) → k ≢ n
-  not-n k m e = absurd (omega (arith, m, fresh, ap (λ j. tally j (0 ∷ numbers o)) e))
+  not-n : (k : ℕ) → 1 ≤ times_in k (0 ∷ numbers o) → k ≢ n
+  not-n k m e = absurd (omega (arith, m, fresh, ap (λ j. times_in j (0 ∷ numbers o)) e))
 
-  once-more : (k : ℕ) → hit k n + tally k (0 ∷ numbers o) ≤ 1
+  once-more : (k : ℕ) → hit k n + times_in k (0 ∷ numbers o) ≤ 1
   once-more k = elim (hit-cases k n) [
-    | inl e ↦ omega (arith, hit-small k n, fresh, ap (λ j. tally j (0 ∷ numbers o)) e)
+    | inl e ↦ omega (arith, hit-small k n, fresh, ap (λ j. times_in j (0 ∷ numbers o)) e)
     | inr z ↦ omega (arith, z, reached-once cases old o is k)
   ]
 
@@ -90,11 +90,11 @@ module _ (cases : Cases) (old new : List Entry) (o : Outline) (parent n : ℕ) (
     list-is : siblings x ≡ xs ++ ys
     list-is = Below-unique cases old (entry_at old parent).child (siblings x) (xs ++ ys) (at-held cases old o is parent x s).0 ins.was.below
 
-    in-list : (k : ℕ) → tally k (siblings x) ≡ tally k (xs ++ ys)
-    in-list k = ap (tally k) list-is
+    in-list : (k : ℕ) → times_in k (siblings x) ≡ times_in k (xs ++ ys)
+    in-list k = ap (times_in k) list-is
 
     as-before : Relabeled cases old new none none x (relabeled (xs ++ ys) x) (xs ++ ys)
-    unfolding tally
+    unfolding times_in
     as-before = relabel cases old new (omega (arith, ins.longer)) none none x (xs ++ ys) (at-held cases old o is parent x s).1
         (λ k. omega (arith, at-within parent x o s k, reached-once cases old o is k))
         (subst (λ l. SameContents old new none none l (xs ++ ys)) (sym list-is) (same-list old new (xs ++ ys) (λ k h. ins.siblings_kept k (present k (xs ++ ys) h))))
@@ -125,10 +125,10 @@ module _ (cases : Cases) (old new : List Entry) (o : Outline) (parent n : ℕ) (
         (λ k. omega (arith, m.counts k, once-more k))
         s
       where
-        others-kept : (k : ℕ) → 1 ≤ tally k (0 ∷ numbers o) → k ≢ parent → tally k (siblings x) ≡ 0 → entry_at new k ≡ entry_at old k
+        others-kept : (k : ℕ) → 1 ≤ times_in k (0 ∷ numbers o) → k ≢ parent → times_in k (siblings x) ≡ 0 → entry_at new k ≡ entry_at old k
         others-kept k h kp out = ins.others_kept k kp (not-n k h) (outside k (xs ++ ys) (omega (arith, out, in-list k)))
 
-  pub has-more : (after : Outline) × IsOutline cases new after × ((k : ℕ) → tally k (numbers after) ≡ hit k n + tally k (numbers o))
+  pub has-more : (after : Outline) × IsOutline cases new after × ((k : ℕ) → times_in k (numbers after) ≡ hit k n + times_in k (numbers o))
   has-more =
       let (x, s) = stands-at cases old o is parent ne reached in
       let m = more x s in
@@ -136,10 +136,10 @@ module _ (cases : Cases) (old new : List Entry) (o : Outline) (parent n : ℕ) (
       (b.outline, b.is, λ k. omega (arith, b.counts k, m.counts k))
 
   -- the kinds of all that was reached stay
-  pub kinds-stay : (k : ℕ) → 1 ≤ tally k (0 ∷ numbers o) → (entry_at new k).obj_type ≡ (entry_at old k).obj_type
+  pub kinds-stay : (k : ℕ) → 1 ≤ times_in k (0 ∷ numbers o) → (entry_at new k).obj_type ≡ (entry_at old k).obj_type
   kinds-stay k m = elim (hit-cases k parent) [
     | inl e ↦ ap (λ (j : ℕ). (entry_at new j).obj_type) e ∙ parent-kind old new parent ins.parent_kept ∙ ap (λ (j : ℕ). (entry_at old j).obj_type) (sym e)
-    | inr z ↦ elim (cases_lt 0 (tally k (xs ++ ys))) [
+    | inr z ↦ elim (cases_lt 0 (times_in k (xs ++ ys))) [
       | inl l ↦ links-kind (entry_at old k) (entry_at new k) (ins.siblings_kept k (present k (xs ++ ys) (omega (arith, l))))
       | inr g ↦ ap (λ (y : Entry). y.obj_type) (ins.others_kept k (hit-none k parent z) (not-n k m) (outside k (xs ++ ys) (omega (arith, g))))
     ]

@@ -4,7 +4,7 @@ use Rattle.cfb_format.specs.Names.{Cases}
 use Rattle.cfb_format.specs.DirectoryEntry.{Entry}
 use Rattle.cfb_format.specs.Siblings.{entry_at, Below}
 use Rattle.cfb_format.specs.Reading.{Outline, no_more, storage_at, stream_at, siblings, numbers, HasContents}
-use Rattle.cfb_siblings.specs.Painted.{tally}
+use Rattle.cfb_siblings.specs.Painted.{times_in}
 use Rattle.cfb_siblings.specs.Laws.{SameLinks}
 use Rattle.cfb_siblings.proofs.Tallies.{hit-same, tally-append}
 use Rattle.cfb_siblings.proofs.Outlines.{siblings-numbers}
@@ -25,15 +25,15 @@ same-node old new k e = record {
 
 module _ (cases : Cases) (old new : List Entry) (longer : length old ≤ length new) where
   -- what was below a number is below it
-  pub children-kept : (i : ℕ) (list : List ℕ) → (entry_at new i).child ≡ (entry_at old i).child → ((k : ℕ) → 1 ≤ tally k list → SameLinks old new k)
+  pub children-kept : (i : ℕ) (list : List ℕ) → (entry_at new i).child ≡ (entry_at old i).child → ((k : ℕ) → 1 ≤ times_in k list → SameLinks old new k)
       → Below cases old (entry_at old i).child list → Below cases new (entry_at new i).child list
   children-kept i list e same b = subst (λ top. Below cases new top list) (sym e) (below-kept cases old new longer (entry_at old i).child list same b)
 
-  pub contents-kept : (o : Outline) → ((k : ℕ) → 1 ≤ tally k (numbers o) → SameNode old new k) → HasContents cases old o → HasContents cases new o
-  unfolding tally
+  pub contents-kept : (o : Outline) → ((k : ℕ) → 1 ≤ times_in k (numbers o) → SameNode old new k) → HasContents cases old o → HasContents cases new o
+  unfolding times_in
   contents-kept no_more same h = tt
   contents-kept (storage_at i inside rest) same h =
-      let s : (k : ℕ) → tally k (numbers inside ++ numbers rest) ≡ tally k (numbers inside) + tally k (numbers rest) = λ k. tally-append k (numbers inside) (numbers rest) in
+      let s : (k : ℕ) → times_in k (numbers inside ++ numbers rest) ≡ times_in k (numbers inside) + times_in k (numbers rest) = λ k. tally-append k (numbers inside) (numbers rest) in
       let here = same i (omega (arith, hit-same i)) in (
         here.kind ∙ h.0,
         children-kept i (siblings inside) here.child (λ k m. (same k (omega (arith, s k, siblings-numbers k inside, m))).links) h.1,

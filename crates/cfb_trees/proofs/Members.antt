@@ -8,7 +8,7 @@ use Rattle.cfb_format.specs.Names.{Cases}
 use Rattle.cfb_format.specs.DirectoryEntry.{Entry, unallocated_entry}
 use Rattle.cfb_format.specs.Siblings.{entry_at}
 use Rattle.cfb_format.specs.Reading.{Outline, no_more, storage_at, stream_at, numbers, stream_numbers, HasContents, IsOutline}
-use Rattle.cfb_siblings.specs.Painted.{hit, tally}
+use Rattle.cfb_siblings.specs.Painted.{hit, times_in}
 use Rattle.cfb_siblings.proofs.Tallies.{hit-same, hit-cases, tally-append, counted, present, distinct-once}
 use Rattle.cfb_trees.specs.Reached.{IsObject, ReachedIsWithin, ReachedIsUsed, ReachedIsObject, StreamsAreByKind}
 
@@ -38,12 +38,12 @@ used-is-within es n ne = elim (cases_lt n (length es)) [
 -- ---- below the root
 
 module _ (cases : Cases) (es : List Entry) where
-  pub object-at : (o : Outline) (k : ℕ) → HasContents cases es o → 1 ≤ tally k (numbers o) → IsObject (entry_at es k)
-  unfolding tally
+  pub object-at : (o : Outline) (k : ℕ) → HasContents cases es o → 1 ≤ times_in k (numbers o) → IsObject (entry_at es k)
+  unfolding times_in
   object-at no_more k h m = absurd (omega (arith, m))
   object-at (storage_at i x rest) k h m = elim (hit-cases k i) [
     | inl e ↦ inl (ap (λ (j : ℕ). (entry_at es j).obj_type) e ∙ h.0)
-    | inr z ↦ elim (cases_lt 0 (tally k (numbers x))) [
+    | inr z ↦ elim (cases_lt 0 (times_in k (numbers x))) [
       | inl l ↦ object-at x k h.2 (omega (arith, l))
       | inr g ↦ object-at rest k h.3 (omega (arith, m, z, g, tally-append k (numbers x) (numbers rest)))
     ]
@@ -54,17 +54,17 @@ module _ (cases : Cases) (es : List Entry) where
   ]
 
   -- the streams are those of the kind
-  pub stream-reached : (o : Outline) (k : ℕ) → tally k (stream_numbers o) ≤ tally k (numbers o)
-  unfolding tally
+  pub stream-reached : (o : Outline) (k : ℕ) → times_in k (stream_numbers o) ≤ times_in k (numbers o)
+  unfolding times_in
   stream-reached no_more k = omega arith
   stream-reached (storage_at i x rest) k =
       omega (arith, stream-reached x k, stream-reached rest k, tally-append k (numbers x) (numbers rest), tally-append k (stream_numbers x) (stream_numbers rest))
   stream-reached (stream_at i rest) k = omega (arith, stream-reached rest k)
 
-  pub stream-kind : (o : Outline) (k : ℕ) → HasContents cases es o → 1 ≤ tally k (stream_numbers o) → (entry_at es k).obj_type ≡ Stream
-  unfolding tally
+  pub stream-kind : (o : Outline) (k : ℕ) → HasContents cases es o → 1 ≤ times_in k (stream_numbers o) → (entry_at es k).obj_type ≡ Stream
+  unfolding times_in
   stream-kind no_more k h m = absurd (omega (arith, m))
-  stream-kind (storage_at i x rest) k h m = elim (cases_lt 0 (tally k (stream_numbers x))) [
+  stream-kind (storage_at i x rest) k h m = elim (cases_lt 0 (times_in k (stream_numbers x))) [
     | inl l ↦ stream-kind x k h.2 (omega (arith, l))
     | inr g ↦ stream-kind rest k h.3 (omega (arith, m, g, tally-append k (stream_numbers x) (stream_numbers rest)))
   ]
@@ -73,12 +73,12 @@ module _ (cases : Cases) (es : List Entry) where
     | inr z ↦ stream-kind rest k h.1 (omega (arith, m, z))
   ]
 
-  pub of-stream-kind : (o : Outline) (k : ℕ) → HasContents cases es o → 1 ≤ tally k (numbers o) → (entry_at es k).obj_type ≡ Stream → 1 ≤ tally k (stream_numbers o)
-  unfolding tally
+  pub of-stream-kind : (o : Outline) (k : ℕ) → HasContents cases es o → 1 ≤ times_in k (numbers o) → (entry_at es k).obj_type ≡ Stream → 1 ≤ times_in k (stream_numbers o)
+  unfolding times_in
   of-stream-kind no_more k h m s = absurd (omega (arith, m))
   of-stream-kind (storage_at i x rest) k h m s = elim (hit-cases k i) [
     | inl e ↦ absurd (storage-is-no-stream (entry_at es k).obj_type (ap (λ (j : ℕ). (entry_at es j).obj_type) e ∙ h.0) s)
-    | inr z ↦ elim (cases_lt 0 (tally k (numbers x))) [
+    | inr z ↦ elim (cases_lt 0 (times_in k (numbers x))) [
       | inl l ↦ omega (arith, of-stream-kind x k h.2 (omega (arith, l)) s, tally-append k (stream_numbers x) (stream_numbers rest))
       | inr g ↦ omega (arith, of-stream-kind rest k h.3 (omega (arith, m, z, g, tally-append k (numbers x) (numbers rest))) s, tally-append k (stream_numbers x) (stream_numbers rest))
     ]
@@ -91,26 +91,26 @@ module _ (cases : Cases) (es : List Entry) where
   -- ---- with the root
 
   module _ (o : Outline) (is : IsOutline cases es o) where
-    pub reached-once : (k : ℕ) → tally k (0 ∷ numbers o) ≤ 1
+    pub reached-once : (k : ℕ) → times_in k (0 ∷ numbers o) ≤ 1
     reached-once = distinct-once (0 ∷ numbers o) is.distinct
 
-    pub below-once : (k : ℕ) → tally k (numbers o) ≤ 1
-    unfolding tally
+    pub below-once : (k : ℕ) → times_in k (numbers o) ≤ 1
+    unfolding times_in
     below-once k = omega (arith, reached-once k)
 
-    pub no-root : (k : ℕ) → 1 ≤ tally k (numbers o) → k ≢ 0
+    pub no-root : (k : ℕ) → 1 ≤ times_in k (numbers o) → k ≢ 0
     no-root k m e = object-is-no-root (entry_at es k) (object-at o k is.contents m) (ap (λ (j : ℕ). (entry_at es j).obj_type) e ∙ is.root)
 
-    pub used-at : (k : ℕ) → 1 ≤ tally k (0 ∷ numbers o) → (entry_at es k).obj_type ≢ Unallocated
-    unfolding tally
+    pub used-at : (k : ℕ) → 1 ≤ times_in k (0 ∷ numbers o) → (entry_at es k).obj_type ≢ Unallocated
+    unfolding times_in
     used-at k m u = elim (hit-cases k 0) [
       | inl e ↦ let q : Root ≡ Unallocated = sym is.root ∙ ap (λ (j : ℕ). (entry_at es j).obj_type) (sym e) ∙ u in cc
       | inr z ↦ object-is-used (entry_at es k) (object-at o k is.contents (omega (arith, m, z))) u
     ]
 
     -- what is free is not reached
-    pub free-is-apart : (k : ℕ) → (entry_at es k).obj_type ≡ Unallocated → tally k (0 ∷ numbers o) ≡ 0
-    free-is-apart k u = elim (cases_lt 0 (tally k (0 ∷ numbers o))) [ inl l ↦ absurd (used-at k (omega (arith, l)) u) | inr g ↦ omega (arith, g) ]
+    pub free-is-apart : (k : ℕ) → (entry_at es k).obj_type ≡ Unallocated → times_in k (0 ∷ numbers o) ≡ 0
+    free-is-apart k u = elim (cases_lt 0 (times_in k (0 ∷ numbers o))) [ inl l ↦ absurd (used-at k (omega (arith, l)) u) | inr g ↦ omega (arith, g) ]
 
 -- ---- the laws
 

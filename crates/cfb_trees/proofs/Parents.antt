@@ -7,7 +7,7 @@ use Rattle.cfb_format.specs.Meaning.{storage_info, stream_info}
 use Rattle.cfb_format.specs.DirectoryEntry.{Entry}
 use Rattle.cfb_format.specs.Siblings.{entry_at}
 use Rattle.cfb_format.specs.Reading.{Outline, siblings, IsOutline}
-use Rattle.cfb_siblings.specs.Painted.{tally}
+use Rattle.cfb_siblings.specs.Painted.{times_in}
 use Rattle.cfb_siblings.specs.Way.{unlinked}
 use Rattle.cfb_siblings.specs.Children.{ButChild, ButLinks}
 use Rattle.cfb_siblings.specs.Laws.{SameObject, SameLinks, SameEntry}
@@ -48,8 +48,8 @@ module _ (old new : List Entry) where
   same-zip (x ∷ xs) [] h = absurd h
   same-zip (x ∷ xs) (y ∷ ys) h = ((same-object x y h.0, links-child (entry_at old x) (entry_at new y) h.0), same-zip xs ys h.1)
 
-  pub same-list : (list : List ℕ) → ((k : ℕ) → 1 ≤ tally k list → ButLinks (entry_at old k) (entry_at new k)) → SameContents old new none none list list
-  unfolding tally
+  pub same-list : (list : List ℕ) → ((k : ℕ) → 1 ≤ times_in k list → ButLinks (entry_at old k) (entry_at new k)) → SameContents old new none none list list
+  unfolding times_in
   same-list [] h = tt
   same-list (x ∷ xs) h =
       let e = h x (omega (arith, hit-same x)) in
@@ -64,8 +64,8 @@ module _ (old new : List Entry) where
 
     -- the length of the root stays
     pub root-len : (cases : Cases) (o x : Outline) → IsOutline cases old o → StandsAt parent x o
-        → (0 ≢ parent → tally 0 (siblings x) ≡ 0 → entry_at new 0 ≡ entry_at old 0) → (entry_at new 0).stream_len % 64 ≡ 0
-    unfolding tally
+        → (0 ≢ parent → times_in 0 (siblings x) ≡ 0 → entry_at new 0 ≡ entry_at old 0) → (entry_at new 0).stream_len % 64 ≡ 0
+    unfolding times_in
     root-len cases o x is s others = elim (hit-cases 0 parent) [
       | inl e ↦ ap (λ (j : ℕ). (entry_at new j).stream_len % 64) e ∙ ap (λ (y : Entry). y.stream_len % 64) but ∙ ap (λ (j : ℕ). (entry_at old j).stream_len % 64) (sym e) ∙ is.root_len
       | inr z ↦

@@ -9,7 +9,7 @@ use Rattle.cfb_format.specs.DirectoryEntry.{Entry}
 use Rattle.cfb_format.specs.Siblings.{entry_at, Below}
 use Rattle.cfb_format.specs.Reading.{Outline, IsOutline}
 use Rattle.cfb_format.proofs.Unique.{Below-unique}
-use Rattle.cfb_siblings.specs.Painted.{tally}
+use Rattle.cfb_siblings.specs.Painted.{times_in}
 use Rattle.cfb_siblings.specs.Children.{HasChildren, IsAbsent, IsChildNamed}
 use Rattle.cfb_siblings.specs.Paths.{number_from}
 use Rattle.cfb_siblings.proofs.Tallies.{hit-same, present}
@@ -20,7 +20,7 @@ pub record Step (cases : Cases) (es : List Entry) (n : ℕ) (name : List ℕ) (j
   pub storage : (entry_at es n).obj_type ≢ Stream
   pub list : List ℕ
   pub below : Below cases es (entry_at es n).child list
-  pub among : 1 ≤ tally j list
+  pub among : 1 ≤ times_in j list
   pub named : is_same_name cases name (entry_at es j).name ≡ true
 
 -- the names lead from n down to k
@@ -47,14 +47,14 @@ is-stream Stream = inl refl
 is-stream Root = inr (λ e. cc)
 
 -- a list of children has one of that name, or none
-look : (cases : Cases) (es : List Entry) (name : List ℕ) (list : List ℕ) → IsAbsent cases es name list ⊎ ((j : ℕ) × (1 ≤ tally j list) × (is_same_name cases name (entry_at es j).name ≡ true))
-unfolding tally
+look : (cases : Cases) (es : List Entry) (name : List ℕ) (list : List ℕ) → IsAbsent cases es name list ⊎ ((j : ℕ) × (1 ≤ times_in j list) × (is_same_name cases name (entry_at es j).name ≡ true))
+unfolding times_in
 look cases es name [] = inl tt
 look cases es name (i ∷ list) = go (is_same_name cases name (entry_at es i).name) refl (look cases es name list)
   where
     go : (b : Bool) → is_same_name cases name (entry_at es i).name ≡ b
-        → IsAbsent cases es name list ⊎ ((j : ℕ) × (1 ≤ tally j list) × (is_same_name cases name (entry_at es j).name ≡ true))
-        → IsAbsent cases es name (i ∷ list) ⊎ ((j : ℕ) × (1 ≤ tally j (i ∷ list)) × (is_same_name cases name (entry_at es j).name ≡ true))
+        → IsAbsent cases es name list ⊎ ((j : ℕ) × (1 ≤ times_in j list) × (is_same_name cases name (entry_at es j).name ≡ true))
+        → IsAbsent cases es name (i ∷ list) ⊎ ((j : ℕ) × (1 ≤ times_in j (i ∷ list)) × (is_same_name cases name (entry_at es j).name ≡ true))
     go true e more = inr (i, omega (arith, hit-same i), e)
     go false e (inl a) = inl (e, a)
     go false e (inr (j, m, s)) = inr (j, omega (arith, m), s)
@@ -65,7 +65,7 @@ module _ (cases : Cases) (es : List Entry) (o : Outline) (is : IsOutline cases e
   child-is : (n : ℕ) (name : List ℕ) (j : ℕ) → Step cases es n name j → (l : List ℕ) → HasChildren cases es n l → IsChildNamed cases es name l j
   child-is n name j s l h =
       let e : s.list ≡ l = Below-unique cases es (entry_at es n).child s.list l s.below h.below in
-      (present j l (subst (λ (l : List ℕ). 1 ≤ tally j l) e s.among), s.named)
+      (present j l (subst (λ (l : List ℕ). 1 ≤ times_in j l) e s.among), s.named)
 
   number-on : (left whole : List (List ℕ)) (n k : ℕ) → Walks cases es whole n left → Down cases es n left k → number_from cases es 0 o whole ≡ Some k
   number-on [] whole n k w d = walks-end cases es whole [] n refl w o is ∙ ap (λ (j : ℕ). Some j) d
@@ -80,7 +80,7 @@ module _ (cases : Cases) (es : List Entry) (o : Outline) (is : IsOutline cases e
       goal = Down cases es n (name ∷ names) k
 
       found : ((j : ℕ) → Walks cases es whole j names → Down cases es j names k) → (entry_at es n).obj_type ≢ Stream → (list : List ℕ) → HasChildren cases es n list
-          → IsAbsent cases es name list ⊎ ((j : ℕ) × (1 ≤ tally j list) × (is_same_name cases name (entry_at es j).name ≡ true)) → goal
+          → IsAbsent cases es name list ⊎ ((j : ℕ) × (1 ≤ times_in j list) × (is_same_name cases name (entry_at es j).name ≡ true)) → goal
       found deeper ne list h (inl a) =
           none-some k (sym (walks-none cases es whole (name ∷ names) n name names refl ne
           (λ l g. subst (λ (l : List ℕ). IsAbsent cases es name l) (Below-unique cases es (entry_at es n).child list l h.below g.below) a) w o is) ∙ e)

@@ -9,7 +9,7 @@ use Rattle.cfb_format.specs.DirectoryEntry.{Entry}
 use Rattle.cfb_format.specs.Siblings.{entry_at, Below, SiblingTree, leaf, node, HangsAt, in_order}
 use Rattle.cfb_format.specs.Reading.{Outline, siblings, IsOutline}
 use Rattle.cfb_format.proofs.Unique.{Below-unique}
-use Rattle.cfb_siblings.specs.Painted.{tally}
+use Rattle.cfb_siblings.specs.Painted.{times_in}
 use Rattle.cfb_siblings.specs.Way.{unlinked}
 use Rattle.cfb_siblings.specs.Laws.{SameLinks}
 use Rattle.cfb_siblings.specs.Children.{ButLinks, HasInserted}
@@ -26,11 +26,11 @@ pub same-links : (old new : List Entry) (k : ℕ) → entry_at new k ≡ entry_a
 same-links old new k e = record { name = ap (λ (x : Entry). x.name) e; left = ap (λ (x : Entry). x.left_sibling) e; right = ap (λ (x : Entry). x.right_sibling) e }
 
 -- nothing hangs where no entry does
-pub none-below : (cases : Cases) (es : List Entry) (top : ℕ) (list : List ℕ) (j : ℕ) → top ≡ no_stream → Below cases es top list → 1 ≤ tally j list → ⊥
-unfolding tally
-none-below cases es top list j e b m = go b.tree b.hangs (subst (λ (l : List ℕ). 1 ≤ tally j l) b.is_in_order m)
+pub none-below : (cases : Cases) (es : List Entry) (top : ℕ) (list : List ℕ) (j : ℕ) → top ≡ no_stream → Below cases es top list → 1 ≤ times_in j list → ⊥
+unfolding times_in
+none-below cases es top list j e b m = go b.tree b.hangs (subst (λ (l : List ℕ). 1 ≤ times_in j l) b.is_in_order m)
   where
-    go : (t : SiblingTree) → HangsAt es top t → 1 ≤ tally j (in_order t) → ⊥
+    go : (t : SiblingTree) → HangsAt es top t → 1 ≤ times_in j (in_order t) → ⊥
     go leaf h m = absurd (omega (arith, m))
     go (node l i r) h m = h.1 e
 
@@ -54,7 +54,7 @@ module _ (cases : Cases) (old new : List Entry) (o : Outline) (is : IsOutline ca
 
   -- what is reached is the same, links and the storage's child aside
   kept : (m : ℕ) → Reached cases old o m → m ≢ parent → ButLinks (entry_at old m) (entry_at new m)
-  kept m r ne = elim (cases_eq (tally m (xs ++ ys)) 0) [
+  kept m r ne = elim (cases_eq (times_in m (xs ++ ys)) 0) [
     | inl z ↦ ap unlinked (ins.others_kept m ne (not-new m r) (outside m (xs ++ ys) z))
     | inr nz ↦ ins.siblings_kept m (present m (xs ++ ys) (omega (arith, nz)))
   ]
@@ -72,7 +72,7 @@ module _ (cases : Cases) (old new : List Entry) (o : Outline) (is : IsOutline ca
   ]
 
   -- the children of another storage
-  links-elsewhere : (m : ℕ) (w : Within cases old (whole cases old o) m) → m ≢ parent → (k : ℕ) → 1 ≤ tally k (siblings w.inside) → SameLinks old new k
+  links-elsewhere : (m : ℕ) (w : Within cases old (whole cases old o) m) → m ≢ parent → (k : ℕ) → 1 ≤ times_in k (siblings w.inside) → SameLinks old new k
   links-elsewhere m w ne k mem = elim (cases_eq k parent) [
     | inl e ↦ subst (λ (j : ℕ). SameLinks old new j) (sym e) (record {
       name = ap (λ (x : Entry). x.name) ins.parent_kept;
@@ -80,7 +80,7 @@ module _ (cases : Cases) (old new : List Entry) (o : Outline) (is : IsOutline ca
       right = ap (λ (x : Entry). x.right_sibling) ins.parent_kept;
     })
     | inr kp ↦ same-links old new k (ins.others_kept k kp (not-new k (reached-child cases old o m k w mem))
-        (λ c. ne (one-owner cases old o is m parent k w owner mem (subst (λ (l : List ℕ). 1 ≤ tally k l) listed (counted k (xs ++ ys) c)))))
+        (λ c. ne (one-owner cases old o is m parent k w owner mem (subst (λ (l : List ℕ). 1 ≤ times_in k l) listed (counted k (xs ++ ys) c)))))
   ]
 
   elsewhere : (m : ℕ) (r : Reached cases old o m) (w : Within cases old (whole cases old o) m) → m ≢ parent → Below cases new (entry_at new m).child (siblings w.inside)
@@ -90,8 +90,8 @@ module _ (cases : Cases) (old new : List Entry) (o : Outline) (is : IsOutline ca
 
   -- ---- what was found is found
 
-  one-more : (k : ℕ) → 1 ≤ tally k (xs ++ ys) → 1 ≤ tally k (xs ++ n ∷ ys)
-  unfolding tally
+  one-more : (k : ℕ) → 1 ≤ times_in k (xs ++ ys) → 1 ≤ times_in k (xs ++ n ∷ ys)
+  unfolding times_in
   one-more k h = omega (arith, h, tally-append k xs ys, tally-append k xs (n ∷ ys))
 
   step-kept : (m : ℕ) (name : List ℕ) (j : ℕ) → Reached cases old o m → Step cases old m name j → Reached cases old o j → Step cases new m name j
@@ -103,7 +103,7 @@ module _ (cases : Cases) (old new : List Entry) (o : Outline) (is : IsOutline ca
       among =
           let w = r.within s.storage in
           let l : xs ++ ys ≡ s.list = Below-unique cases old (entry_at old m).child (xs ++ ys) s.list (subst (λ (q : ℕ). Below cases old (entry_at old q).child (xs ++ ys)) (sym e) ins.was.below) s.below in
-          one-more j (subst (λ (l : List ℕ). 1 ≤ tally j l) (sym l) s.among);
+          one-more j (subst (λ (l : List ℕ). 1 ≤ times_in j l) (sym l) s.among);
       named = ap (is_same_name cases name) (same-name j rj) ∙ s.named;
     }
     | inr ne ↦
@@ -140,7 +140,7 @@ module _ (cases : Cases) (old new : List Entry) (o : Outline) (is : IsOutline ca
 
   -- a step that does not come to the new entry
   step-back : (m : ℕ) (name : List ℕ) (j : ℕ) → Reached cases old o m → Step cases new m name j → (Step cases old m name j × Reached cases old o j) ⊎ ((j ≡ n) × (m ≡ parent))
-  unfolding tally
+  unfolding times_in
   step-back m name j r s = go (cases_eq m parent)
     where
       ne : (entry_at old m).obj_type ≢ Stream
@@ -149,7 +149,7 @@ module _ (cases : Cases) (old new : List Entry) (o : Outline) (is : IsOutline ca
       w : Within cases old (whole cases old o) m
       w = r.within ne
 
-      inside : 1 ≤ tally j (siblings w.inside) → Step cases old m name j × Reached cases old o j
+      inside : 1 ≤ times_in j (siblings w.inside) → Step cases old m name j × Reached cases old o j
       inside mem =
           let rj = reached-child cases old o m j w mem in
           (record { storage = ne; list = siblings w.inside; below = w.below; among = mem; named = sym (ap (is_same_name cases name) (same-name j rj)) ∙ s.named }, rj)
@@ -160,9 +160,9 @@ module _ (cases : Cases) (old new : List Entry) (o : Outline) (is : IsOutline ca
         | inr z ↦
             let now : s.list ≡ xs ++ n ∷ ys = Below-unique cases new (entry_at new m).child s.list (xs ++ n ∷ ys) s.below (subst (λ (q : ℕ). Below cases new (entry_at new q).child (xs ++ n ∷ ys)) (sym e) ins.now.below) in
             let was : xs ++ ys ≡ siblings w.inside = Below-unique cases old (entry_at old m).child (xs ++ ys) (siblings w.inside) (subst (λ (q : ℕ). Below cases old (entry_at old q).child (xs ++ ys)) (sym e) ins.was.below) w.below in
-            inl (inside (omega (arith, s.among, ap (tally j) now, ap (tally j) was, tally-append j xs (n ∷ ys), tally-append j xs ys, z)))
+            inl (inside (omega (arith, s.among, ap (times_in j) now, ap (times_in j) was, tally-append j xs (n ∷ ys), tally-append j xs ys, z)))
       ]
-      go (inr f) = inl (inside (subst (λ (l : List ℕ). 1 ≤ tally j l) (Below-unique cases new (entry_at new m).child s.list (siblings w.inside) s.below (elsewhere m r w f)) s.among))
+      go (inr f) = inl (inside (subst (λ (l : List ℕ). 1 ≤ times_in j l) (Below-unique cases new (entry_at new m).child s.list (siblings w.inside) s.below (elsewhere m r w f)) s.among))
 
   down-back : (path : List (List ℕ)) (m k : ℕ) → Reached cases old o m → Down cases new m path k → Down cases old m path k ⊎ Ends m path k
   down-back [] m k r d = inl d
@@ -177,7 +177,7 @@ module _ (cases : Cases) (old new : List Entry) (o : Outline) (is : IsOutline ca
   -- ---- the law
 
   new-step : (name : List ℕ) → is_same_name cases name entry.name ≡ true → Step cases new parent name n
-  unfolding tally
+  unfolding times_in
   new-step name same = record {
     storage = λ k. storage (sym (same-kind parent at) ∙ k);
     list = xs ++ n ∷ ys;

@@ -12,7 +12,7 @@ use Rattle.cfb_format.specs.DirectoryEntry.{Entry}
 use Rattle.cfb_format.specs.Siblings.{entry_at, Below, RisesByName}
 use Rattle.cfb_format.specs.Reading.{Outline, siblings, numbers, IsOutline}
 use Rattle.cfb_format.proofs.Unique.{Below-unique}
-use Rattle.cfb_siblings.specs.Painted.{hit, tally}
+use Rattle.cfb_siblings.specs.Painted.{hit, times_in}
 use Rattle.cfb_siblings.specs.Way.{unlinked}
 use Rattle.cfb_siblings.specs.Laws.{SameLinks}
 use Rattle.cfb_siblings.specs.Children.{ButLinks, HasRemoved}
@@ -35,16 +35,16 @@ Beside [] list k k' = ⊥
 Beside (x ∷ xs) [] k k' = ⊥
 Beside (x ∷ xs) (y ∷ list) k k' = ((k ≡ x) × (k' ≡ y)) ⊎ Beside xs list k k'
 
-beside-in : (xs list : List ℕ) (k k' : ℕ) → Beside xs list k k' → (1 ≤ tally k xs) × (1 ≤ tally k' list)
-unfolding tally
+beside-in : (xs list : List ℕ) (k k' : ℕ) → Beside xs list k k' → (1 ≤ times_in k xs) × (1 ≤ times_in k' list)
+unfolding times_in
 beside-in [] list k k' b = absurd b
 beside-in (x ∷ xs) [] k k' b = absurd b
 beside-in (x ∷ xs) (y ∷ list) k k' (inl b) = (omega (arith, hit-same x, ap (λ (j : ℕ). hit j x) b.0), omega (arith, hit-same y, ap (λ (j : ℕ). hit j y) b.1))
 beside-in (x ∷ xs) (y ∷ list) k k' (inr b) = let (p, q) = beside-in xs list k k' b in (omega (arith, p), omega (arith, q))
 
 -- one number of the second list stands beside one of the first
-beside-one : (xs list : List ℕ) → ((j : ℕ) → tally j list ≤ 1) → (k f k' : ℕ) → Beside xs list k k' → Beside xs list f k' → k ≡ f
-unfolding tally
+beside-one : (xs list : List ℕ) → ((j : ℕ) → times_in j list ≤ 1) → (k f k' : ℕ) → Beside xs list k k' → Beside xs list f k' → k ≡ f
+unfolding times_in
 beside-one [] list once k f k' b c = absurd b
 beside-one (x ∷ xs) [] once k f k' b c = absurd b
 beside-one (x ∷ xs) (y ∷ list) once k f k' (inl b) (inl c) = b.0 ∙ sym c.0
@@ -53,8 +53,8 @@ beside-one (x ∷ xs) (y ∷ list) once k f k' (inr b) (inl c) = absurd (omega (
 beside-one (x ∷ xs) (y ∷ list) once k f k' (inr b) (inr c) = beside-one xs list (λ j. omega (arith, once j)) k f k' b c
 
 module _ (P : ℕ → ℕ → Type 0) where
-  beside-of : (xs list : List ℕ) → AllZip P xs list → (k : ℕ) → 1 ≤ tally k xs → (k' : ℕ) × Beside xs list k k' × P k k'
-  unfolding tally
+  beside-of : (xs list : List ℕ) → AllZip P xs list → (k : ℕ) → 1 ≤ times_in k xs → (k' : ℕ) × Beside xs list k k' × P k k'
+  unfolding times_in
   beside-of [] list a k m = absurd (omega (arith, m))
   beside-of (x ∷ xs) [] a k m = absurd a
   beside-of (x ∷ xs) (y ∷ list) a k m = elim (hit-cases k x) [
@@ -62,8 +62,8 @@ module _ (P : ℕ → ℕ → Type 0) where
     | inr z ↦ let (k', b, p) = beside-of xs list a.1 k (omega (arith, m, z)) in (k', inr b, p)
   ]
 
-  beside-back : (xs list : List ℕ) → AllZip P xs list → (k' : ℕ) → 1 ≤ tally k' list → (k : ℕ) × Beside xs list k k' × P k k'
-  unfolding tally
+  beside-back : (xs list : List ℕ) → AllZip P xs list → (k' : ℕ) → 1 ≤ times_in k' list → (k : ℕ) × Beside xs list k k' × P k k'
+  unfolding times_in
   beside-back [] [] a k' m = absurd (omega (arith, m))
   beside-back [] (y ∷ list) a k' m = absurd a
   beside-back (x ∷ xs) [] a k' m = absurd a
@@ -73,8 +73,8 @@ module _ (P : ℕ → ℕ → Type 0) where
   ]
 
 -- in a rising list no two numbers have one name
-one-name : (cases : Cases) (es : List Entry) (list : List ℕ) → RisesByName cases es list → (a b : ℕ) → 1 ≤ tally a list → 1 ≤ tally b list → (entry_at es a).name ≡ (entry_at es b).name → a ≡ b
-unfolding tally
+one-name : (cases : Cases) (es : List Entry) (list : List ℕ) → RisesByName cases es list → (a b : ℕ) → 1 ≤ times_in a list → 1 ≤ times_in b list → (entry_at es a).name ≡ (entry_at es b).name → a ≡ b
+unfolding times_in
 one-name cases es [] r a b m l e = absurd (omega (arith, m))
 one-name cases es (i ∷ list) r a b m l e = elim (hit-cases a i) [
   | inl p ↦ elim (hit-cases b i) [
@@ -87,7 +87,7 @@ one-name cases es (i ∷ list) r a b m l e = elim (hit-cases a i) [
   ]
 ]
   where
-    apart : (i b : ℕ) (list : List ℕ) → AllByRecursion (λ j. name_cmp cases (entry_at es i).name (entry_at es j).name ≡ Less) list → 1 ≤ tally b list → (entry_at es i).name ≡ (entry_at es b).name → ⊥
+    apart : (i b : ℕ) (list : List ℕ) → AllByRecursion (λ j. name_cmp cases (entry_at es i).name (entry_at es j).name ≡ Less) list → 1 ≤ times_in b list → (entry_at es i).name ≡ (entry_at es b).name → ⊥
     apart i b list a m e =
         let less : name_cmp cases (entry_at es i).name (entry_at es b).name ≡ Less = all-at (λ j. name_cmp cases (entry_at es i).name (entry_at es j).name ≡ Less) list b a m in
         let q : true ≡ false = sym (same-itself cases (entry_at es i).name) ∙ (ap (is_same_name cases (entry_at es i).name) e ∙ earlier-not-same cases (entry_at es i).name (entry_at es b).name less) in
@@ -117,34 +117,34 @@ module _ (cases : Cases) (old new : List Entry) (o : Outline) (is : IsOutline ca
   listed : xs ++ n ∷ ys ≡ siblings owner.inside
   listed = Below-unique cases old (entry_at old parent).child (xs ++ n ∷ ys) (siblings owner.inside) rem.was.below owner.below
 
-  owned : (k : ℕ) → 1 ≤ tally k (xs ++ n ∷ ys) → 1 ≤ tally k (siblings owner.inside)
-  owned k m = subst (λ (l : List ℕ). 1 ≤ tally k l) listed m
+  owned : (k : ℕ) → 1 ≤ times_in k (xs ++ n ∷ ys) → 1 ≤ times_in k (siblings owner.inside)
+  owned k m = subst (λ (l : List ℕ). 1 ≤ times_in k l) listed m
 
-  others : (k : ℕ) → tally k (xs ++ n ∷ ys) ≡ hit k n + tally k (xs ++ ys)
-  unfolding tally
+  others : (k : ℕ) → times_in k (xs ++ n ∷ ys) ≡ hit k n + times_in k (xs ++ ys)
+  unfolding times_in
   others k = omega (arith, tally-append k xs (n ∷ ys), tally-append k xs ys)
 
   missed : (k : ℕ) → k ≢ n → hit k n ≡ 0
   missed k ne = elim (hit-cases k n) [ inl e ↦ absurd (ne e) | inr z ↦ z ]
 
-  once-was : (k : ℕ) → tally k (xs ++ n ∷ ys) ≤ 1
+  once-was : (k : ℕ) → times_in k (xs ++ n ∷ ys) ≤ 1
   once-was = distinct-once (xs ++ n ∷ ys) rem.was.below.distinct
 
-  not-taken : (k : ℕ) → 1 ≤ tally k (xs ++ ys) → k ≢ n
+  not-taken : (k : ℕ) → 1 ≤ times_in k (xs ++ ys) → k ≢ n
   not-taken k m e = absurd (omega (arith, m, once-was k, others k, hit-same n, ap (λ (j : ℕ). hit j n) e))
 
-  freed-in : 1 ≤ tally freed (xs ++ n ∷ ys)
-  unfolding tally
+  freed-in : 1 ≤ times_in freed (xs ++ n ∷ ys)
+  unfolding times_in
   freed-in = elim rem.freed_was [
     | inl e ↦ omega (arith, others freed, hit-same n, ap (λ (j : ℕ). hit j n) e)
-    | inr p ↦ let (zs, e) = p in omega (arith, tally-append freed xs (n ∷ ys), ap (tally freed) e, tally-append freed zs (freed ∷ []), hit-same freed)
+    | inr p ↦ let (zs, e) = p in omega (arith, tally-append freed xs (n ∷ ys), ap (times_in freed) e, tally-append freed zs (freed ∷ []), hit-same freed)
   ]
 
-  parent-out : (k : ℕ) → 1 ≤ tally k (xs ++ n ∷ ys) → k ≢ parent
+  parent-out : (k : ℕ) → 1 ≤ times_in k (xs ++ n ∷ ys) → k ≢ parent
   parent-out k m e = rem.was.apart (subst (λ (j : ℕ). Contains (xs ++ n ∷ ys) j) e (present k (xs ++ n ∷ ys) m))
 
-  stays-outside : (k : ℕ) → tally k (xs ++ n ∷ ys) ≡ 0 → to k ≡ k
-  stays-outside k z = moved-other n freed k (λ e. absurd (omega (arith, freed-in, z, ap (λ (j : ℕ). tally j (xs ++ n ∷ ys)) e)))
+  stays-outside : (k : ℕ) → times_in k (xs ++ n ∷ ys) ≡ 0 → to k ≡ k
+  stays-outside k z = moved-other n freed k (λ e. absurd (omega (arith, freed-in, z, ap (λ (j : ℕ). times_in j (xs ++ n ∷ ys)) e)))
 
   parent-stays : to parent ≡ parent
   parent-stays = stays-outside parent (uncounted parent (xs ++ n ∷ ys) rem.was.apart)
@@ -155,7 +155,7 @@ module _ (cases : Cases) (old new : List Entry) (o : Outline) (is : IsOutline ca
   same-unless k k' b e ne =
       let (m, l) = beside-in (xs ++ ys) list k k' b in
       let c : Contains list k' = present k' list l in
-      let m' : 1 ≤ tally k' (xs ++ n ∷ ys) = counted k' (xs ++ n ∷ ys) (rem.among k' c) in
+      let m' : 1 ≤ times_in k' (xs ++ n ∷ ys) = counted k' (xs ++ n ∷ ys) (rem.among k' c) in
       let not-freed : k' ≢ freed = λ f. rem.freed_gone (subst (λ (j : ℕ). Contains list j) f c) in
       let here : ButLinks (entry_at old k') (entry_at new k') = rem.stayed k' (parent-out k' m') ne not-freed in
       one-name cases old (xs ++ n ∷ ys) rem.was.below.rises k k' (omega (arith, m, others k)) m' (ap (λ (x : Entry). x.name) (sym e ∙ here))
@@ -181,14 +181,14 @@ module _ (cases : Cases) (old new : List Entry) (o : Outline) (is : IsOutline ca
   ]
 
   -- a child that is left, and what it is now
-  left-child : (k : ℕ) → 1 ≤ tally k (xs ++ ys) → (1 ≤ tally (to k) list) × ButLinks (entry_at old k) (entry_at new (to k))
+  left-child : (k : ℕ) → 1 ≤ times_in k (xs ++ ys) → (1 ≤ times_in (to k) list) × ButLinks (entry_at old k) (entry_at new (to k))
   left-child k m =
       let (k', b, e) = beside-of (λ k k'. ButLinks (entry_at old k) (entry_at new k')) (xs ++ ys) list rem.siblings_kept k m in
       let t : k' ≡ to k = beside-moved k k' b e in
-      (subst (λ (j : ℕ). 1 ≤ tally j list) t (beside-in (xs ++ ys) list k k' b).1, subst (λ (j : ℕ). ButLinks (entry_at old k) (entry_at new j)) t e)
+      (subst (λ (j : ℕ). 1 ≤ times_in j list) t (beside-in (xs ++ ys) list k k' b).1, subst (λ (j : ℕ). ButLinks (entry_at old k) (entry_at new j)) t e)
 
   -- a child now, and what it was
-  child-was : (k' : ℕ) → 1 ≤ tally k' list → (k : ℕ) × (1 ≤ tally k (xs ++ ys)) × (k' ≡ to k)
+  child-was : (k' : ℕ) → 1 ≤ times_in k' list → (k : ℕ) × (1 ≤ times_in k (xs ++ ys)) × (k' ≡ to k)
   child-was k' m =
       let (k, b, e) = beside-back (λ k k'. ButLinks (entry_at old k) (entry_at new k')) (xs ++ ys) list rem.siblings_kept k' m in
       (k, (beside-in (xs ++ ys) list k k' b).0, beside-moved k k' b e)
@@ -196,9 +196,9 @@ module _ (cases : Cases) (old new : List Entry) (o : Outline) (is : IsOutline ca
   -- ---- what is reached is the same in its place now
 
   kept : (m : ℕ) → m ≢ parent → m ≢ n → ButLinks (entry_at old m) (entry_at new (to m))
-  kept m ne mn = elim (cases_eq (tally m (xs ++ ys)) 0) [
+  kept m ne mn = elim (cases_eq (times_in m (xs ++ ys)) 0) [
     | inl z ↦
-        let out : tally m (xs ++ n ∷ ys) ≡ 0 = omega (arith, z, others m, missed m mn) in
+        let out : times_in m (xs ++ n ∷ ys) ≡ 0 = omega (arith, z, others m, missed m mn) in
         subst (λ (j : ℕ). ButLinks (entry_at old m) (entry_at new j)) (sym (stays-outside m out)) (ap unlinked (rem.others_kept m ne (outside m (xs ++ n ∷ ys) out)))
     | inr nz ↦ (left-child m (omega (arith, nz))).1
   ]
@@ -218,13 +218,13 @@ module _ (cases : Cases) (old new : List Entry) (o : Outline) (is : IsOutline ca
   ]
 
   -- the children of another storage
-  away : (m : ℕ) (w : Within cases old (whole cases old o) m) → m ≢ parent → (k : ℕ) → 1 ≤ tally k (siblings w.inside) → tally k (xs ++ n ∷ ys) ≡ 0
+  away : (m : ℕ) (w : Within cases old (whole cases old o) m) → m ≢ parent → (k : ℕ) → 1 ≤ times_in k (siblings w.inside) → times_in k (xs ++ n ∷ ys) ≡ 0
   away m w ne k mem = uncounted k (xs ++ n ∷ ys) (λ c. ne (one-owner cases old o is m parent k w owner mem (owned k (counted k (xs ++ n ∷ ys) c))))
 
-  away-taken : (k : ℕ) → tally k (xs ++ n ∷ ys) ≡ 0 → k ≢ n
+  away-taken : (k : ℕ) → times_in k (xs ++ n ∷ ys) ≡ 0 → k ≢ n
   away-taken k z e = absurd (omega (arith, z, others k, hit-same n, ap (λ (j : ℕ). hit j n) e))
 
-  links-elsewhere : (m : ℕ) (w : Within cases old (whole cases old o) m) → m ≢ parent → (k : ℕ) → 1 ≤ tally k (siblings w.inside) → SameLinks old new k
+  links-elsewhere : (m : ℕ) (w : Within cases old (whole cases old o) m) → m ≢ parent → (k : ℕ) → 1 ≤ times_in k (siblings w.inside) → SameLinks old new k
   links-elsewhere m w ne k mem = elim (cases_eq k parent) [
     | inl e ↦ subst (λ (j : ℕ). SameLinks old new j) (sym e) (record {
       name = ap (λ (x : Entry). x.name) rem.parent_kept;
@@ -252,7 +252,7 @@ module _ (cases : Cases) (old new : List Entry) (o : Outline) (is : IsOutline ca
           storage = λ k. s.storage (sym (same-kind m mn) ∙ k);
           list = list;
           below = below-now m e;
-          among = (left-child j (omega (arith, s.among, ap (tally j) l, others j, missed j jn))).0;
+          among = (left-child j (omega (arith, s.among, ap (times_in j) l, others j, missed j jn))).0;
           named = ap (is_same_name cases name) (same-name j jn) ∙ s.named;
         }
     | inr ne ↦
@@ -262,7 +262,7 @@ module _ (cases : Cases) (old new : List Entry) (o : Outline) (is : IsOutline ca
           storage = λ k. s.storage (sym (same-kind m mn) ∙ k);
           list = siblings w.inside;
           below = elsewhere m w ne mn;
-          among = subst (λ (i : ℕ). 1 ≤ tally i (siblings w.inside)) (sym (stays-outside j (away m w ne j mem))) mem;
+          among = subst (λ (i : ℕ). 1 ≤ times_in i (siblings w.inside)) (sym (stays-outside j (away m w ne j mem))) mem;
           named = ap (is_same_name cases name) (same-name j jn) ∙ s.named;
         }
   ]
@@ -293,7 +293,7 @@ module _ (cases : Cases) (old new : List Entry) (o : Outline) (is : IsOutline ca
       w : Within cases old (whole cases old o) m
       w = r.within ne
 
-      back : (j : ℕ) → 1 ≤ tally j (siblings w.inside) → j ≢ n → j' ≡ to j → Back m name j'
+      back : (j : ℕ) → 1 ≤ times_in j (siblings w.inside) → j ≢ n → j' ≡ to j → Back m name j'
       back j mem jn e = record {
         number = j;
         step = record {
@@ -312,10 +312,10 @@ module _ (cases : Cases) (old new : List Entry) (o : Outline) (is : IsOutline ca
       go (inl e) =
           let now : s.list ≡ list = Below-unique cases new (entry_at new (to m)).child s.list list s.below (below-now m e) in
           let was : xs ++ n ∷ ys ≡ siblings w.inside = Below-unique cases old (entry_at old m).child (xs ++ n ∷ ys) (siblings w.inside) (subst (λ (q : ℕ). Below cases old (entry_at old q).child (xs ++ n ∷ ys)) (sym e) rem.was.below) w.below in
-          let (j, mem, t) = child-was j' (subst (λ (l : List ℕ). 1 ≤ tally j' l) now s.among) in
-          back j (omega (arith, mem, others j, ap (tally j) was)) (not-taken j mem) t
+          let (j, mem, t) = child-was j' (subst (λ (l : List ℕ). 1 ≤ times_in j' l) now s.among) in
+          back j (omega (arith, mem, others j, ap (times_in j) was)) (not-taken j mem) t
       go (inr f) =
-          let mem : 1 ≤ tally j' (siblings w.inside) = subst (λ (l : List ℕ). 1 ≤ tally j' l) (Below-unique cases new (entry_at new (to m)).child s.list (siblings w.inside) s.below (elsewhere m w f mn)) s.among in
+          let mem : 1 ≤ times_in j' (siblings w.inside) = subst (λ (l : List ℕ). 1 ≤ times_in j' l) (Below-unique cases new (entry_at new (to m)).child s.list (siblings w.inside) s.below (elsewhere m w f mn)) s.among in
           let out = away m w f j' mem in
           back j' mem (away-taken j' out) (sym (stays-outside j' out))
 
@@ -328,8 +328,8 @@ module _ (cases : Cases) (old new : List Entry) (o : Outline) (is : IsOutline ca
 
   -- ---- the law
 
-  not-root : (k : ℕ) → 1 ≤ tally k (xs ++ n ∷ ys) → 0 ≢ k
-  unfolding tally
+  not-root : (k : ℕ) → 1 ≤ times_in k (xs ++ n ∷ ys) → 0 ≢ k
+  unfolding times_in
   not-root k m e =
       absurd (omega (
         arith,

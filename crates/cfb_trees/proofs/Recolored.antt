@@ -9,7 +9,7 @@ use Rattle.cfb_format.specs.DirectoryEntry.{Entry}
 use Rattle.cfb_format.specs.Siblings.{entry_at, is_red_at, is_red_apart}
 use Rattle.cfb_format.specs.Reading.{Outline, siblings, numbers, IsOutline}
 use Rattle.cfb_format.proofs.Unique.{Below-unique}
-use Rattle.cfb_siblings.specs.Painted.{hit, tally}
+use Rattle.cfb_siblings.specs.Painted.{hit, times_in}
 use Rattle.cfb_siblings.specs.Children.{ButChild, ButLinks, HasChildren, HasRedApart}
 use Rattle.cfb_siblings.proofs.Tallies.{hit-same, hit-cases, tally-append, counted, present}
 use Rattle.cfb_siblings.proofs.Outlines.{siblings-numbers}
@@ -26,11 +26,11 @@ use Rattle.cfb_trees.proofs.Colored.{SamePaint, LeadsInto, all-true, true-all, n
 -- ---- what is reached
 
 pub root-or-below : (o : Outline) (k : ℕ) → IsReached o k → (k ≡ 0) ⊎ Contains (numbers o) k
-unfolding tally
+unfolding times_in
 root-or-below o k c = elim (hit-cases k 0) [ inl e ↦ inl e | inr z ↦ inr (present k (numbers o) (omega (arith, counted k (0 ∷ numbers o) c, z))) ]
 
 pub root-is-reached : (o : Outline) (k : ℕ) → k ≡ 0 → IsReached o k
-unfolding tally
+unfolding times_in
 root-is-reached o k e = present k (0 ∷ numbers o) (omega (arith, hit-same 0, ap (λ (j : ℕ). hit j 0) e))
 
 pub below-reached : (o : Outline) (k : ℕ) → Contains (numbers o) k → IsReached o k
@@ -58,16 +58,16 @@ module _ (cases : Cases) (old new : List Entry) (o after : Outline) (parent : �
     (stays : IsReached after parent) (kind : (entry_at new parent).obj_type ≢ Stream)
     (tops : (k : ℕ) → IsReached after k → (entry_at new k).obj_type ≢ Stream → k ≢ parent
     → ((entry_at new k).child ≡ no_stream) ⊎ ((j : ℕ) × IsReached o j × ((entry_at old j).obj_type ≢ Stream) × ((entry_at new k).child ≡ (entry_at old j).child)))
-    (paint : (k : ℕ) → Contains (numbers after) k → tally k list ≡ 0 → Contains (numbers o) k × SamePaint old new k) where
+    (paint : (k : ℕ) → Contains (numbers after) k → times_in k list ≡ 0 → Contains (numbers o) k × SamePaint old new k) where
   list-is : (x : Outline) → StandsAt parent x after → siblings x ≡ list
   list-is x s = Below-unique cases new (entry_at new parent).child (siblings x) list (at-held cases new after new_is parent x s).0 now.below
 
   -- the children of another storage kept their colours
-  child-paint : (q : ℕ) (x : Outline) → StandsAt q x after → q ≢ parent → (k : ℕ) → 1 ≤ tally k (siblings x) → Contains (numbers o) k × SamePaint old new k
+  child-paint : (q : ℕ) (x : Outline) → StandsAt q x after → q ≢ parent → (k : ℕ) → 1 ≤ times_in k (siblings x) → Contains (numbers o) k × SamePaint old new k
   child-paint q x s ne k m =
       let (y, u) = stands-at cases new after new_is parent kind (counted parent (0 ∷ numbers after) stays) in
       paint k (present k (numbers after) (omega (arith, m, siblings-numbers k x, at-within q x after s k)))
-      (omega (arith, m, at-apart q parent x y after ne s u k, below-once cases new after new_is k, ap (tally k) (list-is y u)))
+      (omega (arith, m, at-apart q parent x y after ne s u k, below-once cases new after new_is k, ap (times_in k) (list-is y u)))
 
   link-same : (q : ℕ) (x : Outline) → StandsAt q x after → q ≢ parent → (link : ℕ) → LeadsInto (siblings x) link → is_red_at new link ≡ is_red_at old link
   link-same q x s ne link l = elim l [
@@ -88,11 +88,11 @@ module _ (cases : Cases) (old new : List Entry) (o after : Outline) (parent : �
     ]
   ]
 
-  apart-at : (k : ℕ) → 1 ≤ tally k (numbers after) → is_red_apart new k ≡ true
+  apart-at : (k : ℕ) → 1 ≤ times_in k (numbers after) → is_red_apart new k ≡ true
   apart-at k m =
       let (q, x, s, c) = owned-at cases new after new_is k m in
       elim (cases_eq q parent) [
-        | inl e ↦ all-true (is_red_apart new) list k right.1 (subst (λ l. 1 ≤ tally k l) (list-is x (subst (λ (j : ℕ). StandsAt j x after) e s)) c)
+        | inl e ↦ all-true (is_red_apart new) list k right.1 (subst (λ l. 1 ≤ times_in k l) (list-is x (subst (λ (j : ℕ). StandsAt j x after) e s)) c)
         | inr ne ↦
             let (was, p) = child-paint q x s ne k c in
             let (l, r) = siblings-lead new cases (entry_at new q).child (siblings x) (at-held cases new after new_is q x s).0 k c in
@@ -105,8 +105,8 @@ module _ (cases : Cases) (old new : List Entry) (o after : Outline) (parent : �
   pub recolored : AreColored new after
   recolored = record { tops = top-black; apart = true-all (is_red_apart new) (numbers after) apart-at }
 
-tally-around : (k : ℕ) (xs : List ℕ) (n : ℕ) (ys : List ℕ) → tally k (xs ++ n ∷ ys) ≡ tally k xs + (hit k n + tally k ys)
-unfolding tally
+tally-around : (k : ℕ) (xs : List ℕ) (n : ℕ) (ys : List ℕ) → times_in k (xs ++ n ∷ ys) ≡ times_in k xs + (hit k n + times_in k ys)
+unfolding times_in
 tally-around k xs n ys = tally-append k xs (n ∷ ys)
 
 -- ---- an insertion
@@ -135,7 +135,7 @@ insertion-keeps-colors cases old new o after parent n entry xs ys is new_is reac
     ]
 
     child-same : (k : ℕ) → k ≢ parent → k ≢ n → (entry_at new k).child ≡ (entry_at old k).child
-    child-same k kp kn = elim (cases_lt 0 (tally k (xs ++ ys))) [
+    child-same k kp kn = elim (cases_lt 0 (times_in k (xs ++ ys))) [
       | inl l ↦ links-child (entry_at old k) (entry_at new k) (ins.siblings_kept k (present k (xs ++ ys) (omega (arith, l))))
       | inr g ↦ ap (λ (x : Entry). x.child) (ins.others_kept k kp kn (λ c. absurd (omega (arith, g, counted k (xs ++ ys) c))))
     ]
@@ -150,10 +150,10 @@ insertion-keeps-colors cases old new o after parent n entry xs ys is new_is reac
       ]
     ]
 
-    paint : (list : List ℕ) → HasChildren cases new parent list → (k : ℕ) → Contains (numbers after) k → tally k list ≡ 0 → Contains (numbers o) k × SamePaint old new k
+    paint : (list : List ℕ) → HasChildren cases new parent list → (k : ℕ) → Contains (numbers after) k → times_in k list ≡ 0 → Contains (numbers o) k × SamePaint old new k
     paint list now k c out =
         let same : list ≡ xs ++ n ∷ ys = Below-unique cases new (entry_at new parent).child list (xs ++ n ∷ ys) now.below ins.now.below in
-        let gone : tally k xs + (hit k n + tally k ys) ≡ 0 = sym (tally-around k xs n ys) ∙ sym (ap (tally k) same) ∙ out in
+        let gone : times_in k xs + (hit k n + times_in k ys) ≡ 0 = sym (tally-around k xs n ys) ∙ sym (ap (times_in k) same) ∙ out in
         elim ((both k).0 c) [
           | inl e ↦ absurd (omega (arith, gone, hit-same n, ap (λ (j : ℕ). hit j n) e))
           | inr d ↦ (
@@ -175,7 +175,7 @@ removal-keeps-colors cases old new o after parent n freed xs ys list is new_is r
     both : (k : ℕ) → Contains (numbers after) k ↔ (Contains (numbers o) k × (k ≢ freed))
     both = taken-numbers cases old new o after parent n freed xs ys list is new_is reached ne childless rem
 
-    freed-in : 1 ≤ tally freed (xs ++ n ∷ ys)
+    freed-in : 1 ≤ times_in freed (xs ++ n ∷ ys)
     freed-in = freed-counted cases old new parent n freed xs ys list rem
 
     freed-reached : Contains (numbers o) freed
@@ -190,7 +190,7 @@ removal-keeps-colors cases old new o after parent n freed xs ys list is new_is r
     stays : IsReached after parent
     stays = elim (root-or-below o parent reached) [
       | inl e ↦ root-is-reached after parent e
-      | inr c ↦ below-reached after parent ((both parent).1 (c, λ f. rem.was.apart (present parent (xs ++ n ∷ ys) (omega (arith, freed-in, ap (λ j. tally j (xs ++ n ∷ ys)) f)))))
+      | inr c ↦ below-reached after parent ((both parent).1 (c, λ f. rem.was.apart (present parent (xs ++ n ∷ ys) (omega (arith, freed-in, ap (λ j. times_in j (xs ++ n ∷ ys)) f)))))
     ]
 
     tops : (k : ℕ) → IsReached after k → (entry_at new k).obj_type ≢ Stream → k ≢ parent
@@ -206,7 +206,7 @@ removal-keeps-colors cases old new o after parent n freed xs ys list is new_is r
               inr (k, w, λ s. ns (links-kind (entry_at old k) (entry_at new k) m ∙ s), links-child (entry_at old k) (entry_at new k) m)
         ]
 
-    paint : (rest : List ℕ) → HasChildren cases new parent rest → (k : ℕ) → Contains (numbers after) k → tally k rest ≡ 0 → Contains (numbers o) k × SamePaint old new k
+    paint : (rest : List ℕ) → HasChildren cases new parent rest → (k : ℕ) → Contains (numbers after) k → times_in k rest ≡ 0 → Contains (numbers o) k × SamePaint old new k
     paint rest now k c out =
         let same : rest ≡ list = Below-unique cases new (entry_at new parent).child rest list now.below rem.now.below in
         let (d, kf) = (both k).0 c in (
@@ -215,7 +215,7 @@ removal-keeps-colors cases old new o after parent n freed xs ys list is new_is r
             | inl e ↦ parent-paint old new k parent e rem.parent_kept
             | inr kp ↦ same-paint old new k (rem.others_kept k kp (λ h. absurd (elim (hit-cases k freed) [
               | inl e ↦ kf e
-              | inr z ↦ absurd (omega (arith, z, out, ap (tally k) same, all-but-freed cases old new parent n freed xs ys list rem k, counted k (xs ++ n ∷ ys) h))
+              | inr z ↦ absurd (omega (arith, z, out, ap (times_in k) same, all-but-freed cases old new parent n freed xs ys list rem k, counted k (xs ++ n ∷ ys) h))
             ])))
           ],
         )

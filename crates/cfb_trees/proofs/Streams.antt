@@ -8,7 +8,7 @@ use Rattle.cfb_format.specs.DirectoryEntry.{Entry}
 use Rattle.cfb_format.specs.Siblings.{entry_at}
 use Rattle.cfb_format.specs.Reading.{Outline, numbers, stream_numbers, IsOutline}
 use Rattle.cfb_format.proofs.Unique.{Below-unique}
-use Rattle.cfb_siblings.specs.Painted.{tally}
+use Rattle.cfb_siblings.specs.Painted.{times_in}
 use Rattle.cfb_siblings.specs.Children.{ButLinks, HasRemoved}
 use Rattle.cfb_siblings.proofs.Tallies.{hit-same, tally-append, counted, present}
 use Rattle.cfb_trees.specs.Reached.{IsReached}
@@ -20,8 +20,8 @@ use Rattle.cfb_trees.proofs.Standing.{reached-is-parent}
 use Rattle.cfb_trees.proofs.Taken.{freed-counted, moved, taken-numbers}
 
 -- what is below the root is reached
-pub below-is-reached : (o : Outline) (k : ℕ) → Contains (numbers o) k → 1 ≤ tally k (0 ∷ numbers o)
-unfolding tally
+pub below-is-reached : (o : Outline) (k : ℕ) → Contains (numbers o) k → 1 ≤ times_in k (0 ∷ numbers o)
+unfolding times_in
 below-is-reached o k c = omega (arith, counted k (numbers o) c)
 
 -- ---- an insertion
@@ -65,7 +65,7 @@ module _ (cases : Cases) (old new : List Entry) (o after : Outline) (parent n fr
   GoesTo k = (k' : ℕ) × Contains (stream_numbers after) k' × StaysAt old new n freed k k'
 
   -- the children that were there were reached
-  pub child-reached : (j : ℕ) → 1 ≤ tally j (xs ++ n ∷ ys) → Contains (numbers o) j
+  pub child-reached : (j : ℕ) → 1 ≤ times_in j (xs ++ n ∷ ys) → Contains (numbers o) j
   child-reached j m =
       let (there, children, inner) = reached-is-parent cases old o parent is reached ne in
       let same : there ≡ xs ++ n ∷ ys = Below-unique cases old (entry_at old parent).child there (xs ++ n ∷ ys) children.below rem.was.below in
@@ -75,7 +75,7 @@ module _ (cases : Cases) (old new : List Entry) (o after : Outline) (parent n fr
   freed-reached = child-reached freed (freed-counted cases old new parent n freed xs ys list rem)
 
   n-reached : Contains (numbers o) n
-  unfolding tally
+  unfolding times_in
   n-reached = child-reached n (omega (arith, tally-append n xs (n ∷ ys), hit-same n))
 
   pub came-from : (k' : ℕ) → Contains (stream_numbers after) k' → CameFrom k'

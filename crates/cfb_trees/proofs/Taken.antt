@@ -11,7 +11,7 @@ use Rattle.cfb_format.specs.DirectoryEntry.{Entry}
 use Rattle.cfb_format.specs.Siblings.{entry_at, Below, RisesByName}
 use Rattle.cfb_format.specs.Reading.{Outline, siblings, numbers, HasContents, IsOutline}
 use Rattle.cfb_format.proofs.Unique.{Below-unique, IsOutline-unique}
-use Rattle.cfb_siblings.specs.Painted.{hit, tally}
+use Rattle.cfb_siblings.specs.Painted.{hit, times_in}
 use Rattle.cfb_siblings.specs.Children.{ButLinks, HasRemoved}
 use Rattle.cfb_siblings.proofs.Tallies.{hit-same, hit-cases, hit-none, hit-small, tally-append, counted, present, outside, uncounted, all-at, distinct-once}
 use Rattle.cfb_siblings.proofs.NameFacts.{same-itself, later-not-same}
@@ -31,11 +31,11 @@ use Rattle.cfb_trees.proofs.Parents.{none, same-entry, same-zip, parent-kind, pa
 less-than-itself : (cases : Cases) (name : List ℕ) → name_cmp cases name name ≡ Less → ⊥
 less-than-itself cases name e = let q : true ≡ false = sym (same-itself cases name) ∙ later-not-same cases name name e in cc
 
-pub rising-one : (cases : Cases) (es : List Entry) (list : List ℕ) (j k : ℕ) → RisesByName cases es list → 1 ≤ tally j list → 1 ≤ tally k list → (entry_at es j).name ≡ (entry_at es k).name → j ≡ k
-unfolding tally
+pub rising-one : (cases : Cases) (es : List Entry) (list : List ℕ) (j k : ℕ) → RisesByName cases es list → 1 ≤ times_in j list → 1 ≤ times_in k list → (entry_at es j).name ≡ (entry_at es k).name → j ≡ k
+unfolding times_in
 rising-one cases es [] j k r m n e = absurd (omega (arith, m))
 rising-one cases es (i ∷ list) j k r m n e =
-    let below : (l : ℕ) → 1 ≤ tally l list → name_cmp cases (entry_at es i).name (entry_at es l).name ≡ Less = λ l h. all-at (λ z. name_cmp cases (entry_at es i).name (entry_at es z).name ≡ Less) list l r.0 h in
+    let below : (l : ℕ) → 1 ≤ times_in l list → name_cmp cases (entry_at es i).name (entry_at es l).name ≡ Less = λ l h. all-at (λ z. name_cmp cases (entry_at es i).name (entry_at es z).name ≡ Less) list l r.0 h in
     elim (hit-cases j i) [
       | inl a ↦ elim (hit-cases k i) [
         | inl b ↦ a ∙ sym b
@@ -53,52 +53,52 @@ pub record Fewer (cases : Cases) (new : List Entry) (freed : ℕ) (list : List �
   pub inside : Outline
   pub siblings_are : siblings inside ≡ list
   pub contents : HasContents cases new inside
-  pub counts : (k : ℕ) → tally k (numbers inside) + hit k freed ≡ tally k (numbers x)
+  pub counts : (k : ℕ) → times_in k (numbers inside) + hit k freed ≡ times_in k (numbers x)
 
 module _ (cases : Cases) (old new : List Entry) (parent n freed : ℕ) (xs ys list : List ℕ) (rem : HasRemoved cases old new parent n freed xs ys list) where
-  split : (k : ℕ) → tally k (xs ++ n ∷ ys) ≡ tally k xs + (hit k n + tally k ys)
-  unfolding tally
+  split : (k : ℕ) → times_in k (xs ++ n ∷ ys) ≡ times_in k xs + (hit k n + times_in k ys)
+  unfolding times_in
   split k = tally-append k xs (n ∷ ys)
 
-  pub others-once : (k : ℕ) → tally k (xs ++ n ∷ ys) ≤ 1
+  pub others-once : (k : ℕ) → times_in k (xs ++ n ∷ ys) ≤ 1
   others-once = distinct-once (xs ++ n ∷ ys) rem.was.below.distinct
 
-  pub freed-counted : 1 ≤ tally freed (xs ++ n ∷ ys)
-  unfolding tally
+  pub freed-counted : 1 ≤ times_in freed (xs ++ n ∷ ys)
+  unfolding times_in
   freed-counted = elim rem.freed_was [
     | inl e ↦ omega (arith, split freed, hit-same n, ap (λ (j : ℕ). hit j n) e)
-    | inr w ↦ let (zs, e) = w in omega (arith, split freed, ap (tally freed) e, tally-append freed zs (freed ∷ []), hit-same freed)
+    | inr w ↦ let (zs, e) = w in omega (arith, split freed, ap (times_in freed) e, tally-append freed zs (freed ∷ []), hit-same freed)
   ]
 
-  no-more : (k : ℕ) → tally k (freed ∷ list) ≤ tally k (xs ++ n ∷ ys)
-  unfolding tally
+  no-more : (k : ℕ) → times_in k (freed ∷ list) ≤ times_in k (xs ++ n ∷ ys)
+  unfolding times_in
   no-more k = elim (hit-cases k freed) [
-    | inl e ↦ omega (arith, hit-small k freed, ap (λ j. tally j list) e, uncounted freed list rem.freed_gone, freed-counted, ap (λ j. tally j (xs ++ n ∷ ys)) e)
-    | inr z ↦ elim (cases_lt 0 (tally k list)) [
+    | inl e ↦ omega (arith, hit-small k freed, ap (λ j. times_in j list) e, uncounted freed list rem.freed_gone, freed-counted, ap (λ j. times_in j (xs ++ n ∷ ys)) e)
+    | inr z ↦ elim (cases_lt 0 (times_in k list)) [
       | inl l ↦ omega (arith, z, distinct-once list rem.now.below.distinct k, counted k (xs ++ n ∷ ys) (rem.among k (present k list (omega (arith, l)))))
       | inr g ↦ omega (arith, z, g)
     ]
   ]
 
   -- the list has all that was there but the freed one
-  pub all-but-freed : (k : ℕ) → tally k list + hit k freed ≡ tally k (xs ++ n ∷ ys)
-  unfolding tally
+  pub all-but-freed : (k : ℕ) → times_in k list + hit k freed ≡ times_in k (xs ++ n ∷ ys)
+  unfolding times_in
   all-but-freed k =
       let across = zip-length (λ i j. ButLinks (entry_at old i) (entry_at new j)) (xs ++ ys) list rem.siblings_kept in
       omega (arith, no-more k, no-fewer (freed ∷ list) (xs ++ n ∷ ys) no-more (omega (arith, across, length-append xs ys, length-append xs (n ∷ ys))) k)
 
   -- what stands in the slot of n now is what stood in the freed one
   pub moved : freed ≢ n → ButLinks (entry_at old freed) (entry_at new n)
-  unfolding tally
+  unfolding times_in
   moved ne =
-      let n-stays : 1 ≤ tally n list = omega (arith, all-but-freed n, elim (hit-cases n freed) as (λ _. hit n freed ≡ 0) [ inl e ↦ absurd (ne (sym e)) | inr z ↦ z ], split n, hit-same n) in
+      let n-stays : 1 ≤ times_in n list = omega (arith, all-but-freed n, elim (hit-cases n freed) as (λ _. hit n freed ≡ 0) [ inl e ↦ absurd (ne (sym e)) | inr z ↦ z ], split n, hit-same n) in
       let (k, m, e) = zip-back (λ i j. ButLinks (entry_at old i) (entry_at new j)) (xs ++ ys) list n rem.siblings_kept n-stays in
-      let there : 1 ≤ tally k (xs ++ n ∷ ys) = omega (arith, m, tally-append k xs ys, split k) in
+      let there : 1 ≤ times_in k (xs ++ n ∷ ys) = omega (arith, m, tally-append k xs ys, split k) in
       elim (hit-cases k freed) [
         | inl f ↦ subst (λ (j : ℕ). ButLinks (entry_at old j) (entry_at new n)) f e
         | inr z ↦
             let k-not-n : k ≢ n = λ f. absurd (omega (arith, m, tally-append k xs ys, split k, others-once k, hit-same n, ap (λ (j : ℕ). hit j n) f)) in
-            let k-not-parent : k ≢ parent = λ f. rem.was.apart (present parent (xs ++ n ∷ ys) (omega (arith, there, ap (λ j. tally j (xs ++ n ∷ ys)) f))) in
+            let k-not-parent : k ≢ parent = λ f. rem.was.apart (present parent (xs ++ n ∷ ys) (omega (arith, there, ap (λ j. times_in j (xs ++ n ∷ ys)) f))) in
             let stays : ButLinks (entry_at old k) (entry_at new k) = rem.stayed k k-not-parent k-not-n (hit-none k freed z) in
             absurd (k-not-n (rising-one cases new list k n rem.now.below.rises (omega (arith, all-but-freed k, z, there)) n-stays
             (ap (λ (y : Entry). y.name) stays ∙ sym (ap (λ (y : Entry). y.name) e))))
@@ -108,19 +108,19 @@ module _ (cases : Cases) (old new : List Entry) (parent n freed : ℕ) (xs ys li
     list-is : siblings x ≡ xs ++ n ∷ ys
     list-is = Below-unique cases old (entry_at old parent).child (siblings x) (xs ++ n ∷ ys) (at-held cases old o is parent x s).0 rem.was.below
 
-    in-list : (k : ℕ) → tally k (siblings x) ≡ tally k (xs ++ n ∷ ys)
-    in-list k = ap (tally k) list-is
+    in-list : (k : ℕ) → times_in k (siblings x) ≡ times_in k (xs ++ n ∷ ys)
+    in-list k = ap (times_in k) list-is
 
-    others-kept : (k : ℕ) → k ≢ parent → tally k (siblings x) ≡ 0 → entry_at new k ≡ entry_at old k
+    others-kept : (k : ℕ) → k ≢ parent → times_in k (siblings x) ≡ 0 → entry_at new k ≡ entry_at old k
     others-kept k kp out = rem.others_kept k kp (outside k (xs ++ n ∷ ys) (omega (arith, out, in-list k)))
 
     less : Fewer cases new freed list x
-    unfolding tally
+    unfolding times_in
     less =
         let d = drop_one cases old none (entry_at old n).name n (same-itself cases (entry_at old n).name) childless xs ys x list-is (at-held cases old o is parent x s).1 rem.was.below.rises in
         let inside : Outline = dropped_after xs x in
-        let once : (k : ℕ) → tally k (numbers inside) ≤ 1 = λ k. omega (arith, d.counts k, at-within parent x o s k, reached-once cases old o is k) in
-        let out-of : (k : ℕ) → tally k (siblings inside) ≡ tally k xs + tally k ys = λ k. ap (tally k) d.siblings_are ∙ tally-append k xs ys in
+        let once : (k : ℕ) → times_in k (numbers inside) ≤ 1 = λ k. omega (arith, d.counts k, at-within parent x o s k, reached-once cases old o is k) in
+        let out-of : (k : ℕ) → times_in k (siblings inside) ≡ times_in k xs + times_in k ys = λ k. ap (times_in k) d.siblings_are ∙ tally-append k xs ys in
         let r = relabel cases old new (omega (arith, rem.longer)) none none inside list d.contents once
         (subst (λ l. SameContents old new none none l list) (sym d.siblings_are) (same-zip old new (xs ++ ys) list rem.siblings_kept))
         (λ k m out. same-entry old new k (others-kept k
@@ -142,8 +142,8 @@ module _ (cases : Cases) (old new : List Entry) (parent n freed : ℕ) (xs ys li
         (λ k. omega (arith, l.counts k, reached-once cases old o is k))
         s
 
-  pub has-less : (o : Outline) → IsOutline cases old o → 1 ≤ tally parent (0 ∷ numbers o) → (entry_at old parent).obj_type ≢ Stream → (entry_at old n).child ≡ no_stream
-      → (after : Outline) × IsOutline cases new after × ((k : ℕ) → tally k (numbers after) + hit k freed ≡ tally k (numbers o))
+  pub has-less : (o : Outline) → IsOutline cases old o → 1 ≤ times_in parent (0 ∷ numbers o) → (entry_at old parent).obj_type ≢ Stream → (entry_at old n).child ≡ no_stream
+      → (after : Outline) × IsOutline cases new after × ((k : ℕ) → times_in k (numbers after) + hit k freed ≡ times_in k (numbers o))
   has-less o is reached ne childless =
       let (x, s) = stands-at cases old o is parent ne reached in
       let l = less o is childless x s in

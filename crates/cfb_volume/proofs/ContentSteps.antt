@@ -8,8 +8,9 @@ use Rattle.cfb_mini_sectors.specs.Held.{with_table}
 use Rattle.cfb_mini_sectors.specs.State.{IsChangeable, MiniState, bytes_of, cases_of, entries_of, table_of, tables_in}
 use Rattle.cfb_mini_sectors.specs.Steps.{KeepsLimits}
 use Rattle.cfb_mini.specs.MiniSectors.{IsStill}
-use Rattle.cfb_content.specs.Contents.{AreAllUsed, IsStreamOf, KeepsOthers, MovesContent}
+use Rattle.cfb_content.specs.Contents.{AreAllUsed, IsStreamOf, KeepsOthers, MovesContent, SizesChain}
 use Rattle.cfb_content.proofs.Outlines.{moved-is-outline, stream-stays}
+use Rattle.cfb_content.proofs.Snug.{sized-is-snug}
 use Rattle.cfb_agreement.specs.Changes.{ChangesOneContent, StaysOrFails}
 use Rattle.cfb_agreement.specs.Files.{Agrees, FileState, Holds, IsAsMade, LeavesNoneFree, SameSetting, failures_of, is_failed}
 use Rattle.cfb_agreement.proofs.ContentChanges.{content-keeps-made}
@@ -33,6 +34,7 @@ pub record WasChanged (old new : MiniState) (i : ℕ) : Type 0 where
   pub others : (v : Validation) → IsChangeable v old → KeepsOthers i old new
   pub holds : (v : Validation) → IsChangeable v old → IsChangeable v new
   pub owned : (v : Validation) → IsChangeable v old → AreAllUsed old → AreAllUsed new
+  pub sized : (v : Validation) → IsChangeable v old → SizesChain old new i
   pub exact : AreExactTables (tables_in old) → AreExactTables (tables_in new)
   pub none_free : LeavesNoneFree old new
 
@@ -76,6 +78,7 @@ module _ (old : FileState) (mid : MiniState) (i : ℕ) (sound : Bool) (limit : �
     made-then : IsAsMade old.base → IsAsMade mid
     made-then made =
         content-keeps-made i old.base mid was.limits was.entries was.stream made (was.holds Strict made.changeable) (was.owned Strict made.changeable made.used) (was.exact made.exact)
+        (sized-is-snug old.base mid i was.limits was.entries (was.others Strict made.changeable) was.stream (was.sized Strict made.changeable) made.snug)
 
     module _ (held : Holds old) (certain : old.is_sound ≡ true) where
       pub ended-holds : Holds (file_on sound limit (ended mid))

@@ -2,14 +2,14 @@
 use Rattle.std.proofs.Common.{◌≡◌, ◌⊎◌, inl, inr, ℕ, List, Bool, true, false, refl, sym, ◌∙◌, ap, subst}
 use Rattle.std.specs.Prelude.{Some}
 use Rattle.cfb_format.specs.declared.error.Error.{Error}
-use Rattle.cfb_format.specs.declared.error.Error.TheVariants.{AlreadyExists, Failed, Full, InvalidData, InvalidInput, Medium, Memory, NotFound, Unsound, Unsupported}
+use Rattle.cfb_format.specs.declared.error.Error.TheVariants.{AlreadyExists, Failed, Full, InvalidData, InvalidInput, Medium, Memory, NotFound, Unsound}
 use Rattle.cfb_format.specs.declared.objtype.ObjType.{ObjType}
 use Rattle.cfb_format.specs.declared.objtype.ObjType.TheVariants.{Storage, Stream}
 use Rattle.cfb_format.specs.declared.validate.Validation.{Validation}
 use Rattle.cfb_format.specs.declared.validate.Validation.TheVariants.{Permissive, Strict}
 use Rattle.cfb_format.specs.Full.{IsFull}
 use Rattle.cfb_format.specs.Reading.{IsOutline, Outline}
-use Rattle.cfb_format.specs.Refused.{AfterMedium}
+use Rattle.cfb_format.specs.Refused.{AfterMedium, IsBreak}
 use Rattle.cfb_codecs.specs.EntryModel.{new_entry}
 use Rattle.cfb_outline.specs.Outlines.{IsReachedStorage}
 use Rattle.cfb_rules.specs.Finding.{last_name, parent_names}
@@ -19,7 +19,7 @@ use Rattle.cfb_alloc.specs.Frame.{Spares}
 use Rattle.cfb_alloc.specs.ListedChain.{Lengthens}
 use Rattle.cfb_entries.specs.EntryList.{InsertsEntry, has_free}
 use Rattle.cfb_directory.specs.State.{IsFullForEntry, with_room}
-use Rattle.cfb_directory.specs.Steps.{IsNotHeld, StaysRedApart}
+use Rattle.cfb_directory.specs.Steps.{IsDirectoryNotHeld, StaysRedApart}
 use Rattle.cfb_objects.specs.Laws.{BecomesTree}
 use Rattle.cfb_mini_sectors.specs.Held.{with_table}
 use Rattle.cfb_mini_sectors.specs.State.{HoldsMini, IsChangeable, MiniState, bytes_of, cases_of, entries_of, parts_of, table_of, tables_in}
@@ -29,13 +29,12 @@ use Rattle.cfb_insertion.specs.Putting.{PutsObject, WritesObject}
 use Rattle.cfb_insertion.proofs.Entries.{put-has-outline, put-is-colored, put-is-exact}
 use Rattle.cfb_insertion.proofs.Fullness.{full-for-entry-is-full}
 use Rattle.cfb_insertion.proofs.Joined.{put-storage-joins-tree, put-stream-joins-tree}
-use Rattle.cfb_insertion.proofs.Sound.{put-is-all-used, put-is-changeable}
+use Rattle.cfb_insertion.proofs.Sound.{put-is-all-used, put-is-changeable, put-is-snug}
 use Rattle.cfb_insertion.proofs.Spared.{put-keeps-streams}
 use Rattle.cfb_agreement.specs.Changes.{KeepsStreams, StaysOrFails, object_added_at}
 use Rattle.cfb_agreement.specs.Files.{Agrees, FileState, Holds, IsAsBefore, IsAsMade, IsFullFile, is_failed}
 use Rattle.cfb_agreement.proofs.Flags.{flags-not-read, made-flagged}
 use Rattle.cfb_agreement.proofs.HeldBytes.{changeable-is-held}
-use Rattle.cfb_volume.specs.Answers.{IsBreak}
 
 -- ---- once the change has ended
 
@@ -103,6 +102,7 @@ module _ (old : FileState) (mid : MiniState) (parent n : ℕ) (name : List ℕ) 
         changeable = put-is-changeable Strict old.base mid parent n name kind moment all;
         used = put-is-all-used Strict old.base mid parent n name kind moment all made.used;
         exact = put-is-exact old.base mid parent n name kind moment put made.exact;
+        snug = put-is-snug Strict old.base mid parent n name kind moment all made.snug;
         colored = put-is-colored old.base mid parent n name kind moment put made.colored;
       })
 
@@ -132,7 +132,6 @@ stopped s mid Memory h = inl h
 stopped s mid Full h = inl h
 stopped s mid Unsound h = inl h
 stopped s mid Failed h = inl h
-stopped s mid Unsupported h = inl h
 
 module _ (old : FileState) (mid : MiniState) (e : Error) (stops : StopsShort old.base mid e) where
   pub refused-agrees : Holds old → Agrees (file_with old mid)
@@ -158,16 +157,15 @@ refused-stops old mid Memory h = ap (λ (s : MiniState). file_with old s) h
 refused-stops old mid Full h = ap (λ (s : MiniState). file_with old s) h
 refused-stops old mid Unsound h = ap (λ (s : MiniState). file_with old s) h
 refused-stops old mid Failed h = ap (λ (s : MiniState). file_with old s) h
-refused-stops old mid Unsupported h = ap (λ (s : MiniState). file_with old s) h
 
 module _ (old : FileState) (mid : MiniState) (sound : old.is_sound ≡ true) (holds : Holds old) (M : Type 0) where
   -- the bytes hold the directory, so it is not refused for their sake
-  pub refused-reason : (e : Error) → ChangeRefused (IsNotHeld old.base.directory) M (IsFullForEntry old.base.directory) (Unit {0}) e
+  pub refused-reason : (e : Error) → ChangeRefused (IsDirectoryNotHeld old.base.directory) M (IsFullForEntry old.base.directory) (Unit {0}) e
       → ChangeRefused ⊥ M (IsFullForEntry old.base.directory) (Unit {0}) e
-  refused-reason e h = refused-as (IsNotHeld old.base.directory) ⊥ M M (IsFullForEntry old.base.directory) (IsFullForEntry old.base.directory) (Unit {0}) (Unit {0})
+  refused-reason e h = refused-as (IsDirectoryNotHeld old.base.directory) ⊥ M M (IsFullForEntry old.base.directory) (IsFullForEntry old.base.directory) (Unit {0}) (Unit {0})
       (λ none. none Permissive (holds.sound sound).held.directory) (λ m. m) (λ f. f) (λ u. u) e h
 
-  pub refused-full : (e : Error) → ChangeRefused (IsNotHeld old.base.directory) M (IsFullForEntry old.base.directory) (Unit {0}) e → StopsShort old.base mid e
+  pub refused-full : (e : Error) → ChangeRefused (IsDirectoryNotHeld old.base.directory) M (IsFullForEntry old.base.directory) (Unit {0}) e → StopsShort old.base mid e
       → IsBreak (IsFullFile (file_with old mid) × (file_with old mid ≡ old)) e
   refused-full (NotFound d) h s = h
   refused-full (AlreadyExists d) h s = h
@@ -181,4 +179,3 @@ module _ (old : FileState) (mid : MiniState) (sound : old.is_sound ≡ true) (ho
   )
   refused-full Unsound h s = h
   refused-full Failed h s = h
-  refused-full Unsupported h s = h

@@ -1,12 +1,14 @@
 -- What the layers below refuse, as refusals of the file.
-use Rattle.std.proofs.Common.{◌≡◌}
+use Rattle.std.proofs.Common.{◌≡◌, ◌∙◌, ap, ℕ, Bool}
 use Rattle.cfb_format.specs.declared.error.Error.{Error}
-use Rattle.cfb_format.specs.declared.error.Error.TheVariants.{AlreadyExists, Failed, Full, InvalidData, InvalidInput, Medium, Memory, NotFound, Unsound, Unsupported}
+use Rattle.cfb_format.specs.declared.error.Error.TheVariants.{AlreadyExists, Failed, Full, InvalidData, InvalidInput, Medium, Memory, NotFound, Unsound}
 use Rattle.cfb_format.specs.Full.{IsFull}
+use Rattle.cfb_format.specs.Refused.{AfterMedium, IsBreak}
 use Rattle.cfb_tables.specs.Refused.{ChangeRefused}
 use Rattle.cfb_mini_sectors.specs.State.{MiniState, parts_of, tables_in}
 use Rattle.cfb_resizing.specs.Turning.{StopsOrBegun, StopsOrIsFull}
-use Rattle.cfb_volume.specs.Answers.{IsBreak}
+use Rattle.cfb_agreement.specs.Files.{FileState}
+use Rattle.cfb_volume.proofs.ContentSteps.{file_on}
 use Rattle.cfb_volume.proofs.Fullness.{full-as-left}
 
 -- bytes that hold a sound file are not refused
@@ -22,7 +24,6 @@ module _ (old new : MiniState) (invalid full whole : Type 0) (sound : invalid �
   resize-break long is same Full h r = (is r, same h)
   resize-break long is same Unsound h r = r
   resize-break long is same Failed h r = r
-  resize-break long is same Unsupported h r = r
 
   -- a write that finds no room leaves a full file
   pub write-break : (full → whole) → (e : Error) → StopsOrIsFull old new e → ChangeRefused invalid (Unit {0}) full (Unit {0}) e
@@ -36,4 +37,22 @@ module _ (old new : MiniState) (invalid full whole : Type 0) (sound : invalid �
   write-break is Full h r = (is r, full-as-left new h.1)
   write-break is Unsound h r = r
   write-break is Failed h r = r
-  write-break is Unsupported h r = r
+
+-- what changed nothing in the layers below changed nothing in the file
+pub file-after : (s mid : MiniState) (file : FileState) (sound : Bool) (limit : ℕ) → file_on sound limit s ≡ file → (e : Error)
+    → AfterMedium (Unit {0}) (mid ≡ s) e → AfterMedium (Unit {0}) (file_on sound limit mid ≡ file) e
+file-after s mid file sound limit view e h = go e h
+  where
+    same : mid ≡ s → file_on sound limit mid ≡ file
+    same is = ap (λ (m : MiniState). file_on sound limit m) is ∙ view
+
+    go : (e : Error) → AfterMedium (Unit {0}) (mid ≡ s) e → AfterMedium (Unit {0}) (file_on sound limit mid ≡ file) e
+    go (NotFound d) h = same h
+    go (AlreadyExists d) h = same h
+    go (InvalidInput d) h = same h
+    go (InvalidData d) h = same h
+    go (Medium m) h = tt
+    go Memory h = same h
+    go Full h = same h
+    go Unsound h = same h
+    go Failed h = same h

@@ -9,7 +9,3 @@ use Rattle.cfb_agreement.specs.Files.{FileState}
 -- the content of the stream of that entry
 abbrev pub content_at : FileState → ℕ → List ℕ
 content_at file entry = content_of file.base (entry_at (entries_of file.base) entry)
-
--- the medium or memory refused, or numbers lack, and then so much holds
-abbrev pub IsBreak : Type 0 → Error → Type 0
-IsBreak full = HasReason (record no_error { medium = λ f. Unit {0}; memory = Unit {0}; full = full })

@@ -2,12 +2,12 @@
 ghost use Rattle.std.specs.Prelude.{◌≡◌, ◌⊎◌, ◌∷◌, ℕ, List, false, true, IsTrue, IfOk, IfErr, OnOk, OnErr, Some, chars};
 ghost use Rattle.cfb_format.specs.Names.{is_valid_name};
 ghost use Rattle.cfb_format.specs.Reading.{IsOutline, Outline};
-ghost use Rattle.cfb_format.specs.Refused.{AfterMedium, CountsFailure};
+ghost use Rattle.cfb_format.specs.Refused.{AfterMedium, CountsFailure, IsBreak};
 ghost use Rattle.cfb_format.specs.Siblings.{entry_at};
 ghost use Rattle.cfb_format.specs.declared.objtype.ObjType.TheVariants.{Storage, Stream};
 ghost use Rattle.cfb_outline.specs.Outlines.{IsReachedStorage};
 ghost use Rattle.cfb_rules.specs.Finding.{last_name, parent_names};
-ghost use Rattle.cfb_siblings.specs.Children.{HasChildren, IsAbsent, KeepsBalance};
+ghost use Rattle.cfb_siblings.specs.Children.{HasChildren, IsAbsent};
 ghost use Rattle.cfb_siblings.specs.Paths.{number_from};
 ghost use Rattle.cfb_tables.specs.Refused.{ChangeRefused};
 ghost use Rattle.cfb_trees.specs.Reached.{IsReached};
@@ -15,9 +15,9 @@ ghost use Rattle.cfb_objects.specs.Laws.{BecomesTree};
 ghost use Rattle.cfb_directory.specs.State.{IsFullForEntry};
 ghost use Rattle.cfb_mini_sectors.specs.State.{bytes_of, cases_of, entries_of};
 ghost use Rattle.cfb_content.specs.Contents.{len_of};
+ghost use Rattle.cfb_insertion.specs.Balance.{StayBalanced};
 ghost use Rattle.cfb_agreement.specs.Changes.{KeepsStreams, StaysOrFails, object_added_at};
 ghost use Rattle.cfb_agreement.specs.Files.{Agrees, Holds, IsAsMade, IsFullFile, LeavesNoneFree, SameSetting, failures_of, is_failed};
-ghost use Rattle.cfb_volume.specs.Answers.{IsBreak};
 
 use crate::volume::Volume;
 use cfb_codecs::timestamp::Timestamp;
@@ -41,35 +41,58 @@ impl<F: Medium, A: Heap + Clone> Volume<F, A> {
     ) -> Result<u32, Error>
         requires sound { self.old.is_sound ≡ true }
         requires unfailed { is_failed self.old ≡ false }
-        requires parent { IsReachedStorage (cases_of self.old.base) (entries_of self.old.base) parent }
+        requires parent { IsReachedStorage
+            (cases_of self.old.base) (entries_of self.old.base) parent }
         requires valid { IsTrue (is_valid_name (chars name.now)) }
-        requires absent { (list : List ℕ) → HasChildren (cases_of self.old.base) (entries_of self.old.base) parent list
+        requires absent { (list : List ℕ)
+            → HasChildren (cases_of self.old.base) (entries_of self.old.base) parent list
             → IsAbsent (cases_of self.old.base) (entries_of self.old.base) (chars name.now) list }
         requires kind { (kind ≡ Storage) ⊎ (kind ≡ Stream) }
-        ensures named { IfOk result (λ n. (o : Outline) → IsOutline (cases_of self.new.base) (entries_of self.new.base) o → IsReached o n) }
-        ensures is_kind { IfOk result (λ n. (entry_at (entries_of self.new.base) n).obj_type ≡ kind) }
+        ensures named { IfOk result (λ n. (o : Outline)
+            → IsOutline (cases_of self.new.base) (entries_of self.new.base) o → IsReached o n) }
+        ensures is_kind { IfOk result (λ n. (entry_at (entries_of self.new.base) n).obj_type
+            ≡ kind) }
         ensures empty { IfOk result (λ n. len_of self.new.base n ≡ 0) }
         ensures setting { SameSetting self.old self.new }
-        ensures tree { IsTrue F.tells → Holds self.old → OnOk result ((names : List (List ℕ)) (o : Outline) → IsOutline (cases_of self.old.base) (entries_of self.old.base) o
-            → number_from (cases_of self.old.base) (entries_of self.old.base) 0 o (parent_names names) ≡ Some parent → last_name names ≡ chars name.now
-            → BecomesTree (cases_of self.old.base) (bytes_of self.old.base) (bytes_of self.new.base) (object_added_at (cases_of self.old.base) kind moment names)) }
-        ensures found { IfOk result (λ n. (first : List ℕ) (names : List (List ℕ)) (before after : Outline) → IsOutline (cases_of self.old.base) (entries_of self.old.base) before
-            → IsOutline (cases_of self.new.base) (entries_of self.new.base) after
-            → number_from (cases_of self.old.base) (entries_of self.old.base) 0 before (parent_names (first ∷ names)) ≡ Some parent → last_name (first ∷ names) ≡ chars name.now
-            → number_from (cases_of self.new.base) (entries_of self.new.base) 0 after (first ∷ names) ≡ Some n) }
-        ensures others { IsTrue F.tells → Holds self.old → KeepsStreams self.old.base self.new.base }
-        ensures made { IsTrue F.tells → Holds self.old → IsAsMade self.old.base → OnOk result (IsAsMade self.new.base) }
+        ensures tree { IsTrue F.tells
+            → Holds self.old → OnOk result ((names : List (List ℕ)) (o : Outline)
+            → IsOutline (cases_of self.old.base) (entries_of self.old.base) o
+            → number_from (cases_of self.old.base) (entries_of self.old.base) 0 o
+            (parent_names names) ≡ Some parent → last_name names ≡ chars name.now
+            → BecomesTree (cases_of self.old.base) (bytes_of self.old.base)
+            (bytes_of self.new.base) (object_added_at (cases_of self.old.base) kind moment names)) }
+        ensures found { IfOk result (λ n.
+            (first : List ℕ) (names : List (List ℕ)) (before after : Outline)
+            → IsOutline (cases_of self.old.base) (entries_of self.old.base) before
+            → IsOutline (cases_of self.new.base) (entries_of self.new.base) after → number_from
+            (cases_of self.old.base) (entries_of self.old.base) 0 before (parent_names (first
+            ∷ names)) ≡ Some parent → last_name (first ∷ names) ≡ chars name.now
+            → number_from (cases_of self.new.base) (entries_of self.new.base) 0 after (first
+            ∷ names) ≡ Some n) }
+        ensures others { IsTrue F.tells
+            → Holds self.old → KeepsStreams self.old.base self.new.base }
+        ensures made { IsTrue F.tells
+            → Holds self.old → IsAsMade self.old.base → OnOk result (IsAsMade self.new.base) }
         ensures grows { OnOk result (LeavesNoneFree self.old.base self.new.base) }
-        ensures balanced { OnOk result (KeepsBalance (entries_of self.old.base) (entries_of self.new.base) parent) }
+        ensures balanced { OnOk result ((before after : Outline)
+            → IsOutline (cases_of self.old.base) (entries_of self.old.base) before
+            → IsOutline (cases_of self.new.base) (entries_of self.new.base) after
+            → StayBalanced (entries_of self.old.base) before (entries_of self.new.base) after) }
         ensures root_len { OnOk result (len_of self.new.base 0 ≡ len_of self.old.base 0) }
         ensures agrees { IsTrue F.tells → Holds self.old → Agrees self.new }
         ensures ended { OnOk result (is_failed self.new ≡ false) }
-        ensures refused { IsTrue F.tells → Holds self.old → OnErr result (StaysOrFails self.old self.new) }
-        ensures stops { IfErr result (AfterMedium (is_failed self.new ≡ true) (self.new ≡ self.old)) }
+        ensures refused { IsTrue F.tells
+            → Holds self.old → OnErr result (StaysOrFails self.old self.new) }
+        ensures stops { IfErr result (AfterMedium (is_failed self.new
+            ≡ true) (self.new ≡ self.old)) }
         ensures enough { OnOk result (IsFullForEntry self.old.base.directory → ⊥) }
-        ensures err { IsTrue F.tells → Holds self.old → IfErr result (IsBreak (IsFullFile self.new × (self.new ≡ self.old))) }
-        ensures reason { Holds self.old → IfErr result (ChangeRefused ⊥ (IsFullForEntry self.old.base.directory → ⊥) (IsFullForEntry self.old.base.directory) Unit) }
-        ensures counts { IsTrue F.tells → CountsFailure F.write_faults result (failures_of self.old) (failures_of self.new) }
+        ensures err { IsTrue F.tells → Holds self.old
+            → IfErr result (IsBreak (IsFullFile self.new × (self.new ≡ self.old))) }
+        ensures reason { Holds self.old
+            → IfErr result (ChangeRefused ⊥ (IsFullForEntry self.old.base.directory
+            → ⊥) (IsFullForEntry self.old.base.directory) Unit) }
+        ensures counts { IsTrue F.tells
+            → CountsFailure F.write_faults result (failures_of self.old) (failures_of self.new) }
     {
         // A new directory sector may be any free one.
         self.kept = None;

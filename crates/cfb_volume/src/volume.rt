@@ -4,7 +4,7 @@ ghost use Rattle.cfb_format.specs.Bytes.{max_regular_sector, max_stream_len};
 ghost use Rattle.cfb_format.specs.Medium.{part, written};
 ghost use Rattle.cfb_format.specs.Names.{is_valid_name};
 ghost use Rattle.cfb_format.specs.Reading.{IsOutline, Outline};
-ghost use Rattle.cfb_format.specs.Refused.{CountsFailure, IsInvalidData, IsMediumAnd, IsMemory};
+ghost use Rattle.cfb_format.specs.Refused.{AfterMedium, CountsFailure, IsInvalidData, IsMediumAnd, IsMemory, IsBreak};
 ghost use Rattle.cfb_format.specs.Siblings.{entry_at};
 ghost use Rattle.cfb_format.specs.declared.objtype.ObjType.TheVariants.{Storage, Stream};
 ghost use Rattle.cfb_codecs.specs.EntryModel.{entries_of as entries_in};
@@ -25,7 +25,7 @@ ghost use Rattle.cfb_content.specs.Contents.{IsStreamOf, IsTooLongFor, MovesCont
 ghost use Rattle.cfb_agreement.specs.Changes.{ChangesOneContent, KeepsStreams, StaysOrFails, object_added_at};
 ghost use Rattle.cfb_agreement.specs.Files.{Agrees, Holds, IsAsBefore, IsAsMade, IsFullFile, LeavesNoneFree, SameSetting, failures_of, is_failed};
 ghost use Rattle.cfb_agreement.specs.Laws.{with_flags};
-ghost use Rattle.cfb_volume.specs.Answers.{IsBreak, content_at};
+ghost use Rattle.cfb_volume.specs.Answers.{content_at};
 
 use cfb_codecs::direntry::DirEntry;
 use cfb_codecs::path::CaseMapper;
@@ -60,7 +60,8 @@ impl<F: ReadMedium, A: Heap> Model for Volume<F, A> {
 
     ghost Value = { FileState };
 
-    ghost view = { λ v. record { base = v.mini; is_sound = v.is_sound; buffer_limit = v.buffer_limit } };
+    ghost view = { λ v.
+        record { base = v.mini; is_sound = v.is_sound; buffer_limit = v.buffer_limit } };
 
     ghost invariant = { λ v. IsKeptChain (tables_in v.mini).fat v.kept };
 }
@@ -68,7 +69,8 @@ impl<F: ReadMedium, A: Heap> Model for Volume<F, A> {
 impl<F: ReadMedium, A: Heap> Volume<F, A> {
     /// A file of these parts; no buffer of its streams has more room than the greater of `buffer_limit` and 1024 bytes.
     pub fn new(mini: MiniAllocator<F, A>, is_sound: bool, buffer_limit: usize) -> Volume<F, A>
-        ensures { result ≡ record { base = mini; is_sound = is_sound; buffer_limit = buffer_limit } }
+        ensures { result
+            ≡ record { base = mini; is_sound = is_sound; buffer_limit = buffer_limit } }
     {
         Volume {
             mini,
@@ -155,18 +157,26 @@ impl<F: ReadMedium, A: Heap> Volume<F, A> {
     /// The number of the entry at this path: `None` where nothing is there, and where `..` leaves the root. The path's parts are read in
     /// place, so that it takes no memory.
     pub fn number_at(&self, path: &str) -> Option<u32>
-        ensures found { (o : Outline) → IsOutline (cases_of self.now.base) (entries_of self.now.base) o
-            → result ≡ number_at_path (cases_of self.now.base) (entries_of self.now.base) o (chars path.now) }
-        ensures reached { (o : Outline) → IsOutline (cases_of self.now.base) (entries_of self.now.base) o → IfSome result (IsReached o) }
+        ensures found { (o : Outline)
+            → IsOutline (cases_of self.now.base) (entries_of self.now.base) o
+            → result ≡ number_at_path
+            (cases_of self.now.base) (entries_of self.now.base) o (chars path.now) }
+        ensures reached { (o : Outline)
+            → IsOutline (cases_of self.now.base) (entries_of self.now.base) o
+            → IfSome result (IsReached o) }
     {
         find_path(self.mini.letters(), self.mini.entries(), path)
     }
 
     /// The number of the entry that these names lead to from the root: `None` where nothing is there. It takes no memory.
     pub fn number_of(&self, names: &[&str]) -> Option<u32>
-        ensures found { (o : Outline) → IsOutline (cases_of self.now.base) (entries_of self.now.base) o
-            → result ≡ number_from (cases_of self.now.base) (entries_of self.now.base) 0 o (map (λ name. chars name.now) names.now) }
-        ensures reached { (o : Outline) → IsOutline (cases_of self.now.base) (entries_of self.now.base) o → IfSome result (IsReached o) }
+        ensures found { (o : Outline)
+            → IsOutline (cases_of self.now.base) (entries_of self.now.base) o → result
+            ≡ number_from (cases_of self.now.base) (entries_of self.now.base) 0 o (map (λ name.
+            chars name.now) names.now) }
+        ensures reached { (o : Outline)
+            → IsOutline (cases_of self.now.base) (entries_of self.now.base) o
+            → IfSome result (IsReached o) }
     {
         self.mini.stream_id_for_name_chain(names)
     }
@@ -184,7 +194,8 @@ impl<F: ReadMedium, A: Heap + Clone> Volume<F, A> {
     /// How many bytes of the stream of that entry can be read, from its first one on: all of its length in a sound file. `Memory`.
     pub fn readable(&self, entry: u32) -> Result<u64, Error>
         requires inside { entry < length (entries_of self.now.base) }
-        ensures ok { IsTrue F.tells → Holds self.now → IfOk result (λ n. n ≡ length (content_at self.now entry)) }
+        ensures ok { IsTrue F.tells
+            → Holds self.now → IfOk result (λ n. n ≡ length (content_at self.now entry)) }
         ensures err { IfErr result IsMemory }
     {
         readable_len(&self.mini, entry)
@@ -199,16 +210,23 @@ impl<F: ReadMedium, A: Heap + Clone> Volume<F, A> {
         ensures flag { is_failed self.new ≡ is_failed self.old }
         ensures entries { entries_of self.new.base ≡ entries_of self.old.base }
         ensures setting { SameSetting self.old self.new }
-        ensures count { IfOk result (λ n. n ≤ min (length into.old) (len_of self.old.base entry - at)) }
-        ensures some { IfOk result (λ n. 0 < min (length into.old) (len_of self.old.base entry - at) → 0 < n) }
-        ensures ok { IsTrue F.tells → Holds self.old → IfOk result (λ n. take n into.new ≡ part (content_at self.old entry) at n) }
-        ensures within { IsTrue F.tells → Holds self.old → IfOk result (λ n. 0 < n → at + n ≤ length (content_at self.old entry)) }
+        ensures count { IfOk result (λ n. n
+            ≤ min (length into.old) (len_of self.old.base entry - at)) }
+        ensures some { IfOk result (λ n. 0 < min (length into.old) (len_of self.old.base entry - at)
+            → 0 < n) }
+        ensures ok { IsTrue F.tells → Holds self.old
+            → IfOk result (λ n. take n into.new ≡ part (content_at self.old entry) at n) }
+        ensures within { IsTrue F.tells → Holds self.old
+            → IfOk result (λ n. 0 < n → at + n ≤ length (content_at self.old entry)) }
         ensures rest { IfOk result (λ n. drop n into.new ≡ drop n into.old) }
-        ensures err { IsTrue F.tells → Holds self.old → IfErr result (ChangeRefused
-            ((length (content_at self.old entry) ≤ at) × (0 < min (length into.old) (len_of self.old.base entry - at))) Unit ⊥ Unit) }
-        ensures past { IsTrue F.tells → Holds self.old → length (content_at self.old entry) ≤ at → 0 < min (length into.old) (len_of self.old.base entry - at)
+        ensures err { IsTrue F.tells → Holds self.old
+            → IfErr result (ChangeRefused ((length (content_at self.old entry) ≤ at)
+            × (0 < min (length into.old) (len_of self.old.base entry - at))) Unit ⊥ Unit) }
+        ensures past { IsTrue F.tells → Holds self.old → length (content_at self.old entry) ≤ at
+            → 0 < min (length into.old) (len_of self.old.base entry - at)
             → IsErrAnd result (λ e. IsInvalidData e ⊎ IsMemory e) }
-        ensures counts { IsTrue F.tells → CountsFailure F.read_faults result (failures_of self.old) (failures_of self.new) }
+        ensures counts { IsTrue F.tells
+            → CountsFailure F.read_faults result (failures_of self.old) (failures_of self.new) }
     {
         read_content(&mut self.mini, &mut self.kept, entry, at, into)
     }
@@ -228,11 +246,13 @@ impl<F: Medium, A: Heap> Volume<F, A> {
         ensures ok { IsTrue F.tells → OnOk result (self.new ≡ self.old) }
         ensures ended { OnOk result (is_failed self.new ≡ false) }
         ensures failed { OnErr result (is_failed self.new ≡ true) }
-        ensures rest { IsTrue F.tells → self.new ≡ with_flags self.old (failures_of self.new) (is_failed self.new) }
+        ensures rest { IsTrue F.tells
+            → self.new ≡ with_flags self.old (failures_of self.new) (is_failed self.new) }
         ensures entries { entries_of self.new.base ≡ entries_of self.old.base }
         ensures setting { SameSetting self.old self.new }
         ensures err { IfErr result (IsMediumAnd (λ f. Unit {0})) }
-        ensures counts { IsTrue F.tells → CountsFailure F.write_faults result (failures_of self.old) (failures_of self.new) }
+        ensures counts { IsTrue F.tells
+            → CountsFailure F.write_faults result (failures_of self.old) (failures_of self.new) }
     {
         self.mini.flush()?;
         self.mini.end_change();
@@ -254,19 +274,28 @@ impl<F: Medium, A: Heap + Clone> Volume<F, A> {
         requires fits { at + length bytes.now ≤ max_stream_len (version_of self.old.base) }
         ensures count { IfOk result (λ n. n ≤ length bytes.now) }
         ensures some { 0 < length bytes.now → IfOk result (λ n. 0 < n) }
-        ensures len { IfOk result (λ n. len_of self.new.base entry ≡ max (len_of self.old.base entry) (at + n)) }
+        ensures len { IfOk result (λ n. len_of self.new.base entry
+            ≡ max (len_of self.old.base entry) (at + n)) }
         ensures stream { IsStreamOf self.new.base entry }
         ensures setting { SameSetting self.old self.new }
-        ensures content { IsTrue F.tells → Holds self.old → IfOk result (λ n. content_at self.new entry ≡ written (content_at self.old entry) at (take n bytes.now)) }
+        ensures content { IsTrue F.tells → Holds self.old → IfOk result (λ n.
+            content_at self.new entry ≡ written (content_at self.old entry) at (take n bytes.now)) }
         ensures entries { MovesContent self.old.base self.new.base entry }
-        ensures changes { IsTrue F.tells → Holds self.old → ChangesOneContent entry self.old self.new }
-        ensures no_shorter { OnOk result (length (tables_in self.old.base).fat ≤ length (tables_in self.new.base).fat) }
-        ensures stays_full { IsTrue F.tells → Holds self.old → NoneFree (tables_in self.old.base).fat → OnOk result (NoneFree (tables_in self.new.base).fat) }
+        ensures changes { IsTrue F.tells
+            → Holds self.old → ChangesOneContent entry self.old self.new }
+        ensures no_shorter { OnOk result (length (tables_in self.old.base).fat
+            ≤ length (tables_in self.new.base).fat) }
+        ensures stays_full { IsTrue F.tells
+            → Holds self.old → NoneFree (tables_in self.old.base).fat
+            → OnOk result (NoneFree (tables_in self.new.base).fat) }
         ensures agrees { IsTrue F.tells → Holds self.old → Agrees self.new }
         ensures ended { OnOk result (is_failed self.new ≡ false) }
-        ensures refused { IsTrue F.tells → Holds self.old → OnErr result (StaysOrFails self.old self.new) }
-        ensures err { IsTrue F.tells → Holds self.old → IfErr result (IsBreak ((len_of self.old.base entry ≤ at) × IsFullFile self.new)) }
-        ensures counts { IsTrue F.tells → CountsFailure (λ f. F.read_faults f || F.write_faults f) result (failures_of self.old) (failures_of self.new) }
+        ensures refused { IsTrue F.tells
+            → Holds self.old → OnErr result (StaysOrFails self.old self.new) }
+        ensures err { IsTrue F.tells → Holds self.old
+            → IfErr result (IsBreak ((len_of self.old.base entry ≤ at) × IsFullFile self.new)) }
+        ensures counts { IsTrue F.tells → CountsFailure (λ f. F.read_faults f
+            || F.write_faults f) result (failures_of self.old) (failures_of self.new) }
     {
         let count = put_content(&mut self.mini, &mut self.kept, entry, at, bytes)?;
         self.mini.end_change();
@@ -277,7 +306,7 @@ impl<F: Medium, A: Heap + Clone> Volume<F, A> {
     ///
     /// `Full` exactly where the length needs more numbers than are free or left once the chain that it moves away from is free, so never
     /// where the stream is emptied: nothing has changed then. `Memory`, and `Medium` where the medium fails: all is as before, or the file
-    /// has failed.
+    /// has failed. To empty a stream takes no sector, however that ends, and after `Memory` nothing has changed then.
     pub fn resize(&mut self, entry: u32, len: u64) -> Result<(), Error>
         requires sound { self.old.is_sound ≡ true }
         requires unfailed { is_failed self.old ≡ false }
@@ -287,16 +316,26 @@ impl<F: Medium, A: Heap + Clone> Volume<F, A> {
         ensures stream { IsStreamOf self.new.base entry }
         ensures setting { SameSetting self.old self.new }
         ensures none { len ≡ len_of self.old.base entry → OnErr result ⊥ × (self.new ≡ self.old) }
-        ensures content { IsTrue F.tells → Holds self.old → OnOk result (content_at self.new entry ≡ resized (content_at self.old entry) len) }
+        ensures content { IsTrue F.tells → Holds self.old
+            → OnOk result (content_at self.new entry ≡ resized (content_at self.old entry) len) }
         ensures entries { MovesContent self.old.base self.new.base entry }
-        ensures changes { IsTrue F.tells → Holds self.old → ChangesOneContent entry self.old self.new }
+        ensures changes { IsTrue F.tells
+            → Holds self.old → ChangesOneContent entry self.old self.new }
         ensures agrees { IsTrue F.tells → Holds self.old → Agrees self.new }
         ensures ended { OnOk result (is_failed self.new ≡ false) }
-        ensures refused { IsTrue F.tells → Holds self.old → OnErr result (StaysOrFails self.old self.new) }
-        ensures enough { IsTrue F.tells → Holds self.old → len ≢ len_of self.old.base entry → OnOk result (IsTooLongFor self.old.base entry len → ⊥) }
+        ensures refused { IsTrue F.tells
+            → Holds self.old → OnErr result (StaysOrFails self.old self.new) }
+        ensures enough { IsTrue F.tells → Holds self.old → len ≢ len_of self.old.base entry
+            → OnOk result (IsTooLongFor self.old.base entry len → ⊥) }
         ensures emptied { Holds self.old → len ≡ 0 → IsTooLongFor self.old.base entry len → ⊥ }
-        ensures err { IsTrue F.tells → Holds self.old → IfErr result (IsBreak (IsTooLongFor self.old.base entry len × (self.new ≡ self.old))) }
-        ensures counts { IsTrue F.tells → CountsFailure (λ f. F.read_faults f || F.write_faults f) result (failures_of self.old) (failures_of self.new) }
+        ensures takes_none { len ≡ 0
+            → length (tables_in self.new.base).fat ≡ length (tables_in self.old.base).fat }
+        ensures first { IsTrue F.tells → len ≡ 0
+            → IfErr result (AfterMedium Unit (self.new ≡ self.old)) }
+        ensures err { IsTrue F.tells → Holds self.old → IfErr result
+            (IsBreak (IsTooLongFor self.old.base entry len × (self.new ≡ self.old))) }
+        ensures counts { IsTrue F.tells → CountsFailure (λ f. F.read_faults f
+            || F.write_faults f) result (failures_of self.old) (failures_of self.new) }
     {
         // The MiniFAT is no longer than it may be: else there were lengths too long that take nothing.
         let _ = self.mini.minifat_len();

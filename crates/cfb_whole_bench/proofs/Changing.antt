@@ -101,7 +101,7 @@ write_refused setting s old new bytes refusal sound st = go (length bytes == 0) 
     go false false true h k e step = absurd (let bad : not_done refusal ≡ count step.0 = step.4 in cc)
     go false false false h k e step = absurd (cc)
 
-length_resized : (c : List ℕ) (n : ℕ) → length (resized c n) ≡ n
+pub length_resized : (c : List ℕ) (n : ℕ) → length (resized c n) ≡ n
 length_resized c n = omega (arith, length-append (take n c) (replicate (n - length c) 0), length-take n c, length-replicate {A = ℕ} (n - length c) 0)
 
 pub length_set : (setting : StreamSetting) (s : ListAt) (old new : StreamState) (len : ℕ) → setting.sound ≡ true → Stands s old

@@ -2,7 +2,7 @@
 use Rattle.std.proofs.Common.{◌≡◌, ◌∙◌, ℕ, Bool, true, refl, sym, ap, arith}
 use Rattle.std.specs.Prelude.{⊤, ◌||◌, ◌==◌}
 use Rattle.cfb_format.specs.declared.error.Error.{Error}
-use Rattle.cfb_format.specs.declared.error.Error.TheVariants.{NotFound, AlreadyExists, InvalidInput, InvalidData, Medium, Memory, Full, Unsound, Failed, Unsupported}
+use Rattle.cfb_format.specs.declared.error.Error.TheVariants.{NotFound, AlreadyExists, InvalidInput, InvalidData, Medium, Memory, Full, Unsound, Failed}
 use Rattle.cfb_format.specs.Memory.{is_refused_growth}
 use Rattle.cfb_format.specs.Refused.{CountsError, number_of}
 use Rattle.cfb_rules.specs.Refusal.{IsRefusal, Refusal, already_exists, failed_earlier, file_full, invalid_data, invalid_input, medium_failed, not_found, not_sound, out_of_memory, refusal_number}
@@ -25,7 +25,6 @@ module _ (full wrong : Type 0) where
   of_kind m n Full counts ours lacks input = lacks refl
   of_kind m n Unsound counts ours lacks input = absurd (cc)
   of_kind m n Failed counts ours lacks input = absurd (cc)
-  of_kind m n Unsupported counts ours lacks input = absurd (cc)
 
   -- as the rules refuse a wrong input
   pub by_rule : (m n : ℕ) (e : Error) (r : Refusal) → CountsError is_refused_growth m n e → IsRefusal r e → r ≡ invalid_input → wrong → IsStopped full wrong e
@@ -84,4 +83,3 @@ module _ (full full' wrong wrong' : Type 0) (fuller : full → full') (worse : w
   stopped_so Full h = fuller h
   stopped_so Unsound h = h
   stopped_so Failed h = h
-  stopped_so Unsupported h = h

@@ -2,7 +2,7 @@
 use Rattle.std.proofs.Common.{◌≡◌, ◌∙◌, ℕ, List, false, sym, ap, subst}
 use Rattle.std.specs.Prelude.{Result, Ok, Err, IfErr, IfOk, MatchResult}
 use Rattle.cfb_format.specs.declared.error.Error.{Error}
-use Rattle.cfb_format.specs.declared.error.Error.TheVariants.{NotFound, AlreadyExists, InvalidInput, InvalidData, Medium, Memory, Full, Unsound, Failed, Unsupported}
+use Rattle.cfb_format.specs.declared.error.Error.TheVariants.{NotFound, AlreadyExists, InvalidInput, InvalidData, Medium, Memory, Full, Unsound, Failed}
 use Rattle.cfb_format.specs.declared.validate.Validation.TheVariants.{Permissive}
 use Rattle.cfb_format.specs.declared.version.Version.{Version}
 use Rattle.cfb_format.specs.Full.{HasExactTablesFile}
@@ -71,7 +71,6 @@ module _ (version : Version) (tree : Tree) (file : FileState) (is : IsMadeWith v
   not_opened again Full h = absurd h
   not_opened again Unsound h = absurd h
   not_opened again Failed h = absurd h
-  not_opened again Unsupported h = absurd h
 
   module _ (failures : ℕ) where
     pub opened_if : Agrees file → SoundIsExact → AsMadeIsInOrder → (result : Result FileState Error)

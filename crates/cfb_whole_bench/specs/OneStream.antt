@@ -1,5 +1,5 @@
 -- A file in memory that has one stream, and the changes of it.
-use Rattle.std.specs.Prelude.{ℕ, ◌≡◌, ◌⊎◌, List, [], ◌∷◌, true, false, length, IsTrue, ⊤}
+use Rattle.std.specs.Prelude.{ℕ, ◌≡◌, ◌⊎◌, List, [], ◌∷◌, true, false, Option, Some, length, IsTrue, ⊤}
 use Rattle.cfb_format.specs.declared.error.Error.{Error}
 use Rattle.cfb_format.specs.declared.version.Version.{Version}
 use Rattle.cfb_format.specs.Bytes.{max_regular_sector, max_stream_len}
@@ -9,12 +9,16 @@ use Rattle.cfb_format.specs.Meaning.{Means}
 use Rattle.cfb_format.specs.Names.{default_cases}
 use Rattle.cfb_format.specs.Refused.{HasReason, no_error}
 use Rattle.cfb_format.specs.Tree.{Tree, nothing, stream}
+use Rattle.cfb_directory.specs.State.{IsFullForEntry}
+use Rattle.cfb_rules.specs.StreamCalls.{IsStream}
 use Rattle.cfb_mini_sectors.specs.State.{bytes_of, cases_of, tables_in, version_of}
 use Rattle.cfb_content.specs.Contents.{IsTooLongFor}
-use Rattle.cfb_agreement.specs.Files.{FileState, IsAsMade, IsFullFile, SameSetting, is_failed}
+use Rattle.cfb_agreement.specs.Files.{FileState, IsAsMade, IsFullFile, is_failed}
 use Rattle.cfb_agreement.specs.Laws.{IsInOrder}
 use Rattle.cfb_compound_file.specs.Stored.{KeepsRest}
-use Rattle.cfb_compound_file.specs.StreamAnswers.{OpenStream, stream_in}
+use Rattle.cfb_compound_file.specs.Finding.{StandsAt}
+use Rattle.cfb_compound_file.specs.StreamAnswers.{OpenStream, stored_in, stream_in}
+use Rattle.cfb_stream_buffer.specs.Contents.{stream_setting_of}
 use Rattle.cfb_whole_bench.specs.Changes.{ListAt, Stands, empty_list, is_too_long, some_too_long}
 use Rattle.cfb_whole_bench.specs.declared.whole.Change.{Change}
 use Rattle.cfb_whole_bench.specs.declared.whole.Change.TheVariants.{Write, SetLen}
@@ -62,59 +66,62 @@ pub record IsChangedTo (first : FileState) (entry : ℕ) (s : ListAt) (now : Ope
   pub made : IsAsMade now.file.base
   pub rest : KeepsRest entry first now.file
   pub stands : Stands s (stream_in now)
+  pub bounds : IsStream (stream_setting_of (stored_in now)) (stream_in now)
 
 -- ---- refusals
 
--- what lacks in a file that is full for this change of that entry's stream: anything for a write, and what the length needs
+-- what lacks in a file that is full for this change of that entry's stream: anything, or what a length needs
 abbrev pub LacksFor : FileState → ℕ → Change → Type 0
 LacksFor file entry (Write bytes) = IsFullFile file
-LacksFor file entry (SetLen len) = IsTooLongFor file.base entry len
+LacksFor file entry (SetLen len) = IsFullFile file ⊎ IsTooLongFor file.base entry len
 
 -- for one of them
 abbrev pub LacksForOne : FileState → ℕ → List Change → Type 0
 LacksForOne file entry [] = ⊥
 LacksForOne file entry (change ∷ changes) = LacksFor file entry change ⊎ LacksForOne file entry changes
 
--- nothing but the stream of that entry has changed since the first state, and so much lacks now
-pub record IsFullSince (first : FileState) (entry : ℕ) (lacks : FileState → Type 0) : Type 0 where
-  pub full : FileState
-  pub rest : KeepsRest entry first full
-  pub lacks_now : lacks full
+-- closing the stream leaves the file as it is: it has failed, or nothing is kept back
+abbrev pub IsSettled : OpenStream → Type 0
+IsSettled now = (is_failed now.file ≡ true) ⊎ (now.window.pending ≡ false)
+
+-- nothing but the stream of that entry has changed since the first state, and so much lacks as the file is now and stays at closing
+pub record IsFullNow (first : FileState) (entry : ℕ) (lacks : FileState → Type 0) (now : OpenStream) : Type 0 where
+  pub rest : KeepsRest entry first now.file
+  pub lacks_now : lacks now.file
+  pub settled : IsSettled now
 
 -- a growth of memory was refused to the medium, or memory to the call; or the file is so full; or the input is wrong
 abbrev pub IsStopped : (full wrong : Type 0) → Error → Type 0
 IsStopped full wrong = HasReason (record no_error { medium = λ fault. IsTrue (is_refused_growth fault); memory = ⊤; full = full; invalid_input = wrong })
 
 -- this change was refused: as a wrong input only where the stream would become longer than the version has them
-abbrev pub IsChangeRefused : FileState → ℕ → ListAt → Change → Error → Type 0
-IsChangeRefused first entry s change =
-    IsStopped (IsFullSince first entry (λ file. LacksFor file entry change)) (IsTrue (is_too_long (max_stream_len (version_of first.base)) s change))
+abbrev pub IsChangeRefused : FileState → ℕ → ListAt → Change → OpenStream → Error → Type 0
+IsChangeRefused first entry s change now =
+    IsStopped (IsFullNow first entry (λ file. LacksFor file entry change) now) (IsTrue (is_too_long (max_stream_len (version_of first.base)) s change))
 
 -- one of them was
-abbrev pub AreChangesRefused : FileState → ℕ → ListAt → List Change → Error → Type 0
-AreChangesRefused first entry s changes =
-    IsStopped (IsFullSince first entry (λ file. LacksForOne file entry changes)) (IsTrue (some_too_long (max_stream_len (version_of first.base)) s changes))
+abbrev pub AreChangesRefused : FileState → ℕ → ListAt → List Change → OpenStream → Error → Type 0
+AreChangesRefused first entry s changes now =
+    IsStopped (IsFullNow first entry (λ file. LacksForOne file entry changes) now) (IsTrue (some_too_long (max_stream_len (version_of first.base)) s changes))
 
 -- only a growth of memory was refused to the medium, or memory to the call
 abbrev pub IsWantOfMemory : Error → Type 0
 IsWantOfMemory = IsStopped ⊥ ⊥
 
--- the file with nothing in it is so full that the stream was not made
-pub record IsFullForStream (version : Version) : Type 0 where
-  pub before : FileState
-  pub is_made : IsMadeWith version empty_tree before
-  pub full : FileState
-  pub setting : SameSetting before full
-  pub lacks_now : IsFullFile full
+-- This file is so full: no entry can be had for the stream; or the stream stands there, and nothing can be had for what is kept back or written,
+-- or a length needs more sectors than there are numbers for. The numbers are all that the format has
+pub record IsFullFor (version : Version) (changes : List Change) (file : FileState) : Type 0 where
+  pub in_version : version_of file.base ≡ version
+  pub limit : (tables_in file.base).max_sectors ≡ max_regular_sector
+  pub lacks : IsFullForEntry file.base.directory
+      ⊎ ((entry : ℕ) × StandsAt file entry data_path × (IsFullFile file ⊎ LacksForOne file entry changes))
 
--- or it has the stream, and is so full as changes of the stream have left it that a next one was not made, or what is kept back not written out
-pub record IsFullForChanges (version : Version) (changes : List Change) : Type 0 where
-  pub first : FileState
-  pub entry : ℕ
-  pub is_made : IsMadeWith version (data_tree []) first
-  pub since : IsFullSince first entry (λ file. IsFullFile file ⊎ LacksForOne file entry changes)
+-- the stream with these changes was refused, and this file is left
+abbrev pub IsDataRefused : Version → List Change → FileState → Error → Type 0
+IsDataRefused version changes file =
+    IsStopped (IsFullFor version changes file) (IsTrue (some_too_long (max_stream_len version) empty_list changes))
 
--- the stream with these changes was refused
-abbrev pub IsDataRefused : Version → List Change → Error → Type 0
-IsDataRefused version changes =
-    IsStopped (IsFullForStream version ⊎ IsFullForChanges version changes) (IsTrue (some_too_long (max_stream_len version) empty_list changes))
+-- the file with it was not made, and this is left, if anything: for fullness only a file that is full for it
+abbrev pub IsFileRefused : Version → List Change → Option FileState → Error → Type 0
+IsFileRefused version changes left =
+    IsStopped ((file : FileState) × (left ≡ Some file) × IsFullFor version changes file) (IsTrue (some_too_long (max_stream_len version) empty_list changes))

@@ -1,19 +1,20 @@
 //! Files in memory with one stream, which is made by a list of changes: what contracts say of a medium that tells its bytes is said here
 //! with no premise.
-ghost use Rattle.std.specs.Prelude.{◌≡◌, ℕ, IfErr, IfOk, OnOk, ⊤};
+ghost use Rattle.std.specs.Prelude.{◌≡◌, ℕ, false, IfErr, IfOk, OnOk, ⊤};
+ghost use Rattle.cfb_format.specs.Bytes.{max_stream_len};
 ghost use Rattle.cfb_format.specs.Created.{created_bytes, empty_tree};
 ghost use Rattle.cfb_format.specs.Names.{default_cases};
 ghost use Rattle.cfb_format.specs.Refused.{HasReason, no_error};
 ghost use Rattle.cfb_format.specs.declared.validate.Validation.TheVariants.{Permissive};
-ghost use Rattle.cfb_mini_sectors.specs.State.{bytes_of};
+ghost use Rattle.cfb_mini_sectors.specs.State.{bytes_of, version_of};
 ghost use Rattle.cfb_opening.specs.Acceptable.{IsRefused};
 ghost use Rattle.cfb_format.specs.Tree.{Tree};
 ghost use Rattle.cfb_format.specs.declared.version.Version.{Version as VersionOf};
 ghost use Rattle.cfb_agreement.specs.Files.{FileState};
 ghost use Rattle.cfb_compound_file.specs.Streams.{file_of, open_of};
-ghost use Rattle.cfb_whole_bench.specs.Changes.{ListAt, after, after_all, after_write, empty_list};
+ghost use Rattle.cfb_whole_bench.specs.Changes.{ListAt, after, after_all, after_write, empty_list, some_too_long};
 ghost use Rattle.cfb_whole_bench.specs.declared.whole.Change.TheVariants.{Write};
-ghost use Rattle.cfb_whole_bench.specs.OneStream.{AreChangesRefused, IsChangeRefused, IsChangedTo, IsDataRefused, IsMadeWith, IsReopenedWith, IsWantOfMemory, data_tree};
+ghost use Rattle.cfb_whole_bench.specs.OneStream.{AreChangesRefused, IsChangeRefused, IsChangedTo, IsDataRefused, IsFileRefused, IsMadeWith, IsReopenedWith, IsWantOfMemory, data_tree};
 
 use cfb::{CompoundFile, Error, MemoryMedium, Stream, Version, laws};
 use std::alloc::Allocator;
@@ -36,10 +37,12 @@ fn write_all<A: Allocator + Clone>(
     bytes: &[u8],
 ) -> Result<(), Error>
     ensures same_file { (file_of stream.new).ghost_name ≡ (file_of stream.old).ghost_name }
-    ensures ok { (first : FileState) (entry : ℕ) (s : ListAt) → IsChangedTo first entry s (open_of stream.old)
+    ensures ok { (first : FileState) (entry : ℕ) (s : ListAt)
+        → IsChangedTo first entry s (open_of stream.old)
         → OnOk result (IsChangedTo first entry (after_write s bytes.now) (open_of stream.new)) }
-    ensures refused { (first : FileState) (entry : ℕ) (s : ListAt) → IsChangedTo first entry s (open_of stream.old)
-        → IfErr result (IsChangeRefused first entry s (Write bytes.entry)) }
+    ensures refused { (first : FileState) (entry : ℕ) (s : ListAt)
+        → IsChangedTo first entry s (open_of stream.old)
+        → IfErr result (IsChangeRefused first entry s (Write bytes.entry) (open_of stream.new)) }
 {
     let mut rest = bytes;
     while !rest.is_empty() {
@@ -56,14 +59,20 @@ fn make_change<A: Allocator + Clone>(
     change: Change<'_>,
 ) -> Result<(), Error>
     ensures same_file { (file_of stream.new).ghost_name ≡ (file_of stream.old).ghost_name }
-    ensures ok { (first : FileState) (entry : ℕ) (s : ListAt) → IsChangedTo first entry s (open_of stream.old)
+    ensures ok { (first : FileState) (entry : ℕ) (s : ListAt)
+        → IsChangedTo first entry s (open_of stream.old)
         → OnOk result (IsChangedTo first entry (after s change.entry) (open_of stream.new)) }
-    ensures refused { (first : FileState) (entry : ℕ) (s : ListAt) → IsChangedTo first entry s (open_of stream.old)
-        → IfErr result (IsChangeRefused first entry s change.entry) }
+    ensures refused { (first : FileState) (entry : ℕ) (s : ListAt)
+        → IsChangedTo first entry s (open_of stream.old)
+        → IfErr result (IsChangeRefused first entry s change.entry (open_of stream.new)) }
 {
     match change {
         Change::Write(bytes) => write_all(stream, bytes),
-        Change::SetLen(len) => stream.set_len(len),
+        Change::SetLen(len) => {
+            // A length that is refused leaves nothing to be written out then.
+            stream.flush()?;
+            stream.set_len(len)
+        }
     }
 }
 
@@ -73,10 +82,16 @@ fn make_changes<A: Allocator + Clone>(
     changes: &[Change<'_>],
 ) -> Result<(), Error>
     ensures same_file { (file_of stream.new).ghost_name ≡ (file_of stream.old).ghost_name }
-    ensures ok { (first : FileState) (entry : ℕ) (s : ListAt) → IsChangedTo first entry s (open_of stream.old)
+    ensures ok { (first : FileState) (entry : ℕ) (s : ListAt)
+        → IsChangedTo first entry s (open_of stream.old)
         → OnOk result (IsChangedTo first entry (after_all s changes.now) (open_of stream.new)) }
-    ensures refused { (first : FileState) (entry : ℕ) (s : ListAt) → IsChangedTo first entry s (open_of stream.old)
-        → IfErr result (AreChangesRefused first entry s changes.now) }
+    ensures short { (first : FileState) (entry : ℕ) (s : ListAt)
+        → IsChangedTo first entry s (open_of stream.old)
+        → OnOk result (some_too_long (max_stream_len (version_of first.base)) s changes.now
+        ≡ false) }
+    ensures refused { (first : FileState) (entry : ℕ) (s : ListAt)
+        → IsChangedTo first entry s (open_of stream.old)
+        → IfErr result (AreChangesRefused first entry s changes.now (open_of stream.new)) }
 {
     for change in changes.iter().copied() {
         make_change(stream, change)?;
@@ -84,14 +99,22 @@ fn make_changes<A: Allocator + Clone>(
     Ok(())
 }
 
-/// Makes the one stream, with these changes.
-fn add_data<A: Allocator + Clone>(
+/// Makes the one stream, `/data`, in a file in memory with nothing in it, makes these changes of the stream in turn, and closes it: the bytes
+/// of the file mean the tree in which that stream has the list that the changes make, and nothing else is in it.
+///
+/// `Memory` where memory is refused, and `Medium` where it is refused to the medium; `InvalidInput` only where a change would make the
+/// stream longer than the version has them, and then one of these comes; and `Full` only where this file has no number left of what is
+/// needed: sectors, mini sectors or entries.
+pub fn add_data<A: Allocator + Clone>(
     file: &mut CompoundFile<MemoryMedium<A>, A>,
     changes: &[Change<'_>],
 ) -> Result<(), Error>
-    ensures ok { (version : VersionOf) → IsMadeWith version empty_tree file.old
-        → OnOk result (IsMadeWith version (data_tree (after_all empty_list changes.now).list) file.new) }
-    ensures refused { (version : VersionOf) → IsMadeWith version empty_tree file.old → IfErr result (IsDataRefused version changes.now) }
+    ensures ok { (version : VersionOf) → IsMadeWith version empty_tree file.old → OnOk result
+        (IsMadeWith version (data_tree (after_all empty_list changes.now).list) file.new) }
+    ensures short { (version : VersionOf) → IsMadeWith version empty_tree file.old
+        → OnOk result (some_too_long (max_stream_len version) empty_list changes.now ≡ false) }
+    ensures refused { (version : VersionOf) → IsMadeWith version empty_tree file.old
+        → IfErr result (IsDataRefused version changes.now file.new) }
 {
     let mut stream = file.create_new_stream(PATH)?;
     let made = make_changes(&mut stream, changes);
@@ -102,7 +125,7 @@ fn add_data<A: Allocator + Clone>(
 
 /// A file of this version in memory, with nothing in it.
 fn made<A: Allocator + Clone>(
-    alloc: A,
+    alloc: &A,
     version: Version,
 ) -> Result<CompoundFile<MemoryMedium<A>, A>, Error>
     ensures ok { IfOk result (IsMadeWith version empty_tree) }
@@ -111,7 +134,7 @@ fn made<A: Allocator + Clone>(
 {
     laws::bytes::created_file_is_right();
     let medium = MemoryMedium::new(alloc.clone()?);
-    CompoundFile::create_with_version(alloc, version, medium)
+    CompoundFile::create_with_version(alloc.clone()?, version, medium)
 }
 
 /// The file that opening makes of the bytes of this one.
@@ -119,9 +142,11 @@ fn reopened<A: Allocator + Clone>(
     alloc: A,
     file: CompoundFile<MemoryMedium<A>, A>,
 ) -> Result<CompoundFile<MemoryMedium<A>, A>, Error>
-    ensures ok { (version : VersionOf) (tree : Tree) → IsMadeWith version tree file → IfOk result (IsReopenedWith version tree) }
+    ensures ok { (version : VersionOf) (tree : Tree)
+        → IsMadeWith version tree file → IfOk result (IsReopenedWith version tree) }
     ensures bytes { IfOk result (λ new. bytes_of new.base ≡ bytes_of file.base) }
-    ensures refused { (version : VersionOf) (tree : Tree) → IsMadeWith version tree file → IfErr result IsWantOfMemory }
+    ensures refused { (version : VersionOf) (tree : Tree)
+        → IsMadeWith version tree file → IfErr result IsWantOfMemory }
 {
     laws::files::bytes_are_what_is_held();
     let _is_failed = file.is_failed();
@@ -134,7 +159,11 @@ pub fn open_bytes<A: Allocator + Clone>(
     bytes: Vec<u8, A>,
 ) -> Result<CompoundFile<MemoryMedium<A>, A>, Error>
     ensures bytes { IfOk result (λ file. bytes_of file.base ≡ bytes.items) }
-    ensures refused { IfErr result (HasReason (record no_error { invalid_data = IsRefused Permissive default_cases bytes.items; memory = ⊤ })) }
+    ensures refused { IfErr result
+        (HasReason (record no_error {
+          invalid_data = IsRefused Permissive default_cases bytes.items;
+          memory = ⊤;
+        })) }
 {
     CompoundFile::open(alloc, MemoryMedium::from_bytes(bytes))
 }
@@ -149,7 +178,7 @@ pub fn made_and_opened<A: Allocator + Clone>(
     ensures bytes { IfOk result (λ file. bytes_of file.base ≡ created_bytes version) }
     ensures refused { IfErr result IsWantOfMemory }
 {
-    let file = made(alloc.clone()?, version)?;
+    let file = made(&alloc, version)?;
     reopened(alloc, file)
 }
 
@@ -157,17 +186,30 @@ pub fn made_and_opened<A: Allocator + Clone>(
 /// again: the file has the version that it was made in, it is sound and in order, and its bytes mean the tree in which that stream has the
 /// list that the changes make, and nothing else is in it.
 ///
-/// `Memory` where memory is refused, and `Medium` where it is refused to the medium; `InvalidInput` only where a change would make the
-/// stream longer than the version has them; and `Full` only where no number is left of what is needed: sectors, mini sectors or entries.
+/// Where it is refused, the file is answered as it is left, if it was made and not opened again. `Memory` where memory is refused, and
+/// `Medium` where it is refused to the medium; `InvalidInput` only where a change would make the stream longer than the version has them, and
+/// then one of these comes; and `Full` only where the file that is answered has no number left of what is needed: sectors, mini sectors or
+/// entries.
 pub fn made_and_reopened<A: Allocator + Clone>(
     alloc: A,
     version: Version,
     changes: &[Change<'_>],
-) -> Result<CompoundFile<MemoryMedium<A>, A>, Error>
-    ensures ok { IfOk result (IsReopenedWith version (data_tree (after_all empty_list changes.now).list)) }
-    ensures refused { IfErr result (IsDataRefused version changes.now) }
+) -> Result<CompoundFile<MemoryMedium<A>, A>, (Error, Option<CompoundFile<MemoryMedium<A>, A>>)>
+    ensures ok { IfOk result
+        (IsReopenedWith version (data_tree (after_all empty_list changes.now).list)) }
+    ensures short { OnOk result (some_too_long (max_stream_len version) empty_list changes.now
+        ≡ false) }
+    ensures refused { IfErr result (λ r. IsFileRefused version changes.now r.1 r.0) }
 {
-    let mut file = made(alloc.clone()?, version)?;
-    add_data(&mut file, changes)?;
-    reopened(alloc, file)
+    let mut file = match made(&alloc, version) {
+        Ok(file) => file,
+        Err(e) => return Err((e, None)),
+    };
+    if let Err(e) = add_data(&mut file, changes) {
+        return Err((e, Some(file)));
+    }
+    match reopened(alloc, file) {
+        Ok(new) => Ok(new),
+        Err(e) => Err((e, None)),
+    }
 }

@@ -1,7 +1,7 @@
 //! What the program does.
+use crate::files::{read_file, refusal, replace_file, write_file};
 use cfb::{CompoundFile, Error, MediumFault, MemoryMedium, Stream, Version};
 use std::alloc::Global;
-use std::fs;
 use std::io::{Read, Write};
 use std::process::ExitCode;
 use std::rt::Files;
@@ -13,8 +13,8 @@ use std::rt::Files;
 /// - `create 3 FILE`, `create 4 FILE`: a new empty file of this version; an old one is overwritten.
 /// - `check FILE`, `check FILE strict`: prints `version V sound`, or `version V not sound` with the
 ///   status 1.
-/// - `put FILE PATH`: a stream at this path, with the bytes of `input`. The file is written back
-///   whenever it was opened, refused or not.
+/// - `put FILE PATH`: a stream at this path, with the bytes of `input`. Where that is refused the
+///   file stays as it is, and so does its time.
 /// - `cat FILE PATH`: the bytes of this stream on `out`, none where it is refused.
 pub fn tool<H: Files + AllocGlobal, R: Read, W: Write, E: Write>(
     rt: &H,
@@ -69,25 +69,6 @@ fn checked<E: Write>(is_sound: Result<bool, Error>, faults: &mut E) -> ExitCode 
     }
 }
 
-/// A file is held in memory while it is worked on.
-fn read_file<H: Files + AllocGlobal>(rt: &H, path: &str) -> Result<MemoryMedium, Error> {
-    match fs::read(rt, path) {
-        Ok(bytes) => Ok(MemoryMedium::from_bytes(bytes)),
-        Err(_) => Err(Error::Medium(MediumFault::Read)),
-    }
-}
-
-fn write_file<H: Files + AllocGlobal>(
-    rt: &H,
-    path: &str,
-    medium: &MemoryMedium,
-) -> Result<(), Error> {
-    match fs::write(rt, path, medium.bytes()) {
-        Ok(()) => Ok(()),
-        Err(_) => Err(Error::Medium(MediumFault::Write)),
-    }
-}
-
 fn create<H: Files + AllocGlobal>(rt: &H, version: Version, path: &str) -> Result<(), Error> {
     let alloc: Global = rt.alloc();
     let file = CompoundFile::create_with_version(alloc, version, MemoryMedium::new(alloc))?;
@@ -116,11 +97,11 @@ fn print_verdict<W: Write>(file: &CompoundFile<MemoryMedium>, out: &mut W) -> Re
     let verdict = if is_sound { "sound" } else { "not sound" };
     match writeln!(out, "version {number} {verdict}") {
         Ok(()) => Ok(is_sound),
-        Err(_) => Err(Error::Medium(MediumFault::Write)),
+        Err(e) => Err(refusal(e, MediumFault::Write)),
     }
 }
 
-/// The file is written back also where the stream was refused, and the refusal goes first.
+/// The file is written only where the stream has all of the content.
 fn put<H: Files + AllocGlobal, R: Read>(
     rt: &H,
     path: &str,
@@ -129,17 +110,27 @@ fn put<H: Files + AllocGlobal, R: Read>(
 ) -> Result<(), Error> {
     let content = read_input(rt.alloc(), input)?;
     let medium = read_file(rt, path)?;
-    let mut file = CompoundFile::open(rt.alloc(), medium)?;
-    let done = put_stream(&mut file, stream, content.as_slice());
-    let written = write_file(rt, path, &file.into_inner());
-    done.and(written)
+    let changed = with_stream(rt.alloc(), medium, stream, content.as_slice())?;
+    replace_file(rt, path, &changed)
+}
+
+/// The bytes of a file, with this stream in it.
+fn with_stream(
+    alloc: Global,
+    medium: MemoryMedium,
+    path: &str,
+    content: &[u8],
+) -> Result<MemoryMedium, Error> {
+    let mut file = CompoundFile::open(alloc, medium)?;
+    put_stream(&mut file, path, content)?;
+    Ok(file.into_inner())
 }
 
 fn read_input<R: Read>(alloc: Global, input: &mut R) -> Result<Vec<u8>, Error> {
     let mut content = Vec::new(alloc);
     match input.read_to_end(&mut content) {
         Ok(_) => Ok(content),
-        Err(_) => Err(Error::Medium(MediumFault::Read)),
+        Err(e) => Err(refusal(e, MediumFault::Read)),
     }
 }
 
@@ -178,7 +169,7 @@ fn cat<H: Files + AllocGlobal, W: Write>(
     let content = read_content(rt, path, stream)?;
     match out.write_all(content.as_slice()) {
         Ok(()) => Ok(()),
-        Err(_) => Err(Error::Medium(MediumFault::Write)),
+        Err(e) => Err(refusal(e, MediumFault::Write)),
     }
 }
 

@@ -3,6 +3,7 @@
 #![tactic(auto)]
 
 mod commands;
+mod files;
 #[cfg(test)]
 mod tests;
 

@@ -1,8 +1,11 @@
 use crate::tool;
 use std::alloc::{AllocError, Global};
-use std::io::{Read, Write};
+use std::fs::{OpenOptions, Permissions};
+use std::io::{ErrorKind, Read, Write};
+use std::os::unix::fs::{MetadataExt, PermissionsExt, symlink};
 use std::process::ExitCode;
 use std::test::Fail;
+use std::time::UNIX_EPOCH;
 use std::{fs, io};
 
 /// Bytes that tell their places apart.
@@ -33,6 +36,8 @@ fn run<R: Read, W: Write>(
 const WRONG_WORDS: &[u8] = b"cfbtool: wrong words\n";
 
 const MEDIUM_FAILED: &[u8] = b"cfbtool: medium failed\n";
+
+const OUT_OF_MEMORY: &[u8] = b"cfbtool: out of memory\n";
 
 const UNSOUND: &[u8] = b"cfbtool: file is not sound\n";
 
@@ -75,7 +80,7 @@ const RUNS: [Run; 85] = [
     // what the rules refuse
     ("put tool.cfb /s/x", 4096, 1, 0, b"cfbtool: no parent storage\n", 0),
     ("put tool.cfb /", 4096, 1, 0, b"cfbtool: the root is there\n", 0),
-    ("put tool.cfb /../a", 4096, 1, 0, b"cfbtool: a path stays below the root\n", 0),
+    ("put tool.cfb /../a", 4096, 1, 0, b"cfbtool: the path leaves the root\n", 0),
     ("put tool.cfb /a:b", 4096, 1, 0, REFUSED, 0),
     ("cat tool.cfb /a", 4096, 1, 0, REFUSED, 0),
     ("cat tool.cfb /", 4096, 1, 0, REFUSED, 0),
@@ -259,19 +264,19 @@ fn odd_files(rt: HostRuntime) -> Result<(), Fail> {
     Ok(())
 }
 
-/// A reader or writer that fails.
+/// A reader or writer that fails in this way.
 #[derive(Drop)]
-struct Broken;
+struct Broken(ErrorKind);
 
 impl Read for Broken {
     fn read(&mut self, _buf: &mut [u8]) -> io::Result<usize> {
-        Err(io::Error::from(io::ErrorKind::Other))
+        Err(io::Error::from(self.0))
     }
 }
 
 impl Write for Broken {
     fn write(&mut self, _buf: &[u8]) -> io::Result<usize> {
-        Err(io::Error::from(io::ErrorKind::Other))
+        Err(io::Error::from(self.0))
     }
 
     fn flush(&mut self) -> io::Result<()> {
@@ -279,23 +284,127 @@ impl Write for Broken {
     }
 }
 
-/// The file stays as it was.
+/// A file as the system has it: its bytes; its time, place and mode.
+type Seen = (Vec<u8>, [u64; 4]);
+
+fn seen(rt: &HostRuntime, path: &str) -> Result<Seen, Fail> {
+    let told = fs::metadata(rt, path)?;
+    let time = [
+        told.mtime().cast_unsigned(),
+        told.mtime_nsec().cast_unsigned(),
+    ];
+    let bytes = fs::read(rt, path)?;
+    Ok((
+        bytes,
+        [time[0], time[1], told.ino(), u64::from(told.mode())],
+    ))
+}
+
+/// Whether a run is refused with this line, prints nothing and leaves the file as it was.
+fn is_refused<R: Read, W: Write>(
+    rt: &HostRuntime,
+    words: &str,
+    input: &mut R,
+    out: &mut W,
+    line: &[u8],
+) -> Result<bool, Fail> {
+    let before = seen(rt, "kept.cfb")?;
+    let (status, faults) = run(rt, words, input, out)?;
+    let is_told = status == ExitCode::from(1) && faults.as_slice() == line;
+    Ok(is_told && seen(rt, "kept.cfb")? == before)
+}
+
+/// What the rules and the format refuse of a `put`: the last name has 32 letters.
+#[rattlefmt::skip]
+const REFUSED_PUTS: [(&str, &[u8]); 6] = [
+    ("put kept.cfb /", b"cfbtool: the root is there\n"),
+    ("put kept.cfb /../b", b"cfbtool: the path leaves the root\n"),
+    ("put kept.cfb /s/x", b"cfbtool: no parent storage\n"),
+    ("put kept.cfb /a/x", b"cfbtool: the parent is a stream\n"),
+    ("put kept.cfb /a:b", b"cfbtool: a name has none of the characters / \\ : !\n"),
+    ("put kept.cfb /abcdefghijklmnopqrstuvwxyzabcdef", b"cfbtool: a name has at most 31 UTF-16 units\n"),
+];
+
+/// Makes a file with a stream of 4096 bytes, which was changed a second after 1970.
+fn make_kept(rt: &HostRuntime, bytes: &[u8]) -> Result<(), Fail> {
+    let mut out = Vec::new(rt.alloc());
+    run(rt, "create 3 kept.cfb", &mut &bytes[..0], &mut out)?;
+    run(rt, "put kept.cfb /a", &mut &bytes[..], &mut out)?;
+    let file = OpenOptions::new().write(true).open(rt, "kept.cfb")?;
+    file.set_modified(UNIX_EPOCH)?;
+    Ok(())
+}
+
+/// The file stays as it was, and so do its time, its place and its mode.
 #[test]
-fn broken_input_and_output_are_refused(rt: HostRuntime) -> Result<(), Fail> {
+fn refused_runs_leave_the_file(rt: HostRuntime) -> Result<(), Fail> {
     let bytes = content(rt.alloc(), 4096)?;
     let mut out = Vec::new(rt.alloc());
-    run(&rt, "create 3 broken.cfb", &mut Broken, &mut out)?;
-    run(&rt, "put broken.cfb /a", &mut bytes.as_slice(), &mut out)?;
-    let made = fs::read(&rt, "broken.cfb")?;
-    assert_eq!(rt; made.len(), 5632);
-    let (status, faults) = run(&rt, "put broken.cfb /b", &mut Broken, &mut out)?;
-    assert!(rt; status == ExitCode::from(1));
-    assert_eq!(rt; faults.as_slice(), MEDIUM_FAILED);
-    let (status, faults) = run(&rt, "cat broken.cfb /a", &mut bytes.as_slice(), &mut Broken)?;
-    assert!(rt; status == ExitCode::from(1));
-    assert_eq!(rt; faults.as_slice(), MEDIUM_FAILED);
+    make_kept(&rt, bytes.as_slice())?;
+    for (words, line) in &REFUSED_PUTS {
+        let is_kept = is_refused(&rt, words, &mut bytes.as_slice(), &mut out, line)?;
+        assert!(rt; is_kept, "{words}");
+    }
+    for (kind, line) in [
+        (ErrorKind::Other, MEDIUM_FAILED),
+        (ErrorKind::OutOfMemory, OUT_OF_MEMORY),
+    ] {
+        let mut broken = Broken(kind);
+        assert!(rt; is_refused(&rt, "put kept.cfb /b", &mut broken, &mut out, line)?);
+        let mut none = &bytes[..0];
+        assert!(rt; is_refused(&rt, "cat kept.cfb /a", &mut none, &mut broken, line)?);
+    }
     assert_eq!(rt; out.len(), 0);
-    assert_eq!(rt; fs::read(&rt, "broken.cfb")?.as_slice(), made.as_slice());
-    fs::remove_file(&rt, "broken.cfb")?;
+    fs::remove_file(&rt, "kept.cfb")?;
+    Ok(())
+}
+
+/// Puts a stream, and answers whether that was done and nothing lies beside the file.
+fn is_put(rt: &HostRuntime, words: &str, bytes: &[u8]) -> Result<bool, Fail> {
+    let mut out = Vec::new(rt.alloc());
+    let (status, _) = run(rt, words, &mut &bytes[..], &mut out)?;
+    Ok(status == ExitCode::SUCCESS && !fs::exists(rt, "kept.cfb.cfbtool")?)
+}
+
+/// The file gets other bytes under its name; where it has two, under both.
+#[test]
+fn puts_keep_links_and_modes(rt: HostRuntime) -> Result<(), Fail> {
+    let bytes = content(rt.alloc(), 4096)?;
+    make_kept(&rt, bytes.as_slice())?;
+    fs::set_permissions(&rt, "kept.cfb", Permissions::from_mode(0o640))?;
+    symlink(&rt, "kept.cfb", "link.cfb")?;
+    let before = seen(&rt, "kept.cfb")?;
+    assert!(rt; is_put(&rt, "put link.cfb /b", bytes.as_slice())?);
+    assert!(rt; fs::symlink_metadata(&rt, "link.cfb")?.is_symlink());
+    let after = seen(&rt, "kept.cfb")?;
+    assert_eq!(rt; after.0.len(), 9728);
+    assert!(rt; after.1[0] != 0 && after.1[2] != before.1[2] && after.1[3] == before.1[3]);
+    fs::hard_link(&rt, "kept.cfb", "twin.cfb")?;
+    assert!(rt; is_put(&rt, "put kept.cfb /c", bytes.as_slice())?);
+    let twin = seen(&rt, "twin.cfb")?;
+    assert_eq!(rt; twin.0.len(), 13824);
+    assert!(rt; twin == seen(&rt, "kept.cfb")? && twin.1[2] == after.1[2]);
+    fs::remove_file(&rt, "twin.cfb")?;
+    fs::remove_file(&rt, "link.cfb")?;
+    fs::remove_file(&rt, "kept.cfb")?;
+    Ok(())
+}
+
+/// What lies where the new bytes would be written first stays, and the file is written in place.
+#[test]
+fn puts_spare_what_lies_beside(rt: HostRuntime) -> Result<(), Fail> {
+    let bytes = content(rt.alloc(), 4096)?;
+    make_kept(&rt, bytes.as_slice())?;
+    fs::write(&rt, "kept.cfb.cfbtool", b"mine".as_slice())?;
+    let before = seen(&rt, "kept.cfb")?;
+    is_put(&rt, "put kept.cfb /b", bytes.as_slice())?;
+    let after = seen(&rt, "kept.cfb")?;
+    assert!(rt; after.0.len() == 9728 && after.1[2] == before.1[2]);
+    assert_eq!(rt;
+        fs::read(&rt, "kept.cfb.cfbtool")?.as_slice(),
+        b"mine".as_slice()
+    );
+    fs::remove_file(&rt, "kept.cfb.cfbtool")?;
+    fs::remove_file(&rt, "kept.cfb")?;
     Ok(())
 }

@@ -1,8 +1,8 @@
 //! Reading, seeking and writing out of a stream that may have bytes pending.
 ghost use Rattle.std.specs.Prelude.{◌≡◌, ◌+◌, ◌-◌, ◌<◌, ◌≤◌, ◌⊎◌, ◌++◌, min, max, ℕ, true, false, OnOk, OnErr, IfOk, IfErr, length, take, drop, Some, None};
 ghost use Rattle.cfb_rules.specs.StreamCalls.{read, fill_buf, seek, flush, read_to_end, ready, got, offset};
-ghost use Rattle.cfb_stream_buffer.specs.Contents.{IsBreak};
-ghost use Rattle.cfb_stream_window.specs.Windows.{Carries, ReadBrokeOff, IsLost, Unreadable, IsSettled, IsInside, settled, window_settled, window_at, WentTo, target_of, whence_of, IsReadable, Appended};
+ghost use Rattle.cfb_format.specs.Refused.{IsBreak};
+ghost use Rattle.cfb_stream_window.specs.Windows.{Carries, ReadBrokeOff, IsLost, Unreadable, IsSettled, StandsInside, settled, window_settled, window_at, WentTo, target_of, whence_of, IsReadable, Appended};
 ghost use Rattle.cfb_stream_window.specs.Answers.{IsOpen, IsReady, RunsOn, IsRefusedOn, ClosesOn, IsClosingRefused, GoesOn};
 ghost use Rattle.cfb_stream_buffer.specs.Touched.{IsRead, IsWritten};
 
@@ -26,6 +26,7 @@ impl<A: Allocator> Window<A> {
         ensures refused { IsReady C.ReadContents content.old id self.old
             → IfErr result (IsLost (((C.stored content.old id).size < self.old.base + length self.old.filled) × C.is_full content.new) (C.stored content.old id) self.old (C.stored content.new id)) }
         ensures pending { OnErr result (self.old.pending ≡ true) }
+        ensures lost { OnErr result ((C.stored content.new id).failed ≡ true) }
         ensures room { self.new.room ≡ self.old.room }
         ensures bound { self.new.bound ≡ self.old.bound }
     {
@@ -131,7 +132,7 @@ impl<A: Allocator> Window<A> {
         ensures settles { IsOpen C.ReadContents content.old id self.old → OnOk result (IsSettled (C.stored content.old id) self.old (C.stored content.new id)) }
         ensures calm { C.tells content.old → self.old.pending ≡ false → IsRead C.ReadContents content.old content.new id result }
         ensures none { length into.old ≡ 0 → content.new ≡ content.old }
-        ensures held { IsInside self.old → content.new ≡ content.old }
+        ensures held { StandsInside self.old → content.new ≡ content.old }
         ensures grown { self.new.room < min (self.old.size - (self.old.base + self.old.cursor)) self.old.bound → content.new ≡ content.old }
         ensures bound { self.new.bound ≡ self.old.bound }
         ensures lean { self.new.room ≤ max self.old.room (min (self.old.size - (self.old.base + self.old.cursor)) self.old.bound) }
@@ -164,7 +165,7 @@ impl<A: Allocator> Window<A> {
         ensures goes_on { IsOpen C.ReadContents content.old id self.old → GoesOn C.ReadContents content.old content.new id self.new }
         ensures settles { IsOpen C.ReadContents content.old id self.old → OnOk result (IsSettled (C.stored content.old id) self.old (C.stored content.new id)) }
         ensures calm { C.tells content.old → self.old.pending ≡ false → IsRead C.ReadContents content.old content.new id result }
-        ensures held { IsInside self.old → content.new ≡ content.old }
+        ensures held { StandsInside self.old → content.new ≡ content.old }
         ensures grown { self.new.room < min (self.old.size - (self.old.base + self.old.cursor)) self.old.bound → content.new ≡ content.old }
         ensures bound { self.new.bound ≡ self.old.bound }
         ensures lean { self.new.room ≤ max self.old.room (min (self.old.size - (self.old.base + self.old.cursor)) self.old.bound) }
@@ -250,6 +251,8 @@ impl<A: Allocator> Window<A> {
         ensures refused { IsOpen C.ReadContents content.old id self.old → IfErr result (IsRefusedOn C.ReadContents C.Contents.own content.old id self.old flush content.new self.new) }
         ensures goes_on { IsOpen C.ReadContents content.old id self.old → GoesOn C.ReadContents content.old content.new id self.new }
         ensures stored { IsOpen C.ReadContents content.old id self.old → OnOk result ((C.stored content.new id) ≡ settled (C.stored content.old id) self.old) }
+        ensures calm { C.tells content.old → self.old.pending ≡ false → (C.stored content.new id).failed ≡ false
+            → C.kept content.new ≡ C.kept content.old }
         ensures bound { self.new.bound ≡ self.old.bound }
         ensures room { self.new.room ≡ self.old.room }
         ensures around { C.tells content.old → IsWritten C.ReadContents C.Contents.own content.old content.new id result }
@@ -274,6 +277,7 @@ impl<A: Allocator> Window<A> {
         ensures inside { IsReady C.ReadContents content.old id self.old → self.old.base + length self.old.filled ≤ (C.stored content.old id).size → IfErr result (IsBreak ⊥) }
         ensures calm { self.old.pending ≡ false → content.new ≡ content.old }
         ensures pending { OnErr result (self.old.pending ≡ true) }
+        ensures lost { OnErr result ((C.stored content.new id).failed ≡ true) }
         ensures bound { self.new.bound ≡ self.old.bound }
         ensures room { self.new.room ≡ self.old.room }
     {

@@ -1,8 +1,8 @@
 //! Writing to a buffered stream, and giving it another length.
 ghost use Rattle.std.specs.Prelude.{◌≡◌, ◌+◌, ◌-◌, ◌*◌, ◌^◌, ◌<◌, ◌≤◌, min, max, [], true, false, OnOk, OnErr, IfOk, IfErr, length, take};
-ghost use Rattle.cfb_format.specs.Refused.{IsMemory};
+ghost use Rattle.cfb_format.specs.Refused.{IsMemory, IsBreak};
 ghost use Rattle.cfb_rules.specs.StreamCalls.{write, count};
-ghost use Rattle.cfb_stream_window.specs.Windows.{Carries, WriteBrokeOff, LengthBrokeOff, IsSettled, HasRoom, window_kept, window_past, window_within, WroteStraight, Resized};
+ghost use Rattle.cfb_stream_window.specs.Windows.{Carries, WriteBrokeOff, LengthBrokeOff, IsSettled, HasBufferRoom, window_kept, window_past, window_within, WroteStraight, Resized};
 ghost use Rattle.cfb_stream_window.specs.Answers.{IsOpen, IsReady, IsResized, RunsOn, IsRefusedOn, RunsSettingLen, IsLengthRefusedOn, GoesOn};
 ghost use Rattle.cfb_stream_buffer.specs.Touched.{IsWritten};
 
@@ -34,9 +34,13 @@ impl<A: Allocator> Window<A> {
         ensures goes_on { IsOpen C.ReadContents content.old id self.old → GoesOn C.ReadContents content.old content.new id self.new }
         ensures settles { IsOpen C.ReadContents content.old id self.old → length bytes.now < 65536 → OnOk result (IsSettled (C.stored content.old id) self.old (C.stored content.new id)) }
         ensures none { length bytes.now ≡ 0 → content.new ≡ content.old }
-        ensures held { length bytes.now < 65536 → HasRoom self.old → content.new ≡ content.old }
+        ensures held { length bytes.now < 65536 → HasBufferRoom self.old → content.new ≡ content.old }
         ensures keeps_back { 0 < length bytes.now → length bytes.now < 65536 → OnOk result (self.new.pending ≡ true) }
         ensures straight { 65536 ≤ length bytes.now → OnOk result (self.new.pending ≡ false) }
+        ensures calm { length bytes.now < 65536 → self.old.pending ≡ false → content.new ≡ content.old }
+        ensures inside { IsOpen C.ReadContents content.old id self.old → self.old.pending ≡ false
+            → self.old.base + self.old.cursor + min 1 (length bytes.now) ≤ self.old.size
+            → IfErr result (λ e. e ≡ Error.Full → ⊥) }
         ensures bound { self.new.bound ≡ self.old.bound }
         ensures lean { self.new.room ≤ max self.old.room (min (4 * self.old.room) self.old.bound) }
         ensures around { C.tells content.old → IsWritten C.ReadContents C.Contents.own content.old content.new id result }
@@ -73,9 +77,11 @@ impl<A: Allocator> Window<A> {
         ensures ok { IsReady C.ReadContents content.old id self.old → OnOk result (Carries (C.stored content.old id) self.old (C.stored content.new id) self.new) }
         ensures room { OnOk result (self.new.cursor < self.new.room) }
         ensures place { OnOk result (self.new.base + self.new.cursor ≡ self.old.base + self.old.cursor) }
-        ensures held { HasRoom self.old → content.new ≡ content.old }
+        ensures held { HasBufferRoom self.old → content.new ≡ content.old }
         ensures settles { IsReady C.ReadContents content.old id self.old → OnOk result (IsSettled (C.stored content.old id) self.old (C.stored content.new id)) }
         ensures refused { IsReady C.ReadContents content.old id self.old → IfErr result (WriteBrokeOff (C.is_full content.new) (C.stored content.old id) self.old (C.stored content.new id) self.new) }
+        ensures calm { self.old.pending ≡ false → content.new ≡ content.old }
+        ensures memory { self.old.pending ≡ false → IfErr result IsMemory }
         ensures bound { self.new.bound ≡ self.old.bound }
         ensures lean { self.new.room ≤ max self.old.room (min (4 * self.old.room) self.old.bound) }
     {
@@ -113,6 +119,8 @@ impl<A: Allocator> Window<A> {
         ensures settles { IsReady C.ReadContents content.old id self.old → OnOk result (IsSettled (C.stored content.old id) self.old (C.stored content.new id)) }
         ensures refused { IsReady C.ReadContents content.old id self.old → IfErr result (WriteBrokeOff (C.is_full content.new) (C.stored content.old id) self.old (C.stored content.new id) self.new) }
         ensures bound { self.new.bound ≡ self.old.bound }
+        ensures calm { self.old.pending ≡ false → content.new ≡ content.old }
+        ensures pending { OnErr result (self.old.pending ≡ true) }
         ensures same_room { self.new.room ≡ self.old.room }
     {
         let _room = self.buffer.room();
@@ -154,6 +162,10 @@ impl<A: Allocator> Window<A> {
         ensures refused { IsReady C.ReadContents content.old id self.old → (C.stored content.old id).sound ≡ true → self.old.base + self.old.cursor + length bytes.now ≤ (C.stored content.old id).limit → 0 < length bytes.now
             → IfErr result (WriteBrokeOff (C.is_full content.new) (C.stored content.old id) self.old (C.stored content.new id) self.new) }
         ensures calm { OnOk result (self.new.pending ≡ false) }
+        ensures inside { IsReady C.ReadContents content.old id self.old → (C.stored content.old id).sound ≡ true
+            → self.old.base + self.old.cursor + length bytes.now ≤ (C.stored content.old id).limit
+            → 0 < length bytes.now → self.old.pending ≡ false → self.old.base + self.old.cursor < self.old.size
+            → IfErr result (IsBreak ⊥) }
         ensures bound { self.new.bound ≡ self.old.bound }
         ensures room { self.new.room ≡ self.old.room }
     {
@@ -193,6 +205,8 @@ impl<A: Allocator> Window<A> {
         ensures refused { IsOpen C.ReadContents content.old id self.old → IfErr result (IsLengthRefusedOn C.ReadContents C.Contents.own content.old id self.old len content.new self.new) }
         ensures goes_on { IsOpen C.ReadContents content.old id self.old → GoesOn C.ReadContents content.old content.new id self.new }
         ensures same { len ≡ self.old.size → content.new ≡ content.old }
+        ensures foreseen { IsOpen C.ReadContents content.old id self.old
+            → IfErr result (λ e. e ≡ Error.Full → content.new ≡ content.old) }
         ensures bound { self.new.bound ≡ self.old.bound }
         ensures room { self.new.room ≡ self.old.room }
         ensures around { C.tells content.old → IsResized C.ReadContents C.Contents.own content.old content.new id result }
@@ -224,6 +238,9 @@ impl<A: Allocator> Window<A> {
             → OnOk result (Resized len (C.stored content.old id) self.old (C.stored content.new id) self.new) }
         ensures refused { IsReady C.ReadContents content.old id self.old → (C.stored content.old id).sound ≡ true → len ≤ (C.stored content.old id).limit
             → IfErr result (LengthBrokeOff (C.is_too_long content.new id len) (C.stored content.old id) self.old (C.stored content.new id) self.new) }
+        ensures foreseen { IsReady C.ReadContents content.old id self.old → (C.stored content.old id).sound ≡ true
+            → len ≤ (C.stored content.old id).limit
+            → IfErr result (λ e. e ≡ Error.Full → content.new ≡ content.old) }
         ensures bound { self.new.bound ≡ self.old.bound }
         ensures room { self.new.room ≡ self.old.room }
     {

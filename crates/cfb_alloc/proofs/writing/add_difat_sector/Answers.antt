@@ -43,7 +43,7 @@ returns-clause-listed g c told validation list l measured full apart =
     let own = c.args.before.now in
     let x = c.args.number in
     let mid = c.fill_sector.new.sectors in
-    let s = c.num_sectors-count.ensures in
+    let s = c.num_sectors-fact.ensures in
     let long : 512 ≤ length old.bytes = let h = header_long old.version old.len s.header in omega (arith, h, measured) in
     let same = ap (λ (f : SectorFile). f.version) c.fill_sector.ensures.kept in
     let change = c.fill_sector.ensures.changes told in

@@ -95,7 +95,7 @@ returns-clause-listed g c told validation l measured once apart =
     let full_one : IsFilled v Fat filled.bytes x = c.in_ok-fill_sector.ensures.filled told in
     let grow = subst (λ (u : Version). ChangesSectors own u filled.bytes grown.bytes) same (c.grow_difat.ensures.changes told) in
     let full_two : IsFilled v Fat grown.bytes x = stays_filled v Fat x filled.bytes grown.bytes (grow.sectors x (λ m. apart x mine m)) full_one in
-    let s = c.num_sectors-count.ensures in
+    let s = c.num_sectors-fact.ensures in
     let long : 512 ≤ length old.bytes = let h = header_long v old.len s.header in omega (arith, h, measured) in
     let before = take c.args.index list in
     let cut = length-take c.args.index list in

@@ -49,7 +49,7 @@ returns-clause-listed g c told validation l measured once apart other =
     let mid = c.write_table_sectors.new.sectors in
     let new = c.fill_sectors.new.sectors in
     let same = ap (λ (f : SectorFile). f.version) c.write_table_sectors.ensures.kept in
-    let long : 512 ≤ length old.bytes = let h = header_long v old.len c.num_sectors-count.ensures.header in omega (arith, h, measured) in
+    let long : 512 ≤ length old.bytes = let h = header_long v old.len c.num_sectors-fact.ensures.header in omega (arith, h, measured) in
     let longer = (c.write_table_sectors.ensures.changes told).no_shorter in
     listed_fill listing_stays validation v mid.bytes new.bytes c.args.fat_sectors.now c.args.difat_sectors.now c.args.more.now (omega (arith, long, longer))
     (c.fill_sectors.ensures.front told)

@@ -10,7 +10,7 @@ returns-then-index-lt-NUM_DIFAT_ENTRIES_IN_HEADER-clause-listed g c told validat
     let old = c.args.sectors.now in
     let own = c.args.difat_sectors.now in
     let x = c.args.number in
-    let s = c.num_sectors-count.ensures in
+    let s = c.num_sectors-fact.ensures in
     let long = header_long old.version old.len s.header in
     on_ok _ _ c.list_in_header.result
     (λ is. subst (λ (b : List ℕ). ListsTables validation old.version b (list ++ x ∷ []) own) (ap (λ k. listed_in_header old.bytes k x) len ∙ sym is)
@@ -22,7 +22,7 @@ returns-else-index-lt-NUM_DIFAT_ENTRIES_IN_HEADER-clause-listed g c told validat
     let old = c.args.sectors.now in
     let own = c.args.difat_sectors.now in
     let x = c.args.number in
-    let s = c.num_sectors-count.ensures in
+    let s = c.num_sectors-fact.ensures in
     let long = header_long old.version old.len s.header in
     on_ok _ _ c.list_in_difat_sector.result
     (λ is. subst (λ (b : List ℕ). ListsTables validation old.version b (list ++ x ∷ []) own) (ap (λ k. listed_in_sector old.version old.bytes own k x) len ∙ sym is)

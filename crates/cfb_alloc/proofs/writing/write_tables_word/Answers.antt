@@ -14,5 +14,5 @@ returns-clause-measured g c told measured =
     let old = c.args.sectors.now in
     on_ok _ _ c.write_header_word.result
     (λ is. measured_header old.version c.args.offset c.args.value old.len c.write_header_word.new.self.len old.bytes c.write_header_word.new.self.bytes
-    c.requires.word c.num_sectors-count.ensures.header measured (ap (λ (f : SectorFile). f.len) is) (ap (λ (f : SectorFile). f.bytes) is))
+    c.requires.word c.num_sectors-fact.ensures.header measured (ap (λ (f : SectorFile). f.len) is) (ap (λ (f : SectorFile). f.bytes) is))
     (c.write_header_word.ensures.ok told)

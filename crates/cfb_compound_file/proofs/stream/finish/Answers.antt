@@ -13,8 +13,8 @@ pub returns-clause-closes : goal.returns-clause-closes
 returns-clause-closes g c = λ told. c.close-closed.ensures.closes (record { told = told; suits = c.requires.is_open told })
 
 pub returns-clause-refused : goal.returns-clause-refused
-returns-clause-refused g c = λ told. refused_with _ _ _ _ _ c.close-closed.result (c.close-closed.ensures.refused (record { told = told; suits = c.requires.is_open told })) (c.close-closed.ensures.around told).counts
-    (λ e why counts. record { refusal = why.refusal; is = why.is; closes = why.closes; untouched = why.untouched; counts = counts })
+returns-clause-refused g c = λ told. refused_with _ _ _ _ _ c.close-closed.result (c.close-closed.ensures.refused (record { told = told; suits = c.requires.is_open told })) (c.close-closed.ensures.around told).counts (c.close-closed.ensures.around told).stays
+    (λ e why counts stays. record { refusal = why.refusal; is = why.is; closes = why.closes; untouched = why.untouched; counts = counts })
 
 pub returns-clause-tree : goal.returns-clause-tree
 returns-clause-tree g c = λ told first.
@@ -30,3 +30,6 @@ returns-clause-changes g c = λ told. (c.close-closed.ensures.around told).other
 
 pub returns-clause-rest : goal.returns-clause-rest
 returns-clause-rest g c = λ told first k. rest_then _ _ _ first ((c.close-closed.ensures.around told).others _ (nothing_changes _ _)) k
+
+pub returns-clause-counts : goal.returns-clause-counts
+returns-clause-counts g c = λ told. (c.close-closed.ensures.around told).counts

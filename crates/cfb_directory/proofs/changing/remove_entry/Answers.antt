@@ -66,7 +66,7 @@ write_entries-requires-clause-places g c =
     let before : length c.list-count.result.now ≡ length c.args.entries.now.entries =
     sym (length-map c.list-count.result.now entry_of) ∙ ap (λ (es : List Entry). length es) c.list-count.ensures.list in
     let after : length c.list.result.now ≡ length c.args.entries.now.entries =
-    sym (length-map c.list.result.now entry_of) ∙ ap (λ (es : List Entry). length es) c.list.ensures.list ∙ c.in_ok-touched.ensures.removed.0.removed.longer in
+    sym (length-map c.list.result.now entry_of) ∙ ap (λ (es : List Entry). length es) c.list.ensures.list ∙ c.in_ok-touched.ensures.removed.removed.longer in
     subst (λ (a : AllocatorState). HavePlaces a.tables.version c.args.sectors.now (length c.list.result.now) (length a.tables.fat)) (sym c.begin_change.ensures)
     (subst (λ n. HavePlaces c.args.allocator.now.tables.version c.args.sectors.now n (length c.args.allocator.now.tables.fat)) (before ∙ sym after)
     (c.are_placed.ensures.0 c.if-not-are_placed.false))
@@ -91,7 +91,7 @@ returns-clause-holds g c told validation h =
     let touched = c.deref.result.now in
     let items = c.deref.ensures.value in
     let touches = c.in_ok-touched.ensures.touches in
-    let removes = c.in_ok-touched.ensures.removed.0 in
+    let removes = c.in_ok-touched.ensures.removed in
     let r = removes.removed in
     let told_at : (k : ℕ) → (Contains touched k → ⊥) → entry_at new k ≡ entry_at old k = λ k out. touches.told k (λ m. out (subst (λ (l : List ℕ). Contains l k) (sym items) m)) in
     let late : HoldSlotsBut (touched ++ []) validation v a.file.bytes sectors new = entries-stay touched [] validation v a.file.bytes sectors old new h.slots r.longer told_at in
@@ -129,7 +129,7 @@ pub returns-clause-slots : goal.returns-clause-slots
 returns-clause-slots g c told validation h list children k lt used beside out =
     let touched = c.deref.result.now in
     let count = h.slots.count in
-    let longer = c.in_ok-touched.ensures.removed.0.removed.longer in
+    let longer = c.in_ok-touched.ensures.removed.removed.longer in
     let in_items : (j : ℕ) → Contains touched j → Contains c.in_ok-touched.touched.items j = λ j m. subst (λ (l : List ℕ). Contains l j) c.deref.ensures.value m in
     slot_left touched c.args.allocator.now.tables.version c.args.sectors.now c.args.allocator.now.file.bytes c.write_entries.new.allocator.file.bytes k h.chain.distinct h.whole
     (subst (λ (a : AllocatorState). ChangesSlots touched a.tables.version c.args.sectors.now a.file.bytes c.write_entries.new.allocator.file.bytes) c.begin_change.ensures

@@ -18,7 +18,7 @@ use Rattle.cfb_alloc.proofs.Spared.{spares_refl}
 use Rattle.cfb_entries.specs.EntryList.{EntryList}
 use Rattle.cfb_directory.specs.Growing.{AreSectorsOf, IsListedChain}
 use Rattle.cfb_directory.specs.State.{directory_of}
-use Rattle.cfb_directory.specs.Steps.{IsNotHeld}
+use Rattle.cfb_directory.specs.Steps.{IsDirectoryNotHeld}
 use Rattle.cfb_directory.proofs.InsertGrow.{ends-among, few-sectors, grown-entries, grown-header, grown-holds, grown-many, grown-placed, grown-spares, lengthens-held, medium-broke, slots-kept}
 use Rattle.cfb_directory.proofs.LeastAbove.{least-kept}
 use Rattle.cfb_directory.proofs.inserting.grow.Goals as goal
@@ -49,7 +49,7 @@ returns-in_err-lengthen-clause-err g c =
     let d = directory_of c.args.allocator.now c.args.sectors.now.items c.args.entries.now in
     let t = c.args.allocator.now.tables in
     let p = err_from_is_err_and c.from_residual-in_err-lengthen.result c.from_residual-in_err-lengthen.ensures.1 in
-    rw (p.1, p.2) (refused-less _ (IsNotHeld d) (Unit {0}) (IsTooFew t 1) (Unit {0}) (lengthens-held d) _
+    rw (p.1, p.2) (refused-less _ (IsDirectoryNotHeld d) (Unit {0}) (IsTooFew t 1) (Unit {0}) (lengthens-held d) _
     (subst (λ (l : List ℕ). ChangeRefused ((IsUsable t → ⊥) ⊎ ((last_or_end l ≢ end_of_chain) × (value t.fat (last_or_end l) ≢ end_of_chain))) (Unit {0}) (IsTooFew t 1) (Unit {0}) c.in_err-lengthen.field-0.0)
     c.in_ok-reserve-2.ensures.items c.in_err-lengthen.ensures.err))
 

@@ -15,7 +15,7 @@ use Rattle.cfb_entries.specs.Insertions.{IsInsertionOf, name_in}
 use Rattle.cfb_directory.specs.Growing.{ArePlaced}
 use Rattle.cfb_directory.specs.Slots.{slot_of}
 use Rattle.cfb_directory.specs.State.{HoldsDirectory, IsFullForEntry, directory_of}
-use Rattle.cfb_directory.specs.Steps.{IsNotHeld}
+use Rattle.cfb_directory.specs.Steps.{IsDirectoryNotHeld}
 use Rattle.cfb_directory.proofs.InsertWhole.{checked-refused, header-word-kept, put-spares, roomy-balance, roomy-children, roomy-insertion, roomy-longer, roomy-reached, roomy-red-apart, roomy-same, same-slot, unplaced-not-held, which-way}
 use Rattle.cfb_directory.proofs.LeastAbove.{least-kept}
 use Rattle.cfb_directory.proofs.inserting.insert_entry.Goals as goal
@@ -32,7 +32,7 @@ returns-in_err-check_room-clause-err g c =
     let es = c.args.entries.now in
     let d = directory_of a c.args.sectors.now.items es in
     let p = err_from_is_err_and c.from_residual.result c.from_residual.ensures.1 in
-    rw (p.1, p.2) (checked-refused _ (IsNotHeld d) (IsFullForEntry d) (IsFullForEntry d → ⊥) (unplaced-not-held d) _
+    rw (p.1, p.2) (checked-refused _ (IsDirectoryNotHeld d) (IsFullForEntry d) (IsFullForEntry d → ⊥) (unplaced-not-held d) _
     (subst (λ (l : List ℕ). TableRefused (ArePlaced (directory_of a l es) → ⊥) ⊥ (IsFullForEntry (directory_of a l es)) c.in_err-check_room.field-0.0) c.deref.ensures.value c.in_err-check_room.ensures.err))
 
 pub returns-in_err-make_room-clause-slots : goal.returns-in_err-make_room-clause-slots

@@ -21,7 +21,7 @@ returns-clause-removed g c =
     c.args.parent (chars c.args.name.now) c.in_ok-freed.freed c.args.free.now.items c.reserve.new.self.items c.push_reserved.new.self.items
     (ap entries_of c.deref_mut.ensures.value)
     (ap entries_of (written-back c.args.list.now.len new (drop (length new) c.args.list.now.items) (c.remove.auto.entries ∙ c.deref_mut.ensures.len)))
-    c.requires.there c.in_ok-freed.ensures.removed c.in_ok-freed.ensures.colors c.push_reserved.ensures.items c.reserve.ensures.items
+    c.requires.there c.in_ok-freed.ensures.removed c.push_reserved.ensures.items c.reserve.ensures.items
 
 pub returns-clause-red_apart : goal.returns-clause-red_apart
 returns-clause-red_apart g c =

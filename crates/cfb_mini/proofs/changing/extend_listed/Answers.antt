@@ -7,7 +7,7 @@ use Rattle.cfb_format.specs.Content.{mini_sector_len}
 use Rattle.cfb_format.specs.Full.{free_count}
 use Rattle.cfb_format.specs.Refused.{AfterMedium, CountsFailure}
 use Rattle.cfb_sectors.specs.Sectors.{IsMediumError}
-use Rattle.cfb_sectors.specs.Words.{Stays}
+use Rattle.cfb_sectors.specs.Words.{RangeStays}
 use Rattle.cfb_sectors.proofs.SectorLemmas.{Stays_refl}
 use Rattle.cfb_tables.specs.Listed.{ends_of, gained}
 use Rattle.cfb_tables.specs.Refused.{ChangeRefused}
@@ -517,7 +517,7 @@ returns-clause-mini_spares g c told validation h =
     let takes = at-parts (λ (t : MiniTableState) (m s i : List ℕ). TakesMini t.limit t.minifat taken.minifat (ends_of i) (gained i after)) prepared (record table { room = prepared.room }) shown sectors1 shown_stream stream1 here ids
     same c.deref-3.ensures.value c.deref-4.ensures.value same_ids (of.taken) in
     let others = at-parts (λ (t : MiniTableState) (m s i : List ℕ). HoldsMiniBut [] validation (mini_of grown t m (Some s)) → (k : ℕ) → HasMiniSector (mini_of grown t m (Some s)) k → (Contains (gained i after) k → ⊥)
-    → Stays (mini_place (mini_of grown t m (Some s)) k) (mini_place (mini_of grown t m (Some s)) k + mini_sector_len) (bytes_of (mini_of grown t m (Some s))) (bytes_of (mini_of now taken m (Some s)))) prepared (record table { room = prepared.room }) shown sectors1 shown_stream stream1 here ids
+    → RangeStays (mini_place (mini_of grown t m (Some s)) k) (mini_place (mini_of grown t m (Some s)) k + mini_sector_len) (bytes_of (mini_of grown t m (Some s))) (bytes_of (mini_of now taken m (Some s)))) prepared (record table { room = prepared.room }) shown sectors1 shown_stream stream1 here ids
     same c.deref-3.ensures.value c.deref-4.ensures.value same_ids (of.other_minis told validation) held in
     let minis = subst (λ (t : MiniTableState). (length t.minifat + (c.args.count - free_count t.minifat)) * mini_sector_len ≤ length stream1 * sector_len grown.table.tables.version) same c.in_ok-grow_sectors.ensures.minis in
     let room : length table.minifat * mini_sector_len ≤ length stream1 * sector_len grown.table.tables.version = omega (arith, minis) in
@@ -554,7 +554,7 @@ returns-clause-bytes g c told validation h m busy out =
     let takes = at-parts (λ (t : MiniTableState) (m s i : List ℕ). TakesMini t.limit t.minifat taken.minifat (ends_of i) (gained i after)) prepared (record table { room = prepared.room }) shown sectors1 shown_stream stream1 here ids
     same c.deref-3.ensures.value c.deref-4.ensures.value same_ids (of.taken) in
     let others = at-parts (λ (t : MiniTableState) (m s i : List ℕ). HoldsMiniBut [] validation (mini_of grown t m (Some s)) → (k : ℕ) → HasMiniSector (mini_of grown t m (Some s)) k → (Contains (gained i after) k → ⊥)
-    → Stays (mini_place (mini_of grown t m (Some s)) k) (mini_place (mini_of grown t m (Some s)) k + mini_sector_len) (bytes_of (mini_of grown t m (Some s))) (bytes_of (mini_of now taken m (Some s)))) prepared (record table { room = prepared.room }) shown sectors1 shown_stream stream1 here ids
+    → RangeStays (mini_place (mini_of grown t m (Some s)) k) (mini_place (mini_of grown t m (Some s)) k + mini_sector_len) (bytes_of (mini_of grown t m (Some s))) (bytes_of (mini_of now taken m (Some s)))) prepared (record table { room = prepared.room }) shown sectors1 shown_stream stream1 here ids
     same c.deref-3.ensures.value c.deref-4.ensures.value same_ids (of.other_minis told validation) held in
     let minis = subst (λ (t : MiniTableState). (length t.minifat + (c.args.count - free_count t.minifat)) * mini_sector_len ≤ length stream1 * sector_len grown.table.tables.version) same c.in_ok-grow_sectors.ensures.minis in
     let room : length table.minifat * mini_sector_len ≤ length stream1 * sector_len grown.table.tables.version = omega (arith, minis) in

@@ -5,7 +5,7 @@ use Rattle.cfb_format.specs.Bytes.{sector_len}
 use Rattle.cfb_format.specs.Chain.{value}
 use Rattle.cfb_format.specs.Content.{mini_sector_len}
 use Rattle.cfb_sectors.specs.Sectors.{SectorStays}
-use Rattle.cfb_sectors.specs.Words.{Stays}
+use Rattle.cfb_sectors.specs.Words.{RangeStays}
 use Rattle.cfb_tables.specs.Tables.{TableState, first_or_end}
 use Rattle.cfb_tables.proofs.Members.{distinct-left, distinct-right}
 use Rattle.cfb_alloc.specs.Alloc.{AllocatorState, HoldsTables}
@@ -41,7 +41,7 @@ returns-in_err-wipe-clause-other_minis g c told once m has out =
     let stream = c.args.stream.now in
     let b = c.wipe.new.allocator in
     subst (λ (a : AllocatorState). mini_sector_len * m / sector_len a.tables.version < length stream
-    → Stays (mini_start a.tables.version stream m) (mini_start a.tables.version stream m + mini_sector_len) a.file.bytes b.file.bytes) begun
+    → RangeStays (mini_start a.tables.version stream m) (mini_start a.tables.version stream m + mini_sector_len) a.file.bytes b.file.bytes) begun
     (λ listed. c.wipe.ensures.other_minis told (distinct-right (c.args.directory.now.sectors ++ c.args.minifat_sectors.now) stream once) m listed out)
     (mini_index c.args.directory.now.table.tables.version (length stream) m has.in_stream)
 
@@ -116,7 +116,7 @@ returns-clause-other_minis g c told once m has out =
     let same_a : a.tables ≡ old.tables = c.wipe.ensures.tables ∙ ap (λ (x : AllocatorState). x.tables) begun in
     let listed = mini_index old.tables.version (length stream) m has.in_stream in
     let first = subst (λ (x : AllocatorState). mini_sector_len * m / sector_len x.tables.version < length stream
-    → Stays (mini_start x.tables.version stream m) (mini_start x.tables.version stream m + mini_sector_len) x.file.bytes a.file.bytes) begun
+    → RangeStays (mini_start x.tables.version stream m) (mini_start x.tables.version stream m + mini_sector_len) x.file.bytes a.file.bytes) begun
     (λ l. c.wipe.ensures.other_minis told (distinct-right (c.args.directory.now.sectors ++ c.args.minifat_sectors.now) stream once) m l out) listed in
     let stays = subst (λ (t : TableState). (i : ℕ) → (Contains c.args.minifat_sectors.now i → ⊥) → SectorStays t.version i a.file.bytes b.file.bytes) same_a (c.write_words.ensures.sectors told) in
     other-left s a b m once listed first stays

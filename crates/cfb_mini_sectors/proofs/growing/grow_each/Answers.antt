@@ -224,7 +224,7 @@ returns-clause-held g c told late validation s table listed kept h =
     let between = c.in_ok-grow_minifat.ensures.held told late validation s table listed h in
     both-held late validation s c.grow_minifat.new.sectors.items c.args.stream.now.items c.extend_listed.new.ids.items c.args.more.mini_stream c.grow_minifat.new.allocator
     c.extend_listed.new.self between kept ok.lengthened c.extend_listed.ensures.chain (ok.filled told validation between.directory.tables)
-    (c.extend_listed.ensures.others told) (c.extend_listed.ensures.spares told) (ok.holds told validation between.directory.tables) c.file_len-sizes.ensures.sizes
+    (c.extend_listed.ensures.others told) (c.extend_listed.ensures.spares told) (ok.holds told validation between.directory.tables) c.file_len-fact.ensures.sizes
 
 pub returns-clause-in_use : goal.returns-clause-in_use
 returns-clause-in_use g c told =

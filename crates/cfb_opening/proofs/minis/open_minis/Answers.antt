@@ -42,7 +42,7 @@ returns-clause-ok g c told =
     let words = listed.minifat_words.items in
     let e = c.in_ok-mini.ensures in
     let sizes : AreSizes d.table.tables.version (sizes_of d.table.tables) =
-    subst (λ (a : AllocatorState). AreSizes a.tables.version (sizes_of a.tables)) c.allocator.ensures c.file_len-measured.ensures.sizes in (
+    subst (λ (a : AllocatorState). AreSizes a.tables.version (sizes_of a.tables)) c.allocator.ensures c.file_len-fact.ensures.sizes in (
       h,
       minis-known v cases bytes failures h d listed.points_into_file (c.in_ok-header.ensures.ok told) words (c.in_ok-header.ensures.words told) c.words_make_the_minifat.ensures.table
           c.in_ok-mini.mini e.directory e.limit e.minifat e.sectors e.mini_stream e.accepted e.counted sizes,

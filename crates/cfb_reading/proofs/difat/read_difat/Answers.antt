@@ -3,7 +3,7 @@ use Rattle.std.specs.List.{list_all}
 use Rattle.std.proofs.lemmas.Result.{err_from_is_err_and, IfErr-weaker}
 use Rattle.cfb_format.specs.Bytes.{words_per_sector}
 use Rattle.cfb_format.specs.Header.{header_difat_len}
-use Rattle.cfb_reading.specs.Difat.{has_sector, listed_by}
+use Rattle.cfb_reading.specs.Difat.{has_sector, listed_sectors}
 use Rattle.cfb_reading.proofs.SectorFileLemmas.{same-sectors}
 use Rattle.cfb_reading.proofs.PartRefusals.{refused-weaker, refused-bytes, from_four}
 use Rattle.cfb_reading.proofs.TableSectorLemmas.{are-listed, file-accepted, no-sectors, no-list}
@@ -26,7 +26,7 @@ returns-clause-listed g c =
     let trail = c.in_ok-trail.trail in
     let e = c.list_sectors.ensures in
     from_four c.list_sectors.result _ _ _ _ _ (λ t own list there _.
-    are-listed file c.args.header.now t.fat_sectors.items t.difat_sectors.items trail.entries.items c.num_sectors-count.ensures.len c.num_sectors-count.ensures.most
+    are-listed file c.args.header.now t.fat_sectors.items t.difat_sectors.items trail.entries.items c.num_sectors-fact.ensures.len c.num_sectors-fact.ensures.most
     (rw own (omega (arith, c.in_ok-trail.ensures.few, trail.difat_sectors.ok.0)))
     (rw own c.in_ok-trail.ensures.there)
     (rw own (let count = c.in_ok-trail.ensures.count in
@@ -52,4 +52,4 @@ returns-clause-err g c =
     refused-bytes g.F.ReadMedium.tells g.F.ReadMedium.read_faults _ e r.0 (λ told measured same.
     no-list c.args.validation c.args.sectors.now h measured same trail.difat_sectors.items trail.entries.items
     (c.in_ok-trail.ensures.ok told measured) (c.in_ok-trail.ensures.entries told)
-    (λ there. r.1 (still g c (listed_by h trail.entries.items) ∙ there)))) c.list_sectors.ensures.err
+    (λ there. r.1 (still g c (listed_sectors h trail.entries.items) ∙ there)))) c.list_sectors.ensures.err

@@ -61,6 +61,9 @@ returns-then-size-len-clause-holds g c told v change = c.in_ok-resize_content.en
 pub returns-then-size-len-clause-owned : goal.returns-then-size-len-clause-owned
 returns-then-size-len-clause-owned g c told v change all = c.in_ok-resize_content.ensures.owned told v change all
 
+pub returns-then-size-len-clause-sized : goal.returns-then-size-len-clause-sized
+returns-then-size-len-clause-sized g c told v change = c.in_ok-resize_content.ensures.sized told v change
+
 pub returns-then-size-len-clause-stays_full : goal.returns-then-size-len-clause-stays_full
 returns-then-size-len-clause-stays_full g c told v change none =
     c.in_ok-resize_content.ensures.stays_full told v change (omega (arith, c.content_in-len.ensures.len, c.if-size-len.true)) none

@@ -1,12 +1,13 @@
-use Rattle.std.proofs.Common.{◌≡◌, ◌∙◌, ap, sym, subst, arith}
+use Rattle.std.proofs.Common.{refl, ◌≡◌, ◌∙◌, ap, sym, subst, arith, length}
 use Rattle.std.proofs.lemmas.Result.{err_from_is_err_and}
 use Rattle.cfb_format.specs.Chain.{IsChain}
 use Rattle.cfb_format.specs.Full.{rounded_up}
-use Rattle.cfb_tables.specs.Tables.{first_or_end}
+use Rattle.cfb_tables.specs.Tables.{TableState, first_or_end}
 use Rattle.cfb_content.proofs.Kept.{nothing-is-moved}
 use Rattle.cfb_content.proofs.Refusals.{refused-as}
 use Rattle.cfb_content.proofs.WholeStreams.{not-whole-minis, owned-minis, whole-minis-as}
 use Rattle.cfb_resizing.specs.Turning.{Turns}
+use Rattle.cfb_resizing.proofs.FixedHeader.{bytes-keep-header, spared-keeps-header}
 use Rattle.cfb_resizing.proofs.CutShort.{mini-cut-takes-few}
 use Rattle.cfb_resizing.proofs.Tightness.{same-tight}
 use Rattle.cfb_resizing.proofs.TurnedInMinis.{cut-lacks-none, first-mini, first-unnamed, mini-cut-turns, own-minis-kept}
@@ -51,7 +52,7 @@ returns-clause-turned g c told v change =
     subst (λ n. Turns s new i c.args.size n) (sym (c.first_number.ensures ∙ ap first_or_end c.deref.ensures.value))
     (mini-cut-turns v s new i c.args.size c.div_ceil-wanted.result list list' change c.requires.stream c.requires.small c.requires.shorter whole
     (omega (arith, c.div_ceil-wanted.ensures)) c.in_ok-cut_mini_listed.ensures.listed c.in_ok-cut_mini_listed.ensures.given_back c.cut_mini_listed.ensures.system
-    c.cut_mini_listed.ensures.chain (c.cut_mini_listed.ensures.bytes told v change.held))
+    c.cut_mini_listed.ensures.chain (c.cut_mini_listed.ensures.bytes told v change.held) (c.in_ok-cut_mini_listed.ensures.wiped told v change.held))
 
 pub returns-clause-holds : goal.returns-clause-holds
 returns-clause-holds g c told v change =
@@ -72,6 +73,12 @@ returns-clause-others g c told v change =
     own-minis-kept v s c.cut_mini_listed.new.self i list change c.requires.stream (owned-minis s i c.requires.small list whole) (c.cut_mini_listed.ensures.spares told)
     (c.cut_mini_listed.ensures.mini_spares told v change.held)
 
+pub returns-in_err-cut_mini_listed-clause-takes_none : goal.returns-in_err-cut_mini_listed-clause-takes_none
+returns-in_err-cut_mini_listed-clause-takes_none g c = ap (λ (t : TableState). length t.fat) c.cut_mini_listed.ensures.system.tables
+
+pub returns-clause-takes_none : goal.returns-clause-takes_none
+returns-clause-takes_none g c = ap (λ (t : TableState). length t.fat) c.cut_mini_listed.ensures.system.tables
+
 pub returns-clause-tight : goal.returns-clause-tight
 returns-clause-tight g c = same-tight c.args.mini.now c.cut_mini_listed.new.self c.cut_mini_listed.ensures.system.tables
 
@@ -91,3 +98,12 @@ returns-clause-few g c list chain =
     c.in_ok-ids.ids.items left list (omega (arith, c.requires.shorter, c.content_in-start.ensures.len)) c.in_ok-ids.ensures.whole wanted c.in_ok-cut_mini_listed.ensures.listed
     c.cut_mini_listed.ensures.chain
     (subst (λ n. IsChain c.cut_mini_listed.new.self.minifat n list) (c.first_number.ensures ∙ ap first_or_end c.deref.ensures.value) chain)
+
+pub returns-in_err-ids-clause-header : goal.returns-in_err-ids-clause-header
+returns-in_err-ids-clause-header g c told = bytes-keep-header c.args.mini.now c.args.mini.now refl
+
+pub returns-in_err-cut_mini_listed-clause-header : goal.returns-in_err-cut_mini_listed-clause-header
+returns-in_err-cut_mini_listed-clause-header g c told = spared-keeps-header _ c.args.mini.now c.cut_mini_listed.new.self (c.cut_mini_listed.ensures.spares told)
+
+pub returns-clause-header : goal.returns-clause-header
+returns-clause-header g c told = spared-keeps-header _ c.args.mini.now c.cut_mini_listed.new.self (c.cut_mini_listed.ensures.spares told)

@@ -1,4 +1,4 @@
-use Rattle.std.proofs.Common.{arith, ap, sym, subst, ◌∙◌}
+use Rattle.std.proofs.Common.{refl, arith, ap, sym, subst, ◌∙◌}
 use Rattle.std.proofs.lemmas.Result.{err_from_is_err_and}
 use Rattle.cfb_format.specs.Bytes.{sector_len}
 use Rattle.cfb_format.specs.Full.{rounded_up}
@@ -7,6 +7,7 @@ use Rattle.cfb_alloc.specs.ListedChain.{Shortens}
 use Rattle.cfb_content.proofs.Kept.{nothing-is-moved}
 use Rattle.cfb_content.proofs.Refusals.{refused-as}
 use Rattle.cfb_content.proofs.WholeStreams.{not-whole, whole-as}
+use Rattle.cfb_resizing.proofs.FixedHeader.{bytes-keep-header, table-keeps-header}
 use Rattle.cfb_resizing.proofs.CutShort.{cut-is-kept, cut-takes-few}
 use Rattle.cfb_resizing.proofs.Tightness.{shortened-tight}
 use Rattle.cfb_resizing.proofs.TurnedInSectors.{cut-has-all, cut-held, cut-keeps-tables, cut-spares-others, cut-turned, not-usable}
@@ -96,3 +97,12 @@ returns-clause-kept_chain g c =
     cut-is-kept c.allocator.result.now.tables.version c.allocator.result.now.tables.fat c.cut_listed.new.self.tables.fat c.allocator.result.now.file.len
     c.content_in-start.result.0 c.content_in-start.result.1 c.args.size c.div_ceil-wanted.result c.sector_len.result c.in_ok-ids.ids.items c.cut_listed.new.ids.items
     (omega (arith, large)) c.in_ok-ids.ensures.whole (c.sector_len.ensures ∙ sym same) c.div_ceil-wanted.ensures c.in_ok-cut_listed.ensures.shortened.listed c.cut_listed.ensures.chain
+
+pub returns-in_err-ids-clause-header : goal.returns-in_err-ids-clause-header
+returns-in_err-ids-clause-header g c told = bytes-keep-header c.args.mini.now c.args.mini.now refl
+
+pub returns-in_err-cut_listed-clause-header : goal.returns-in_err-cut_listed-clause-header
+returns-in_err-cut_listed-clause-header g c told = table-keeps-header _ c.args.mini.now c.allocator_mut.result.now c.cut_listed.new.self c.allocator_mut.ensures.value (c.cut_listed.ensures.spares told)
+
+pub returns-clause-header : goal.returns-clause-header
+returns-clause-header g c told = table-keeps-header _ c.args.mini.now c.allocator_mut.result.now c.cut_listed.new.self c.allocator_mut.ensures.value (c.cut_listed.ensures.spares told)

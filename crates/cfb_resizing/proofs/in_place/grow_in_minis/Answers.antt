@@ -1,4 +1,4 @@
-use Rattle.std.proofs.Common.{◌≡◌, ◌∙◌, ◌-◌, ℕ, List, length, ap, sym, subst, arith}
+use Rattle.std.proofs.Common.{refl, ◌≡◌, ◌∙◌, ◌-◌, ℕ, List, length, ap, sym, subst, arith}
 use Rattle.std.specs.Prelude.{Contains}
 use Rattle.std.proofs.lemmas.Result.{err_from_is_err_and}
 use Rattle.cfb_format.specs.Full.{rounded_up}
@@ -13,6 +13,7 @@ use Rattle.cfb_content.proofs.Refusals.{refused-as}
 use Rattle.cfb_content.proofs.StreamEntry.{stream-inside}
 use Rattle.cfb_content.proofs.WholeStreams.{not-whole-minis}
 use Rattle.cfb_resizing.specs.Turning.{Turns}
+use Rattle.cfb_resizing.proofs.FixedHeader.{bytes-keep-header, header-stays, spared-since-keeps-header}
 use Rattle.cfb_resizing.proofs.LengthenedMinis.{not-both}
 use Rattle.cfb_resizing.proofs.TurnedInMinis.{grow-minis-lacks, grow-minis-others, grow-minis-room, grow-minis-starts, grow-minis-there, grow-minis-turned, not-held, not-in-stream}
 use Rattle.cfb_resizing.proofs.in_place.grow_in_minis.Goals as goal
@@ -136,3 +137,18 @@ returns-clause-enough g c =
     c.in_ok-ids.ids.items c.in_ok-ids.ids.items c.requires.stream c.requires.small c.requires.longer c.reserve.ensures.unchanged c.content_in-start.ensures.start
     c.content_in-start.ensures.len c.in_ok-ids.ensures.whole lacking in
     λ few. c.in_ok-reserve.ensures.enough (lacks.0 few)
+
+pub returns-in_err-ids-clause-header : goal.returns-in_err-ids-clause-header
+returns-in_err-ids-clause-header g c told = bytes-keep-header c.args.mini.now c.args.mini.now refl
+
+pub returns-then-not-has_minis-clause-header : goal.returns-then-not-has_minis-clause-header
+returns-then-not-has_minis-clause-header g c told = bytes-keep-header c.args.mini.now c.args.mini.now refl
+
+pub returns-in_err-reserve-clause-header : goal.returns-in_err-reserve-clause-header
+returns-in_err-reserve-clause-header g c told = header-stays c.args.mini.now _ c.reserve.ensures.unchanged
+
+pub returns-in_err-lengthen_in_minis-clause-header : goal.returns-in_err-lengthen_in_minis-clause-header
+returns-in_err-lengthen_in_minis-clause-header g c told = spared-since-keeps-header _ c.args.mini.now c.reserve.new.self c.lengthen_in_minis.new.mini c.reserve.ensures.unchanged (c.lengthen_in_minis.ensures.spares told)
+
+pub returns-clause-header : goal.returns-clause-header
+returns-clause-header g c told = spared-since-keeps-header _ c.args.mini.now c.reserve.new.self c.lengthen_in_minis.new.mini c.reserve.ensures.unchanged (c.lengthen_in_minis.ensures.spares told)

@@ -1,4 +1,4 @@
-use Rattle.std.proofs.Common.{◌-◌, length, subst, sym, arith}
+use Rattle.std.proofs.Common.{refl, ◌-◌, length, subst, sym, arith}
 use Rattle.std.proofs.lemmas.Result.{err_from_is_err_and}
 use Rattle.cfb_format.specs.Bytes.{sector_len}
 use Rattle.cfb_format.specs.Full.{rounded_up}
@@ -7,6 +7,7 @@ use Rattle.cfb_alloc.specs.ListedChain.{Lengthens}
 use Rattle.cfb_content.proofs.Kept.{nothing-is-moved}
 use Rattle.cfb_content.proofs.Refusals.{refused-as}
 use Rattle.cfb_content.proofs.WholeStreams.{not-whole}
+use Rattle.cfb_resizing.proofs.FixedHeader.{bytes-keep-header, table-keeps-header}
 use Rattle.cfb_resizing.proofs.Tightness.{lengthened-tight}
 use Rattle.cfb_resizing.proofs.TurnedInSectors.{grow-held, grow-lacks, grow-spares-others, grow-there, grow-turned, grown-is-kept, not-usable}
 use Rattle.cfb_resizing.proofs.in_place.grow_in_sectors.Goals as goal
@@ -90,3 +91,12 @@ returns-clause-kept_chain g c =
     grown-is-kept a.tables.version a.tables.fat a.file.len c.content_in-start.result.0 c.content_in-start.result.1 count c.in_ok-ids.ids.items c.lengthen_in_sectors.new.ids.items
     lent.tables c.lengthen_in_sectors.new.allocator.tables (omega (arith, c.requires.large, c.content_in-start.ensures.len)) c.in_ok-ids.ensures.whole
     c.in_ok-lengthen_in_sectors.ensures.lengthened c.lengthen_in_sectors.ensures.chain
+
+pub returns-in_err-ids-clause-header : goal.returns-in_err-ids-clause-header
+returns-in_err-ids-clause-header g c told = bytes-keep-header c.args.mini.now c.args.mini.now refl
+
+pub returns-in_err-lengthen_in_sectors-clause-header : goal.returns-in_err-lengthen_in_sectors-clause-header
+returns-in_err-lengthen_in_sectors-clause-header g c told = table-keeps-header _ c.args.mini.now c.allocator_mut.result.now c.lengthen_in_sectors.new.allocator c.allocator_mut.ensures.value (c.lengthen_in_sectors.ensures.spares told)
+
+pub returns-clause-header : goal.returns-clause-header
+returns-clause-header g c told = table-keeps-header _ c.args.mini.now c.allocator_mut.result.now c.lengthen_in_sectors.new.allocator c.allocator_mut.ensures.value (c.lengthen_in_sectors.ensures.spares told)

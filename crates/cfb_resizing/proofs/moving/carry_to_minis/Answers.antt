@@ -1,11 +1,11 @@
-use Rattle.std.proofs.Common.{◌<◌, ◌++◌, ℕ, List, [], ap, inl, inr, refl, sym, subst, arith, length}
+use Rattle.std.proofs.Common.{◌≡◌, ◌<◌, ◌++◌, ℕ, List, [], ap, inl, inr, refl, sym, ◌∙◌, subst, arith, length}
 use Rattle.std.specs.Prelude.{nat_eq}
 use Rattle.std.specs.List.{IsDistinct}
 use Rattle.std.proofs.lemmas.Result.{err_from_is_err_and}
 use Rattle.cfb_format.specs.Chain.{IsChain}
 use Rattle.cfb_tables.specs.Clean.{IsUnnamed}
 use Rattle.cfb_tables.specs.Listed.{ends_of, gained}
-use Rattle.cfb_tables.specs.Tables.{first_or_end}
+use Rattle.cfb_tables.specs.Tables.{TableState, first_or_end}
 use Rattle.std.proofs.lemmas.List.Elements.{Contains-append_right}
 use Rattle.cfb_alloc.specs.Alloc.{AllocatorState, IsUsable}
 use Rattle.cfb_alloc.proofs.Frames.{spares-less}
@@ -13,15 +13,15 @@ use Rattle.cfb_alloc.proofs.HeldOrder.{held-usable}
 use Rattle.cfb_alloc.specs.Frame.{Spares}
 use Rattle.cfb_alloc.proofs.Answering.{all_ok, on_ok}
 use Rattle.cfb_mini_table.specs.MiniTable.{TakesMini}
-use Rattle.cfb_mini_sectors.specs.State.{table_of}
+use Rattle.cfb_mini_sectors.specs.State.{MiniState, table_of, tables_in}
 use Rattle.cfb_mini_sectors.specs.Steps.{SparesMini, system_sectors}
 use Rattle.cfb_mini_sectors.specs.Held.{with_table}
 use Rattle.cfb_content.proofs.Refusals.{refused-as}
 use Rattle.cfb_resizing.proofs.BegunInSectors.{no-chain}
-use Rattle.cfb_resizing.proofs.CarriedToMinis.{begun-all, carried-around-all, carried-minis, carried-minis-all, carried-minis-both, carried-spares-all, carried-spares-both, carried-stops, carried-tight-all, came-free, given-held, given-lent, given-room, medium-stops, minis-placed, minis-stand}
+use Rattle.cfb_resizing.proofs.CarriedToMinis.{begun-all, broken-as-long, broken-keeps, carried-around-all, carried-minis, carried-minis-all, carried-minis-both, carried-spares-all, carried-spares-both, carried-stops, carried-tight-all, came-free, given-held, given-lent, given-room, medium-after, medium-stops, minis-placed, minis-stand}
 use Rattle.cfb_resizing.proofs.CarriedToSectors.{apart-spares-mini}
 use Rattle.cfb_resizing.proofs.LengthenedMinis.{not-both}
-use Rattle.cfb_resizing.proofs.Tightness.{file-mini}
+use Rattle.cfb_resizing.proofs.Tightness.{file-mini, file-system}
 use Rattle.cfb_resizing.proofs.moving.carry_to_minis.Goals as goal
 
 pub put_in_minis-requires : goal.put_in_minis-requires
@@ -116,6 +116,32 @@ pub returns-clause-tight : goal.returns-clause-tight
 returns-clause-tight g c =
     all_ok c.put_in_minis.result (carried-tight-all c.args.mini.now c.allocator_mut.result.now c.free_listed.new.self c.args.list.now c.allocator_mut.ensures.value c.in_ok-free_listed.ensures.freed
     c.extend_mini_listed.new.self c.put_in_minis.new.mini c.args.count c.extend_mini_listed.new.ids.items c.args.ids.now.items c.requires.fresh c.put_in_minis.ensures.kept (λ z. (c.extend_mini_listed.ensures.none z).1) c.in_ok-extend_mini_listed.ensures.grown)
+
+pub returns-in_err-free_listed-clause-first : goal.returns-in_err-free_listed-clause-first
+returns-in_err-free_listed-clause-first g c none =
+    let p = err_from_is_err_and c.from_residual.result c.from_residual.ensures.1 in
+    rw (p.1, p.2) (broken-keeps c.args.mini.now c.args.list.now c.allocator_mut.result.now c.free_listed.new.self c.in_err-free_listed.field-0.0 c.allocator_mut.ensures.value
+    c.in_err-free_listed.ensures.refused)
+
+pub returns-in_err-extend_mini_listed-clause-first : goal.returns-in_err-extend_mini_listed-clause-first
+returns-in_err-extend_mini_listed-clause-first g c none = absurd (c.in_err-extend_mini_listed.ensures.none none).0
+
+pub returns-clause-first : goal.returns-clause-first
+returns-clause-first g c none = medium-after c.put_in_minis.result (c.put_in_minis.new.mini ≡ c.args.mini.now) c.put_in_minis.ensures.err
+
+pub returns-in_err-free_listed-clause-takes_none : goal.returns-in_err-free_listed-clause-takes_none
+returns-in_err-free_listed-clause-takes_none g c none =
+    broken-as-long c.args.list.now c.allocator_mut.result.now c.free_listed.new.self c.in_err-free_listed.field-0.0 c.in_err-free_listed.ensures.refused
+    ∙ ap (λ (b : AllocatorState). length b.tables.fat) c.allocator_mut.ensures.value
+
+pub returns-in_err-extend_mini_listed-clause-takes_none : goal.returns-in_err-extend_mini_listed-clause-takes_none
+returns-in_err-extend_mini_listed-clause-takes_none g c none = absurd (c.in_err-extend_mini_listed.ensures.none none).0
+
+pub returns-clause-takes_none : goal.returns-clause-takes_none
+returns-clause-takes_none g c none =
+    ap (λ (t : TableState). length t.fat) (file-system c.extend_mini_listed.new.self c.extend_mini_listed.new.self c.put_in_minis.new.mini c.put_in_minis.ensures.kept).tables
+    ∙ ap (λ (m : MiniState). length (tables_in m).fat) (c.in_ok-extend_mini_listed.ensures.none none).1
+    ∙ c.in_ok-free_listed.ensures.freed.given.same_length ∙ ap (λ (b : AllocatorState). length b.tables.fat) c.allocator_mut.ensures.value
 
 pub returns-in_err-free_listed-clause-spares : goal.returns-in_err-free_listed-clause-spares
 returns-in_err-free_listed-clause-spares g c told =

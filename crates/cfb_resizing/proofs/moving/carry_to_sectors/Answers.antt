@@ -2,9 +2,9 @@ use Rattle.std.proofs.Common.{◌≡◌, ◌∙◌, ℕ, ap, sym, subst}
 use Rattle.cfb_format.specs.Refused.{CountsFailure}
 use Rattle.cfb_tables.specs.Tables.{IsTooFew, TableState}
 use Rattle.cfb_alloc.specs.Alloc.{AllocatorState, IsUsable}
-use Rattle.cfb_alloc.proofs.Answering.{on_both, on_ok}
+use Rattle.cfb_alloc.proofs.Answering.{all_ok, on_both, on_ok}
 use Rattle.cfb_mini_sectors.specs.State.{tables_in}
-use Rattle.cfb_resizing.proofs.CarriedToSectors.{carried-err, carried-held, carried-mini-spares, carried-padded, carried-refused, carried-spares, carried-tables, carried-tight, freed-held}
+use Rattle.cfb_resizing.proofs.CarriedToSectors.{carried-err, carried-held, carried-mini-spares, carried-padded, carried-refused, carried-spares, carried-tables, carried-tight, carried-zeros, freed-held}
 use Rattle.cfb_resizing.proofs.moving.carry_to_sectors.Goals as goal
 
 pub returns-clause-padded : goal.returns-clause-padded
@@ -31,6 +31,15 @@ returns-clause-holds g c told v held unnamed =
     on_both _ _ _ c.begin_in_sectors.result
     (λ tables sizes. carried-held s mid list lent a c.allocator_mut.ensures.value system v held' tables sizes (c.begin_in_sectors.ensures.spares told) (c.begin_in_sectors.ensures.header told))
     (c.begin_in_sectors.ensures.holds told v (carried-tables s mid list lent a c.allocator_mut.ensures.value system v held')) c.begin_in_sectors.ensures.sizes
+
+pub returns-clause-wiped : goal.returns-clause-wiped
+returns-clause-wiped g c told v held unnamed =
+    let s = c.args.mini.now in
+    let mid = c.cut_mini_listed.new.self in
+    let list = c.args.list.now.items in
+    let held' = freed-held s mid list v held unnamed (c.in_ok-cut_mini_listed.ensures.holds told v held) (λ few. (c.cut_mini_listed.ensures.none few).1) in
+    all_ok c.begin_in_sectors.result (carried-zeros s mid list c.allocator_mut.result.now c.begin_in_sectors.new.allocator c.allocator_mut.ensures.value c.cut_mini_listed.ensures.system
+    v held held' c.requires.chain (c.begin_in_sectors.ensures.spares told) c.begin_in_sectors.ensures.version (c.in_ok-cut_mini_listed.ensures.wiped told v held))
 
 pub returns-clause-spares : goal.returns-clause-spares
 returns-clause-spares g c told =

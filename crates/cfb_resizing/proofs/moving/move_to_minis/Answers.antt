@@ -1,9 +1,9 @@
-use Rattle.std.proofs.Common.{◌≡◌, ◌∙◌, ℕ, List, length, ap, sym, subst, arith}
+use Rattle.std.proofs.Common.{refl, ◌≡◌, ◌∙◌, ℕ, List, length, ap, sym, subst, arith}
 use Rattle.std.proofs.lemmas.Result.{err_from_is_err_and}
 use Rattle.cfb_format.specs.Full.{rounded_up}
 use Rattle.cfb_tables.specs.Changes.{AreDisjoint}
 use Rattle.cfb_tables.specs.Tables.{first_or_end}
-use Rattle.cfb_mini_sectors.specs.State.{HoldsMini, MiniState, bytes_of}
+use Rattle.cfb_mini_sectors.specs.State.{HoldsMini, MiniState, bytes_of, tables_in}
 use Rattle.cfb_mini_sectors.specs.Steps.{IsTooFewAfterFor, system_sectors}
 use Rattle.cfb_mini.specs.MiniSectors.{IsStill}
 use Rattle.cfb_mini.proofs.MiniExtended.{invalid-refused}
@@ -14,6 +14,8 @@ use Rattle.cfb_content.proofs.Refusals.{refused-as}
 use Rattle.cfb_content.proofs.StreamEntry.{stream-inside}
 use Rattle.cfb_content.proofs.WholeStreams.{not-whole}
 use Rattle.cfb_resizing.specs.Turning.{KeepsAround, StopsOrBegun, Turns}
+use Rattle.cfb_resizing.proofs.FixedHeader.{bytes-keep-header, header-stays, spared-since-keeps-header}
+use Rattle.cfb_resizing.proofs.CarriedToMinis.{after-then, kept-after}
 use Rattle.cfb_resizing.proofs.MovedToMinis.{few-still, leave-apart, leave-asked, leave-lacks, leave-others, leave-some, leave-turned, still-same}
 use Rattle.cfb_resizing.proofs.MovedToSectors.{still-around, still-kept, still-stops, still-tight}
 use Rattle.cfb_resizing.proofs.TurnedInMinis.{not-held}
@@ -49,6 +51,54 @@ returns-in_err-clone-clause-others g c told v change =
 pub returns-in_err-ids-clause-others : goal.returns-in_err-ids-clause-others
 returns-in_err-ids-clause-others g c told v change =
     subst (λ (m : MiniState). KeepsOthers c.args.entry c.args.mini.now m) (sym c.reserve.ensures.unchanged) (nothing-is-moved c.args.entry c.args.mini.now)
+
+pub returns-in_err-reserve-clause-takes_none : goal.returns-in_err-reserve-clause-takes_none
+returns-in_err-reserve-clause-takes_none g c none = ap (λ (m : MiniState). length (tables_in m).fat) c.reserve.ensures.unchanged
+
+pub returns-in_err-check_growth-clause-takes_none : goal.returns-in_err-check_growth-clause-takes_none
+returns-in_err-check_growth-clause-takes_none g c none = ap (λ (m : MiniState). length (tables_in m).fat) c.reserve.ensures.unchanged
+
+pub returns-in_err-clone-clause-takes_none : goal.returns-in_err-clone-clause-takes_none
+returns-in_err-clone-clause-takes_none g c none = ap (λ (m : MiniState). length (tables_in m).fat) c.reserve.ensures.unchanged
+
+pub returns-in_err-ids-clause-takes_none : goal.returns-in_err-ids-clause-takes_none
+returns-in_err-ids-clause-takes_none g c none = ap (λ (m : MiniState). length (tables_in m).fat) c.reserve.ensures.unchanged
+
+pub returns-in_err-content-clause-takes_none : goal.returns-in_err-content-clause-takes_none
+returns-in_err-content-clause-takes_none g c none =
+    ap (λ (m : MiniState). length (tables_in m).fat) c.taken_from_sectors.ensures.kept ∙ ap (λ (m : MiniState). length (tables_in m).fat) c.reserve.ensures.unchanged
+
+pub returns-in_err-carry_to_minis-clause-takes_none : goal.returns-in_err-carry_to_minis-clause-takes_none
+returns-in_err-carry_to_minis-clause-takes_none g c none =
+    c.carry_to_minis.ensures.takes_none (omega (arith, c.div_ceil-count.ensures, none))
+    ∙ ap (λ (m : MiniState). length (tables_in m).fat) c.taken_from_sectors.ensures.kept ∙ ap (λ (m : MiniState). length (tables_in m).fat) c.reserve.ensures.unchanged
+
+pub returns-clause-takes_none : goal.returns-clause-takes_none
+returns-clause-takes_none g c none =
+    c.carry_to_minis.ensures.takes_none (omega (arith, c.div_ceil-count.ensures, none))
+    ∙ ap (λ (m : MiniState). length (tables_in m).fat) c.taken_from_sectors.ensures.kept ∙ ap (λ (m : MiniState). length (tables_in m).fat) c.reserve.ensures.unchanged
+
+pub returns-in_err-reserve-clause-first : goal.returns-in_err-reserve-clause-first
+returns-in_err-reserve-clause-first g c told none =
+    let p = err_from_is_err_and c.from_residual-in_err-reserve.result c.from_residual-in_err-reserve.ensures.1 in
+    rw (p.1, p.2) (kept-after c.args.mini.now c.reserve.new.self c.in_err-reserve.field-0.0 c.reserve.ensures.unchanged)
+
+pub returns-in_err-check_growth-clause-first : goal.returns-in_err-check_growth-clause-first
+returns-in_err-check_growth-clause-first g c told none =
+    let p = err_from_is_err_and c.from_residual-in_err-check_growth.result c.from_residual-in_err-check_growth.ensures.1 in
+    rw (p.1, p.2) (kept-after c.args.mini.now c.reserve.new.self c.in_err-check_growth.field-0.0 c.reserve.ensures.unchanged)
+
+pub returns-in_err-content-clause-first : goal.returns-in_err-content-clause-first
+returns-in_err-content-clause-first g c told none =
+    let p = err_from_is_err_and c.from_residual-in_err-content.result c.from_residual-in_err-content.ensures.1 in
+    rw (p.1, p.2) (after-then c.args.mini.now c.reserve.new.self c.taken_from_sectors.new.mini c.in_err-content.field-0.0 c.reserve.ensures.unchanged
+    c.in_err-content.ensures.refused)
+
+pub returns-in_err-carry_to_minis-clause-first : goal.returns-in_err-carry_to_minis-clause-first
+returns-in_err-carry_to_minis-clause-first g c told none =
+    let p = err_from_is_err_and c.from_residual-in_err-carry_to_minis.result c.from_residual-in_err-carry_to_minis.ensures.1 in
+    rw (p.1, p.2) (after-then c.args.mini.now c.taken_from_sectors.new.mini c.carry_to_minis.new.mini c.in_err-carry_to_minis.field-0.0
+    (c.in_ok-content.ensures.same told ∙ c.reserve.ensures.unchanged) (c.in_err-carry_to_minis.ensures.first (omega (arith, c.div_ceil-count.ensures, none))))
 
 pub returns-in_err-check_growth-clause-around : goal.returns-in_err-check_growth-clause-around
 returns-in_err-check_growth-clause-around g c =
@@ -214,3 +264,35 @@ returns-clause-enough g c lacking =
     c.allocator.result.now c.in_ok-old.old.items c.requires.stream c.requires.large c.requires.small c.allocator.ensures c.content_in-start.ensures.start c.content_in-start.ensures.len
     c.in_ok-old.ensures.whole wanted in
     c.in_ok-reserve.ensures.enough (subst (λ n. IsTooFewAfterFor c.args.mini.now n c.div_ceil-count.result) (sym long) (lacks.0 lacking))
+
+pub returns-in_err-old-clause-header : goal.returns-in_err-old-clause-header
+returns-in_err-old-clause-header g c told = bytes-keep-header c.args.mini.now c.args.mini.now refl
+
+pub returns-in_err-reserve-clause-header : goal.returns-in_err-reserve-clause-header
+returns-in_err-reserve-clause-header g c told = header-stays c.args.mini.now _ c.reserve.ensures.unchanged
+
+pub returns-in_err-check_growth-clause-header : goal.returns-in_err-check_growth-clause-header
+returns-in_err-check_growth-clause-header g c told = header-stays c.args.mini.now _ c.reserve.ensures.unchanged
+
+pub returns-in_err-clone-clause-header : goal.returns-in_err-clone-clause-header
+returns-in_err-clone-clause-header g c told = header-stays c.args.mini.now _ c.reserve.ensures.unchanged
+
+pub returns-in_err-ids-clause-header : goal.returns-in_err-ids-clause-header
+returns-in_err-ids-clause-header g c told = header-stays c.args.mini.now _ c.reserve.ensures.unchanged
+
+pub returns-in_err-content-clause-header : goal.returns-in_err-content-clause-header
+returns-in_err-content-clause-header g c told =
+    let first = c.reserve.ensures.unchanged in
+    bytes-keep-header c.args.mini.now c.taken_from_sectors.new.mini (c.taken_from_sectors.ensures.bytes told ∙ ap bytes_of first)
+
+pub returns-in_err-carry_to_minis-clause-header : goal.returns-in_err-carry_to_minis-clause-header
+returns-in_err-carry_to_minis-clause-header g c told =
+    let first = c.reserve.ensures.unchanged in
+    let same = c.in_ok-content.ensures.same told ∙ first in
+    spared-since-keeps-header _ c.args.mini.now c.taken_from_sectors.new.mini c.carry_to_minis.new.mini same (c.carry_to_minis.ensures.spares told)
+
+pub returns-clause-header : goal.returns-clause-header
+returns-clause-header g c told =
+    let first = c.reserve.ensures.unchanged in
+    let same = c.in_ok-content.ensures.same told ∙ first in
+    spared-since-keeps-header _ c.args.mini.now c.taken_from_sectors.new.mini c.carry_to_minis.new.mini same (c.carry_to_minis.ensures.spares told)

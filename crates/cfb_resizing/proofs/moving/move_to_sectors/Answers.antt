@@ -1,4 +1,4 @@
-use Rattle.std.proofs.Common.{◌∙◌, ap, sym, subst}
+use Rattle.std.proofs.Common.{refl, ◌∙◌, ap, sym, subst}
 use Rattle.std.proofs.lemmas.Result.{err_from_is_err_and}
 use Rattle.cfb_tables.specs.Tables.{first_or_end}
 use Rattle.cfb_alloc.specs.Alloc.{AllocatorState}
@@ -11,6 +11,7 @@ use Rattle.cfb_content.proofs.Refusals.{refused-as}
 use Rattle.cfb_content.proofs.StreamEntry.{stream-inside}
 use Rattle.cfb_content.proofs.WholeStreams.{not-whole-minis}
 use Rattle.cfb_resizing.specs.Turning.{StopsOrBegun, Turns}
+use Rattle.cfb_resizing.proofs.FixedHeader.{bytes-keep-header, header-stays, spared-since-keeps-header}
 use Rattle.cfb_resizing.proofs.MovedToSectors.{move-held, move-lacks, move-others, move-starts, move-turned, still-around, still-kept, still-stops, still-tight}
 use Rattle.cfb_resizing.proofs.TurnedInSectors.{not-usable}
 use Rattle.cfb_resizing.proofs.moving.move_to_sectors.Goals as goal
@@ -110,7 +111,8 @@ returns-clause-turned g c told v change =
     c.carry_to_sectors.new.ids.items c.deref-2.result.now c.in_ok-content.content.items c.deref.result.now (with_table c.args.mini.now c.reserve.new.self) same first
     c.deref.ensures.value c.deref-2.ensures.value v change c.in_ok-carry_to_sectors.ensures.freed c.in_ok-carry_to_sectors.ensures.lengthened
     c.carry_to_sectors.ensures.minifat_sectors c.carry_to_sectors.ensures.mini_stream c.carry_to_sectors.ensures.around c.in_ok-carry_to_sectors.ensures.chain
-    (c.in_ok-carry_to_sectors.ensures.holds told v) c.in_ok-content.ensures.len (c.in_ok-content.ensures.got told) (c.in_ok-carry_to_sectors.ensures.padded told v))
+    (c.in_ok-carry_to_sectors.ensures.holds told v) c.in_ok-content.ensures.len (c.in_ok-content.ensures.got told) (c.in_ok-carry_to_sectors.ensures.padded told v)
+    (c.in_ok-carry_to_sectors.ensures.wiped told v))
 
 pub returns-clause-holds : goal.returns-clause-holds
 returns-clause-holds g c told v change =
@@ -147,3 +149,32 @@ returns-clause-enough g c =
     c.sector_len.result c.in_ok-old.old.items c.requires.stream c.requires.small c.requires.large c.content_in-start.ensures.start c.content_in-start.ensures.len c.in_ok-old.ensures.whole
     c.sector_len.ensures c.div_ceil-count.ensures c.allocator_mut.result.now c.allocator_mut.ensures.value in
     λ few. c.in_ok-reserve.ensures.enough (lacks.0 few)
+
+pub returns-in_err-old-clause-header : goal.returns-in_err-old-clause-header
+returns-in_err-old-clause-header g c told = bytes-keep-header c.args.mini.now c.args.mini.now refl
+
+pub returns-in_err-reserve-clause-header : goal.returns-in_err-reserve-clause-header
+returns-in_err-reserve-clause-header g c told = header-stays c.args.mini.now _ (ap (λ (b : AllocatorState). with_table c.args.mini.now b) (c.reserve.ensures.unchanged ∙ c.allocator_mut.ensures.value))
+
+pub returns-in_err-clone-clause-header : goal.returns-in_err-clone-clause-header
+returns-in_err-clone-clause-header g c told = header-stays c.args.mini.now _ (ap (λ (b : AllocatorState). with_table c.args.mini.now b) (c.reserve.ensures.unchanged ∙ c.allocator_mut.ensures.value))
+
+pub returns-in_err-ids-clause-header : goal.returns-in_err-ids-clause-header
+returns-in_err-ids-clause-header g c told = header-stays c.args.mini.now _ (ap (λ (b : AllocatorState). with_table c.args.mini.now b) (c.reserve.ensures.unchanged ∙ c.allocator_mut.ensures.value))
+
+pub returns-in_err-content-clause-header : goal.returns-in_err-content-clause-header
+returns-in_err-content-clause-header g c told =
+    let first = ap (λ (b : AllocatorState). with_table c.args.mini.now b) (c.reserve.ensures.unchanged ∙ c.allocator_mut.ensures.value) in
+    bytes-keep-header c.args.mini.now c.taken_from_minis.new.mini (c.taken_from_minis.ensures.bytes told ∙ ap bytes_of first)
+
+pub returns-in_err-carry_to_sectors-clause-header : goal.returns-in_err-carry_to_sectors-clause-header
+returns-in_err-carry_to_sectors-clause-header g c told =
+    let first = ap (λ (b : AllocatorState). with_table c.args.mini.now b) (c.reserve.ensures.unchanged ∙ c.allocator_mut.ensures.value) in
+    let same = c.in_ok-content.ensures.same told ∙ first in
+    spared-since-keeps-header _ c.args.mini.now c.taken_from_minis.new.mini c.carry_to_sectors.new.mini same (c.carry_to_sectors.ensures.spares told)
+
+pub returns-clause-header : goal.returns-clause-header
+returns-clause-header g c told =
+    let first = ap (λ (b : AllocatorState). with_table c.args.mini.now b) (c.reserve.ensures.unchanged ∙ c.allocator_mut.ensures.value) in
+    let same = c.in_ok-content.ensures.same told ∙ first in
+    spared-since-keeps-header _ c.args.mini.now c.taken_from_minis.new.mini c.carry_to_sectors.new.mini same (c.carry_to_sectors.ensures.spares told)

@@ -13,7 +13,7 @@ use Rattle.cfb_content.proofs.Outlines.{stream-stays}
 use Rattle.cfb_content.proofs.Readable.{whole-of}
 use Rattle.cfb_content.proofs.Refusals.{refused-as}
 use Rattle.cfb_content.proofs.StreamEntry.{stream-inside}
-use Rattle.cfb_resizing.proofs.PutBehind.{appended, filed-entries, filed-tables, filed-used}
+use Rattle.cfb_resizing.proofs.PutBehind.{appended, filed-entries, filed-sized, filed-tables, filed-used}
 use Rattle.cfb_resizing.proofs.putting.append_content.Goals as goal
 
 pub content_in-len-requires : goal.content_in-len-requires
@@ -72,6 +72,10 @@ returns-clause-holds g c told v change = c.in_ok-write_listed.ensures.holds told
 pub returns-clause-owned : goal.returns-clause-owned
 returns-clause-owned g c told v change all =
     filed-used c.grow_content.new.mini c.write_listed.new.mini c.in_ok-write_listed.ensures.rest (c.in_ok-grown.ensures.owned told v change all)
+
+pub returns-clause-sized : goal.returns-clause-sized
+returns-clause-sized g c told v change =
+    filed-sized c.grow_content.new.mini c.write_listed.new.mini c.in_ok-write_listed.ensures.rest c.args.mini.now c.args.entry (c.in_ok-grown.ensures.sized told v change)
 
 pub returns-clause-stays_full : goal.returns-clause-stays_full
 returns-clause-stays_full g c told v change none =

@@ -1,4 +1,4 @@
-use Rattle.std.proofs.Common.{◌≡◌, List, sym, ◌∙◌, ap, subst, take, arith}
+use Rattle.std.proofs.Common.{◌≡◌, List, refl, sym, ◌∙◌, ap, subst, take, arith}
 use Rattle.std.specs.Prelude.{IfOk}
 use Rattle.std.proofs.lemmas.List.{length-take}
 use Rattle.cfb_format.specs.DirectoryEntry.{Entry}
@@ -11,8 +11,9 @@ use Rattle.cfb_content.specs.Contents.{len_of}
 use Rattle.cfb_content.proofs.Kept.{nothing-is-moved}
 use Rattle.cfb_content.proofs.Readable.{whole-of}
 use Rattle.cfb_content.proofs.Rewritten.{written-none}
+use Rattle.cfb_content.proofs.Snug.{same-is-sized}
 use Rattle.cfb_content.proofs.StreamEntry.{stream-inside}
-use Rattle.cfb_resizing.proofs.PutBehind.{filed-entries, filed-tables, filed-used}
+use Rattle.cfb_resizing.proofs.PutBehind.{filed-entries, filed-sized, filed-tables, filed-used}
 use Rattle.cfb_resizing.proofs.putting.put_content.Goals as goal
 
 pub content_in-len-requires : goal.content_in-len-requires
@@ -29,6 +30,10 @@ returns-then-is_empty-clause-content g c told v change =
 
 pub returns-then-is_empty-clause-others : goal.returns-then-is_empty-clause-others
 returns-then-is_empty-clause-others g c told v change = nothing-is-moved c.args.entry c.args.mini.now
+
+pub returns-then-is_empty-clause-sized : goal.returns-then-is_empty-clause-sized
+returns-then-is_empty-clause-sized g c told v change =
+    same-is-sized v c.args.mini.now c.args.mini.now c.args.entry change c.requires.stream refl refl refl refl
 
 -- ---- at the end
 
@@ -54,6 +59,12 @@ returns-clause-holds g c told v change = c.in_ok-write_content.ensures.holds tol
 
 pub returns-clause-owned : goal.returns-clause-owned
 returns-clause-owned g c told v change all = filed-used c.args.mini.now c.write_content.new.mini c.in_ok-write_content.ensures.rest all
+
+pub returns-clause-sized : goal.returns-clause-sized
+returns-clause-sized g c told v change =
+    let s = c.args.mini.now in
+    filed-sized s c.write_content.new.mini c.in_ok-write_content.ensures.rest s c.args.entry
+    (same-is-sized v s s c.args.entry change c.requires.stream refl refl refl refl)
 
 pub returns-clause-stays_full : goal.returns-clause-stays_full
 returns-clause-stays_full g c told v change none =

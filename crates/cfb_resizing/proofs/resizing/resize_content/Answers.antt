@@ -1,4 +1,4 @@
-use Rattle.std.proofs.Common.{◌≡◌, ◌<◌, ◌≤◌, ℕ, List, false, true, sym, ◌∙◌, ap, subst, length}
+use Rattle.std.proofs.Common.{refl, ◌≡◌, ◌<◌, ◌≤◌, ℕ, List, false, true, sym, ◌∙◌, ap, subst, length}
 use Rattle.std.specs.Prelude.{IsTrue, OnOk}
 use Rattle.std.proofs.lemmas.Result.{err_from_is_err_and, on_ok_weaker}
 use Rattle.cfb_format.specs.declared.validate.Validation.{Validation}
@@ -21,8 +21,11 @@ use Rattle.cfb_content.proofs.Outlines.{moved-root-moved, stream-is-no-root, str
 use Rattle.cfb_content.proofs.Readable.{whole-of}
 use Rattle.cfb_content.proofs.Refusals.{invalid-refused, refused-as}
 use Rattle.cfb_content.proofs.Rewritten.{resized-same}
+use Rattle.cfb_content.proofs.Snug.{same-is-sized}
 use Rattle.cfb_content.proofs.Sound.{all-used-kept, changed-is-changeable}
 use Rattle.cfb_content.proofs.StreamEntry.{stream-inside}
+use Rattle.cfb_resizing.proofs.FixedHeader.{bytes-keep-header, header-then, spared-keeps-header}
+use Rattle.cfb_resizing.proofs.CarriedToMinis.{kept-after, medium-after}
 use Rattle.cfb_resizing.proofs.Named.{WasNamed, moves-then, named-changes, named-keeps-others, placed-stays}
 use Rattle.cfb_resizing.proofs.Tightness.{turned-stays-full}
 use Rattle.cfb_resizing.proofs.Turned.{WasTurned, always-on-ok, turned, turned-whole}
@@ -42,10 +45,20 @@ returns-then-size-len-clause-content g c told validation change =
 pub returns-then-size-len-clause-others : goal.returns-then-size-len-clause-others
 returns-then-size-len-clause-others g c told validation change = nothing-is-moved c.args.entry c.args.mini.now
 
+pub returns-then-size-len-clause-sized : goal.returns-then-size-len-clause-sized
+returns-then-size-len-clause-sized g c told validation change =
+    same-is-sized validation c.args.mini.now c.args.mini.now c.args.entry change c.requires.stream refl refl refl refl
+
+pub returns-then-size-len-clause-wiped : goal.returns-then-size-len-clause-wiped
+returns-then-size-len-clause-wiped g c told validation change m c' out = absurd (out c')
+
 -- ---- no slot for each entry
 
 pub returns-then-not-is_placed-clause-others : goal.returns-then-not-is_placed-clause-others
 returns-then-not-is_placed-clause-others g c told validation change = nothing-is-moved c.args.entry c.args.mini.now
+
+pub returns-then-not-is_placed-clause-first : goal.returns-then-not-is_placed-clause-first
+returns-then-not-is_placed-clause-first g c told none = kept-after c.args.mini.now c.args.mini.now c.unplaced.result refl
 
 pub returns-then-not-is_placed-clause-err : goal.returns-then-not-is_placed-clause-err
 returns-then-not-is_placed-clause-err g c =
@@ -119,6 +132,12 @@ pub returns-clause-entries : goal.returns-clause-entries
 returns-clause-entries g c =
     moves-then c.args.mini.now c.turn.new.mini c.name_content.new.mini c.args.entry c.requires.stream c.turn.ensures.around c.name_content.ensures.entries
 
+pub returns-clause-first : goal.returns-clause-first
+returns-clause-first g c told none = medium-after c.name_content.result (c.name_content.new.mini ≡ c.args.mini.now) c.name_content.ensures.err
+
+pub returns-clause-takes_none : goal.returns-clause-takes_none
+returns-clause-takes_none g c none = ap (λ (t : TableState). length t.fat) c.name_content.ensures.system.tables ∙ c.turn.ensures.takes_none none
+
 pub returns-clause-few : goal.returns-clause-few
 returns-clause-few g c shorter large =
     let count = c.in_ok-start.ensures.few shorter large in
@@ -136,6 +155,12 @@ returns-clause-few_minis g c shorter small =
     (subst (λ (t : List ℕ). IsChain t c.in_ok-start.start list) c.name_content.ensures.mini.minifat
     (subst (λ n. IsChain c.name_content.new.mini.minifat n list) (ap (λ e. e.start_sector) at) chain)))
     c.name_content.ensures.named
+
+pub returns-clause-sized : goal.returns-clause-sized
+returns-clause-sized g c told validation change = on_ok_weaker c.name_content.result (λ t. t.1.sized) (turned-then g c told validation change)
+
+pub returns-clause-wiped : goal.returns-clause-wiped
+returns-clause-wiped g c told validation change = on_ok_weaker c.name_content.result (λ t. t.1.wiped) (turned-then g c told validation change)
 
 pub returns-clause-content : goal.returns-clause-content
 returns-clause-content g c told validation change = on_ok_weaker c.name_content.result (λ t. t.1.content) (turned-then g c told validation change)
@@ -186,3 +211,14 @@ returns-clause-enough g c differs validation held =
     (enough-is-not-too-long validation s c.args.entry c.args.size held
     (subst (λ (a : AllocatorState). a.tables.max_sectors ≤ max_regular_sector) c.allocator.ensures c.max_sectors.ensures.limited) c.minifat_len.ensures.short
     (c.in_ok-start.ensures.enough validation held))
+
+pub returns-then-size-len-clause-header : goal.returns-then-size-len-clause-header
+returns-then-size-len-clause-header g c told = bytes-keep-header c.args.mini.now c.args.mini.now refl
+
+pub returns-then-not-is_placed-clause-header : goal.returns-then-not-is_placed-clause-header
+returns-then-not-is_placed-clause-header g c told = bytes-keep-header c.args.mini.now c.args.mini.now refl
+
+pub returns-clause-header : goal.returns-clause-header
+returns-clause-header g c told =
+    header-then c.args.mini.now c.turn.new.mini c.name_content.new.mini c.turn.ensures.around.limits.version (c.turn.ensures.header told)
+    (spared-keeps-header _ c.turn.new.mini c.name_content.new.mini (c.name_content.ensures.spares told))

@@ -1,4 +1,4 @@
-use Rattle.cfb_rules.proofs.CallBreaks.{root_len_stays}
+use Rattle.cfb_rules.proofs.CallBreaks.{refused_keep_all, root_len_stays}
 use Rattle.cfb_rules.proofs.OthersStay.{others_stay, unnamed_stay}
 use Rattle.cfb_rules.proofs.laws.others_stay.Goals as goal
 
@@ -10,3 +10,6 @@ returns-clause-unnamed c = unnamed_stay
 
 pub returns-clause-root_len : goal.returns-clause-root_len
 returns-clause-root_len c = root_len_stays
+
+pub returns-clause-refused : goal.returns-clause-refused
+returns-clause-refused c = refused_keep_all

@@ -7,8 +7,8 @@ use Rattle.cfb_format.specs.Bytes.{sector_len}
 use Rattle.cfb_codecs.specs.EntryModel.{entry_of}
 use Rattle.cfb_format.specs.Siblings.{entry_at}
 use Rattle.cfb_format.specs.Soundness.{mini_stream_sectors, KeepsLoose}
-use Rattle.cfb_soundness.specs.Marks.{Holds}
-use Rattle.cfb_soundness.specs.Parts.{reading_of, tables_and_directory}
+use Rattle.cfb_soundness.specs.Marks.{HoldsMarks}
+use Rattle.cfb_soundness.specs.Parts.{parts_reading, tables_and_directory}
 use Rattle.cfb_soundness.specs.Streams.{own_sectors, own_mini_sectors, StreamsFit}
 use Rattle.cfb_soundness.proofs.Decision.{known-parts, decided-sound, decided-parts}
 use Rattle.cfb_soundness.proofs.MarkLemmas.{true_false, fresh-from, holds-more}
@@ -28,7 +28,7 @@ pub returns-then-not-mark_tables-clause-exact : goal.returns-then-not-mark_table
 returns-then-not-mark_tables-clause-exact g c = λ cases bytes r reads are. (
   λ h. let f : false ≡ true = h in cc,
   λ sound.
-      let r0 = reading_of c.args.parts.now in
+      let r0 = parts_reading c.args.parts.now in
       let s = decided-parts c.args.parts.now cases bytes r reads are sound in
       let k = known-parts c.args.parts.now cases bytes r reads are in
       absurd (c.mark_tables.ensures.refused c.if-not-mark_tables.true c.requires.unmarked
@@ -41,7 +41,7 @@ pub returns-in_default-clause-exact : goal.returns-in_default-clause-exact
 returns-in_default-clause-exact g c = λ cases bytes r reads are. (
   λ h. let f : false ≡ true = h in cc,
   λ sound.
-      let r0 = reading_of c.args.parts.now in
+      let r0 = parts_reading c.args.parts.now in
       let s = decided-parts c.args.parts.now cases bytes r reads are sound in
       let k = known-parts c.args.parts.now cases bytes r reads are in
       let root = some-is (mini_stream_chain r0) s.mini_stream in
@@ -58,7 +58,7 @@ pub returns-then-not-has_room-clause-exact : goal.returns-then-not-has_room-clau
 returns-then-not-has_room-clause-exact g c = λ cases bytes r reads are. (
   λ h. let f : false ≡ true = h in cc,
   λ sound.
-      let r0 = reading_of c.args.parts.now in
+      let r0 = parts_reading c.args.parts.now in
       let s = decided-parts c.args.parts.now cases bytes r reads are sound in
       let root = c.in-Some.root.items in
       let chain : mini_stream_chain r0 ≡ Some root = rw c.in-Some.is at c.in_ok-root.ensures.chain in
@@ -71,13 +71,13 @@ pub returns-then-not-branch-clause-exact : goal.returns-then-not-branch-clause-e
 returns-then-not-branch-clause-exact g c = λ cases bytes r reads are. (
   λ h. let f : false ≡ true = h in cc,
   λ sound.
-      let r0 = reading_of c.args.parts.now in
+      let r0 = parts_reading c.args.parts.now in
       let s = decided-parts c.args.parts.now cases bytes r reads are sound in
       let root = c.in-Some.root.items in
       let chain : mini_stream_chain r0 ≡ Some root = rw c.in-Some.is at c.in_ok-root.ensures.chain in
       let is : mini_stream_sectors r0 ≡ root = ap (λ (o : Option (List ℕ)). unwrap_or o []) chain in
       let tables = c.mark_tables.ensures.marked c.if-not-mark_tables.false c.requires.unmarked in
-      let base : Holds (tables_and_directory r0 ++ root) c.mark_mini_stream.new.marks =
+      let base : HoldsMarks (tables_and_directory r0 ++ root) c.mark_mini_stream.new.marks =
       holds-more (tables_and_directory r0) root c.mark_tables.new.marks c.mark_mini_stream.new.marks tables
       (rw c.in-Some.is at c.in_ok-root.ensures.fresh) (rw c.in-Some.is at c.in_ok-root.ensures.marked) in
       let fit = subst (λ (z : List ℕ). StreamsFit bytes r0 c.args.parts.now.streams.now (tables_and_directory r0 ++ z) []) is s.fit in
@@ -88,35 +88,35 @@ pub returns-then-not-keeps_loose-clause-exact : goal.returns-then-not-keeps_loos
 returns-then-not-keeps_loose-clause-exact g c = λ cases bytes r reads are. (
   λ h. let f : false ≡ true = h in cc,
   λ sound.
-      let r0 = reading_of c.args.parts.now in
+      let r0 = parts_reading c.args.parts.now in
       let s = decided-parts c.args.parts.now cases bytes r reads are sound in
       let root = c.in-Some.root.items in
       let chain : mini_stream_chain r0 ≡ Some root = rw c.in-Some.is at c.in_ok-root.ensures.chain in
       let is : mini_stream_sectors r0 ≡ root = ap (λ (o : Option (List ℕ)). unwrap_or o []) chain in
       let tables = c.mark_tables.ensures.marked c.if-not-mark_tables.false c.requires.unmarked in
-      let base : Holds (tables_and_directory r0 ++ root) c.mark_mini_stream.new.marks =
+      let base : HoldsMarks (tables_and_directory r0 ++ root) c.mark_mini_stream.new.marks =
       holds-more (tables_and_directory r0) root c.mark_tables.new.marks c.mark_mini_stream.new.marks tables
       (rw c.in-Some.is at c.in_ok-root.ensures.fresh) (rw c.in-Some.is at c.in_ok-root.ensures.marked) in
       let used : List ℕ = tables_and_directory r0 ++ root ++ flat_map (λ i. own_sectors r0 (entry_at r0.entries i)) c.args.parts.now.streams.now in
-      let all : Holds used c.mark_streams.new.marks = c.in_ok-mark_streams.ensures.marked (tables_and_directory r0 ++ root) base c.if-not-branch.false in
+      let all : HoldsMarks used c.mark_streams.new.marks = c.in_ok-mark_streams.ensures.marked (tables_and_directory r0 ++ root) base c.if-not-branch.false in
       let loose : KeepsLoose r0.fat used = subst (λ (z : List ℕ). KeepsLoose r0.fat (tables_and_directory r0 ++ z ++ flat_map (λ i. own_sectors r0 (entry_at r0.entries i)) c.args.parts.now.streams.now)) is s.loose in
       absurd (true_false _ ((c.keeps_loose.ensures used all).1 loose) c.if-not-keeps_loose.true),
 )
 
 pub returns-clause-exact : goal.returns-clause-exact
 returns-clause-exact g c = λ cases bytes r reads are.
-    let r0 = reading_of c.args.parts.now in
+    let r0 = parts_reading c.args.parts.now in
     let root = c.in-Some.root.items in
     let chain : mini_stream_chain r0 ≡ Some root = rw c.in-Some.is at c.in_ok-root.ensures.chain in
     let is : mini_stream_sectors r0 ≡ root = ap (λ (o : Option (List ℕ)). unwrap_or o []) chain in
     let tables = c.mark_tables.ensures.marked c.if-not-mark_tables.false c.requires.unmarked in
-    let base : Holds (tables_and_directory r0 ++ root) c.mark_mini_stream.new.marks =
+    let base : HoldsMarks (tables_and_directory r0 ++ root) c.mark_mini_stream.new.marks =
     holds-more (tables_and_directory r0) root c.mark_tables.new.marks c.mark_mini_stream.new.marks tables
     (rw c.in-Some.is at c.in_ok-root.ensures.fresh) (rw c.in-Some.is at c.in_ok-root.ensures.marked) in
     let used : List ℕ = tables_and_directory r0 ++ root ++ flat_map (λ i. own_sectors r0 (entry_at r0.entries i)) c.args.parts.now.streams.now in
-    let all : Holds used c.mark_streams.new.marks = c.in_ok-mark_streams.ensures.marked (tables_and_directory r0 ++ root) base c.if-not-branch.false in
+    let all : HoldsMarks used c.mark_streams.new.marks = c.in_ok-mark_streams.ensures.marked (tables_and_directory r0 ++ root) base c.if-not-branch.false in
     let mini_used : List ℕ = flat_map (λ i. own_mini_sectors r0 (entry_at r0.entries i)) c.args.parts.now.streams.now in
-    let all_mini : Holds mini_used c.mark_streams.new.mini_marks = c.in_ok-mark_streams.ensures.mini_marked [] c.requires.mini_unmarked c.if-not-branch.false in
+    let all_mini : HoldsMarks mini_used c.mark_streams.new.mini_marks = c.in_ok-mark_streams.ensures.mini_marked [] c.requires.mini_unmarked c.if-not-branch.false in
     let fit = (c.in_ok-mark_streams.ensures.fit bytes (tables_and_directory r0 ++ root) [] (sym are.len) base c.requires.mini_unmarked).0 c.if-not-branch.false in
     let size : c.len.result ≡ length (mini_stream_sectors r0) = let n = c.len.ensures in let k = c.in-Some.root.ok.0 in let m = ap length is in omega (arith, n, k, m) in
     let room = c.has_room.ensures.0 c.if-not-has_room.false in (

@@ -4,7 +4,7 @@ use Rattle.std.proofs.lemmas.Bool.{eqb-false}
 use Rattle.cfb_format.specs.DirectoryEntry.{Entry}
 use Rattle.cfb_codecs.specs.EntryModel.{entry_of}
 use Rattle.cfb_format.proofs.Chains.{chain_from-IsChain}
-use Rattle.cfb_soundness.specs.Parts.{reading_of}
+use Rattle.cfb_soundness.specs.Parts.{parts_reading}
 use Rattle.cfb_soundness.proofs.MarkLemmas.{fresh-none}
 use Rattle.cfb_soundness.proofs.StreamLemmas.{entry-there}
 use Rattle.cfb_soundness.proofs.TableLemmas.{IfOk-map, IfSome-map, IfNone-map, root-chain}
@@ -16,7 +16,7 @@ returns-then-root-gt-MAX_REGULAR_SECTOR-clause-fresh g c = rw c.new.ensures.item
 
 pub returns-clause-chain : goal.returns-clause-chain
 returns-clause-chain g c =
-    let r = reading_of c.args.parts.now in
+    let r = parts_reading c.args.parts.now in
     let e : Entry = entry_of (slice_index_or c.args.parts.now.entries.now 0 c.index-parts-0.result) in
     let some : 0 < length c.args.parts.now.entries.now =
     let ne = eqb-false (length c.args.parts.now.entries.now) 0 (sym c.is_empty.ensures ∙ c.if-is_empty.false) in omega (arith, ne) in
@@ -30,7 +30,7 @@ returns-clause-chain g c =
 
 pub returns-clause-none : goal.returns-clause-none
 returns-clause-none g c =
-    let r = reading_of c.args.parts.now in
+    let r = parts_reading c.args.parts.now in
     let e : Entry = entry_of (slice_index_or c.args.parts.now.entries.now 0 c.index-parts-0.result) in
     let some : 0 < length c.args.parts.now.entries.now =
     let ne = eqb-false (length c.args.parts.now.entries.now) 0 (sym c.is_empty.ensures ∙ c.if-is_empty.false) in omega (arith, ne) in

@@ -6,7 +6,7 @@ use Rattle.cfb_format.specs.DirectoryEntry.{Entry}
 use Rattle.cfb_codecs.specs.EntryModel.{entry_of}
 use Rattle.cfb_format.specs.Siblings.{entry_at}
 use Rattle.cfb_soundness.specs.Marks.{Marked}
-use Rattle.cfb_soundness.specs.Parts.{reading_of}
+use Rattle.cfb_soundness.specs.Parts.{parts_reading}
 use Rattle.cfb_soundness.specs.Streams.{own_sectors, own_mini_sectors, StreamFits, StreamsFit}
 use Rattle.cfb_soundness.proofs.MarkLemmas.{true_false}
 use Rattle.cfb_soundness.proofs.StreamLemmas.{gone-none, gone-more, gone-refused, gone-past, entry-there, entry-past}
@@ -14,13 +14,13 @@ use Rattle.cfb_soundness.proofs.streams.mark_streams.Goals as goal
 use Rattle.cfb_soundness.proofs.streams.mark_streams.Goals.{then-at-parts+in_ok-clone+in_ok-mark_stream+else-not-branch, else-at-parts}
 
 pub loop-number-init : goal.loop-number-init
-loop-number-init g c = gone-none (reading_of c.args.parts.now) c.args.parts.now.len c.args.marks.now c.args.mini_marks.now
+loop-number-init g c = gone-none (parts_reading c.args.parts.now) c.args.parts.now.len c.args.marks.now c.args.mini_marks.now
 
 pub returns-then-not-branch-clause-fit : goal.returns-then-not-branch-clause-fit
 returns-then-not-branch-clause-fit g c = λ bytes used mini_used size holds mini_holds. (
   λ h. let f : false ≡ true = h in cc,
   λ f.
-      let r = reading_of c.args.parts.now in
+      let r = parts_reading c.args.parts.now in
       let numbers = c.args.parts.now.streams.now in
       let l = c.loop-number in
       let k = l.number-index in
@@ -37,7 +37,7 @@ returns-then-not-branch-clause-fit g c = λ bytes used mini_used size holds mini
 
 pub loop-number-preserved : goal.loop-number-preserved
 loop-number-preserved g c =
-    let r = reading_of c.args.parts.now in
+    let r = parts_reading c.args.parts.now in
     let numbers = c.args.parts.now.streams.now in
     let l = c.loop-number in
     let k = l.number-index in

@@ -17,7 +17,7 @@ returns-clause-holds g c told validation h =
     (λ is. held_field c.args.word c.args.value validation (record { file = s0; tables = t }) (record { file = s1; tables = t }) refl
     (ap (λ (f : SectorFile). f.len) is)
     (ap (λ (f : SectorFile). f.bytes) is ∙ ap (λ p. with_word s0.bytes p c.args.value) c.place.ensures)
-    c.num_sectors-count.ensures.header
+    c.num_sectors-fact.ensures.header
     (subst (λ p. ChangesOnlyBytes p 4 s0.bytes s1.bytes) c.place.ensures (c.write_header_word.ensures.others told))
     (subst (HoldsTables validation) (sym c.self.view_is) h))
     (c.write_header_word.ensures.ok told)

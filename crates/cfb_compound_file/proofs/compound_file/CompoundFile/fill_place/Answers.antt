@@ -44,7 +44,7 @@ returns-in_err-resize-in-There-clause-refused g c =
     rw (← c.self.view_is, p.1, p.2) (λ told.
     let held = c.self.invariant told (calm_of _ _ _ c.self.view_is c.requires) in
     there_refused c.self.inside.volume c.resize.new.self c.args.place c.in-There.number c.in-There.is _ c.in_err-resize-in-There.field-0.0 e.setting
-    (c.in_err-resize-in-There.ensures.refused told held) (e.emptied held refl) (c.in_err-resize-in-There.ensures.err told held) (c.in_err-resize-in-There.ensures.counts told))
+    (c.in_err-resize-in-There.ensures.refused told held) (e.changes told held) (e.emptied held refl) (c.in_err-resize-in-There.ensures.err told held) (c.in_err-resize-in-There.ensures.counts told))
 
 pub returns-in_ok-resize-in-There-clause-filled : goal.returns-in_ok-resize-in-There-clause-filled
 returns-in_ok-resize-in-There-clause-filled g c =
@@ -60,7 +60,7 @@ returns-in_ok-resize-in-There-clause-runs g c =
     rw (← c.self.view_is) (λ told.
     let held = c.self.invariant told (calm_of _ _ _ c.self.view_is c.requires) in
     there_done c.self.inside.volume c.resize.new.self c.args.place c.in-There.number c.in-There.is held (e.agrees told held ok.ended) e.setting (e.changes told held) ok.ended
-    (ok.content told held))
+    (ok.content told held) (ok.counts told))
 
 -- ---- a new one is put into its storage
 
@@ -71,7 +71,7 @@ returns-in_err-number-in-Missing-clause-refused g c =
     rw (← c.self.view_is, p.1, p.2) (λ told.
     let held = c.self.invariant told (calm_of _ _ _ c.self.view_is c.requires) in
     missing_refused c.self.inside.volume c.insert.new.self c.args.place c.in-Missing.parent c.in-Missing.name c.in-Missing.is g.F.ReadMedium.read_faults g.F.Medium.write_faults
-    c.in_err-number-in-Missing.field-0.0 c.insert.ensures.setting (why.refused told held) (why.err told held) (why.counts told))
+    c.in_err-number-in-Missing.field-0.0 held c.insert.ensures.setting (why.refused told held) (c.insert.ensures.others told held) (why.err told held) (why.reason held) (why.counts told))
 
 pub returns-in_ok-number-in-Missing-clause-filled : goal.returns-in_ok-number-in-Missing-clause-filled
 returns-in_ok-number-in-Missing-clause-filled g c =
@@ -85,4 +85,4 @@ returns-in_ok-number-in-Missing-clause-runs g c =
     rw (← c.self.view_is) (λ told.
     let held = c.self.invariant told (calm_of _ _ _ c.self.view_is c.requires) in
     missing_done c.self.inside.volume c.insert.new.self c.args.place c.in-Missing.parent c.in-Missing.name c.in-Missing.is c.zero.result held c.insert.ensures.setting ok.ended
-    (λ made. ok.made told held made) ok.grows (ok.tree told held))
+    (λ made. ok.made told held made) ok.balanced ok.grows ok.root_len (c.insert.ensures.others told held) (ok.counts told) (ok.tree told held))

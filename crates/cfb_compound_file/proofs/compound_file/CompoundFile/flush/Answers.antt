@@ -16,4 +16,4 @@ returns-clause-ok g c = rw (← c.self.view_is)
 pub returns-clause-refused : goal.returns-clause-refused
 returns-clause-refused g c = rw (← c.self.view_is)
     (λ told. flush-refused g.F.Medium.write_faults c.self.inside.volume c.flush.new.self c.flush.result (sym c.is_failed.ensures ∙ c.if-is_failed.false)
-    c.flush.ensures.setting c.flush.ensures.failed c.flush.ensures.err (c.flush.ensures.counts told))
+    c.flush.ensures.setting (c.flush.ensures.rest told) c.flush.ensures.failed c.flush.ensures.err (c.flush.ensures.counts told))

@@ -8,7 +8,7 @@ use Rattle.cfb_format.specs.Siblings.{entry_at}
 use Rattle.cfb_format.specs.declared.objtype.ObjType.TheVariants.{Stream}
 use Rattle.cfb_rules.specs.Refusal.{already_exists, invalid_input, not_found}
 use Rattle.cfb_mini_sectors.specs.State.{cases_of, entries_of}
-use Rattle.cfb_compound_file.specs.Adding.{may_stay}
+use Rattle.cfb_compound_file.specs.Adding.{may_be_there}
 use Rattle.cfb_compound_file.proofs.Creation.{root_is_there}
 use Rattle.cfb_compound_file.proofs.Numbers.{within-list}
 use Rattle.cfb_compound_file.proofs.Places.{EndWith, end_with, missing, name_refused_so, parent_missed, parent_refused, something_refused, there}
@@ -25,7 +25,7 @@ returns-in_default-clause-refused g c = inr (
   already_exists,
   refl,
   refl,
-  λ o is. root_is_there c.args.self.now.base o (may_stay c.args.empties) (map (λ name. chars name.now) c.args.names.now)
+  λ o is. root_is_there c.args.self.now.base o (may_be_there c.args.empties) (map (λ name. chars name.now) c.args.names.now)
       (length-map c.args.names.now (λ name. chars name.now) ∙ c.in_default.ensures.cases),
 )
 

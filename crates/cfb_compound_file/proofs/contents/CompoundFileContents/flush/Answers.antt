@@ -1,5 +1,5 @@
 use Rattle.std.proofs.Common.{◌∙◌, sym}
-use Rattle.cfb_compound_file.proofs.StoredStreams.{agrees_with_flags, flushes_then, stream_stays}
+use Rattle.cfb_compound_file.proofs.StoredStreams.{agrees_with_flags, flushed_kept, flushes_then, stream_stays}
 use Rattle.cfb_compound_file.proofs.contents.CompoundFileContents.flush.Goals as goal
 
 pub invariant_of-self : goal.invariant_of-self
@@ -10,3 +10,6 @@ returns-clause-others g c = rw (← c.self.view_is) (λ told first k. flushes_th
 
 pub returns-clause-there : goal.returns-clause-there
 returns-clause-there g c = stream_stays _ _ _ c.flush.ensures.entries c.flush.ensures.setting.limits.cases (rw (← c.self.view_is) at c.requires.there)
+
+pub returns-clause-kept : goal.returns-clause-kept
+returns-clause-kept g c = rw (← c.self.view_is) (λ told. flushed_kept _ _ c.flush.result (c.flush.ensures.ok told) c.flush.ensures.failed)

@@ -1,7 +1,7 @@
 use Rattle.std.proofs.Common.{◌≡◌, ◌∙◌, sym, subst}
 use Rattle.cfb_content.specs.Contents.{IsTooLongFor}
 use Rattle.cfb_agreement.specs.Files.{FileState}
-use Rattle.cfb_compound_file.proofs.StoredStreams.{change_refused, changes_at_once, nothing_changes, resized_done, stream_there}
+use Rattle.cfb_compound_file.proofs.StoredStreams.{broken_kept, change_refused, changes_at_once, full_then, nothing_changes, resized_done, stream_there}
 use Rattle.cfb_compound_file.proofs.contents.CompoundFileContents.resize.Goals as goal
 
 pub returns-then-is_failed-clause-others : goal.returns-then-is_failed-clause-others
@@ -43,3 +43,16 @@ returns-clause-refused g c =
     rw (← c.self.view_is) (λ told takes. change_refused (IsTooLongFor old.base c.args.id c.args.len × (new ≡ old)) (IsTooLongFor new.base c.args.id c.args.len) _ _ _ c.resize.result
     (λ why. subst (λ (z : FileState). IsTooLongFor z.base c.args.id c.args.len) (sym why.1) why.0) e.setting
     (e.err told (c.self.invariant told unfailed)) (e.refused told (c.self.invariant told unfailed)))
+
+pub returns-clause-stays : goal.returns-clause-stays
+returns-clause-stays g c =
+    let unfailed = sym c.is_failed.ensures ∙ c.if-is_failed.false in
+    rw (← c.self.view_is) (λ told. broken_kept _ _ c.resize.result (c.resize.ensures.refused told (c.self.invariant told unfailed)))
+
+pub returns-clause-foreseen : goal.returns-clause-foreseen
+returns-clause-foreseen g c =
+    let unfailed = sym c.is_failed.ensures ∙ c.if-is_failed.false in
+    let old = c.self.inside.volume in
+    let new = c.resize.new.self in
+    rw (← c.self.view_is) (λ told takes. full_then (IsTooLongFor old.base c.args.id c.args.len × (new ≡ old)) (new ≡ old) c.resize.result (λ why. why.1)
+    (c.resize.ensures.err told (c.self.invariant told unfailed)))

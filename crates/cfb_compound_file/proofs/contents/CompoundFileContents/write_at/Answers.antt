@@ -2,7 +2,7 @@ use Rattle.std.proofs.Common.{◌≡◌, ◌≤◌, ◌∙◌, ap, arith, false,
 use Rattle.cfb_format.specs.Bytes.{max_stream_len}
 use Rattle.cfb_agreement.specs.Files.{IsFullFile}
 use Rattle.cfb_content.specs.Contents.{len_of}
-use Rattle.cfb_compound_file.proofs.StoredStreams.{change_refused, changes_in_turn, stream_inside, stream_there, write_done, write_no_shorter, write_stays_full}
+use Rattle.cfb_compound_file.proofs.StoredStreams.{broken_kept, change_refused, changes_in_turn, stream_inside, stream_there, write_done, write_no_shorter, write_stays_full}
 use Rattle.cfb_compound_file.proofs.contents.CompoundFileContents.write_at.Goals as goal
 
 pub len-requires : goal.len-requires
@@ -51,3 +51,8 @@ pub returns-then-not-is_inside-clause-refused : goal.returns-then-not-is_inside-
 returns-then-not-is_inside-clause-refused g c = rw (← c.self.view_is) (λ told takes some.
     let inside = c.is_inside.ensures.1 (omega (arith, takes.inside, c.len.ensures), omega (arith, takes.fits, c.stream_len_mask-limit.ensures, ap max_stream_len c.version.ensures)) in
     absurd (let w : false ≡ true = sym c.if-not-is_inside.true ∙ inside in cc))
+
+pub returns-clause-stays : goal.returns-clause-stays
+returns-clause-stays g c =
+    let unfailed = sym c.is_failed.ensures ∙ c.if-is_failed.false in
+    rw (← c.self.view_is) (λ told. broken_kept _ _ c.write.result (c.write.ensures.refused told (c.self.invariant told unfailed)))

@@ -1,6 +1,6 @@
 use Rattle.std.proofs.Common.{refl}
 use Rattle.cfb_compound_file.proofs.StoredStreams.{nothing_changes}
-use Rattle.cfb_compound_file.proofs.StreamCalls.{goes_on_by}
+use Rattle.cfb_compound_file.proofs.StreamCalls.{goes_on_by, stays_or_fails}
 use Rattle.cfb_compound_file.proofs.stream.Stream+F+A.fill_buf.Goals as goal
 
 pub returns-in-Ok : goal.returns-in-Ok
@@ -12,7 +12,9 @@ returns-in-Ok g c = (
       same_file = refl;
       runs = λ told. rw c.rest.ensures (c.in-Ok.ensures.runs (record { told = told; suits = c.args.self.now.is_open told }));
       goes_on = goes_on_by _ _ _ refl c.fill.ensures.bound (λ told. (c.fill.ensures.around told).others _ (nothing_changes _ _));
+      counts = λ told. (c.in-Ok.ensures.around told).counts;
       calm = λ told calm. (c.fill.ensures.calm told calm).kept;
+      buffers = record { held = c.fill.ensures.held; grown = c.fill.ensures.grown; lean = c.fill.ensures.lean; settles = λ told. c.in-Ok.ensures.settles (record { told = told; suits = c.args.self.now.is_open told }) };
     },
   ),
   record { after_borrow = tt },
@@ -25,9 +27,11 @@ returns-in-Err g c = (
     (λ _. tt),
     record {
       same_file = refl;
-      runs = λ told. (let why = c.in-Err.ensures.refused (record { told = told; suits = c.args.self.now.is_open told }) in record { rules = why.rules; stops = why.stops; untouched = why.untouched; counts = (c.in-Err.ensures.around told).counts });
+      runs = λ told. (let why = c.in-Err.ensures.refused (record { told = told; suits = c.args.self.now.is_open told }) in record { rules = why.rules; stops = why.stops; stays = stays_or_fails _ _ (c.in-Err.ensures.around told).stays; untouched = why.untouched; counts = (c.in-Err.ensures.around told).counts });
       goes_on = goes_on_by _ _ _ refl c.fill.ensures.bound (λ told. (c.fill.ensures.around told).others _ (nothing_changes _ _));
+      counts = λ told. (c.in-Err.ensures.around told).counts;
       calm = λ told calm. (c.fill.ensures.calm told calm).kept;
+      buffers = record { held = c.fill.ensures.held; grown = c.fill.ensures.grown; lean = c.fill.ensures.lean; settles = λ told. tt };
     },
   ),
   record { after_borrow = tt },

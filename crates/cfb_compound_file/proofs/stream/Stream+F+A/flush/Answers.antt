@@ -10,8 +10,11 @@ pub returns-clause-runs : goal.returns-clause-runs
 returns-clause-runs g c = λ told. c.flush.ensures.runs (record { told = told; suits = c.args.self.now.is_open told })
 
 pub returns-clause-refused : goal.returns-clause-refused
-returns-clause-refused g c = λ told. refused_with _ _ _ _ _ c.flush.result (c.flush.ensures.refused (record { told = told; suits = c.args.self.now.is_open told })) (c.flush.ensures.around told).counts
-    (λ e why counts. record { rules = why.rules; stops = why.stops; untouched = why.untouched; counts = counts })
+returns-clause-refused g c = λ told. refused_with _ _ _ _ _ c.flush.result (c.flush.ensures.refused (record { told = told; suits = c.args.self.now.is_open told })) (c.flush.ensures.around told).counts (c.flush.ensures.around told).stays
+    (λ e why counts stays. record { rules = why.rules; stops = why.stops; stays = stays; untouched = why.untouched; counts = counts })
 
 pub returns-clause-goes_on : goal.returns-clause-goes_on
 returns-clause-goes_on g c = goes_on_by _ _ _ refl c.flush.ensures.bound (λ told. (c.flush.ensures.around told).others _ (nothing_changes _ _))
+
+pub returns-clause-counts : goal.returns-clause-counts
+returns-clause-counts g c = λ told. (c.flush.ensures.around told).counts

@@ -10,11 +10,17 @@ pub returns-clause-runs : goal.returns-clause-runs
 returns-clause-runs g c = λ told. c.read.ensures.runs (record { told = told; suits = c.args.self.now.is_open told })
 
 pub returns-clause-refused : goal.returns-clause-refused
-returns-clause-refused g c = λ told. refused_with _ _ _ _ _ c.read.result (c.read.ensures.refused (record { told = told; suits = c.args.self.now.is_open told })) (c.read.ensures.around told).counts
-    (λ e why counts. record { rules = why.rules; stops = why.stops; untouched = why.untouched; counts = counts })
+returns-clause-refused g c = λ told. refused_with _ _ _ _ _ c.read.result (c.read.ensures.refused (record { told = told; suits = c.args.self.now.is_open told })) (c.read.ensures.around told).counts (c.read.ensures.around told).stays
+    (λ e why counts stays. record { rules = why.rules; stops = why.stops; stays = stays; untouched = why.untouched; counts = counts })
 
 pub returns-clause-goes_on : goal.returns-clause-goes_on
 returns-clause-goes_on g c = goes_on_by _ _ _ refl c.read.ensures.bound (λ told. (c.read.ensures.around told).others _ (nothing_changes _ _))
 
 pub returns-clause-calm : goal.returns-clause-calm
 returns-clause-calm g c = λ told calm. (c.read.ensures.calm told calm).kept
+
+pub returns-clause-counts : goal.returns-clause-counts
+returns-clause-counts g c = λ told. (c.read.ensures.around told).counts
+
+pub returns-clause-buffers : goal.returns-clause-buffers
+returns-clause-buffers g c = record { held = c.read.ensures.held; grown = c.read.ensures.grown; lean = c.read.ensures.lean; settles = λ told. c.read.ensures.settles (record { told = told; suits = c.args.self.now.is_open told }) }

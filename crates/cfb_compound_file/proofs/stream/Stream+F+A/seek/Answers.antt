@@ -10,8 +10,14 @@ pub returns-clause-runs : goal.returns-clause-runs
 returns-clause-runs g c = λ told. c.seek.ensures.runs (record { told = told; suits = c.args.self.now.is_open told })
 
 pub returns-clause-refused : goal.returns-clause-refused
-returns-clause-refused g c = λ told. refused_with _ _ _ _ _ c.seek.result (c.seek.ensures.refused (record { told = told; suits = c.args.self.now.is_open told })) (c.seek.ensures.around told).counts
-    (λ e why counts. record { rules = why.rules; stops = why.stops; untouched = why.untouched; counts = counts })
+returns-clause-refused g c = λ told. refused_with _ _ _ _ _ c.seek.result (c.seek.ensures.refused (record { told = told; suits = c.args.self.now.is_open told })) (c.seek.ensures.around told).counts (c.seek.ensures.around told).stays
+    (λ e why counts stays. record { rules = why.rules; stops = why.stops; stays = stays; untouched = why.untouched; counts = counts })
 
 pub returns-clause-goes_on : goal.returns-clause-goes_on
 returns-clause-goes_on g c = goes_on_by _ _ _ refl c.seek.ensures.bound (λ told. (c.seek.ensures.around told).others _ (nothing_changes _ _))
+
+pub returns-clause-counts : goal.returns-clause-counts
+returns-clause-counts g c = λ told. (c.seek.ensures.around told).counts
+
+pub returns-clause-buffers : goal.returns-clause-buffers
+returns-clause-buffers g c = record { held = c.seek.ensures.held; sure = c.seek.ensures.sure; room = c.seek.ensures.room; settles = λ told. c.seek.ensures.settles (record { told = told; suits = c.args.self.now.is_open told }) }

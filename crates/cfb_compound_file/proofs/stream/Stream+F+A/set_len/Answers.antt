@@ -10,11 +10,17 @@ pub returns-clause-runs : goal.returns-clause-runs
 returns-clause-runs g c = λ told. c.set_len.ensures.runs (record { told = told; suits = c.args.self.now.is_open told })
 
 pub returns-clause-refused : goal.returns-clause-refused
-returns-clause-refused g c = λ told. refused_with _ _ _ _ _ c.set_len.result (c.set_len.ensures.refused (record { told = told; suits = c.args.self.now.is_open told })) (c.set_len.ensures.around told).counts
-    (λ e why counts. record { rules = why.rules; stops = why.stops; untouched = why.untouched; counts = counts })
+returns-clause-refused g c = λ told. refused_with _ _ _ _ _ c.set_len.result (c.set_len.ensures.refused (record { told = told; suits = c.args.self.now.is_open told })) (c.set_len.ensures.around told).counts (c.set_len.ensures.around told).stays
+    (λ e why counts stays. record { rules = why.rules; stops = why.stops; stays = stays; untouched = why.untouched; counts = counts })
 
 pub returns-clause-goes_on : goal.returns-clause-goes_on
 returns-clause-goes_on g c = goes_on_by _ _ _ refl c.set_len.ensures.bound (λ told. elim (c.set_len.ensures.around told).others [
   | inl same ↦ rw same (nothing_changes _ _)
   | inr changed ↦ changed
 ])
+
+pub returns-clause-counts : goal.returns-clause-counts
+returns-clause-counts g c = λ told. (c.set_len.ensures.around told).counts
+
+pub returns-clause-foreseen : goal.returns-clause-foreseen
+returns-clause-foreseen g c = λ told. c.set_len.ensures.foreseen (record { told = told; suits = c.args.self.now.is_open told })

@@ -10,8 +10,17 @@ pub returns-clause-runs : goal.returns-clause-runs
 returns-clause-runs g c = λ told. c.write.ensures.runs (record { told = told; suits = c.args.self.now.is_open told })
 
 pub returns-clause-refused : goal.returns-clause-refused
-returns-clause-refused g c = λ told. refused_with _ _ _ _ _ c.write.result (c.write.ensures.refused (record { told = told; suits = c.args.self.now.is_open told })) (c.write.ensures.around told).counts
-    (λ e why counts. record { rules = why.rules; stops = why.stops; untouched = why.untouched; counts = counts })
+returns-clause-refused g c = λ told. refused_with _ _ _ _ _ c.write.result (c.write.ensures.refused (record { told = told; suits = c.args.self.now.is_open told })) (c.write.ensures.around told).counts (c.write.ensures.around told).stays
+    (λ e why counts stays. record { rules = why.rules; stops = why.stops; stays = stays; untouched = why.untouched; counts = counts })
 
 pub returns-clause-goes_on : goal.returns-clause-goes_on
 returns-clause-goes_on g c = goes_on_by _ _ _ refl c.write.ensures.bound (λ told. (c.write.ensures.around told).others _ (nothing_changes _ _))
+
+pub returns-clause-counts : goal.returns-clause-counts
+returns-clause-counts g c = λ told. (c.write.ensures.around told).counts
+
+pub returns-clause-buffers : goal.returns-clause-buffers
+returns-clause-buffers g c = record { held = c.write.ensures.held; calm = c.write.ensures.calm; keeps_back = c.write.ensures.keeps_back; straight = c.write.ensures.straight; lean = c.write.ensures.lean; settles = λ told. c.write.ensures.settles (record { told = told; suits = c.args.self.now.is_open told }) }
+
+pub returns-clause-inside : goal.returns-clause-inside
+returns-clause-inside g c = λ told. c.write.ensures.inside (record { told = told; suits = c.args.self.now.is_open told })

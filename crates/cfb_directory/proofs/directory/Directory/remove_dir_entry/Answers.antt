@@ -2,7 +2,7 @@ use Rattle.std.proofs.Common.{◌≡◌, ℕ, List, sym, subst}
 use Rattle.std.specs.Prelude.{OnOk, chars}
 use Rattle.cfb_format.specs.Bytes.{no_stream}
 use Rattle.cfb_format.specs.Siblings.{entry_at}
-use Rattle.cfb_siblings.specs.Children.{HasChildren, IsChildNamed, KeepsColors}
+use Rattle.cfb_siblings.specs.Children.{HasChildren, IsChildNamed}
 use Rattle.cfb_entries.specs.EntryList.{RemovesEntry}
 use Rattle.cfb_directory.specs.State.{DirectoryState, HoldsDirectory, directory_of}
 use Rattle.cfb_directory.specs.Steps.{KeepsOtherSlots}
@@ -31,8 +31,7 @@ returns-clause-slots g c told validation h =
     (c.remove_entry.ensures.slots told validation here))
 
 pub returns-clause-removed : goal.returns-clause-removed
-returns-clause-removed g c = subst (λ (d : DirectoryState). OnOk c.remove_entry.result ((r : RemovesEntry d.cases d.entries c.remove_entry.new.entries.entries c.args.parent (chars c.args.name.now))
-    × KeepsColors d.entries c.remove_entry.new.entries.entries r.freed)) c.self.view_is c.remove_entry.ensures.removed
+returns-clause-removed g c = subst (λ (d : DirectoryState). OnOk c.remove_entry.result (RemovesEntry d.cases d.entries c.remove_entry.new.entries.entries c.args.parent (chars c.args.name.now))) c.self.view_is c.remove_entry.ensures.removed
 
 pub remove_entry-requires-clause-above : goal.remove_entry-requires-clause-above
 remove_entry-requires-clause-above g c = least-kept c.self.inside.sectors.items c.deref.result.now c.self.inside.above c.deref.ensures.value c.self.invariant

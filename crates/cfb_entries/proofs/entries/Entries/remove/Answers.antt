@@ -14,7 +14,7 @@ invariant_of-self g c =
     let entries : entries_of s.list.items ≡ c.args.self.now.entries = ap (λ (e : EntryList). e.entries) c.self.view_is in
     let reached : IsReachedStorage s.letters (entries_of s.list.items) c.args.parent = rw (cases, entries) c.requires.parent in
     either-way c.remove_child.result c.remove_child.ensures.removed c.remove_child.ensures.refused
-    (λ (r, listed, colors). (
+    (λ (r, listed). (
       removal-in-order s.letters old (entries_of c.remove_child.new.list.items) c.args.parent (chars c.args.name.now) reached c.self.invariant.0 r,
       rw listed (removal-free s.letters old (entries_of c.remove_child.new.list.items) c.args.parent (chars c.args.name.now) s.free.items reached c.self.invariant.1 r),
     ))
@@ -24,7 +24,7 @@ pub returns-clause-removed : goal.returns-clause-removed
 returns-clause-removed g c =
     let cases : c.self.inside.letters ≡ c.args.self.now.cases = ap (λ (e : EntryList). e.cases) c.self.view_is in
     let entries : entries_of c.self.inside.list.items ≡ c.args.self.now.entries = ap (λ (e : EntryList). e.entries) c.self.view_is in
-    on-ok c.remove_child.result (λ (r, listed, colors). (r, colors)) (rw (cases, entries) at c.remove_child.ensures.removed)
+    on-ok c.remove_child.result (λ (r, listed). r) (rw (cases, entries) at c.remove_child.ensures.removed)
 
 pub returns-clause-red_apart : goal.returns-clause-red_apart
 returns-clause-red_apart g c =

@@ -14,7 +14,7 @@ returns-clause-holds g c told validation h list chain apart =
     let here = subst (λ (s : MiniState). HoldsMini validation s) back h in
     let there = subst (λ (s : MiniState). IsChain (tables_in s).fat c.args.start list) back chain in
     let out = subst (λ (s : MiniState). AreDisjoint (system_sectors s) list) back apart in
-    let sizes = subst (λ (a : AllocatorState). AreSizes a.tables.version (sizes_of a.tables)) c.allocator.ensures c.file_len-len.ensures.sizes in
+    let sizes = subst (λ (a : AllocatorState). AreSizes a.tables.version (sizes_of a.tables)) c.allocator.ensures c.file_len-fact.ensures.sizes in
     let was = c.extend_chain-extended.ensures in
     chains-held c.extend_chain-extended.result validation list _ c.extend_chain-extended.new.self here was.rest (was.holds told validation here.directory.tables) sizes
     (was.spares told list there) out (was.others told).header

@@ -16,7 +16,7 @@ returns-clause-holds g c told validation h list chain apart unnamed =
     let there = subst (λ (s : MiniState). IsChain (tables_in s).fat c.args.start list) back chain in
     let out = subst (λ (s : MiniState). AreDisjoint (system_sectors s) list) back apart in
     let alone = subst (λ (s : MiniState). IsUnnamed (tables_in s).fat c.args.start) back unnamed in
-    let sizes = subst (λ (a : AllocatorState). AreSizes a.tables.version (sizes_of a.tables)) c.allocator.ensures c.file_len-len.ensures.sizes in
+    let sizes = subst (λ (a : AllocatorState). AreSizes a.tables.version (sizes_of a.tables)) c.allocator.ensures c.file_len-fact.ensures.sizes in
     let was = c.free_chain-freed.ensures in
     chains-held c.free_chain-freed.result validation list _ c.free_chain-freed.new.self here was.rest (was.holds told validation here.directory.tables alone) sizes
     (was.spares told list there) out (was.changes told).header

@@ -3,7 +3,7 @@ use Rattle.std.specs.Prelude.{OnOk, chars}
 use Rattle.cfb_format.specs.Bytes.{no_stream}
 use Rattle.cfb_format.specs.Siblings.{entry_at}
 use Rattle.cfb_outline.specs.Outlines.{IsReachedStorage}
-use Rattle.cfb_siblings.specs.Children.{HasChildren, IsChildNamed, KeepsColors}
+use Rattle.cfb_siblings.specs.Children.{HasChildren, IsChildNamed}
 use Rattle.cfb_entries.specs.EntryList.{RemovesEntry}
 use Rattle.cfb_directory.specs.State.{HoldsDirectory}
 use Rattle.cfb_directory.specs.Steps.{KeepsOtherSlots}
@@ -16,8 +16,7 @@ remove_dir_entry-requires-clause-there g c = subst (λ (s : MiniState). (list : 
     → (n : ℕ) × IsChildNamed s.directory.cases s.directory.entries (chars c.args.name.now) list n × ((entry_at s.directory.entries n).child ≡ no_stream)) (sym c.self.view_is) c.requires.there
 
 pub returns-clause-removed : goal.returns-clause-removed
-returns-clause-removed g c = subst (λ (s : MiniState). OnOk c.remove_dir_entry.result ((r : RemovesEntry s.directory.cases s.directory.entries c.remove_dir_entry.new.self.entries c.args.parent (chars c.args.name.now))
-    × KeepsColors s.directory.entries c.remove_dir_entry.new.self.entries r.freed)) c.self.view_is c.remove_dir_entry.ensures.removed
+returns-clause-removed g c = subst (λ (s : MiniState). OnOk c.remove_dir_entry.result (RemovesEntry s.directory.cases s.directory.entries c.remove_dir_entry.new.self.entries c.args.parent (chars c.args.name.now))) c.self.view_is c.remove_dir_entry.ensures.removed
 
 pub returns-clause-holds : goal.returns-clause-holds
 returns-clause-holds g c told validation h =

@@ -3,7 +3,7 @@ use Rattle.std.proofs.lemmas.Result.{err_from_is_err_and}
 use Rattle.cfb_format.specs.Refused.{IsMemory}
 use Rattle.cfb_rules.specs.StreamCalls.{read_to_end, got}
 use Rattle.cfb_stream_window.specs.Answers.{IsOpen, IsReady, RunsReading, IsRefusedReading}
-use Rattle.cfb_stream_window.specs.Windows.{Window, Agrees}
+use Rattle.cfb_stream_window.specs.Windows.{Window, LiesOver}
 use Rattle.cfb_stream_window.proofs.Breaking.{calm_reads, read_broken}
 use Rattle.cfb_stream_window.proofs.Refusing.{failed_for, broke_for, counts_none, invalid_untouched}
 use Rattle.cfb_stream_window.proofs.Ending.{unreadable_refused, memory_broke, memory_counts, held_end_runs, appended_runs, appended_from, broken_from, more_left, test_eq, readable_same, agrees_same}
@@ -17,7 +17,7 @@ pub returns-in_err-check_rest-clause-refused : goal.returns-in_err-check_rest-cl
 returns-in_err-check_rest-clause-refused g c = λ (h : IsOpen g.C.ReadContents c.args.content.now c.args.id c.args.self.now).
     let s = g.C.ReadContents.stored c.args.content.now c.args.id in
     let w = c.self.inside.window in
-    let a = subst (λ (z : Window). Agrees s z) (sym c.self.view_is) (h.suits (sym c.is_failed.ensures ∙ c.if-is_failed.false)) in
+    let a = subst (λ (z : Window). LiesOver s z) (sym c.self.view_is) (h.suits (sym c.is_failed.ensures ∙ c.if-is_failed.false)) in
     let r : IsReady g.C.ReadContents c.args.content.now c.args.id w = record { told = h.told; agrees = a } in
     let e = c.in_err-check_rest.ensures in
     let p = err_from_is_err_and c.from_residual.result c.from_residual.ensures.1 in
@@ -37,7 +37,7 @@ pub returns-then-holds_rest-clause-runs : goal.returns-then-holds_rest-clause-ru
 returns-then-holds_rest-clause-runs g c = λ (h : IsOpen g.C.ReadContents c.args.content.now c.args.id c.args.self.now).
     let s = g.C.ReadContents.stored c.args.content.now c.args.id in
     let w = c.self.inside.window in
-    let a = subst (λ (z : Window). Agrees s z) (sym c.self.view_is) (h.suits (sym c.is_failed.ensures ∙ c.if-is_failed.false)) in
+    let a = subst (λ (z : Window). LiesOver s z) (sym c.self.view_is) (h.suits (sym c.is_failed.ensures ∙ c.if-is_failed.false)) in
     let r : IsReady g.C.ReadContents c.args.content.now c.args.id w = record { told = h.told; agrees = a } in
     let seen = c.in_ok-check_rest.ensures in
     let q = c.in_ok-count.ensures in
@@ -59,7 +59,7 @@ pub returns-clause-runs : goal.returns-clause-runs
 returns-clause-runs g c = λ (h : IsOpen g.C.ReadContents c.args.content.now c.args.id c.args.self.now).
     let s = g.C.ReadContents.stored c.args.content.now c.args.id in
     let w = c.self.inside.window in
-    let a = subst (λ (z : Window). Agrees s z) (sym c.self.view_is) (h.suits (sym c.is_failed.ensures ∙ c.if-is_failed.false)) in
+    let a = subst (λ (z : Window). LiesOver s z) (sym c.self.view_is) (h.suits (sym c.is_failed.ensures ∙ c.if-is_failed.false)) in
     let r : IsReady g.C.ReadContents c.args.content.now c.args.id w = record { told = h.told; agrees = a } in
     let seen = c.in_ok-check_rest.ensures in
     let there : IsReady g.C.ReadContents c.args.content.now c.args.id c.check_rest.new.self = record { told = h.told; agrees = agrees_same _ _ _ seen.window a } in
@@ -73,7 +73,7 @@ pub returns-in_err-count-2-clause-refused : goal.returns-in_err-count-2-clause-r
 returns-in_err-count-2-clause-refused g c = λ (h : IsOpen g.C.ReadContents c.args.content.now c.args.id c.args.self.now).
     let s = g.C.ReadContents.stored c.args.content.now c.args.id in
     let w = c.self.inside.window in
-    let a = subst (λ (z : Window). Agrees s z) (sym c.self.view_is) (h.suits (sym c.is_failed.ensures ∙ c.if-is_failed.false)) in
+    let a = subst (λ (z : Window). LiesOver s z) (sym c.self.view_is) (h.suits (sym c.is_failed.ensures ∙ c.if-is_failed.false)) in
     let r : IsReady g.C.ReadContents c.args.content.now c.args.id w = record { told = h.told; agrees = a } in
     let seen = c.in_ok-check_rest.ensures in
     let there : IsReady g.C.ReadContents c.args.content.now c.args.id c.check_rest.new.self = record { told = h.told; agrees = agrees_same _ _ _ seen.window a } in

@@ -5,10 +5,9 @@ use Rattle.cfb_format.specs.Refused.{IsMemory}
 use Rattle.cfb_rules.specs.Runs.{any_cause}
 use Rattle.cfb_rules.specs.StreamCalls.{write}
 use Rattle.cfb_stream_window.specs.Answers.{IsOpen, IsReady}
-use Rattle.cfb_stream_window.proofs.Breaking.{taken_broken}
 use Rattle.cfb_stream_window.proofs.Reading.{not_empty, is_empty_from}
 use Rattle.cfb_stream_window.proofs.Refusing.{failed_for, broke_for}
-use Rattle.cfb_stream_window.proofs.Writing.{nothing_written, no_room_refused, unsound_refused, some_work, straight_runs, kept_runs, kept_agrees}
+use Rattle.cfb_stream_window.proofs.Writing.{nothing_written, no_room_refused, unsound_refused, straight_runs, kept_runs, kept_agrees, written_broken}
 use Rattle.cfb_stream_window.proofs.window.Window.write.Goals as goal
 
 pub returns-then-is_failed-clause-refused : goal.returns-then-is_failed-clause-refused
@@ -61,7 +60,7 @@ returns-in_err-count-clause-refused g c = λ (h : IsOpen g.C.ReadContents c.args
     let e = c.in_err-count.ensures in
     let why = e.refused r sound (omega (arith, len)) (omega (arith, some, len)) in
     let p = err_from_is_err_and c.from_residual.result c.from_residual.ensures.1 in
-    rw (p.1, p.2) (broke_for _ _ _ _ _ _ _ _ _ (taken_broken _ _ _ _ _ _ _ _ (write c.args.bytes.now) _ (some_work (g.C.ReadContents.stored c.args.content.now c.args.id) c.args.self.now c.args.bytes.now some) f (e.around h.told).counts why) _ _ IsMemory why)
+    rw (p.1, p.2) (broke_for _ _ _ _ _ _ _ _ _ (written_broken _ _ _ _ _ _ _ _ c.args.bytes.now _ some f (e.around h.told).counts why) _ _ IsMemory why)
 
 pub returns-in_err-have_room-clause-refused : goal.returns-in_err-have_room-clause-refused
 returns-in_err-have_room-clause-refused g c = λ (h : IsOpen g.C.ReadContents c.args.content.now c.args.id c.args.self.now).
@@ -71,7 +70,7 @@ returns-in_err-have_room-clause-refused g c = λ (h : IsOpen g.C.ReadContents c.
     let e = c.in_err-have_room.ensures in
     let why = e.refused r in
     let p = err_from_is_err_and c.from_residual-in_err-have_room.result c.from_residual-in_err-have_room.ensures.1 in
-    rw (p.1, p.2) (broke_for _ _ _ _ _ _ _ _ _ (taken_broken _ _ _ _ _ _ _ _ (write c.args.bytes.now) _ (some_work (g.C.ReadContents.stored c.args.content.now c.args.id) c.args.self.now c.args.bytes.now some) f (e.around h.told).counts why) _ _ IsMemory why)
+    rw (p.1, p.2) (broke_for _ _ _ _ _ _ _ _ _ (written_broken _ _ _ _ _ _ _ _ c.args.bytes.now _ some f (e.around h.told).counts why) _ _ IsMemory why)
 
 pub returns-clause-runs : goal.returns-clause-runs
 returns-clause-runs g c = λ (h : IsOpen g.C.ReadContents c.args.content.now c.args.id c.args.self.now).

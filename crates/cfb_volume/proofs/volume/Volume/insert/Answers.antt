@@ -10,15 +10,16 @@ use Rattle.cfb_trees.specs.Reached.{IsReached}
 use Rattle.cfb_tables.specs.Refused.{ChangeRefused}
 use Rattle.cfb_alloc.specs.Frame.{Spares}
 use Rattle.cfb_directory.specs.State.{IsFullForEntry}
-use Rattle.cfb_directory.specs.Steps.{IsNotHeld}
+use Rattle.cfb_directory.specs.Steps.{IsDirectoryNotHeld}
 use Rattle.cfb_objects.specs.Laws.{BecomesTree}
 use Rattle.cfb_mini_sectors.specs.State.{HoldsMini, MiniState, bytes_of, cases_of, entries_of, table_of}
 use Rattle.cfb_mini_sectors.specs.Steps.{KeepsMini, StopsShort}
 use Rattle.cfb_content.specs.Contents.{len_of}
-use Rattle.cfb_insertion.proofs.Entries.{put-is-found, put-is-new, put-keeps-root, put-leaves-none-free}
+use Rattle.cfb_insertion.specs.Balance.{StayBalanced}
+use Rattle.cfb_insertion.proofs.Entries.{put-is-balanced, put-is-found, put-is-new, put-keeps-root, put-leaves-none-free}
 use Rattle.cfb_agreement.specs.Changes.{KeepsStreams, object_added_at}
 use Rattle.cfb_agreement.specs.Files.{Agrees, FileState, Holds, IsAsMade, IsFullFile, LeavesNoneFree}
-use Rattle.cfb_volume.specs.Answers.{IsBreak}
+use Rattle.cfb_format.specs.Refused.{IsBreak}
 use Rattle.cfb_volume.proofs.InsertedObjects.{ended, insert-holds, insert-keeps-streams, insert-made, insert-tree, puts-object, refused-agrees, refused-full, refused-reason, same-file, streams-ended}
 use Rattle.cfb_volume.proofs.volume.Volume.insert.Goals as goal
 
@@ -47,7 +48,7 @@ returns-in_err-number-clause-err g c told holds =
     rw (p.1, p.2) (subst (λ (f : FileState). IsBreak (IsFullFile f × (f ≡ c.args.self.now)) c.in_err-number.field-0.0)
     (same-file c.self.inside.mini mid mid c.self.inside.is_sound c.self.inside.buffer_limit c.args.self.now c.self.view_is refl)
     (refused-full old mid c.requires.sound holds (IsFullForEntry old.base.directory → ⊥) c.in_err-number.field-0.0
-    (subst (λ (f : FileState). ChangeRefused (IsNotHeld f.base.directory) (IsFullForEntry f.base.directory → ⊥) (IsFullForEntry f.base.directory) (Unit {0}) c.in_err-number.field-0.0) c.self.view_is
+    (subst (λ (f : FileState). ChangeRefused (IsDirectoryNotHeld f.base.directory) (IsFullForEntry f.base.directory → ⊥) (IsFullForEntry f.base.directory) (Unit {0}) c.in_err-number.field-0.0) c.self.view_is
     c.in_err-number.ensures.err)
     (subst (λ (f : FileState). StopsShort f.base mid c.in_err-number.field-0.0) c.self.view_is c.in_err-number.ensures.refused)))
 
@@ -56,7 +57,7 @@ returns-in_err-number-clause-reason g c holds =
     let old = c.args.self.now in
     let p = err_from_is_err_and c.from_residual.result c.from_residual.ensures.1 in
     rw (p.1, p.2) (refused-reason old c.insert_dir_entry.new.self c.requires.sound holds (IsFullForEntry old.base.directory → ⊥) c.in_err-number.field-0.0
-    (subst (λ (f : FileState). ChangeRefused (IsNotHeld f.base.directory) (IsFullForEntry f.base.directory → ⊥) (IsFullForEntry f.base.directory) (Unit {0}) c.in_err-number.field-0.0) c.self.view_is
+    (subst (λ (f : FileState). ChangeRefused (IsDirectoryNotHeld f.base.directory) (IsFullForEntry f.base.directory → ⊥) (IsFullForEntry f.base.directory) (Unit {0}) c.in_err-number.field-0.0) c.self.view_is
     c.in_err-number.ensures.err))
 
 -- ---- a new object
@@ -131,9 +132,15 @@ returns-clause-grows g c =
 
 pub returns-clause-balanced : goal.returns-clause-balanced
 returns-clause-balanced g c =
+    let w = c.in_ok-number.ensures in
     let mid = c.insert_dir_entry.new.self in
-    subst (λ (s : MiniState). KeepsBalance (entries_of c.args.self.now.base) (entries_of s) c.args.parent) (sym c.end_change.ensures)
-    (subst (λ (f : FileState). KeepsBalance (entries_of f.base) (entries_of mid) c.args.parent) c.self.view_is c.in_ok-number.ensures.balanced)
+    let old = c.args.self.now in
+    let put = puts-object c.self.inside.mini c.args.self.now.base mid c.args.parent c.in_ok-number.number (chars c.args.name.now) c.args.kind c.args.moment
+    (ap (λ (f : FileState). f.base) c.self.view_is) c.requires.parent c.requires.kind w.inserted w.red_apart w.kept w.lengthened w.mini w.limits in
+    subst (λ (s : MiniState). (before after : Outline) → IsOutline (cases_of old.base) (entries_of old.base) before → IsOutline (cases_of s) (entries_of s) after
+    → StayBalanced (entries_of old.base) before (entries_of s) after) (sym c.end_change.ensures)
+    (put-is-balanced c.args.self.now.base mid c.args.parent c.in_ok-number.number (chars c.args.name.now) c.args.kind c.args.moment put
+    (subst (λ (f : FileState). KeepsBalance (entries_of f.base) (entries_of mid) c.args.parent) c.self.view_is w.balanced))
 
 pub returns-clause-root_len : goal.returns-clause-root_len
 returns-clause-root_len g c =

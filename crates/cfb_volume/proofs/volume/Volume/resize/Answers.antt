@@ -6,14 +6,14 @@ use Rattle.cfb_format.specs.declared.validate.Validation.TheVariants.{Permissive
 use Rattle.cfb_format.specs.Bytes.{max_stream_len}
 use Rattle.cfb_format.specs.Siblings.{entry_at}
 use Rattle.cfb_rules.specs.StreamCalls.{resized}
-use Rattle.cfb_mini_sectors.specs.State.{HoldsMini, IsChangeable, MiniState, content_of, entries_of, table_of, version_of}
+use Rattle.cfb_mini_sectors.specs.State.{HoldsMini, IsChangeable, MiniState, content_of, entries_of, table_of, tables_in, version_of}
 use Rattle.cfb_mini_sectors.specs.Steps.{KeepsLimits}
 use Rattle.cfb_content.specs.Contents.{IsNotChangeable, IsStreamOf, IsTooLongFor, MovesContent, len_of}
 use Rattle.cfb_agreement.specs.Changes.{ChangesOneContent}
 use Rattle.cfb_agreement.specs.Files.{FileState, Holds, SameSetting}
 use Rattle.cfb_volume.proofs.ContentSteps.{WasChanged, WasRefused, ended, ended-changes, ended-entries, ended-holds, ended-same, ended-setting, ended-stream, file_on, refused-agrees, refused-changes, refused-setting, refused-stays, refused-stream}
 use Rattle.cfb_volume.proofs.Emptying.{emptying-fits}
-use Rattle.cfb_volume.proofs.Refusals.{resize-break}
+use Rattle.cfb_volume.proofs.Refusals.{file-after, resize-break}
 use Rattle.cfb_volume.proofs.volume.Volume.resize.Goals as goal
 
 pub resize_content-requires-clause-stream : goal.resize_content-requires-clause-stream
@@ -89,6 +89,18 @@ returns-in_err-resize_content-clause-err g c told held =
     (λ same. ap (λ (x : MiniState). file_on c.self.inside.is_sound c.self.inside.buffer_limit x) same ∙ c.self.view_is)
     c.in_err-resize_content.field-0.0 (c.in_err-resize_content.ensures.refused told) c.in_err-resize_content.ensures.err)
 
+pub returns-in_err-resize_content-clause-takes_none : goal.returns-in_err-resize_content-clause-takes_none
+returns-in_err-resize_content-clause-takes_none g c none =
+    c.resize_content.ensures.takes_none none ∙ ap (λ (f : FileState). length (tables_in f.base).fat) c.self.view_is
+
+pub returns-in_err-resize_content-clause-first : goal.returns-in_err-resize_content-clause-first
+returns-in_err-resize_content-clause-first g c told none =
+    let p = err_from_is_err_and c.from_residual.result c.from_residual.ensures.1 in
+    let s = c.self.inside.mini in
+    let mid = c.resize_content.new.mini in
+    rw (p.1, p.2) (file-after s mid c.args.self.now c.self.inside.is_sound c.self.inside.buffer_limit c.self.view_is
+    c.in_err-resize_content.field-0.0 (c.in_err-resize_content.ensures.first told none))
+
 -- ---- it went well
 
 changed : (g : _) (c : goal.After-end_change g) → IsTrue g.F.ReadMedium.tells → WasChanged c.args.self.now.base c.resize_content.new.mini c.args.entry
@@ -102,6 +114,7 @@ changed g c told =
       others = λ v change. e.others told v change;
       holds = λ v change. ok.holds told v change;
       owned = λ v change all. ok.owned told v change all;
+      sized = λ v change. ok.sized told v change;
       exact = λ x. ok.exact x;
       none_free = λ longer. ok.none_free longer;
     }) c.requires.stream
@@ -173,6 +186,11 @@ pub returns-clause-enough : goal.returns-clause-enough
 returns-clause-enough g c told held differs =
     subst (λ (f : FileState). c.args.len ≢ len_of f.base c.args.entry → IsChangeable Permissive f.base → IsTooLongFor f.base c.args.entry c.args.len → ⊥) c.self.view_is
     (λ other change. c.in_ok-resize_content.ensures.enough other Permissive change.held) differs (held.sound c.requires.sound)
+
+pub returns-clause-takes_none : goal.returns-clause-takes_none
+returns-clause-takes_none g c none =
+    ap (λ (s : MiniState). length (tables_in s).fat) c.end_change.ensures ∙ c.resize_content.ensures.takes_none none
+    ∙ ap (λ (f : FileState). length (tables_in f.base).fat) c.self.view_is
 
 -- ---- emptied
 

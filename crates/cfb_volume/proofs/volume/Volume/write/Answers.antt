@@ -98,6 +98,7 @@ changed g c told =
       others = λ v change. e.others told v change;
       holds = λ v change. ok.holds told v change;
       owned = λ v change all. ok.owned told v change all;
+      sized = λ v change. ok.sized told v change;
       exact = λ x. ok.tight.exact x;
       none_free = λ longer. ok.tight.none_free longer;
     }) c.requires.stream

@@ -1,0 +1,14 @@
+use Rattle.cfb_content.proofs.Snug.{empty-is-snug, kept-is-snug, same-is-sized, sized-is-snug}
+use Rattle.cfb_content.proofs.laws.chains_fit_their_lengths.Goals as goal
+
+pub returns-clause-kept : goal.returns-clause-kept
+returns-clause-kept c = kept-is-snug
+
+pub returns-clause-empty : goal.returns-clause-empty
+returns-clause-empty c = empty-is-snug
+
+pub returns-clause-sized : goal.returns-clause-sized
+returns-clause-sized c = sized-is-snug
+
+pub returns-clause-same : goal.returns-clause-same
+returns-clause-same c = same-is-sized
