@@ -1,9 +1,7 @@
-//! Tests of `cfb_alloc`: a crate beside it, because `rt ci` proves the tests of one crate in one job, and begins with
+//! Tests of `cfb_alloc` that no row says (docs/ROWS.md): a crate beside it, because `rt ci` proves the tests of one crate in one job, and begins with
 //! them as soon as what they stand on is proved.
 #![tactic(auto)]
 
-#[cfg(test)]
-mod changes;
 #[cfg(test)]
 mod files;
 #[cfg(test)]

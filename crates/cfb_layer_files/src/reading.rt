@@ -1,0 +1,103 @@
+//! Lines that read the directory and the MiniFAT of a file by its tables.
+
+use cfb_alloc::alloc::Allocator;
+use cfb_codecs::direntry::DirEntry;
+use cfb_format::color::Color;
+use cfb_format::consts::{END_OF_CHAIN, FREE_SECTOR, NO_STREAM};
+use cfb_format::error::Error;
+use cfb_format::medium::ReadMedium;
+use cfb_format::objtype::ObjType;
+use cfb_format::validate::Validation;
+use cfb_reading::minifat::read_minifat_words;
+use cfb_reading::slots::read_entries;
+use cfb_rows::answers::Answer;
+use cfb_rows::lines::Line;
+use std::alloc::Allocator as Heap;
+
+/// Whether this is the root of a file that was just made.
+fn is_new_root<A: Heap>(entry: &DirEntry<A>) -> bool {
+    entry.name.as_str() == "Root Entry"
+        && entry.obj_type == ObjType::Root
+        && entry.color == Color::Black
+        && entry.child == NO_STREAM
+        && entry.start_sector == END_OF_CHAIN
+        && entry.stream_len == 0
+}
+
+/// Whether this is an entry that is not used.
+fn is_unused<A: Heap>(entry: &DirEntry<A>) -> bool {
+    entry.name.as_str() == ""
+        && entry.obj_type == ObjType::Unallocated
+        && entry.color == Color::Red
+        && entry.left_sibling == NO_STREAM
+        && entry.right_sibling == NO_STREAM
+        && entry.child == NO_STREAM
+}
+
+/// How many entries there are, if the first is a new root and the others are not used.
+fn count_of<A: Heap>(entries: &[DirEntry<A>]) -> u64 {
+    for (number, entry) in entries.iter().enumerate() {
+        let is_new = if number == 0 {
+            is_new_root(entry)
+        } else {
+            is_unused(entry)
+        };
+        if !is_new {
+            return 0;
+        }
+    }
+    entries.len() as u64
+}
+
+/// Whether these are the words of a MiniFAT of one sector and one mini sector.
+fn are_of_one_mini(words: &[u32]) -> bool {
+    words.first() == Some(&END_OF_CHAIN)
+        && words.len() == 128
+        && words.iter().skip(1).all(|word| *word == FREE_SECTOR)
+}
+
+/// How many new entries the directory from here has.
+fn entries<F: ReadMedium, A: Heap + Clone>(
+    heap: &A,
+    allocator: &mut Allocator<F, A>,
+    start: u32,
+    mode: Validation,
+) -> Result<u64, Error> {
+    let entries = read_entries(heap, allocator, start, mode)?;
+    Ok(count_of(&entries))
+}
+
+/// How many words the MiniFAT from here has, and whether they are those of one mini sector.
+fn words<F: ReadMedium, A: Heap + Clone>(
+    heap: &A,
+    allocator: &mut Allocator<F, A>,
+    start: u32,
+) -> Result<(u64, bool), Error> {
+    let words = read_minifat_words(heap, allocator, start)?;
+    Ok((words.len() as u64, are_of_one_mini(&words)))
+}
+
+/// The answer to a line.
+pub fn asked<F: ReadMedium, A: Heap + Clone>(
+    heap: &A,
+    allocator: &mut Allocator<F, A>,
+    line: &Line<'_>,
+    start: u32,
+) -> Answer {
+    let mode = if line.words[2] == "permissive" {
+        Validation::Permissive
+    } else {
+        Validation::Strict
+    };
+    match line.call() {
+        "entries" => Answer::of(entries(heap, allocator, start, mode).map(|_count| ())),
+        "new-entries" => Answer::counted(entries(heap, allocator, start, mode)),
+        "reads" => Answer::of(words(heap, allocator, start).map(|_words| ())),
+        "words" => Answer::counted(words(heap, allocator, start).map(|words| words.0)),
+        "one-mini" => match words(heap, allocator, start) {
+            Ok((_, is_one)) => Answer::Flag(is_one),
+            Err(e) => Answer::Refused(e),
+        },
+        _ => Answer::Wrong("no such line"),
+    }
+}
