@@ -4,6 +4,8 @@
 
 pub use cfb_codecs::path::CaseMapper;
 pub use cfb_codecs::timestamp::Timestamp;
+pub use cfb_commands::command::{Command, Opening, Reply, StreamOp, StreamReply};
+pub use cfb_commands::run::run;
 pub use cfb_compound_file::compound_file::CompoundFile;
 pub use cfb_compound_file::options::OpenOptions;
 pub use cfb_compound_file::read_stream::ReadStream;
@@ -15,6 +17,7 @@ pub use cfb_format::validate::Validation;
 pub use cfb_format::version::Version;
 pub use cfb_listing::entries::Entries;
 pub use cfb_listing::entry::Entry;
+pub use cfb_std_streams::kinds::{std_error, std_kind};
 
 /// What follows from what the calls promise. None of these functions does anything: each has laws as its contract.
 pub mod laws {
@@ -22,6 +25,8 @@ pub mod laws {
     pub use cfb_agreement::laws as files;
     /// What bytes mean.
     pub use cfb_format::laws as bytes;
+    /// How the calls make the steps of a list of commands, and what such a list keeps of a file.
+    pub use cfb_command_steps::laws as commands;
     /// What listings are, and where the paths in them lead.
     pub use cfb_listing::laws as listings;
     /// What each call answers and makes of the tree.

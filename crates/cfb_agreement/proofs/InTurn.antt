@@ -5,6 +5,7 @@ use Rattle.cfb_tables.specs.Changes.{NoneFree}
 use Rattle.cfb_mini_sectors.specs.State.{MiniState, tables_in}
 use Rattle.cfb_mini_sectors.specs.Steps.{KeepsLimits}
 use Rattle.cfb_content.specs.Contents.{KeepsOthers}
+use Rattle.cfb_content.proofs.FixedHeader.{bytes-keep-header, header-then}
 use Rattle.cfb_content.proofs.Kept.{nothing-is-moved, others-kept-then}
 use Rattle.cfb_content.proofs.Outlines.{content-moves-then, same-entries-moved}
 use Rattle.cfb_agreement.specs.Changes.{ChangesOneContent}
@@ -40,6 +41,7 @@ flags-are-none i file n b = record {
   setting = record { limits = record { version = refl; cases = refl; max_sectors = refl; max_mini_sectors = refl }; is_sound = refl; buffer_limit = refl };
   entries = same-entries-moved file.base (flagged file.base n b) i refl;
   others = others-flagged i file.base n b;
+  header = bytes-keep-header file.base (flagged file.base n b) refl;
   made = λ calm made. made-flagged file.base n b made;
   grows = λ calm longer. absurd (omega (arith, longer));
 }
@@ -70,6 +72,7 @@ contents-in-turn i old mid new p q failed no_shorter stays = record {
   setting = setting-then old mid new p.setting q.setting;
   entries = content-moves-then old.base mid.base new.base i p.entries q.entries;
   others = others-kept-then i old.base mid.base new.base p.setting.limits p.entries p.others q.others;
+  header = header-then old.base mid.base new.base p.setting.limits.version p.header q.header;
   made = λ calm made. q.made calm (p.made (before calm) made);
   grows = λ calm. none-free-then old.base mid.base new.base (p.grows (before calm)) (q.grows calm) (no_shorter calm) (stays calm);
 }

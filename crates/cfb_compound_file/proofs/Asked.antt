@@ -26,9 +26,9 @@ use Rattle.cfb_objects.proofs.Found.{object-is-at-its-entry}
 use Rattle.cfb_mini_sectors.specs.State.{bytes_of, cases_of, content_of, entries_of, reading_of, root_len_of}
 use Rattle.cfb_agreement.specs.Files.{Agrees, FileState, is_failed}
 use Rattle.cfb_agreement.proofs.HeldBytes.{held-means-its-tree}
-use Rattle.cfb_compound_file.proofs.CallKinds.{kind_same}
-use Rattle.cfb_compound_file.specs.Answers.{Answers, AnswersNot, RunsOn, causes_of_call, setting_of, state_with}
-use Rattle.cfb_compound_file.specs.Finding.{FindingRefused}
+use Rattle.cfb_path_changes.proofs.CallKinds.{kind_same}
+use Rattle.cfb_path_changes.specs.Answers.{Answers, AnswersNot, RunsOn, causes_of_call, setting_of, state_with}
+use Rattle.cfb_path_changes.specs.Finding.{FindingRefused}
 
 -- ---- questions
 

@@ -20,7 +20,7 @@ use Rattle.cfb_agreement.proofs.HeldBytes.{held-means-its-tree}
 use Rattle.cfb_stream_buffer.proofs.Lists.{laid-nothing}
 use Rattle.cfb_stream_window.specs.Windows.{Window, window_opened}
 use Rattle.cfb_compound_file.specs.OpenedStreams.{BeginsAt}
-use Rattle.cfb_compound_file.specs.Finding.{StandsAt}
+use Rattle.cfb_path_changes.specs.Finding.{StandsAt}
 use Rattle.cfb_compound_file.specs.StreamAnswers.{open_stream_of, stream_in}
 use Rattle.cfb_compound_file.specs.Stored.{stored_of}
 use Rattle.cfb_compound_file.proofs.StoredStreams.{unfailed_content}

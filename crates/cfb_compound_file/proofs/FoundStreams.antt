@@ -24,23 +24,7 @@ use Rattle.cfb_content.specs.Contents.{IsStreamOf}
 use Rattle.cfb_agreement.specs.Files.{FileState, Holds}
 use Rattle.cfb_agreement.proofs.HeldBytes.{held-means-its-tree}
 use Rattle.cfb_compound_file.specs.OpenedStreams.{IsNoStreamAt, StandsNowhere}
-use Rattle.cfb_compound_file.specs.Finding.{StandsAt}
-
--- ---- what is reached and is a stream
-
-inside : (o : Outline) (k : ℕ) → k ≢ 0 → IsReached o k → Contains (numbers o) k
-inside o k other (zero, less, is) = absurd (other (sym is))
-inside o k other (suc j, less, is) = (j, omega (arith, less), is)
-
-pub reached_stream : (s : MiniState) (k : ℕ) (order : AreInOrder (cases_of s) (entries_of s)) → IsReached order.outline k → (entry_at (entries_of s) k).obj_type ≡ Stream → IsStreamOf s k
-reached_stream s k order reached kind =
-    let o = order.outline in
-    let other : k ≢ 0 = λ zero. absurd (let w : Stream ≡ Root = sym kind ∙ ap (λ (n : ℕ). (entry_at (entries_of s) n).obj_type) zero ∙ order.is.root in cc) in
-    record {
-      outline = o;
-      is = order.is;
-      reached = present k (stream_numbers o) (of-stream-kind (cases_of s) (entries_of s) o k order.is.contents (counted k (numbers o) (inside o k other reached)) kind);
-    }
+use Rattle.cfb_path_changes.specs.Finding.{StandsAt}
 
 -- ---- what the tree has at the path
 

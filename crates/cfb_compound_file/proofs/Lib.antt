@@ -1,8 +1,7 @@
-pub mod CallKinds
-pub mod Runs
 pub mod StoredStreams
 pub mod OpenStreams
 pub mod StreamCalls
+pub mod StdStreams
 pub mod FoundStreams
 pub mod OpenedStreams
 pub mod Fitting
@@ -11,12 +10,5 @@ pub mod Numbers
 pub mod Told
 pub mod WritesOut
 pub mod MadeFiles
-pub mod Changing
-pub mod Sparing
-pub mod Balanced
-pub mod Creation
-pub mod Places
-pub mod NewStreams
-pub mod FilledPlaces
 pub mod Reopening
 pub mod Beginning

@@ -11,15 +11,16 @@ use Rattle.cfb_rules.specs.StreamCalls.{StreamCall, StreamReply, StreamSetting, 
 use Rattle.cfb_siblings.specs.Paths.{number_from}
 use Rattle.cfb_mini_sectors.specs.State.{bytes_of, cases_of, entries_of}
 use Rattle.cfb_content.specs.Contents.{IsStreamOf}
+use Rattle.cfb_content.proofs.FixedHeader.{header-then}
 use Rattle.cfb_content.proofs.Kept.{others-kept-then}
 use Rattle.cfb_content.proofs.Outlines.{content-moves-then}
 use Rattle.cfb_agreement.specs.Files.{Agrees, FileState, Holds, SameSetting, is_failed}
 use Rattle.cfb_agreement.proofs.ContentChanges.{content-becomes-tree}
 use Rattle.cfb_agreement.proofs.InTurn.{same-content-is-none}
 use Rattle.cfb_volume.specs.Answers.{content_at}
-use Rattle.cfb_compound_file.specs.Answers.{MeansTree}
+use Rattle.cfb_path_changes.specs.Answers.{MeansTree}
 use Rattle.cfb_compound_file.specs.Stored.{ChangesStream, KeepsRest}
-use Rattle.cfb_compound_file.specs.Finding.{StandsAt}
+use Rattle.cfb_path_changes.specs.Finding.{StandsAt}
 use Rattle.cfb_compound_file.specs.StreamAnswers.{ClosesTree, closed_tree}
 
 -- ---- what was changed in turn
@@ -47,6 +48,7 @@ rest_then i old new first c k = record {
   setting = setting_then first old new k.setting c.content.setting;
   entries = content-moves-then first.base old.base new.base i k.entries c.content.entries;
   others = others-kept-then i first.base old.base new.base k.setting.limits k.entries k.others c.content.others;
+  header = header-then first.base old.base new.base k.setting.limits.version k.header c.content.header;
   unsound = λ unsound calm.
       c.unsound (k.setting.is_sound ∙ unsound) calm ∙ k.unsound unsound (calm_before (is_failed old) (is_failed new) c.failed calm);
   failed = λ failed. c.failed (k.failed failed);
@@ -58,6 +60,7 @@ rest_at_once i file at = let c = same-content-is-none i file in record {
   setting = c.setting;
   entries = c.entries;
   others = c.others;
+  header = c.header;
   unsound = λ _ _. refl;
   failed = λ failed. failed;
 }

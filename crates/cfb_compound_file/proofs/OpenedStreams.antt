@@ -13,9 +13,9 @@ use Rattle.cfb_rules.specs.Runs.{Causes, MayBreak, OnFailed, TreeState, may_stay
 use Rattle.cfb_rules.specs.Steps.{Step, kind_of, kind_on}
 use Rattle.cfb_mini_sectors.specs.State.{bytes_of, cases_of, root_len_of}
 use Rattle.cfb_agreement.specs.Files.{Agrees, FileState, is_failed}
-use Rattle.cfb_compound_file.specs.Answers.{Answers, AnswersNot, MeansTree, RunsOn, causes_of_call, setting_of, state_with}
+use Rattle.cfb_path_changes.specs.Answers.{Answers, AnswersNot, MeansTree, RunsOn, causes_of_call, setting_of, state_with}
 use Rattle.cfb_compound_file.specs.OpenedStreams.{IsNotFound, IsStreamAt}
-use Rattle.cfb_compound_file.proofs.Runs.{runs_failed, runs_unfailed}
+use Rattle.cfb_path_changes.proofs.Runs.{runs_failed, runs_unfailed}
 use Rattle.cfb_compound_file.proofs.FoundStreams.{nothing_refused, path_refused, storage_refused, stream_allowed}
 
 -- a call on an open file that leaves it as it is, and is refused by the rules as opening a stream is

@@ -31,6 +31,7 @@ use Rattle.cfb_format.specs.Refused.{IsBreak}
 use Rattle.cfb_stream_buffer.specs.Contents.{Fails, KeptOrFailed, WritesPart, laid, stored_after_resize, stored_after_write}
 use Rattle.cfb_compound_file.specs.Flags.{flags_change_nothing}
 use Rattle.cfb_compound_file.specs.Stored.{ChangesStream, kept_of, stored_of}
+use Rattle.cfb_path_changes.proofs.Stopping.{stops_no_shorter}
 
 -- ---- entries
 
@@ -143,13 +144,6 @@ changes_at_once i old new sound unfailed change = record {
   unsound = λ unsound _. absurd (let w : true ≡ false = sym sound ∙ unsound in cc);
   failed = λ failed. absurd (let w : true ≡ false = sym failed ∙ unfailed in cc);
 }
-
--- where it broke off it gave nothing back, or failed
-pub stops_no_shorter : (old new : FileState) → StaysOrFails old new → is_failed new ≡ false → (tables_in new.base).fat ≡ (tables_in old.base).fat
-stops_no_shorter old new stays unfailed = elim stays [
-  | inl before ↦ ap (λ (z : FileState). (tables_in z.base).fat) (as-before-same old new before)
-  | inr failed ↦ absurd (let w : true ≡ false = sym failed ∙ unfailed in cc)
-]
 
 -- ---- bytes
 

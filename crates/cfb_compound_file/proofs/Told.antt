@@ -32,8 +32,8 @@ use Rattle.cfb_objects.proofs.Found.{found-is-at-its-entry, inside-is-below, obj
 use Rattle.cfb_objects.proofs.Leading.{found-has-parent, last-name-leads-on}
 use Rattle.cfb_mini_sectors.specs.State.{cases_of, content_of, entries_of, root_len_of}
 use Rattle.cfb_agreement.specs.Files.{Agrees, FileState}
-use Rattle.cfb_compound_file.specs.Answers.{Answers, AnswersNot}
-use Rattle.cfb_compound_file.specs.Finding.{LeadTo, is_storage_or_root, kind_found}
+use Rattle.cfb_path_changes.specs.Answers.{Answers, AnswersNot}
+use Rattle.cfb_path_changes.specs.Finding.{LeadTo, is_storage_or_root, kind_found}
 use Rattle.cfb_compound_file.proofs.Asked.{RootIsNamed, asks-entry, asks-exists, asks-is-storage, asks-is-stream, asks-read, asks-read-root, asks-root-entry, asks-walk, asks-walk-storage, is-answered, refused-by-rule, served, tree_in}
 
 -- ---- what stands below the root

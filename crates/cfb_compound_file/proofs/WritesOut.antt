@@ -1,5 +1,5 @@
 -- What a flush answers, by the rules of calls.
-use Rattle.std.proofs.Common.{◌≡◌, inl, inr, Bool, true, false, refl, sym, subst, ◌∙◌, arith}
+use Rattle.std.proofs.Common.{◌≡◌, inl, inr, Bool, true, false, refl, sym, ap, subst, ◌∙◌, arith}
 use Rattle.std.specs.Prelude.{Result, Ok, Err, IfErr, OnErr, OnOk}
 use Rattle.cfb_format.specs.declared.error.Error.{Error}
 use Rattle.cfb_format.specs.declared.error.Error.TheVariants.{NotFound, AlreadyExists, InvalidInput, InvalidData, Medium, Memory, Full, Unsound, Failed}
@@ -8,11 +8,14 @@ use Rattle.cfb_format.specs.Medium.{Rises}
 use Rattle.cfb_format.specs.Refused.{CountsFailure, IsMediumAnd}
 use Rattle.cfb_rules.specs.Calls.{done, flush, refused}
 use Rattle.cfb_rules.specs.Refusal.{failed_earlier, medium_failed}
+use Rattle.cfb_rules.specs.Steps.{creating, flushing}
+use Rattle.cfb_mini_sectors.specs.State.{bytes_of}
+use Rattle.cfb_content.proofs.FixedHeader.{bytes-keep-header, header-stays}
 use Rattle.cfb_agreement.specs.Files.{FileState, SameSetting, failures_of, is_failed}
 use Rattle.cfb_agreement.specs.Laws.{with_flags}
-use Rattle.cfb_compound_file.proofs.Runs.{runs_failed, runs_unfailed}
-use Rattle.cfb_compound_file.proofs.Sparing.{flags_spare, spares_all}
-use Rattle.cfb_compound_file.specs.Answers.{IsDoneBy, IsRefusedBy, RunsOn, StaysInOrder, causes_of_call, setting_of, state_with}
+use Rattle.cfb_path_changes.proofs.Runs.{runs_failed, runs_unfailed}
+use Rattle.cfb_path_changes.proofs.Sparing.{flags_spare, spares_all}
+use Rattle.cfb_path_changes.specs.Answers.{IsDoneBy, IsRefusedBy, RunsOn, StaysInOrder, causes_of_call, setting_of, state_with}
 
 runs-done : (file : FileState) → is_failed file ≡ false → RunsOn (causes_of_call file file) file flush done file
 unfolding RunsOn
@@ -46,13 +49,13 @@ stays file = record {
     is_sound = refl;
     buffer_limit = refl;
   };
+  header = header-stays file.base file.base refl;
   made = λ _ made. made;
-  balanced = λ _ all. all;
   grows = λ _ less. absurd (omega (arith, less));
 }
 
 pub flush-done : (file : FileState) → is_failed file ≡ false → IsDoneBy file flush done file
-flush-done file unfailed = record { runs = runs-done file unfailed; order = stays file; spares = spares_all file flush; calm = refl }
+flush-done file unfailed = record { runs = runs-done file unfailed; order = stays file; balanced = λ _ _ all. all; spares = spares_all file flush; room = λ tree means creates. absurd (let clash : flushing ≡ creating = creates in cc); calm = refl }
 
 pub flush-on-failed : (can : MediumFault → Bool) (file : FileState) → is_failed file ≡ true → IsRefusedBy can file flush file Failed
 flush-on-failed can file failed = record {
@@ -61,15 +64,16 @@ flush-on-failed can file failed = record {
   runs = runs-failed file failed;
   stays = refl;
   order = stays file;
+  balanced = λ _ all. all;
   spares = spares_all file flush;
   counts = refl;
 }
 
-broken-in-order : (old new : FileState) → SameSetting old new → is_failed new ≡ true → StaysInOrder old new
-broken-in-order old new setting failed = record {
+broken-in-order : (old new : FileState) → SameSetting old new → bytes_of new.base ≡ bytes_of old.base → is_failed new ≡ true → StaysInOrder old new
+broken-in-order old new setting same failed = record {
   setting = setting;
+  header = bytes-keep-header old.base new.base same;
   made = λ calm. absurd (let w : true ≡ false = sym failed ∙ calm in cc);
-  balanced = λ calm. absurd (let w : true ≡ false = sym failed ∙ calm in cc);
   grows = λ calm. absurd (let w : true ≡ false = sym failed ∙ calm in cc);
 }
 
@@ -82,7 +86,8 @@ flush-refused can old new (Err (Medium f)) unfailed setting rest failed is count
   is = refl;
   runs = runs-broken old new unfailed failed counts.rises;
   stays = inr failed;
-  order = broken-in-order old new setting failed;
+  order = broken-in-order old new setting (ap (λ (file : FileState). bytes_of file.base) rest) failed;
+  balanced = λ calm. absurd (let w : true ≡ false = sym failed ∙ calm in cc);
   spares = flags_spare old new flush rest;
   counts = counts;
 }

@@ -3,7 +3,7 @@ use Rattle.std.specs.Prelude.{ℕ, ◌≡◌, ◌≢◌, Bool, true, false, Cont
 use Rattle.std.proofs.Common.{sym, subst}
 use Rattle.cfb_format.specs.Reading.{IsOutline, Outline, stream_numbers}
 use Rattle.cfb_mini_sectors.specs.State.{cases_of, entries_of}
-use Rattle.cfb_content.specs.Contents.{KeepsOthers, MovesContent}
+use Rattle.cfb_content.specs.Contents.{KeepsFixedHeader, KeepsOthers, MovesContent}
 use Rattle.cfb_agreement.specs.Changes.{ChangesOneContent}
 use Rattle.cfb_agreement.specs.Files.{FileState, SameSetting, failures_of, is_failed}
 use Rattle.cfb_agreement.specs.Laws.{with_flags}
@@ -30,11 +30,15 @@ module _ (first old : FileState) (i failures : ℕ) (begun : Bool) (unfailed : b
   others = λ (o : Outline) (is : IsOutline (cases_of first.base) (entries_of first.base) o) (n : ℕ) (c : Contains (stream_numbers o) n) (ne : n ≢ i).
       let e = k.content.others o is n c ne in record { chain = e.chain; sectors = e.sectors; places = e.places; mini_sectors = e.mini_sectors }
 
+  header : KeepsFixedHeader first.base now.base
+  header = let h = k.content.header in record { no_shorter = h.no_shorter; bytes = h.bytes }
+
   content : ChangesOneContent i first now
   content = record {
     setting = setting;
     entries = entries;
     others = others;
+    header = header;
     made = λ calm made. made-flagged old.base failures begun (k.content.made (unfailed calm) made);
     grows = λ calm. k.content.grows (unfailed calm);
   }

@@ -1,14 +1,12 @@
-pub mod Sparing
-pub mod Answers
 pub mod Opening
 pub mod Stored
 pub mod Flags
-pub mod Finding
 pub mod StreamAnswers
 pub mod Buffering
 pub mod Streams
 pub mod ReadStreams
+pub mod StdStreams
+pub mod StdLending
 pub mod OpenedStreams
 pub mod Adding
-pub mod Place
 pub mod Printed

@@ -14,8 +14,8 @@ use Rattle.cfb_stream_window.specs.Windows.{window_opened}
 use Rattle.cfb_compound_file.specs.Stored.{KeepsRest}
 use Rattle.cfb_format.specs.Tree.{Tree}
 use Rattle.cfb_rules.specs.Runs.{opened_by_path}
-use Rattle.cfb_compound_file.specs.Answers.{MeansTree}
-use Rattle.cfb_compound_file.specs.Finding.{StandsAt}
+use Rattle.cfb_path_changes.specs.Answers.{MeansTree}
+use Rattle.cfb_path_changes.specs.Finding.{StandsAt}
 use Rattle.cfb_compound_file.specs.StreamAnswers.{OpenStream, stream_in}
 
 -- no entry stands at this path

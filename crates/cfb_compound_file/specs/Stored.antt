@@ -3,7 +3,7 @@ use Rattle.std.specs.Prelude.{ℕ, ◌≡◌, [], true, false, if◌then◌else�
 use Rattle.cfb_format.specs.Bytes.{max_stream_len}
 use Rattle.cfb_format.specs.Siblings.{entry_at}
 use Rattle.cfb_mini_sectors.specs.State.{bytes_of, content_of, entries_of, version_of}
-use Rattle.cfb_content.specs.Contents.{IsStreamOf, KeepsOthers, MovesContent, len_of}
+use Rattle.cfb_content.specs.Contents.{IsStreamOf, KeepsFixedHeader, KeepsOthers, MovesContent, len_of}
 use Rattle.cfb_agreement.specs.Changes.{ChangesOneContent}
 use Rattle.cfb_agreement.specs.Files.{FileState, SameSetting, is_failed}
 use Rattle.cfb_agreement.specs.Laws.{with_flags}
@@ -32,6 +32,7 @@ pub record KeepsRest (entry : ℕ) (first now : FileState) : Type 0 where
   pub setting : SameSetting first now
   pub entries : MovesContent first.base now.base entry
   pub others : KeepsOthers entry first.base now.base
+  pub header : KeepsFixedHeader first.base now.base
   pub unsound : first.is_sound ≡ false → is_failed now ≡ false → bytes_of now.base ≡ bytes_of first.base
   pub failed : is_failed first ≡ true → is_failed now ≡ true
 

@@ -14,8 +14,8 @@ use Rattle.cfb_agreement.specs.Files.{Agrees, FileState, failures_of, is_failed}
 use Rattle.cfb_stream_buffer.specs.Contents.{KeptOrFailed, Stored}
 use Rattle.cfb_stream_window.specs.Answers.{AtRefusal}
 use Rattle.cfb_stream_window.specs.Windows.{IsCallRefused, Runs, Window, run_of, state_of}
-use Rattle.cfb_compound_file.specs.Answers.{MeansTree, causes_of}
-use Rattle.cfb_compound_file.specs.Finding.{StandsAt}
+use Rattle.cfb_path_changes.specs.Answers.{MeansTree, causes_of}
+use Rattle.cfb_path_changes.specs.Finding.{StandsAt}
 use Rattle.cfb_compound_file.specs.Stored.{ChangesStream, KeepsRest, kept_of, stored_of}
 
 -- the file that is borrowed, the number of the stream's entry, and the window in memory

@@ -1,66 +1,24 @@
 //! New streams in a compound file.
-ghost use Rattle.std.specs.Prelude.{◌≡◌, ◌⊎◌, ◌||◌, ℕ, List, Bool, [], max, IsTrue, IfOk, IfErr, OnOk, chars, map};
+ghost use Rattle.std.specs.Prelude.{◌≡◌, ◌||◌, [], max, IsTrue, IfOk, IfErr, chars};
 ghost use Rattle.std.specs.Borrow.{sem};
 ghost use Rattle.cfb_format.specs.Refused.{IsMemory};
-ghost use Rattle.cfb_rules.specs.Calls.{create_new_stream, create_stream, done};
-ghost use Rattle.cfb_agreement.specs.Files.{Agrees};
-ghost use Rattle.cfb_compound_file.specs.Adding.{IsCreatedBy, RulesRefuse, creation};
-ghost use Rattle.cfb_compound_file.specs.Answers.{IsDoneBy, IsRefusedBy};
-ghost use Rattle.cfb_compound_file.specs.Place.{HasNewStream, IsPlace, IsPlaceOf, IsSomePlace};
+ghost use Rattle.cfb_rules.specs.Calls.{create_new_stream, create_stream};
+ghost use Rattle.cfb_compound_file.specs.Adding.{IsCreatedBy, MakesStream};
 ghost use Rattle.cfb_compound_file.specs.StreamAnswers.{open_stream_of};
+ghost use Rattle.cfb_path_changes.specs.Adding.{creation};
+ghost use Rattle.cfb_path_changes.specs.Answers.{IsRefusedBy};
 
 use crate::compound_file::CompoundFile;
-use crate::queries::kind_of;
 use crate::stream::Stream;
-use cfb_codecs::path::{name_chain_from_path, validate_name};
 use cfb_codecs::timestamp::Timestamp;
-use cfb_format::error::{Detail, Error};
+use cfb_format::error::Error;
 use cfb_format::medium::{Medium, ReadMedium};
-use cfb_format::objtype::ObjType;
+use cfb_path_changes::placing::{Creation, fill_place, place_at};
 use cfb_stream_buffer::buffer::StreamBuffer;
 use cfb_stream_window::window::Window;
 use std::alloc::Allocator as Heap;
 
-/// Where a stream that is to be made belongs.
-#[derive(Clone, Copy)]
-pub(crate) enum Place<'p> {
-    /// A stream is there.
-    There(u32),
-    /// Nothing is there: it comes into this storage, under this name.
-    Missing(u32, &'p str),
-}
-
 impl<F: ReadMedium, A: Heap + Clone> CompoundFile<F, A> {
-    /// Where a stream at these names belongs, by the rules: `AlreadyExists` for the root, for a storage, and for a stream that may not be
-    /// emptied; `InvalidInput` where the last name is not valid or the parent is a stream; `NotFound` where there is no parent; `Memory`.
-    fn place_for_stream<'p>(&self, names: &[&'p str], empties: bool) -> Result<Place<'p>, Error>
-        ensures ok { IfOk result (IsPlace self.now empties (map (λ name.
-            chars name.now) names.now)) }
-        ensures refused { IfErr result (λ e. IsMemory e
-            ⊎ RulesRefuse self.now empties (map (λ name. chars name.now) names.now) e) }
-    {
-        let Some((last, before)) = names.split_last() else {
-            return Err(Error::AlreadyExists(Detail::text("the root is there")));
-        };
-        validate_name(self.volume.heap().clone()?, last)?;
-        let entries = self.volume.entries();
-        if let Some(number) = self.volume.number_of(names) {
-            let kind = kind_of(entries, number);
-            if empties && kind == ObjType::Stream {
-                return Ok(Place::There(number));
-            }
-            return Err(Error::AlreadyExists(Detail::text("something is there")));
-        }
-        let Some(parent) = self.volume.number_of(before) else {
-            return Err(Error::NotFound(Detail::text("no parent storage")));
-        };
-        let kind = kind_of(entries, parent);
-        if kind == ObjType::Stream {
-            return Err(Error::InvalidInput(Detail::text("the parent is a stream")));
-        }
-        Ok(Place::Missing(parent, last))
-    }
-
     /// A buffer for a new stream, that holds nothing. `Memory`.
     fn new_buffer(&self) -> Result<StreamBuffer<A>, Error>
         ensures ok { IfOk result (λ b. b ≡ record {
@@ -77,65 +35,18 @@ impl<F: ReadMedium, A: Heap + Clone> CompoundFile<F, A> {
 }
 
 impl<F: Medium, A: Heap + Clone> CompoundFile<F, A> {
-    /// Where a stream at this path belongs, on a sound file that has not failed. `Failed`; what `place_for_stream` refuses, and
-    /// `InvalidInput` where the path leaves the root; `Unsound`; `Memory`.
-    fn place_at<'p>(&self, path: &'p str, empties: bool) -> Result<Place<'p>, Error>
-        ensures ok { IfOk result (IsPlaceOf self.now empties (chars path.now)) }
-        ensures refused { IsTrue F.tells → IfErr result (λ e. IsRefusedBy (λ f. F.read_faults f
-            || F.write_faults f) self.now (creation empties (chars path.now)) self.now e) }
-    {
-        if self.volume.is_failed() {
-            return Err(Error::Failed);
-        }
-        let names = name_chain_from_path(self.volume.heap().clone()?, path)?;
-        let place = self.place_for_stream(&names, empties)?;
-        if !self.volume.is_sound() {
-            return Err(Error::Unsound);
-        }
-        Ok(place)
-    }
-
-    /// Makes an empty stream in its place, or empties the one that is there, and answers the number of its entry.
-    ///
-    /// `Full` where no entry can be had: nothing has changed then. `Memory`, and `Medium` where the medium fails: all but the count of failures
-    /// is as before, or the file has failed.
-    fn fill_place(&mut self, place: Place<'_>) -> Result<u32, Error>
-        requires { IsSomePlace self.old place }
-        ensures filled { IfOk result (HasNewStream self.old place.entry self.new) }
-        ensures agrees { IsTrue F.tells → Agrees self.new }
-        ensures runs { IsTrue F.tells → OnOk result ((empties : Bool) (path : List ℕ)
-            → IsPlaceOf self.old empties path place.entry
-            → IsDoneBy self.old (creation empties path) done self.new) }
-        ensures refused { IsTrue F.tells → IfErr result (λ e. (empties : Bool) (path : List ℕ)
-            → IsPlaceOf self.old empties path place.entry → IsRefusedBy (λ f. F.read_faults f
-            || F.write_faults f) self.old (creation empties path) self.new e) }
-    {
-        match place {
-            Place::There(number) => {
-                self.volume.resize(number, 0)?;
-                Ok(number)
-            }
-            Place::Missing(parent, name) => {
-                let number = self
-                    .volume
-                    .insert(parent, name, ObjType::Stream, Timestamp::zero())?;
-                let _entries = self.volume.entries();
-                Ok(number)
-            }
-        }
-    }
-
     /// Makes an empty stream at this path, or empties the one that is there where that may be, and answers the number of its entry with the
     /// window at its start, whose buffer is had before anything changes.
-    fn add_stream(&mut self, path: &str, empties: bool) -> Result<(u32, Window<A>), Error>
-        ensures created { IfOk result (λ s. IsCreatedBy F.tells self.old (creation empties
+    fn add_stream(&mut self, path: &str, what: Creation) -> Result<(u32, Window<A>), Error>
+        requires stream { MakesStream what }
+        ensures created { IfOk result (λ s. IsCreatedBy F.tells self.old (creation what 0
             (chars path.now)) (chars path.now) (open_stream_of self.new s.0 s.1)) }
         ensures refused { IsTrue F.tells → IfErr result (IsRefusedBy (λ f. F.read_faults f
-            || F.write_faults f) self.old (creation empties (chars path.now)) self.new) }
+            || F.write_faults f) self.old (creation what 0 (chars path.now)) self.new) }
     {
-        let place = self.place_at(path, empties)?;
+        let place = place_at(&self.volume, path, what)?;
         let buffer = self.new_buffer()?;
-        let entry = self.fill_place(place)?;
+        let entry = fill_place(&mut self.volume, place, what, Timestamp::zero())?;
         let window = Window::over(buffer, self, entry);
         Ok((entry, window))
     }
@@ -159,7 +70,7 @@ impl<F: Medium, A: Heap + Clone> CompoundFile<F, A> {
             (λ old last e. IsTrue F.tells → IsRefusedBy (λ f. F.read_faults f
             || F.write_faults f) old (create_stream (chars path.now)) last e) self.entry result) }
     {
-        let (entry, window) = self.add_stream(path, true)?;
+        let (entry, window) = self.add_stream(path, Creation::EmptyStream)?;
         Ok(Stream {
             file: self,
             entry,
@@ -179,7 +90,7 @@ impl<F: Medium, A: Heap + Clone> CompoundFile<F, A> {
             IsTrue F.tells → IsRefusedBy (λ f. F.read_faults f || F.write_faults f) old
             (create_new_stream (chars path.now)) last e) self.entry result) }
     {
-        let (entry, window) = self.add_stream(path, false)?;
+        let (entry, window) = self.add_stream(path, Creation::NewStream)?;
         Ok(Stream {
             file: self,
             entry,

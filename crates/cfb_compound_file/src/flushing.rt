@@ -4,7 +4,7 @@ ghost use Rattle.cfb_format.specs.Refused.{HasReason, no_error};
 ghost use Rattle.cfb_rules.specs.Calls.{done, flush};
 ghost use Rattle.cfb_agreement.specs.Files.{failures_of, is_failed};
 ghost use Rattle.cfb_agreement.specs.Laws.{with_flags};
-ghost use Rattle.cfb_compound_file.specs.Answers.{IsDoneBy, IsRefusedBy};
+ghost use Rattle.cfb_path_changes.specs.Answers.{IsDoneBy, IsRefusedBy};
 
 use crate::compound_file::CompoundFile;
 use cfb_format::error::Error;

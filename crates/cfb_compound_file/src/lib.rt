@@ -2,6 +2,7 @@
 #![tactic(auto)]
 
 pub mod adding;
+pub mod changes;
 pub mod compound_file;
 pub mod contents;
 pub mod flushing;
@@ -10,4 +11,6 @@ pub mod opening_streams;
 pub mod options;
 pub mod queries;
 pub mod read_stream;
+pub mod std_read_stream;
+pub mod std_stream;
 pub mod stream;

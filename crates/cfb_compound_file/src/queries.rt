@@ -14,18 +14,19 @@ ghost use Rattle.cfb_listing.specs.Told.{entry_info};
 ghost use Rattle.cfb_listing.specs.Left.{entries_left};
 ghost use Rattle.cfb_listing.specs.Listings.{ListsChildren, Walks};
 ghost use Rattle.cfb_mini_sectors.specs.State.{cases_of, entries_of};
-ghost use Rattle.cfb_compound_file.specs.Answers.{Answers, AnswersNot};
-ghost use Rattle.cfb_compound_file.specs.Finding.{FindingRefused, IsObjectOf, IsStorageOf, LeadTo, is_storage_or_root, kind_found};
+ghost use Rattle.cfb_path_changes.specs.Answers.{Answers, AnswersNot};
+ghost use Rattle.cfb_path_changes.specs.Finding.{FindingRefused, IsObjectOf, IsStorageOf, LeadTo, is_storage_or_root, kind_found};
 
 use crate::compound_file::CompoundFile;
 use cfb_codecs::direntry::DirEntry;
-use cfb_codecs::path::{name_chain_from_path, path_from_name_chain};
+use cfb_codecs::path::path_from_name_chain;
 use cfb_format::error::{Detail, Error};
 use cfb_format::medium::ReadMedium;
 use cfb_format::objtype::ObjType;
 use cfb_listing::entries::Entries;
 use cfb_listing::entry::{Entry, entry_of};
 use cfb_listing::listing::{list_children, path_below, walk_from};
+use cfb_path_changes::finding::{self, kind_of};
 use std::alloc::Allocator as Heap;
 
 impl<F: ReadMedium, A: Heap> CompoundFile<F, A> {
@@ -80,14 +81,6 @@ fn is_of_storage(found: Option<ObjType>) -> bool
     matches!(found, Some(ObjType::Storage | ObjType::Root))
 }
 
-/// The kind of the entry of this number.
-pub(crate) fn kind_of<A: Heap>(entries: &[DirEntry<A>], number: u32) -> ObjType
-    requires { number < length entries.now }
-    ensures { result ≡ (entry_at (entries_in entries.now) number).obj_type }
-{
-    entries[number as usize].obj_type
-}
-
 /// Whether the entry of this number is a stream's.
 fn is_stream_entry<A: Heap>(entries: &[DirEntry<A>], number: u32) -> bool
     requires { number < length entries.now }
@@ -116,11 +109,7 @@ impl<F: ReadMedium, A: Heap + Clone> CompoundFile<F, A> {
         ensures refused { IfErr result (FindingRefused self.now (chars path.now)) }
         ensures agrees { IsTrue F.tells → Agrees self.now }
     {
-        let names = name_chain_from_path(self.volume.heap().clone()?, path)?;
-        let Some(number) = self.volume.number_of(&names) else {
-            return Err(Error::NotFound(Detail::text("nothing is at this path")));
-        };
-        Ok((names, number))
+        finding::find(&self.volume, path)
     }
 
     /// What is told of the entry of this number, with these names in its path. `Memory`.

@@ -6,7 +6,7 @@ ghost use Rattle.cfb_agreement.specs.Files.{Agrees, FileState, failures_of, is_f
 ghost use Rattle.cfb_format.specs.Refused.{CountsFailure};
 ghost use Rattle.cfb_rules.specs.Runs.{Closes};
 ghost use Rattle.cfb_stream_window.specs.Windows.{Suits, whence_of};
-ghost use Rattle.cfb_compound_file.specs.Answers.{causes_of};
+ghost use Rattle.cfb_path_changes.specs.Answers.{causes_of};
 ghost use Rattle.cfb_compound_file.specs.Buffering.{BuffersRead, BuffersRest, BuffersSeek, BuffersWrite};
 ghost use Rattle.cfb_compound_file.specs.Stored.{ChangesStream, KeepsRest, kept_of, stored_of};
 ghost use Rattle.cfb_compound_file.specs.StreamAnswers.{ClosesTree, GoesOn, IsClosingRefused, IsStreamRefused, StreamRunsBy, StreamRunsOn, causes_of_len, open_stream_of, run_in, stream_in};

@@ -19,3 +19,4 @@ pub mod PlacedWrites
 pub mod PutAlong
 pub mod MinisPut
 pub mod ReadablePlaces
+pub mod FixedHeader

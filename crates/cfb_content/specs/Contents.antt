@@ -14,6 +14,7 @@ use Rattle.cfb_sectors.specs.Words.{RangeStays}
 use Rattle.cfb_soundness.specs.Streams.{own_sectors, own_mini_sectors}
 use Rattle.cfb_tables.specs.Owners.{AllUsed}
 use Rattle.cfb_alloc.specs.Alloc.{IsMeasured}
+use Rattle.cfb_alloc.specs.Frame.{IsFixedHeaderByte}
 use Rattle.cfb_mini_sectors.specs.State.{IsChangeable, MiniState, bytes_of, cases_of, entries_of, mini_place, parts_of, root_len_of, table_of, tables_in, version_of}
 use Rattle.cfb_mini_sectors.specs.Steps.{IsZeroMini}
 use Rattle.cfb_mini.specs.MiniSectors.{IsStill}
@@ -74,6 +75,11 @@ pub record MovesContent (old new : MiniState) (i : ℕ) : Type 0 where
   pub root : ButContent (entry_at (entries_of old) 0) (entry_at (entries_of new) 0)
   pub root_len : (root_len_of new ≡ root_len_of old) ⊎ ((k : ℕ) × (root_len_of new ≡ mini_sector_len * k))
   pub others : (k : ℕ) → k ≢ i → k ≢ 0 → entry_at (entries_of new) k ≡ entry_at (entries_of old) k
+
+-- the file gets no shorter, and of its header stay the bytes that speak neither of tables nor of chains, and those behind it (MS-CFB 2.2)
+pub record KeepsFixedHeader (old new : MiniState) : Type 0 where
+  pub no_shorter : length (bytes_of old) ≤ length (bytes_of new)
+  pub bytes : (i : ℕ) → i < length (bytes_of old) → IsFixedHeaderByte (version_of old) i → slice_index (bytes_of new) i ≡ slice_index (bytes_of old) i
 
 -- each sector and each mini sector is free or in use
 pub record AreAllUsed (s : MiniState) : Type 0 where

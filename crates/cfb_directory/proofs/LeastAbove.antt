@@ -1,5 +1,5 @@
 -- The least number above the sectors of a list.
-use Rattle.std.proofs.Common.{◌≡◌, ◌++◌, ℕ, List, [], arith, sym, subst}
+use Rattle.std.proofs.Common.{◌≡◌, ℕ, List, [], arith, sym, subst}
 use Rattle.std.specs.Prelude.{Contains}
 use Rattle.cfb_alloc.proofs.Listed.{not_in_nil}
 use Rattle.cfb_directory.specs.Slots.{IsLeastAbove}

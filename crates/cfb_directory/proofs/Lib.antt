@@ -6,6 +6,7 @@ pub mod Placed
 pub mod Rewritten
 pub mod ChangedFields
 pub mod RemovedEntries
+pub mod ClearedEntries
 pub mod HeldDirectory
 pub mod InsertLinks
 pub mod InsertGrow

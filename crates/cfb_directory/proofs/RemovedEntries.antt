@@ -85,7 +85,7 @@ allowed_child Storage w ne h = h
 allowed_child Stream w ne h = absurd (ne refl)
 allowed_child Root w ne h = h
 
-other_child : (v : Version) (e : Entry) (w : ℕ) → e.obj_type ≢ Stream → IsTrue (is_entry_link w) → w < 2 ^ 32 → EntryFits e × IsValidEntry v e
+pub other_child : (v : Version) (e : Entry) (w : ℕ) → e.obj_type ≢ Stream → IsTrue (is_entry_link w) → w < 2 ^ 32 → EntryFits e × IsValidEntry v e
     → EntryFits (record e { child = w }) × IsValidEntry v (record e { child = w })
 other_child v e w kind link low h = (
   record {
@@ -145,19 +145,19 @@ other_links v e now same left right h =
       }),
     )
 
-used_inside : (es : List Entry) (k : ℕ) → (entry_at es k).obj_type ≢ Unallocated → k < length es
+pub used_inside : (es : List Entry) (k : ℕ) → (entry_at es k).obj_type ≢ Unallocated → k < length es
 used_inside es k used = elim (cases_lt k (length es)) [
   | inl lt ↦ lt
   | inr ge ↦ absurd (used (ap (λ (e : Entry). e.obj_type) (get_or_past es k unallocated_entry ge)))
 ]
 
-cases_used : (t : ObjType) → (t ≡ Unallocated) ⊎ (t ≢ Unallocated)
+pub cases_used : (t : ObjType) → (t ≡ Unallocated) ⊎ (t ≢ Unallocated)
 cases_used Unallocated = inl refl
 cases_used Storage = inr (λ e. cc)
 cases_used Stream = inr (λ e. cc)
 cases_used Root = inr (λ e. cc)
 
-unallocated_valid : (v : Version) → IsValidEntry v unallocated_entry
+pub unallocated_valid : (v : Version) → IsValidEntry v unallocated_entry
 unallocated_valid V3 = record {
   name = refl;
   left_sibling = refl;

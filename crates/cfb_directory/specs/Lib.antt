@@ -1,3 +1,4 @@
+pub mod Clearing
 pub mod Slots
 pub mod SlotLaws
 pub mod State

@@ -13,7 +13,7 @@ ghost use Rattle.cfb_format.specs.Reading.{IsOutline, Outline, numbers};
 ghost use Rattle.cfb_format.specs.Refused.{CountsFailure, IsInvalidOrMemory};
 ghost use Rattle.cfb_format.specs.Siblings.{entry_at};
 ghost use Rattle.cfb_codecs.specs.EntryModel.{entries_of, entry_of, new_entry};
-ghost use Rattle.cfb_outline.specs.Outlines.{AcceptsOutline, IsReachedStorage};
+ghost use Rattle.cfb_outline.specs.Outlines.{AcceptsOutline, HasInside, IsReachedStorage};
 ghost use Rattle.cfb_siblings.specs.Children.{HasChildren, IsAbsent, IsChildNamed, KeepsBalance};
 ghost use Rattle.cfb_siblings.specs.Paths.{number_from};
 ghost use Rattle.cfb_sectors.specs.Sectors.{IsMediumError, IsRaised};
@@ -26,13 +26,16 @@ ghost use Rattle.cfb_alloc.specs.Broken.{BreaksOff};
 ghost use Rattle.cfb_alloc.specs.Frame.{Spares};
 ghost use Rattle.cfb_entries.specs.declared.fields.Fields.{Fields};
 ghost use Rattle.cfb_format.specs.Full.{max_entries};
+ghost use Rattle.cfb_entries.specs.Clearing.{HasCleared};
 ghost use Rattle.cfb_entries.specs.EntryList.{AreInOrder, HaveShortNames, InsertsEntry, RemovesEntry, has_free};
 ghost use Rattle.cfb_entries.specs.Fields.{fields_in, entry_with_fields, entries_with_fields};
+ghost use Rattle.cfb_directory.specs.Clearing.{KeepsSlotsOutside};
 ghost use Rattle.cfb_directory.specs.State.{HoldsDirectory, IsFullForEntry, KeepsDirectoryHeader, KeepsDirectoryLimits, directory_bytes, directory_tables, directory_version, with_room};
 ghost use Rattle.cfb_directory.specs.Steps.{IsDirectoryNotHeld, KeepsOtherSlots, StaysRedApart, KeepsSlotsBut, KeepsWholeHeader, DirectoryStopsShort};
 
 use crate::bounds::least_above;
 use crate::changing::{change_fields, remove_entry};
+use crate::clearing::clear_storage;
 use crate::inserting::insert_entry;
 use crate::slots::are_placed;
 use cfb_alloc::alloc::Allocator;
@@ -408,6 +411,46 @@ impl<F: Medium, A: Heap + Clone> Directory<F, A> {
             &self.heap,
             parent,
             name,
+        )
+    }
+
+    /// Takes all that is in the storage `top`, whose numbers `inside` lists, out of it, and writes the slots of all entries that
+    /// change, each of them once: the storage's own first, so that nothing leads to the others any more.
+    ///
+    /// `InvalidData` where the directory's sectors have not a slot for each entry, which no bytes hold, and `Memory`: then nothing has
+    /// changed. After `Medium`, where the medium fails, the entries are gone in memory, and of the file's bytes those of the touched
+    /// slots alone may have changed.
+    pub fn clear(&mut self, top: u32, inside: &[u32]) -> Result<(), Error>
+        requires top { IsReachedStorage self.old.cases self.old.entries top }
+        requires all { (o : Outline)
+            → HasInside self.old.cases self.old.entries top o → inside.now ≡ numbers o }
+        ensures cleared { OnOk result
+            (HasCleared self.old.entries self.new.entries top inside.now) }
+        ensures kept { (self.new.sectors ≡ self.old.sectors)
+            × (directory_tables self.new ≡ directory_tables self.old) }
+        ensures holds { IsTrue F.tells
+            → (validation : Validation) → HoldsDirectory validation self.old
+            → OnOk result (HoldsDirectory validation self.new) }
+        ensures spares { IsTrue F.tells → Spares self.old.sectors self.old.table self.new.table }
+        ensures header { IsTrue F.tells → KeepsWholeHeader self.old self.new }
+        ensures slots { IsTrue F.tells → (validation : Validation)
+            → HoldsDirectory validation self.old
+            → KeepsSlotsOutside (top ∷ inside.now) self.old self.new }
+        ensures limits { KeepsDirectoryLimits self.old self.new }
+        ensures begun { OnOk result (self.new.table.file.begun ≡ true) }
+        ensures refused { IfErr result (DirectoryStopsShort self.old self.new) }
+        ensures err { IfErr result (ChangeRefused (IsDirectoryNotHeld self.old) Unit ⊥ Unit) }
+        ensures counts { IsTrue F.tells → CountsFailure
+            F.write_faults result self.old.table.file.failures self.new.table.file.failures }
+    {
+        clear_storage(
+            &mut self.allocator,
+            &self.sectors,
+            self.above,
+            &mut self.entries,
+            &self.heap,
+            top,
+            inside,
         )
     }
 }

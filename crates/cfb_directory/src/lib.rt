@@ -3,6 +3,7 @@
 
 pub mod bounds;
 mod changing;
+mod clearing;
 pub mod directory;
 mod inserting;
 pub mod laws;

@@ -47,7 +47,7 @@ short-at entries h k = elim (cases_lt k (length entries)) [
   | inr ge ↦ let e : (entry_at entries k).name ≡ [] = ap (λ (x : Entry). x.name) (get_or_past entries k unallocated_entry ge) in rw e (omega arith)
 ]
 
-short-as : (old new : List Entry) (k j : ℕ) → HaveShortNames old → (entry_at new k).name ≡ (entry_at old j).name → IsShortAt new k
+pub short-as : (old new : List Entry) (k j : ℕ) → HaveShortNames old → (entry_at new k).name ≡ (entry_at old j).name → IsShortAt new k
 short-as old new k j h e = rw e (short-at old h j)
 
 -- ---- what is reached

@@ -3,3 +3,4 @@ pub mod FreeSlots
 pub mod Lent
 pub mod Contents
 pub mod Changed
+pub mod Cleared

@@ -1,3 +1,4 @@
+pub mod Clearing
 pub mod EntryList
 pub mod Fields
 pub mod Insertions

@@ -7,17 +7,19 @@ ghost use Rattle.cfb_format.specs.Siblings.{entry_at};
 ghost use Rattle.cfb_format.specs.Reading.{Outline, IsOutline, numbers};
 ghost use Rattle.cfb_format.specs.Refused.{IsInvalidOrMemory};
 ghost use Rattle.cfb_codecs.specs.EntryModel.{entries_of, new_entry};
-ghost use Rattle.cfb_outline.specs.Outlines.{AcceptsOutline, IsReachedStorage};
+ghost use Rattle.cfb_outline.specs.Outlines.{AcceptsOutline, HasInside, IsReachedStorage};
 ghost use Rattle.cfb_siblings.specs.Children.{HasChildren, HasRedApart, IsAbsent, IsChildNamed, KeepsBalance};
 ghost use Rattle.cfb_siblings.specs.Laws.{grown_by};
 ghost use Rattle.cfb_siblings.specs.Paths.{number_from};
 ghost use Rattle.cfb_siblings.specs.Touched.{Touches, TouchesOnly};
 ghost use Rattle.cfb_format.specs.Full.{max_entries};
+ghost use Rattle.cfb_entries.specs.Clearing.{HasCleared};
 ghost use Rattle.cfb_entries.specs.EntryList.{AreInOrder, HaveShortNames, InsertsEntry, IsChildless, RemovesEntry, has_free};
 ghost use Rattle.cfb_entries.specs.Fields.{fields_in, entries_with_fields};
 ghost use Rattle.cfb_entries.specs.Insertions.{IsInsertionOf, name_in};
 
 use crate::changes::{remove_child, reserve_both};
+use crate::clearing::clear_storage;
 use crate::fields::{Fields, change_fields};
 use crate::free::{free_slots, list_numbers, take_slot};
 use crate::fresh::append_fresh;
@@ -142,6 +144,23 @@ impl<A: Allocator + Clone> Entries<A> {
             parent,
             name,
         )
+    }
+
+    /// Takes all that is in the storage `top`, whose numbers `inside` lists, out of the entries at once, and answers the list of the
+    /// slots whose entries changed: `top`, and then these. The last one of them is taken first of all.
+    ///
+    /// `AllocError` where memory is refused, and the entries have not changed then.
+    pub fn clear(&mut self, heap: &A, top: u32, inside: &[u32]) -> Result<Vec<u32, A>, AllocError>
+        requires top { IsReachedStorage self.old.cases self.old.entries top }
+        requires all { (o : Outline)
+            → HasInside self.old.cases self.old.entries top o → inside.now ≡ numbers o }
+        ensures cases { self.new.cases ≡ self.old.cases }
+        ensures cleared { OnOk result
+            (HasCleared self.old.entries self.new.entries top inside.now) }
+        ensures touched { IfOk result (λ touched. touched.items ≡ top ∷ inside.now) }
+        ensures refused { OnErr result (self.new ≡ record self.old { room = self.new.room }) }
+    {
+        clear_storage(&mut self.list, &mut self.free, heap, top, inside)
     }
 }
 

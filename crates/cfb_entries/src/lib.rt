@@ -3,6 +3,7 @@
 #![tactic(auto)]
 
 mod changes;
+mod clearing;
 pub mod entries;
 pub mod fields;
 mod free;

@@ -9,10 +9,11 @@ use Rattle.cfb_format.specs.Bytes.{free_sector, is_regular, sector_len, word_at}
 use Rattle.cfb_format.specs.Chain.{IsChain, value}
 use Rattle.cfb_format.specs.Content.{mini_sector_len}
 use Rattle.cfb_format.specs.Full.{max_mini_sectors}
-use Rattle.cfb_format.specs.Reading.{minifat_words}
+use Rattle.cfb_format.specs.Reading.{Outline, minifat_words, numbers}
 use Rattle.cfb_format.specs.DirectoryEntry.{Entry}
 use Rattle.cfb_format.specs.Siblings.{entry_at}
-use Rattle.cfb_outline.specs.Outlines.{IsReachedStorage}
+use Rattle.cfb_outline.specs.Outlines.{HasInside, IsReachedStorage}
+use Rattle.cfb_entries.specs.Clearing.{HasCleared}
 use Rattle.cfb_entries.specs.declared.fields.Fields.{Fields}
 use Rattle.cfb_entries.specs.Fields.{entries_with_fields, entry_with_fields}
 use Rattle.cfb_entries.specs.EntryList.{InsertsEntry, RemovesEntry, has_free}
@@ -41,7 +42,7 @@ use Rattle.cfb_mini_sectors.proofs.HeldSteps.{directory-minifat, front-stream}
 use Rattle.cfb_mini_sectors.proofs.MiniStreams.{chain-is-stream, stream-chain, stream-is-chain, begins}
 use Rattle.cfb_mini_sectors.proofs.MiniWords.{held-words-kept, minifat-kept}
 use Rattle.cfb_mini.proofs.MiniKnown.{held-stream}
-use Rattle.cfb_mini.proofs.RootStays.{SameContent, inserted-root, removed-root, same-entry}
+use Rattle.cfb_mini.proofs.RootStays.{SameContent, cleared-root, inserted-root, removed-root, same-entry}
 use Rattle.std.proofs.lemmas.Bool.{cases_eq}
 use Rattle.std.proofs.lemmas.List.Elements.{Contains-append_cases, Contains-append_left, Contains-append_right}
 
@@ -201,6 +202,15 @@ removed-holds (Err e) validation s d parent name h p held spares header removes 
 removed-holds (Ok x) validation s d parent name h p held spares header w same =
     held-rewritten validation s d h held spares header
     (removed-root s.directory.cases s.directory.entries d.entries parent w.number w.freed w.before w.behind w.after w.removed p) same
+
+-- all in a storage went
+pub cleared-holds : {T E : Type 0} (r : Result T E) (validation : Validation) (s : MiniState) (d : DirectoryState) (top : ℕ) (list : List ℕ) → HoldsMini validation s
+    → IsReachedStorage s.directory.cases s.directory.entries top → ((o : Outline) → HasInside s.directory.cases s.directory.entries top o → list ≡ numbers o)
+    → OnOk r (HoldsDirectory validation d) → Spares s.directory.sectors (table_of s) d.table → KeepsWholeHeader s.directory d
+    → OnOk r (HasCleared s.directory.entries d.entries top list) → d.sectors ≡ s.directory.sectors → OnOk r (HoldsMini validation (with_directory s d))
+cleared-holds (Err e) validation s d top list h p all held spares header cleared same = tt
+cleared-holds (Ok x) validation s d top list h p all held spares header cleared same =
+    held-rewritten validation s d h held spares header (cleared-root s.directory.cases s.directory.entries d.entries top list p all cleared) same
 
 -- the fields of an entry changed, and of the root neither start nor length
 pub fields-holds : {T E : Type 0} (r : Result T E) (validation : Validation) (s : MiniState) (d : DirectoryState) (number : ℕ) (P : Fields → Type 0) → HoldsMini validation s

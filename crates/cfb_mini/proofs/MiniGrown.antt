@@ -1,5 +1,5 @@
 -- What stays as the MiniFAT and the mini stream get the sectors that new mini sectors lack.
-use Rattle.std.proofs.Common.{◌≡◌, ◌⊎◌, ◌≤◌, ◌<◌, ◌+◌, ◌-◌, ◌*◌, ◌^◌, inl, inr, ℕ, List, [], ◌++◌, Option, Some, refl, sym, ◌∙◌, ap, subst, length, arith, length-append}
+use Rattle.std.proofs.Common.{◌≡◌, ◌⊎◌, ◌≤◌, ◌<◌, ◌+◌, ◌-◌, ◌*◌, ◌^◌, inl, inr, ℕ, List, [], ◌++◌, Option, refl, sym, ◌∙◌, ap, subst, length, arith, length-append}
 use Rattle.std.specs.Prelude.{Contains, unwrap_or}
 use Rattle.std.proofs.lemmas.List.Elements.{Contains-append_cases, Contains-append_left, Contains-append_right}
 use Rattle.cfb_format.specs.declared.error.Error.{Error}

@@ -8,10 +8,11 @@ use Rattle.cfb_format.specs.DirectoryEntry.{Entry}
 use Rattle.cfb_format.specs.Names.{Cases}
 use Rattle.cfb_format.specs.Reading.{Outline, no_more, storage_at, stream_at, HasContents, siblings, numbers}
 use Rattle.cfb_format.specs.Siblings.{entry_at}
-use Rattle.cfb_outline.specs.Outlines.{IsReachedStorage}
+use Rattle.cfb_outline.specs.Outlines.{HasInside, IsReachedStorage}
 use Rattle.cfb_outline.proofs.Insides.{below-same, storage-is-inside}
 use Rattle.cfb_tables.proofs.Members.{Contains-or}
 use Rattle.cfb_siblings.specs.Children.{ButChild, ButLinks, HasChildren, HasInserted, HasRemoved}
+use Rattle.cfb_entries.specs.Clearing.{HasCleared}
 use Rattle.cfb_directory.proofs.InsertLinks.{first-or-later}
 
 -- the start and the length
@@ -85,4 +86,15 @@ removed-root cases old new parent n freed xs ys list h p = elim (cases_eq 0 pare
   | inl e ↦ subst (λ k. SameContent (entry_at old k) (entry_at new k)) (sym e) (but-child (entry_at old parent) (entry_at new parent) h.parent_kept)
   | inr other ↦ same-entry (entry_at old 0) (entry_at new 0)
       (h.others_kept 0 other (λ m. child-no-root cases old parent (xs ++ n ∷ ys) p h.was 0 m p.is.root))
+]
+
+-- and as all in a storage goes
+pub cleared-root : (cases : Cases) (old new : List Entry) (top : ℕ) (list : List ℕ) → IsReachedStorage cases old top → ((o : Outline) → HasInside cases old top o → list ≡ numbers o)
+    → HasCleared old new top list → SameContent (entry_at old 0) (entry_at new 0)
+cleared-root cases old new top list p all h = elim (cases_eq 0 top) [
+  | inl e ↦ subst (λ k. SameContent (entry_at old k) (entry_at new k)) (sym e) (but-child (entry_at old top) (entry_at new top) h.top_kept)
+  | inr other ↦
+      let inside = storage-is-inside cases old top p in
+      same-entry (entry_at old 0) (entry_at new 0)
+      (h.others_kept 0 other (λ m. listed-no-root cases old inside.outline 0 inside.has.contents (subst (λ l. Contains l 0) (all inside.outline inside.has) m) p.is.root))
 ]

@@ -1,5 +1,5 @@
 -- The parts of a file's mini sectors in memory, and what of them must be so before a change writes its first byte (MS-CFB 2.4).
-use Rattle.std.specs.Prelude.{ℕ, ◌≡◌, ◌*◌, ◌+◌, ◌<◌, ◌≤◌, List, [], Option, None, length}
+use Rattle.std.specs.Prelude.{ℕ, ◌≡◌, ◌*◌, ◌≤◌, List, [], Option, None, length}
 use Rattle.cfb_format.specs.Bytes.{sector_len, words_per_sector}
 use Rattle.cfb_format.specs.Chain.{IsChain}
 use Rattle.cfb_format.specs.Content.{mini_sector_len, mini_stream_chain}

@@ -46,6 +46,8 @@ ghost use Rattle.cfb_mini_sectors.specs.Held.{with_table};
 ghost use Rattle.cfb_mini.specs.Changing.{AreMinifatSectors, root_len_in};
 ghost use Rattle.cfb_mini.specs.MiniSectors.{ChangesFileOnly, HasMiniByte, HasMiniSector, IsStill, KeepsMiniBytesBut};
 
+mod clearing;
+
 use crate::changing::{cut_listed, extend_listed};
 use crate::opening::{above_all, mini_stream_sectors, minifat_sectors_from};
 use cfb_alloc::alloc::Allocator;

@@ -18,4 +18,3 @@ pub mod GrownLengths
 pub mod TakenRest
 pub mod CutShort
 pub mod PutBehind
-pub mod FixedHeader

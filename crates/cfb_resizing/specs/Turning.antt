@@ -11,7 +11,7 @@ use Rattle.cfb_format.specs.Siblings.{entry_at}
 use Rattle.cfb_tables.specs.Changes.{AreDisjoint, NoneFree}
 use Rattle.cfb_tables.specs.Listed.{ends_of, gained}
 use Rattle.cfb_tables.specs.Tables.{AreExactTables, AreFullTables, IsTooFew}
-use Rattle.cfb_alloc.specs.Frame.{IsFixedHeaderByte, table_sectors}
+use Rattle.cfb_alloc.specs.Frame.{table_sectors}
 use Rattle.cfb_alloc.specs.ListedChain.{Lengthens, Shortens}
 use Rattle.cfb_chains.specs.ChainPlaces.{place_along}
 use Rattle.cfb_mini_table.specs.MiniTable.{MiniGivesBack, TakesMini}
@@ -144,11 +144,6 @@ pub record KeepsAround (old new : MiniState) : Type 0 where
   pub directory : new.directory.sectors ≡ old.directory.sectors
   pub entries : MovesRoot old new
   pub limits : KeepsLimits old new
-
--- the file gets no shorter, and of its header stay the bytes that speak neither of tables nor of chains, and those behind it (MS-CFB 2.2)
-pub record KeepsFixedHeader (old new : MiniState) : Type 0 where
-  pub no_shorter : length (bytes_of old) ≤ length (bytes_of new)
-  pub bytes : (i : ℕ) → i < length (bytes_of old) → IsFixedHeaderByte (version_of old) i → slice_index (bytes_of new) i ≡ slice_index (bytes_of old) i
 
 -- exact tables stay exact, no sector is lost, and where some were appended none is free
 pub record KeepsTablesTight (old new : MiniState) : Type 0 where

@@ -13,7 +13,7 @@ ghost use Rattle.cfb_tables.specs.Tables.{AreFullTables, IsTooFew};
 ghost use Rattle.cfb_mini_sectors.specs.State.{HoldsMini, IsChangeable, bytes_of, content_of, entries_of, parts_of, table_of, tables_in, version_of};
 ghost use Rattle.cfb_mini_sectors.specs.Steps.{IsTooFewFor, KeepsLimits};
 ghost use Rattle.cfb_mini.specs.MiniSectors.{IsStill};
-ghost use Rattle.cfb_content.specs.Contents.{AreAllUsed, IsNotChangeable, IsStreamOf, KeepsOthers, MovesContent, SizesChain, len_of};
+ghost use Rattle.cfb_content.specs.Contents.{AreAllUsed, IsNotChangeable, IsStreamOf, KeepsFixedHeader, KeepsOthers, MovesContent, SizesChain, len_of};
 ghost use Rattle.cfb_content.specs.KeptChain.{IsKeptChain};
 ghost use Rattle.cfb_content.specs.Laws.{LacksNumbersFor};
 ghost use Rattle.cfb_resizing.specs.Turning.{CannotGrow, KeepsAround, KeepsTablesTight, StopsOrIsFull};
@@ -154,6 +154,7 @@ fn take_the_rest<F: Medium, A: Heap + Clone>(
     requires stream { IsStreamOf mini.old entry }
     requires stuck { CannotGrow mini.old entry }
     ensures others { IsTrue F.tells → (validation : Validation) → IsChangeable validation mini.old → KeepsOthers entry mini.old mini.new }
+    ensures header { IsTrue F.tells → KeepsFixedHeader mini.old mini.new }
     ensures around { KeepsAround mini.old mini.new }
     ensures full { OnOk result (IsFullOfMiniSectors (parts_of mini.new) ⊎ AreFullTables (tables_in mini.new)) }
     ensures begun { OnOk result ((mini.new ≡ mini.old) ⊎ ((table_of mini.new).file.begun ≡ true)) }
@@ -204,6 +205,7 @@ pub fn grow_content<F: Medium, A: Heap + Clone>(
     ensures content { IsTrue F.tells → (validation : Validation) → IsChangeable validation mini.old
         → OnOk result (content_of mini.new (entry_at (entries_of mini.new) entry) ≡ resized (content_of mini.old (entry_at (entries_of mini.old) entry)) (len_of mini.new entry)) }
     ensures others { IsTrue F.tells → (validation : Validation) → IsChangeable validation mini.old → KeepsOthers entry mini.old mini.new }
+    ensures header { IsTrue F.tells → KeepsFixedHeader mini.old mini.new }
     ensures holds { IsTrue F.tells → (validation : Validation) → IsChangeable validation mini.old → OnOk result (IsChangeable validation mini.new) }
     ensures owned { IsTrue F.tells → (validation : Validation) → IsChangeable validation mini.old → AreAllUsed mini.old → OnOk result (AreAllUsed mini.new) }
     ensures sized { IsTrue F.tells → (validation : Validation) → IsChangeable validation mini.old

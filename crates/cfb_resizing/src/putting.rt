@@ -10,7 +10,7 @@ ghost use Rattle.cfb_tables.specs.Refused.{ChangeRefused};
 ghost use Rattle.cfb_mini_sectors.specs.State.{HoldsMini, IsChangeable, bytes_of, content_of, entries_of, table_of, tables_in, version_of};
 ghost use Rattle.cfb_mini_sectors.specs.Steps.{KeepsLimits};
 ghost use Rattle.cfb_mini.specs.MiniSectors.{IsStill};
-ghost use Rattle.cfb_content.specs.Contents.{AreAllUsed, IsNotChangeable, IsStreamOf, KeepsOthers, MovesContent, SizesChain, len_of};
+ghost use Rattle.cfb_content.specs.Contents.{AreAllUsed, IsNotChangeable, IsStreamOf, KeepsFixedHeader, KeepsOthers, MovesContent, SizesChain, len_of};
 ghost use Rattle.cfb_content.specs.KeptChain.{IsKeptChain};
 ghost use Rattle.cfb_resizing.specs.Turning.{KeepsTablesTight, StopsOrIsFull};
 
@@ -63,6 +63,7 @@ fn append_content<F: Medium, A: Heap + Clone>(
         → IfOk result (λ n. content_of mini.new (entry_at (entries_of mini.new) entry)
         ≡ written (content_of mini.old (entry_at (entries_of mini.old) entry)) (len_of mini.old entry) (take n bytes.now)) }
     ensures others { IsTrue F.tells → (validation : Validation) → IsChangeable validation mini.old → KeepsOthers entry mini.old mini.new }
+    ensures header { IsTrue F.tells → KeepsFixedHeader mini.old mini.new }
     ensures holds { IsTrue F.tells → (validation : Validation) → IsChangeable validation mini.old → OnOk result (IsChangeable validation mini.new) }
     ensures owned { IsTrue F.tells → (validation : Validation) → IsChangeable validation mini.old → AreAllUsed mini.old → OnOk result (AreAllUsed mini.new) }
     ensures sized { IsTrue F.tells → (validation : Validation) → IsChangeable validation mini.old
@@ -114,6 +115,7 @@ pub fn put_content<F: Medium, A: Heap + Clone>(
         → IfOk result (λ n. content_of mini.new (entry_at (entries_of mini.new) entry)
         ≡ written (content_of mini.old (entry_at (entries_of mini.old) entry)) at (take n bytes.now)) }
     ensures others { IsTrue F.tells → (validation : Validation) → IsChangeable validation mini.old → KeepsOthers entry mini.old mini.new }
+    ensures header { IsTrue F.tells → KeepsFixedHeader mini.old mini.new }
     ensures holds { IsTrue F.tells → (validation : Validation) → IsChangeable validation mini.old → OnOk result (IsChangeable validation mini.new) }
     ensures owned { IsTrue F.tells → (validation : Validation) → IsChangeable validation mini.old → AreAllUsed mini.old → OnOk result (AreAllUsed mini.new) }
     ensures sized { IsTrue F.tells → (validation : Validation) → IsChangeable validation mini.old

@@ -8,7 +8,7 @@ use Rattle.cfb_mini_sectors.specs.Held.{with_table}
 use Rattle.cfb_mini_sectors.specs.State.{IsChangeable, MiniState, bytes_of, cases_of, entries_of, table_of, tables_in}
 use Rattle.cfb_mini_sectors.specs.Steps.{KeepsLimits}
 use Rattle.cfb_mini.specs.MiniSectors.{IsStill}
-use Rattle.cfb_content.specs.Contents.{AreAllUsed, IsStreamOf, KeepsOthers, MovesContent, SizesChain}
+use Rattle.cfb_content.specs.Contents.{AreAllUsed, IsStreamOf, KeepsFixedHeader, KeepsOthers, MovesContent, SizesChain}
 use Rattle.cfb_content.proofs.Outlines.{moved-is-outline, stream-stays}
 use Rattle.cfb_content.proofs.Snug.{sized-is-snug}
 use Rattle.cfb_agreement.specs.Changes.{ChangesOneContent, StaysOrFails}
@@ -32,6 +32,7 @@ pub record WasChanged (old new : MiniState) (i : ℕ) : Type 0 where
   pub limits : KeepsLimits old new
   pub entries : MovesContent old new i
   pub others : (v : Validation) → IsChangeable v old → KeepsOthers i old new
+  pub header : KeepsFixedHeader old new
   pub holds : (v : Validation) → IsChangeable v old → IsChangeable v new
   pub owned : (v : Validation) → IsChangeable v old → AreAllUsed old → AreAllUsed new
   pub sized : (v : Validation) → IsChangeable v old → SizesChain old new i
@@ -43,6 +44,7 @@ pub record WasRefused (old new : MiniState) (i : ℕ) : Type 0 where
   pub limits : KeepsLimits old new
   pub entries : MovesContent old new i
   pub others : (v : Validation) → IsChangeable v old → KeepsOthers i old new
+  pub header : KeepsFixedHeader old new
   pub still : IsStill old new ⊎ ((table_of new).file.begun ≡ true)
   pub unwritten : (table_of new).file.begun ≡ false → bytes_of new ≡ bytes_of old
 
@@ -92,6 +94,7 @@ module _ (old : FileState) (mid : MiniState) (i : ℕ) (sound : Bool) (limit : �
         others = λ o is k m ne.
             let kept = was.others Permissive (held.sound certain) o is k m ne in
             record { chain = kept.chain; sectors = kept.sectors; places = kept.places; mini_sectors = kept.mini_sectors };
+        header = record { no_shorter = was.header.no_shorter; bytes = was.header.bytes };
         made = λ calm made. flags-not-made (file_on sound limit mid) (table_of mid).file.failures false (made-then made);
         grows = λ calm. was.none_free;
       }
@@ -130,6 +133,7 @@ module _ (old : FileState) (mid : MiniState) (i : ℕ) (sound : Bool) (limit : �
           setting = refused-setting was.limits;
           entries = was.entries;
           others = was.others Permissive (held.sound certain);
+          header = was.header;
           made = λ down made. up-is-not-down (table_of mid).file.begun up down;
           grows = λ down longer. up-is-not-down (table_of mid).file.begun up down;
         }

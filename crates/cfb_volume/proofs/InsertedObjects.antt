@@ -24,6 +24,7 @@ use Rattle.cfb_objects.specs.Laws.{BecomesTree}
 use Rattle.cfb_mini_sectors.specs.Held.{with_table}
 use Rattle.cfb_mini_sectors.specs.State.{HoldsMini, IsChangeable, MiniState, bytes_of, cases_of, entries_of, parts_of, table_of, tables_in}
 use Rattle.cfb_mini_sectors.specs.Steps.{KeepsLimits, KeepsMini, StopsShort}
+use Rattle.cfb_content.specs.Contents.{KeepsFixedHeader}
 use Rattle.cfb_content.proofs.Refusals.{refused-as}
 use Rattle.cfb_insertion.specs.Putting.{PutsObject, WritesObject}
 use Rattle.cfb_insertion.proofs.Entries.{put-has-outline, put-is-colored, put-is-exact}
@@ -75,6 +76,9 @@ pub streams-ended : (s mid : MiniState) → KeepsStreams s mid → KeepsStreams 
 streams-ended s mid keeps o is k m =
     let w = keeps o is k m in
     record { chain = w.chain; sectors = w.sectors; places = w.places; mini_sectors = w.mini_sectors }
+
+pub header-ended : (s mid : MiniState) → KeepsFixedHeader s mid → KeepsFixedHeader s (ended mid)
+header-ended s mid keeps = record { no_shorter = keeps.no_shorter; bytes = keeps.bytes }
 
 -- ---- the streams that were there
 

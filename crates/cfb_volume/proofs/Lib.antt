@@ -3,3 +3,15 @@ pub mod ContentSteps
 pub mod Fullness
 pub mod Refusals
 pub mod Emptying
+pub mod Insides
+pub mod InsideNames
+pub mod Forgotten
+pub mod EmptiedStreams
+pub mod Steps
+pub mod ClearedStorages
+pub mod EmptiedStorages
+pub mod RemovedStorages
+pub mod MarkedObjects
+pub mod RemovedObjects
+pub mod PutObjects
+pub mod AddedStorages

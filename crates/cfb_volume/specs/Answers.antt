@@ -1,7 +1,5 @@
 -- What calls on the contents of a file answer.
 use Rattle.std.specs.Prelude.{ℕ, List}
-use Rattle.cfb_format.specs.declared.error.Error.{Error}
-use Rattle.cfb_format.specs.Refused.{HasReason, no_error}
 use Rattle.cfb_format.specs.Siblings.{entry_at}
 use Rattle.cfb_mini_sectors.specs.State.{content_of, entries_of}
 use Rattle.cfb_agreement.specs.Files.{FileState}

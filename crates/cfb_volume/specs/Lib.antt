@@ -1,1 +1,4 @@
+pub mod Clearing
 pub mod Answers
+pub mod Removing
+pub mod Adding

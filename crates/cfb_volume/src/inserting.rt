@@ -1,5 +1,6 @@
 //! A new storage or stream in a file whose memory is what its bytes say.
-ghost use Rattle.std.specs.Prelude.{◌≡◌, ◌⊎◌, ◌∷◌, ℕ, List, false, true, IsTrue, IfOk, IfErr, OnOk, OnErr, Some, chars};
+ghost use Rattle.std.specs.Prelude.{◌≡◌, ◌≤◌, ◌⊎◌, ◌∷◌, ℕ, List, false, true, IsTrue, IfOk, IfErr, OnOk, OnErr, Some, chars, length};
+ghost use Rattle.cfb_format.specs.Bytes.{no_stream};
 ghost use Rattle.cfb_format.specs.Names.{is_valid_name};
 ghost use Rattle.cfb_format.specs.Reading.{IsOutline, Outline};
 ghost use Rattle.cfb_format.specs.Refused.{AfterMedium, CountsFailure, IsBreak};
@@ -9,13 +10,16 @@ ghost use Rattle.cfb_outline.specs.Outlines.{IsReachedStorage};
 ghost use Rattle.cfb_rules.specs.Finding.{last_name, parent_names};
 ghost use Rattle.cfb_siblings.specs.Children.{HasChildren, IsAbsent};
 ghost use Rattle.cfb_siblings.specs.Paths.{number_from};
+ghost use Rattle.cfb_tables.specs.Changes.{NoneFree};
 ghost use Rattle.cfb_tables.specs.Refused.{ChangeRefused};
 ghost use Rattle.cfb_trees.specs.Reached.{IsReached};
 ghost use Rattle.cfb_objects.specs.Laws.{BecomesTree};
 ghost use Rattle.cfb_directory.specs.State.{IsFullForEntry};
-ghost use Rattle.cfb_mini_sectors.specs.State.{bytes_of, cases_of, entries_of};
-ghost use Rattle.cfb_content.specs.Contents.{len_of};
+ghost use Rattle.cfb_mini_sectors.specs.State.{bytes_of, cases_of, entries_of, tables_in};
+ghost use Rattle.cfb_content.specs.Contents.{KeepsFixedHeader, len_of};
 ghost use Rattle.cfb_insertion.specs.Balance.{StayBalanced};
+ghost use Rattle.cfb_entry_changes.specs.Kept.{KeepsFound};
+ghost use Rattle.cfb_entry_changes.specs.Standing.{StandStill};
 ghost use Rattle.cfb_agreement.specs.Changes.{KeepsStreams, StaysOrFails, object_added_at};
 ghost use Rattle.cfb_agreement.specs.Files.{Agrees, Holds, IsAsMade, IsFullFile, LeavesNoneFree, SameSetting, failures_of, is_failed};
 
@@ -53,6 +57,8 @@ impl<F: Medium, A: Heap + Clone> Volume<F, A> {
         ensures is_kind { IfOk result (λ n. (entry_at (entries_of self.new.base) n).obj_type
             ≡ kind) }
         ensures empty { IfOk result (λ n. len_of self.new.base n ≡ 0) }
+        ensures childless { IfOk result (λ n. (entry_at (entries_of self.new.base) n).child
+            ≡ no_stream) }
         ensures setting { SameSetting self.old self.new }
         ensures tree { IsTrue F.tells
             → Holds self.old → OnOk result ((names : List (List ℕ)) (o : Outline)
@@ -69,11 +75,18 @@ impl<F: Medium, A: Heap + Clone> Volume<F, A> {
             ∷ names)) ≡ Some parent → last_name (first ∷ names) ≡ chars name.now
             → number_from (cases_of self.new.base) (entries_of self.new.base) 0 after (first
             ∷ names) ≡ Some n) }
+        ensures stays { OnOk result (KeepsFound self.old.base self.new.base) }
         ensures others { IsTrue F.tells
             → Holds self.old → KeepsStreams self.old.base self.new.base }
+        ensures still { OnOk result (StandStill self.old.base self.new.base) }
+        ensures header { IsTrue F.tells → KeepsFixedHeader self.old.base self.new.base }
         ensures made { IsTrue F.tells
             → Holds self.old → IsAsMade self.old.base → OnOk result (IsAsMade self.new.base) }
         ensures grows { OnOk result (LeavesNoneFree self.old.base self.new.base) }
+        ensures no_shorter { OnOk result (length (tables_in self.old.base).fat
+            ≤ length (tables_in self.new.base).fat) }
+        ensures stays_full { NoneFree (tables_in self.old.base).fat
+            → OnOk result (NoneFree (tables_in self.new.base).fat) }
         ensures balanced { OnOk result ((before after : Outline)
             → IsOutline (cases_of self.old.base) (entries_of self.old.base) before
             → IsOutline (cases_of self.new.base) (entries_of self.new.base) after

@@ -1,5 +1,9 @@
 //! A file whose memory is what its bytes say, and its changes, each told by the tree.
 #![tactic(auto)]
 
+mod adding;
+mod clearing;
 mod inserting;
+mod marking;
+mod removing;
 pub mod volume;

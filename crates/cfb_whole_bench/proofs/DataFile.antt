@@ -28,11 +28,11 @@ use Rattle.cfb_stream_buffer.proofs.Lists.{laid-nothing}
 use Rattle.cfb_stream_window.specs.Answers.{AtRefusal}
 use Rattle.cfb_stream_window.specs.Windows.{Window}
 use Rattle.cfb_compound_file.specs.Adding.{IsCreatedBy}
-use Rattle.cfb_compound_file.specs.Answers.{IsDoneBy, IsRefusedBy, MeansTree, RunsOn, causes_of, causes_of_call, setting_of, state_with}
+use Rattle.cfb_path_changes.specs.Answers.{IsDoneBy, IsRefusedBy, MeansTree, RunsOn, causes_of, causes_of_call, setting_of, state_with}
 use Rattle.cfb_compound_file.specs.Opening.{IsCreatedWith, permissive_options}
-use Rattle.cfb_compound_file.proofs.NewStreams.{moved_leads, path_leads}
+use Rattle.cfb_path_changes.proofs.NewObjects.{moved_leads, path_leads}
 use Rattle.cfb_compound_file.specs.Stored.{ChangesStream, KeepsRest}
-use Rattle.cfb_compound_file.specs.Finding.{StandsAt}
+use Rattle.cfb_path_changes.specs.Finding.{StandsAt}
 use Rattle.cfb_compound_file.specs.StreamAnswers.{ClosesTree, IsClosingRefused, OpenStream, closed_tree, run_in, stored_in, stream_in}
 use Rattle.cfb_whole_bench.specs.Changes.{ListAt, empty_list, some_too_long}
 use Rattle.cfb_whole_bench.specs.OneStream.{AreChangesRefused, IsChangedTo, IsDataRefused, IsFileRefused, IsFullFor, IsFullNow, IsMadeWith, IsSettled, IsWantOfMemory, LacksForOne, data_name, data_path, data_tree}

@@ -4,3 +4,4 @@ mod OpenData
 mod DataFile
 mod Reopened
 pub mod MadeBytes
+mod RunLists

@@ -19,7 +19,7 @@ use Rattle.cfb_agreement.specs.Files.{FileState, IsFullFile, failures_of, is_fai
 use Rattle.cfb_stream_buffer.specs.Contents.{stream_setting_of}
 use Rattle.cfb_stream_buffer.proofs.Lists.{laid-nothing}
 use Rattle.cfb_stream_window.specs.Windows.{Runs}
-use Rattle.cfb_compound_file.specs.Answers.{causes_of}
+use Rattle.cfb_path_changes.specs.Answers.{causes_of}
 use Rattle.cfb_compound_file.specs.Stored.{ChangesStream, KeepsRest}
 use Rattle.cfb_compound_file.specs.StreamAnswers.{GoesOn, IsStreamRefused, OpenStream, StreamRunsBy, causes_of_len, run_in, stored_in, stream_in}
 use Rattle.cfb_whole_bench.specs.Changes.{ListAt, Stands, after, after_all, after_set_len, after_write, is_too_long, some_too_long}

@@ -16,7 +16,7 @@ use Rattle.cfb_content.specs.Contents.{IsTooLongFor}
 use Rattle.cfb_agreement.specs.Files.{FileState, IsAsMade, IsFullFile, is_failed}
 use Rattle.cfb_agreement.specs.Laws.{IsInOrder}
 use Rattle.cfb_compound_file.specs.Stored.{KeepsRest}
-use Rattle.cfb_compound_file.specs.Finding.{StandsAt}
+use Rattle.cfb_path_changes.specs.Finding.{StandsAt}
 use Rattle.cfb_compound_file.specs.StreamAnswers.{OpenStream, stored_in, stream_in}
 use Rattle.cfb_stream_buffer.specs.Contents.{stream_setting_of}
 use Rattle.cfb_whole_bench.specs.Changes.{ListAt, Stands, empty_list, is_too_long, some_too_long}

@@ -124,7 +124,7 @@ pub fn add_data<A: Allocator + Clone>(
 }
 
 /// A file of this version in memory, with nothing in it.
-fn made<A: Allocator + Clone>(
+pub(crate) fn made<A: Allocator + Clone>(
     alloc: &A,
     version: Version,
 ) -> Result<CompoundFile<MemoryMedium<A>, A>, Error>
@@ -138,7 +138,7 @@ fn made<A: Allocator + Clone>(
 }
 
 /// The file that opening makes of the bytes of this one.
-fn reopened<A: Allocator + Clone>(
+pub(crate) fn reopened<A: Allocator + Clone>(
     alloc: A,
     file: CompoundFile<MemoryMedium<A>, A>,
 ) -> Result<CompoundFile<MemoryMedium<A>, A>, Error>

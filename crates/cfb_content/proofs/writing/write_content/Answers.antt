@@ -1,7 +1,8 @@
-use Rattle.std.proofs.Common.{◌≡◌, sym, ◌∙◌, length, arith}
+use Rattle.std.proofs.Common.{◌≡◌, refl, sym, ◌∙◌, length, arith}
 use Rattle.std.proofs.lemmas.Bool.{eqb-true}
 use Rattle.cfb_format.specs.Siblings.{entry_at}
 use Rattle.cfb_mini_sectors.specs.State.{content_of, entries_of}
+use Rattle.cfb_content.proofs.FixedHeader.{header-stays}
 use Rattle.cfb_content.proofs.Kept.{nothing-is-moved}
 use Rattle.cfb_content.proofs.Readable.{whole-of}
 use Rattle.cfb_content.proofs.Rewritten.{written-none}
@@ -20,5 +21,11 @@ returns-then-is_empty-clause-content g c told validation change =
 pub returns-then-is_empty-clause-others : goal.returns-then-is_empty-clause-others
 returns-then-is_empty-clause-others g c told validation change = nothing-is-moved c.args.entry c.args.mini.now
 
+pub returns-then-is_empty-clause-header : goal.returns-then-is_empty-clause-header
+returns-then-is_empty-clause-header g c told = header-stays c.args.mini.now c.args.mini.now refl
+
 pub returns-in_err-clone-clause-others : goal.returns-in_err-clone-clause-others
 returns-in_err-clone-clause-others g c told validation change = nothing-is-moved c.args.entry c.args.mini.now
+
+pub returns-in_err-clone-clause-header : goal.returns-in_err-clone-clause-header
+returns-in_err-clone-clause-header g c told = header-stays c.args.mini.now c.args.mini.now refl

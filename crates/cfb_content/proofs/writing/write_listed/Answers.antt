@@ -1,4 +1,4 @@
-use Rattle.std.proofs.Common.{◌<◌, ◌≤◌, ◌+◌, ◌/◌, ℕ, List, sym, subst, length, arith}
+use Rattle.std.proofs.Common.{◌<◌, ◌≤◌, ◌+◌, ◌/◌, ℕ, List, refl, sym, subst, length, arith}
 use Rattle.std.specs.Prelude.{IsTrue, OnOk, nat_eq, slice_index}
 use Rattle.std.specs.List.{IsDistinct}
 use Rattle.std.proofs.lemmas.Result.{err_from_is_err_and, on_ok_weaker}
@@ -14,6 +14,7 @@ use Rattle.cfb_mini_sectors.specs.State.{IsChangeable, bytes_of, entries_of, tab
 use Rattle.cfb_mini_sectors.proofs.HeldMini.{no-tables}
 use Rattle.cfb_content.specs.Contents.{len_of, mini_place_along}
 use Rattle.cfb_content.specs.Parts.{StandAlong}
+use Rattle.cfb_content.proofs.FixedHeader.{header-stays, spared-keeps-header, table-keeps-header}
 use Rattle.cfb_content.proofs.Kept.{nothing-is-moved}
 use Rattle.cfb_content.proofs.Refusals.{refused-as}
 use Rattle.cfb_content.proofs.StreamEntry.{stream-inside}
@@ -29,6 +30,9 @@ content_in-start-requires g c = record { inside = stream-inside c.args.mini.now 
 pub returns-in_err-ids-clause-others : goal.returns-in_err-ids-clause-others
 returns-in_err-ids-clause-others g c told validation change = nothing-is-moved c.args.entry c.args.mini.now
 
+pub returns-in_err-ids-clause-header : goal.returns-in_err-ids-clause-header
+returns-in_err-ids-clause-header g c told = header-stays c.args.mini.now c.args.mini.now refl
+
 pub returns-in_err-ids-clause-err : goal.returns-in_err-ids-clause-err
 returns-in_err-ids-clause-err g c =
     let s = c.args.mini.now in
@@ -42,6 +46,9 @@ returns-in_err-ids-clause-err g c =
 
 pub returns-in_err-ids-2-clause-others : goal.returns-in_err-ids-2-clause-others
 returns-in_err-ids-2-clause-others g c told validation change = nothing-is-moved c.args.entry c.args.mini.now
+
+pub returns-in_err-ids-2-clause-header : goal.returns-in_err-ids-2-clause-header
+returns-in_err-ids-2-clause-header g c told = header-stays c.args.mini.now c.args.mini.now refl
 
 pub returns-in_err-ids-2-clause-err : goal.returns-in_err-ids-2-clause-err
 returns-in_err-ids-2-clause-err g c =
@@ -113,6 +120,11 @@ returns-then-len-clause-content g c told validation change =
 pub returns-then-len-clause-others : goal.returns-then-len-clause-others
 returns-then-len-clause-others g c told validation change = large-write-others _ _ _ _ _ _ _ _ (sector-write g c) validation change (c.put_in_sectors-put.ensures.spares told)
 
+pub returns-then-len-clause-header : goal.returns-then-len-clause-header
+returns-then-len-clause-header g c told =
+    table-keeps-header c.deref.result.now c.args.mini.now c.allocator_mut.result.now c.put_in_sectors-put.new.allocator c.allocator_mut.ensures.value
+    (c.put_in_sectors-put.ensures.spares told)
+
 pub returns-then-len-clause-holds : goal.returns-then-len-clause-holds
 returns-then-len-clause-holds g c told validation change =
     on_both _ _ _ c.put_in_sectors-put.result
@@ -156,6 +168,9 @@ returns-clause-content g c told validation change =
 pub returns-clause-others : goal.returns-clause-others
 returns-clause-others g c told validation change =
     mini-write-others _ _ _ _ _ _ _ (mini-write g c) validation change (c.put_in_minis.ensures.spares told) (c.put_in_minis.ensures.mini_spares told validation change.held)
+
+pub returns-clause-header : goal.returns-clause-header
+returns-clause-header g c told = spared-keeps-header _ c.args.mini.now c.put_in_minis.new.mini (c.put_in_minis.ensures.spares told)
 
 pub returns-clause-holds : goal.returns-clause-holds
 returns-clause-holds g c told validation change =

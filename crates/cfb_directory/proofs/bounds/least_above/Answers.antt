@@ -1,4 +1,4 @@
-use Rattle.std.proofs.Common.{◌≡◌, ◌<◌, inl, inr, ◌∙◌, sym, arith, get_or}
+use Rattle.std.proofs.Common.{◌≡◌, inl, inr, ◌∙◌, sym, arith, get_or}
 use Rattle.std.proofs.lemmas.List.{get_or_default}
 use Rattle.std.proofs.lemmas.List.Elements.{Contains-append_cases, Contains-append_left, Contains-append_right, Contains-get_or}
 use Rattle.cfb_directory.proofs.bounds.least_above.Goals as goal

@@ -1,4 +1,4 @@
-use Rattle.std.proofs.Common.{◌++◌, ◌-◌, ℕ, List, length, take, drop, subst}
+use Rattle.std.proofs.Common.{◌++◌, ℕ, List, take, drop, subst}
 use Rattle.cfb_directory.specs.Slots.{IsLeastAbove}
 use Rattle.cfb_mini.proofs.LeastAbove.{least-with-rest, part-behind}
 use Rattle.cfb_mini.proofs.changing.above_both.Goals as goal

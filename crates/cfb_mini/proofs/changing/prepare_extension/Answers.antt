@@ -1,4 +1,4 @@
-use Rattle.std.proofs.Common.{◌≡◌, ◌⊎◌, inl, inr, Bool, true, false, Some, subst}
+use Rattle.std.proofs.Common.{◌≡◌, ◌⊎◌, inl, inr, true, false, Some, subst}
 use Rattle.cfb_mini_table.specs.MiniTable.{IsTooFewMini}
 use Rattle.cfb_mini_sectors.specs.Steps.{EndsNoChain, IsNotHeld}
 use Rattle.cfb_mini.specs.Changing.{mini_of}

@@ -1,13 +1,10 @@
-use Rattle.std.proofs.Common.{◌≡◌, ◌⊎◌, ◌≤◌, ◌<◌, ◌++◌, ◌+◌, ◌*◌, ◌/◌, inl, inr, ℕ, List, Some, refl, sym, ◌∙◌, ap, subst, length, arith}
-use Rattle.std.specs.Prelude.{Contains}
-use Rattle.std.proofs.lemmas.List.Elements.{Contains-append_cases, Contains-append_left, Contains-append_right}
+use Rattle.std.proofs.Common.{◌≡◌, ◌⊎◌, ◌<◌, ◌++◌, ◌+◌, ◌*◌, inr, ℕ, List, Some, refl, sym, ◌∙◌, ap, subst, length, arith}
+use Rattle.std.proofs.lemmas.List.Elements.{Contains-append_left}
 use Rattle.cfb_format.specs.declared.version.Version.{Version}
 use Rattle.cfb_format.specs.Bytes.{sector_len}
 use Rattle.cfb_format.specs.Content.{mini_sector_len}
 use Rattle.cfb_format.specs.DirectoryEntry.{Entry}
-use Rattle.cfb_format.specs.Full.{max_mini_sectors}
 use Rattle.cfb_format.specs.Siblings.{entry_at}
-use Rattle.cfb_sectors.specs.Words.{RangeStays}
 use Rattle.cfb_tables.specs.Tables.{TableState, first_or_end}
 use Rattle.cfb_alloc.specs.Frame.{Spares}
 use Rattle.cfb_alloc.proofs.Answering.{all_ok, on_both, on_ok}

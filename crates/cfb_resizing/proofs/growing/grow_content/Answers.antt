@@ -1,4 +1,4 @@
-use Rattle.std.proofs.Common.{◌≡◌, ◌≤◌, true, false, sym, ◌∙◌, ap, subst, arith}
+use Rattle.std.proofs.Common.{◌≡◌, ◌≤◌, true, false, refl, sym, ◌∙◌, ap, subst, arith}
 use Rattle.std.specs.Prelude.{IsTrue}
 use Rattle.std.proofs.lemmas.Result.{err_from_is_err_and}
 use Rattle.cfb_format.specs.declared.validate.Validation.{Validation}
@@ -11,6 +11,7 @@ use Rattle.cfb_directory.proofs.Placed.{held_places}
 use Rattle.cfb_mini_sectors.specs.State.{HoldsMini, content_of, entries_of}
 use Rattle.cfb_content.specs.Contents.{IsNotChangeable, IsTooLongFor}
 use Rattle.cfb_content.proofs.Fullness.{enough-is-not-too-long}
+use Rattle.cfb_content.proofs.FixedHeader.{header-stays}
 use Rattle.cfb_content.proofs.Kept.{nothing-is-moved}
 use Rattle.cfb_content.proofs.Refusals.{invalid-refused}
 use Rattle.cfb_content.proofs.StreamEntry.{stream-inside}
@@ -25,6 +26,9 @@ content_in-len-requires g c = record { inside = stream-inside c.args.mini.now c.
 pub returns-then-not-is_placed-clause-others : goal.returns-then-not-is_placed-clause-others
 returns-then-not-is_placed-clause-others g c told v change = nothing-is-moved c.args.entry c.args.mini.now
 
+pub returns-then-not-is_placed-clause-header : goal.returns-then-not-is_placed-clause-header
+returns-then-not-is_placed-clause-header g c told = header-stays c.args.mini.now c.args.mini.now refl
+
 pub returns-then-not-is_placed-clause-err : goal.returns-then-not-is_placed-clause-err
 returns-then-not-is_placed-clause-err g c =
     let s = c.args.mini.now in
@@ -37,6 +41,9 @@ returns-then-not-is_placed-clause-err g c =
 
 pub returns-in_err-size-clause-others : goal.returns-in_err-size-clause-others
 returns-in_err-size-clause-others g c told v change = nothing-is-moved c.args.entry c.args.mini.now
+
+pub returns-in_err-size-clause-header : goal.returns-in_err-size-clause-header
+returns-in_err-size-clause-header g c told = header-stays c.args.mini.now c.args.mini.now refl
 
 pub returns-in_err-resize_content-clause-refused : goal.returns-in_err-resize_content-clause-refused
 returns-in_err-resize_content-clause-refused g c told v held =

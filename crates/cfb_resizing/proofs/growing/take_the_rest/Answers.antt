@@ -8,6 +8,7 @@ use Rattle.cfb_mini_sectors.specs.Steps.{EndsNoChain, IsNotHeld, IsTooFewFor, St
 use Rattle.cfb_mini_sectors.specs.State.{bytes_of, parts_of, table_of}
 use Rattle.cfb_mini.specs.MiniSectors.{IsStill}
 use Rattle.cfb_content.specs.Contents.{IsNotChangeable, len_of}
+use Rattle.cfb_content.proofs.FixedHeader.{header-stays, spared-keeps-header, table-keeps-header}
 use Rattle.cfb_content.proofs.Kept.{nothing-is-moved}
 use Rattle.cfb_content.proofs.Refusals.{refused-as}
 use Rattle.cfb_content.proofs.StreamEntry.{stream-inside}
@@ -23,13 +24,22 @@ content_in-len-requires g c = record { inside = stream-inside c.args.mini.now c.
 pub returns-then-len-cutoff-clause-others : goal.returns-then-len-cutoff-clause-others
 returns-then-len-cutoff-clause-others g c told v change = nothing-is-moved c.args.entry c.args.mini.now
 
+pub returns-then-len-cutoff-clause-header : goal.returns-then-len-cutoff-clause-header
+returns-then-len-cutoff-clause-header g c told = header-stays c.args.mini.now c.args.mini.now refl
+
 pub returns-in_err-clone-clause-others : goal.returns-in_err-clone-clause-others
 returns-in_err-clone-clause-others g c told v change = nothing-is-moved c.args.entry c.args.mini.now
+
+pub returns-in_err-clone-clause-header : goal.returns-in_err-clone-clause-header
+returns-in_err-clone-clause-header g c told = header-stays c.args.mini.now c.args.mini.now refl
 
 -- ---- a mini sector that is lacking
 
 pub returns-then-are_minis_full-clause-others : goal.returns-then-are_minis_full-clause-others
 returns-then-are_minis_full-clause-others g c told v change = nothing-is-moved c.args.entry c.args.mini.now
+
+pub returns-then-are_minis_full-clause-header : goal.returns-then-are_minis_full-clause-header
+returns-then-are_minis_full-clause-header g c told = header-stays c.args.mini.now c.args.mini.now refl
 
 pub returns-then-are_minis_full-clause-full : goal.returns-then-are_minis_full-clause-full
 returns-then-are_minis_full-clause-full g c = inl (c.are_minis_full.ensures.full.0 c.if-are_minis_full.true)
@@ -38,6 +48,9 @@ pub returns-then-len-cutoff-2-clause-others : goal.returns-then-len-cutoff-2-cla
 returns-then-len-cutoff-2-clause-others g c told v change =
     rest-minis-others v c.args.mini.now c.extend_mini_listed.new.self c.args.entry (ends_of c.new-ids.result.items) change c.requires.stream (ap ends_of c.new-ids.ensures.items)
     (c.extend_mini_listed.ensures.spares told) (c.extend_mini_listed.ensures.mini_spares told v change.held)
+
+pub returns-then-len-cutoff-2-clause-header : goal.returns-then-len-cutoff-2-clause-header
+returns-then-len-cutoff-2-clause-header g c told = spared-keeps-header _ c.args.mini.now c.extend_mini_listed.new.self (c.extend_mini_listed.ensures.spares told)
 
 pub returns-then-len-cutoff-2-clause-full : goal.returns-then-len-cutoff-2-clause-full
 returns-then-len-cutoff-2-clause-full g c =
@@ -94,6 +107,9 @@ returns-in_err-extend_chain_by-clause-others g c told v change =
     rest-others c.args.mini.now c.args.entry c.allocator_mut-allocator.result.now c.extend_chain_by.new.self c.allocator_mut-allocator.ensures.value (c.extend_chain_by.ensures.spares told) v change
     c.requires.stream
 
+pub returns-in_err-extend_chain_by-clause-header : goal.returns-in_err-extend_chain_by-clause-header
+returns-in_err-extend_chain_by-clause-header g c told = table-keeps-header _ c.args.mini.now c.allocator_mut-allocator.result.now c.extend_chain_by.new.self c.allocator_mut-allocator.ensures.value (c.extend_chain_by.ensures.spares told)
+
 pub returns-in_err-extend_chain_by-clause-err : goal.returns-in_err-extend_chain_by-clause-err
 returns-in_err-extend_chain_by-clause-err g c =
     let p = err_from_is_err_and c.from_residual-in_err-extend_chain_by.result c.from_residual-in_err-extend_chain_by.ensures.1 in
@@ -105,6 +121,9 @@ pub returns-clause-others : goal.returns-clause-others
 returns-clause-others g c told v change =
     rest-others c.args.mini.now c.args.entry c.allocator_mut-allocator.result.now c.extend_chain_by.new.self c.allocator_mut-allocator.ensures.value (c.extend_chain_by.ensures.spares told) v change
     c.requires.stream
+
+pub returns-clause-header : goal.returns-clause-header
+returns-clause-header g c told = table-keeps-header _ c.args.mini.now c.allocator_mut-allocator.result.now c.extend_chain_by.new.self c.allocator_mut-allocator.ensures.value (c.extend_chain_by.ensures.spares told)
 
 pub returns-clause-around : goal.returns-clause-around
 returns-clause-around g c =

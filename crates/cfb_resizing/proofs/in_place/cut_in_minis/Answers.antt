@@ -7,7 +7,7 @@ use Rattle.cfb_content.proofs.Kept.{nothing-is-moved}
 use Rattle.cfb_content.proofs.Refusals.{refused-as}
 use Rattle.cfb_content.proofs.WholeStreams.{not-whole-minis, owned-minis, whole-minis-as}
 use Rattle.cfb_resizing.specs.Turning.{Turns}
-use Rattle.cfb_resizing.proofs.FixedHeader.{bytes-keep-header, spared-keeps-header}
+use Rattle.cfb_content.proofs.FixedHeader.{bytes-keep-header, spared-keeps-header}
 use Rattle.cfb_resizing.proofs.CutShort.{mini-cut-takes-few}
 use Rattle.cfb_resizing.proofs.Tightness.{same-tight}
 use Rattle.cfb_resizing.proofs.TurnedInMinis.{cut-lacks-none, first-mini, first-unnamed, mini-cut-turns, own-minis-kept}

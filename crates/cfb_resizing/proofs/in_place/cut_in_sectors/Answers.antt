@@ -7,7 +7,7 @@ use Rattle.cfb_alloc.specs.ListedChain.{Shortens}
 use Rattle.cfb_content.proofs.Kept.{nothing-is-moved}
 use Rattle.cfb_content.proofs.Refusals.{refused-as}
 use Rattle.cfb_content.proofs.WholeStreams.{not-whole, whole-as}
-use Rattle.cfb_resizing.proofs.FixedHeader.{bytes-keep-header, table-keeps-header}
+use Rattle.cfb_content.proofs.FixedHeader.{bytes-keep-header, table-keeps-header}
 use Rattle.cfb_resizing.proofs.CutShort.{cut-is-kept, cut-takes-few}
 use Rattle.cfb_resizing.proofs.Tightness.{shortened-tight}
 use Rattle.cfb_resizing.proofs.TurnedInSectors.{cut-has-all, cut-held, cut-keeps-tables, cut-spares-others, cut-turned, not-usable}

@@ -7,7 +7,7 @@ use Rattle.cfb_alloc.specs.ListedChain.{Lengthens}
 use Rattle.cfb_content.proofs.Kept.{nothing-is-moved}
 use Rattle.cfb_content.proofs.Refusals.{refused-as}
 use Rattle.cfb_content.proofs.WholeStreams.{not-whole}
-use Rattle.cfb_resizing.proofs.FixedHeader.{bytes-keep-header, table-keeps-header}
+use Rattle.cfb_content.proofs.FixedHeader.{bytes-keep-header, table-keeps-header}
 use Rattle.cfb_resizing.proofs.Tightness.{lengthened-tight}
 use Rattle.cfb_resizing.proofs.TurnedInSectors.{grow-held, grow-lacks, grow-spares-others, grow-there, grow-turned, grown-is-kept, not-usable}
 use Rattle.cfb_resizing.proofs.in_place.grow_in_sectors.Goals as goal

@@ -14,7 +14,7 @@ use Rattle.cfb_content.proofs.Refusals.{refused-as}
 use Rattle.cfb_content.proofs.StreamEntry.{stream-inside}
 use Rattle.cfb_content.proofs.WholeStreams.{not-whole}
 use Rattle.cfb_resizing.specs.Turning.{KeepsAround, StopsOrBegun, Turns}
-use Rattle.cfb_resizing.proofs.FixedHeader.{bytes-keep-header, header-stays, spared-since-keeps-header}
+use Rattle.cfb_content.proofs.FixedHeader.{bytes-keep-header, header-stays, spared-since-keeps-header}
 use Rattle.cfb_resizing.proofs.CarriedToMinis.{after-then, kept-after}
 use Rattle.cfb_resizing.proofs.MovedToMinis.{few-still, leave-apart, leave-asked, leave-lacks, leave-others, leave-some, leave-turned, still-same}
 use Rattle.cfb_resizing.proofs.MovedToSectors.{still-around, still-kept, still-stops, still-tight}

@@ -11,7 +11,7 @@ use Rattle.cfb_content.proofs.Refusals.{refused-as}
 use Rattle.cfb_content.proofs.StreamEntry.{stream-inside}
 use Rattle.cfb_content.proofs.WholeStreams.{not-whole-minis}
 use Rattle.cfb_resizing.specs.Turning.{StopsOrBegun, Turns}
-use Rattle.cfb_resizing.proofs.FixedHeader.{bytes-keep-header, header-stays, spared-since-keeps-header}
+use Rattle.cfb_content.proofs.FixedHeader.{bytes-keep-header, header-stays, spared-since-keeps-header}
 use Rattle.cfb_resizing.proofs.MovedToSectors.{move-held, move-lacks, move-others, move-starts, move-turned, still-around, still-kept, still-stops, still-tight}
 use Rattle.cfb_resizing.proofs.TurnedInSectors.{not-usable}
 use Rattle.cfb_resizing.proofs.moving.move_to_sectors.Goals as goal

@@ -1,4 +1,4 @@
-use Rattle.std.proofs.Common.{◌≡◌, ◌-◌, ◌+◌, List, sym, ◌∙◌, ap, subst, length, take, arith}
+use Rattle.std.proofs.Common.{◌≡◌, ◌-◌, ◌+◌, List, refl, sym, ◌∙◌, ap, subst, length, take, arith}
 use Rattle.std.proofs.lemmas.List.{length-take}
 use Rattle.std.proofs.lemmas.Result.{err_from_is_err_and}
 use Rattle.cfb_format.specs.DirectoryEntry.{Entry}
@@ -8,6 +8,7 @@ use Rattle.cfb_tables.specs.Changes.{NoneFree}
 use Rattle.cfb_tables.specs.Tables.{TableState}
 use Rattle.cfb_mini_sectors.specs.State.{content_of, entries_of}
 use Rattle.cfb_content.specs.Contents.{len_of}
+use Rattle.cfb_content.proofs.FixedHeader.{header-stays, header-then}
 use Rattle.cfb_content.proofs.Kept.{nothing-is-moved, others-kept-then}
 use Rattle.cfb_content.proofs.Outlines.{stream-stays}
 use Rattle.cfb_content.proofs.Readable.{whole-of}
@@ -22,6 +23,9 @@ content_in-len-requires g c = record { inside = stream-inside c.args.mini.now c.
 pub returns-in_err-list-clause-others : goal.returns-in_err-list-clause-others
 returns-in_err-list-clause-others g c told v change = nothing-is-moved c.args.entry c.args.mini.now
 
+pub returns-in_err-list-clause-header : goal.returns-in_err-list-clause-header
+returns-in_err-list-clause-header g c told = header-stays c.args.mini.now c.args.mini.now refl
+
 -- ---- it has grown
 
 pub write_listed-requires-clause-stream : goal.write_listed-requires-clause-stream
@@ -34,6 +38,11 @@ returns-in_err-write_listed-clause-others g c told v change =
     let grown = c.grow_content.ensures in
     others-kept-then c.args.entry c.args.mini.now c.grow_content.new.mini c.write_listed.new.mini grown.limits grown.entries (grown.others told v change)
     (c.write_listed.ensures.others told v (c.in_ok-grown.ensures.holds told v change))
+
+pub returns-in_err-write_listed-clause-header : goal.returns-in_err-write_listed-clause-header
+returns-in_err-write_listed-clause-header g c told =
+    header-then c.args.mini.now c.grow_content.new.mini c.write_listed.new.mini c.grow_content.ensures.limits.version
+    (c.grow_content.ensures.header told) (c.write_listed.ensures.header told)
 
 pub returns-in_err-write_listed-clause-err : goal.returns-in_err-write_listed-clause-err
 returns-in_err-write_listed-clause-err g c =
@@ -65,6 +74,11 @@ returns-clause-others g c told v change =
     let grown = c.grow_content.ensures in
     others-kept-then c.args.entry c.args.mini.now c.grow_content.new.mini c.write_listed.new.mini grown.limits grown.entries (grown.others told v change)
     (c.write_listed.ensures.others told v (c.in_ok-grown.ensures.holds told v change))
+
+pub returns-clause-header : goal.returns-clause-header
+returns-clause-header g c told =
+    header-then c.args.mini.now c.grow_content.new.mini c.write_listed.new.mini c.grow_content.ensures.limits.version
+    (c.grow_content.ensures.header told) (c.write_listed.ensures.header told)
 
 pub returns-clause-holds : goal.returns-clause-holds
 returns-clause-holds g c told v change = c.in_ok-write_listed.ensures.holds told v (c.in_ok-grown.ensures.holds told v change)

@@ -8,6 +8,7 @@ use Rattle.cfb_tables.specs.Changes.{NoneFree}
 use Rattle.cfb_tables.specs.Tables.{TableState}
 use Rattle.cfb_mini_sectors.specs.State.{content_of, entries_of}
 use Rattle.cfb_content.specs.Contents.{len_of}
+use Rattle.cfb_content.proofs.FixedHeader.{header-stays}
 use Rattle.cfb_content.proofs.Kept.{nothing-is-moved}
 use Rattle.cfb_content.proofs.Readable.{whole-of}
 use Rattle.cfb_content.proofs.Rewritten.{written-none}
@@ -30,6 +31,9 @@ returns-then-is_empty-clause-content g c told v change =
 
 pub returns-then-is_empty-clause-others : goal.returns-then-is_empty-clause-others
 returns-then-is_empty-clause-others g c told v change = nothing-is-moved c.args.entry c.args.mini.now
+
+pub returns-then-is_empty-clause-header : goal.returns-then-is_empty-clause-header
+returns-then-is_empty-clause-header g c told = header-stays c.args.mini.now c.args.mini.now refl
 
 pub returns-then-is_empty-clause-sized : goal.returns-then-is_empty-clause-sized
 returns-then-is_empty-clause-sized g c told v change =

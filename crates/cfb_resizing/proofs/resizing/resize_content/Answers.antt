@@ -24,7 +24,7 @@ use Rattle.cfb_content.proofs.Rewritten.{resized-same}
 use Rattle.cfb_content.proofs.Snug.{same-is-sized}
 use Rattle.cfb_content.proofs.Sound.{all-used-kept, changed-is-changeable}
 use Rattle.cfb_content.proofs.StreamEntry.{stream-inside}
-use Rattle.cfb_resizing.proofs.FixedHeader.{bytes-keep-header, header-then, spared-keeps-header}
+use Rattle.cfb_content.proofs.FixedHeader.{bytes-keep-header, header-then, spared-keeps-header}
 use Rattle.cfb_resizing.proofs.CarriedToMinis.{kept-after, medium-after}
 use Rattle.cfb_resizing.proofs.Named.{WasNamed, moves-then, named-changes, named-keeps-others, placed-stays}
 use Rattle.cfb_resizing.proofs.Tightness.{turned-stays-full}

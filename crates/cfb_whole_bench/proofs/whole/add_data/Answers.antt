@@ -7,7 +7,7 @@ use Rattle.std.specs.Prelude.{IfErr, OnOk}
 use Rattle.cfb_agreement.specs.Files.{FileState}
 use Rattle.cfb_rules.specs.Calls.{create_new_stream}
 use Rattle.cfb_compound_file.specs.Adding.{IsCreatedBy}
-use Rattle.cfb_compound_file.specs.Answers.{IsRefusedBy, causes_of}
+use Rattle.cfb_path_changes.specs.Answers.{IsRefusedBy, causes_of}
 use Rattle.cfb_compound_file.specs.Streams.{open_of}
 use Rattle.cfb_whole_bench.specs.Changes.{after_all, empty_list}
 use Rattle.cfb_whole_bench.specs.OneStream.{IsDataRefused, IsMadeWith, data_tree}

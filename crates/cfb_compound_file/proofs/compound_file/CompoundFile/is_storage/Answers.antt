@@ -2,7 +2,7 @@ use Rattle.std.proofs.Common.{◌∙◌, ap, false}
 use Rattle.std.specs.Prelude.{Option, chars}
 use Rattle.std.specs.Option.{option_map_or}
 use Rattle.cfb_format.specs.declared.objtype.ObjType.{ObjType}
-use Rattle.cfb_compound_file.specs.Finding.{is_storage_or_root}
+use Rattle.cfb_path_changes.specs.Finding.{is_storage_or_root}
 use Rattle.cfb_compound_file.proofs.Told.{storage-answered}
 use Rattle.cfb_compound_file.proofs.compound_file.CompoundFile.is_storage.Goals as goal
 

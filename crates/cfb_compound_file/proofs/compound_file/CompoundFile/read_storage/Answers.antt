@@ -5,7 +5,8 @@ use Rattle.std.specs.Prelude.{chars}
 use Rattle.cfb_rules.specs.Calls.{read_storage}
 use Rattle.cfb_listing.specs.Left.{entries_left}
 use Rattle.cfb_compound_file.proofs.Asked.{read-looks, refused-at-path}
-use Rattle.cfb_compound_file.proofs.Numbers.{memory-refused, no-stream-by-test, object-within, ok-then, stream-by-test}
+use Rattle.cfb_path_changes.proofs.Numbers.{object-within}
+use Rattle.cfb_compound_file.proofs.Numbers.{memory-refused, no-stream-by-test, ok-then, stream-by-test}
 use Rattle.cfb_compound_file.proofs.Told.{read-answered, read-refused}
 use Rattle.cfb_compound_file.proofs.compound_file.CompoundFile.read_storage.Goals as goal
 

@@ -1,8 +1,8 @@
 use Rattle.std.proofs.Common.{◌∙◌, inr, sym, ap, List}
 use Rattle.cfb_format.specs.DirectoryEntry.{Entry}
 use Rattle.cfb_format.specs.Siblings.{entry_at}
-use Rattle.cfb_compound_file.proofs.FoundStreams.{reached_stream}
-use Rattle.cfb_compound_file.proofs.Numbers.{object-within}
+use Rattle.cfb_path_changes.proofs.ReachedStreams.{reached_stream}
+use Rattle.cfb_path_changes.proofs.Numbers.{object-within}
 use Rattle.cfb_compound_file.proofs.compound_file.CompoundFile.stream_at.Goals as goal
 
 pub kind_of-kind-requires : goal.kind_of-kind-requires

@@ -1,4 +1,5 @@
-use Rattle.cfb_compound_file.proofs.Numbers.{object-within, told-by}
+use Rattle.cfb_path_changes.proofs.Numbers.{object-within}
+use Rattle.cfb_compound_file.proofs.Numbers.{told-by}
 use Rattle.cfb_compound_file.proofs.compound_file.CompoundFile.told_at.Goals as goal
 
 pub entry_of-requires : goal.entry_of-requires

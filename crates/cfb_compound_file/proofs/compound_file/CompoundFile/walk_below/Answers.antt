@@ -1,4 +1,5 @@
-use Rattle.cfb_compound_file.proofs.Numbers.{object-in-list, object-within}
+use Rattle.cfb_path_changes.proofs.Numbers.{object-within}
+use Rattle.cfb_compound_file.proofs.Numbers.{object-in-list}
 use Rattle.cfb_compound_file.proofs.compound_file.CompoundFile.walk_below.Goals as goal
 
 pub name_of-requires : goal.name_of-requires

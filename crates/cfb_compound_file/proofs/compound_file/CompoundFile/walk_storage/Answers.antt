@@ -4,7 +4,8 @@ use Rattle.std.specs.Prelude.{chars}
 use Rattle.cfb_rules.specs.Calls.{walk_storage}
 use Rattle.cfb_listing.specs.Left.{entries_left}
 use Rattle.cfb_compound_file.proofs.Asked.{refused-at-path, walk-looks}
-use Rattle.cfb_compound_file.proofs.Numbers.{map-split, memory-refused, ok-then, says-none}
+use Rattle.cfb_path_changes.proofs.Numbers.{map-split, says-none}
+use Rattle.cfb_compound_file.proofs.Numbers.{memory-refused, ok-then}
 use Rattle.cfb_compound_file.proofs.Told.{walk-at-root, walk-storage-answered}
 use Rattle.cfb_compound_file.proofs.compound_file.CompoundFile.walk_storage.Goals as goal
 

@@ -1,11 +1,10 @@
 use Rattle.std.proofs.Common.{◌≡◌, ℕ, List, Option, Some, refl, sym, ◌∙◌, subst, drop, arith}
 use Rattle.std.specs.Prelude.{Contains, OnOk}
-use Rattle.cfb_alloc.specs.Frame.{Spares}
 use Rattle.cfb_alloc.proofs.Spared.{spares_refl}
 use Rattle.cfb_tables.specs.Clean.{IsUnnamed}
 use Rattle.cfb_tables.specs.Tables.{first_or_end}
-use Rattle.cfb_mini_sectors.specs.State.{HoldsMini, MiniState, table_of}
-use Rattle.cfb_mini_sectors.specs.Steps.{IsZeroMini, SparesMini, system_sectors}
+use Rattle.cfb_mini_sectors.specs.State.{HoldsMini, MiniState}
+use Rattle.cfb_mini_sectors.specs.Steps.{IsZeroMini, SparesMini}
 use Rattle.cfb_mini_sectors.proofs.MiniFrames.{nothing-touched}
 use Rattle.cfb_mini.specs.Changing.{mini_of}
 use Rattle.cfb_mini.specs.MiniSectors.{KeepsMiniBytesBut}

@@ -1,11 +1,9 @@
-use Rattle.std.proofs.Common.{◌≡◌, ℕ, [], Some, refl, sym, ◌∙◌, subst}
-use Rattle.std.specs.Prelude.{Contains, OnOk}
-use Rattle.cfb_alloc.specs.Alloc.{AllocatorState}
+use Rattle.std.proofs.Common.{◌≡◌, [], Some, refl, sym, ◌∙◌, subst}
 use Rattle.cfb_alloc.specs.Frame.{Spares}
 use Rattle.cfb_alloc.proofs.Spared.{spares_refl}
-use Rattle.cfb_tables.specs.Listed.{ends_of, gained}
+use Rattle.cfb_tables.specs.Listed.{ends_of}
 use Rattle.cfb_mini_sectors.specs.State.{HoldsMini, MiniState, table_of}
-use Rattle.cfb_mini_sectors.specs.Steps.{IsZeroMini, SparesMini, system_sectors}
+use Rattle.cfb_mini_sectors.specs.Steps.{SparesMini, system_sectors}
 use Rattle.cfb_mini_sectors.proofs.MiniFrames.{nothing-touched}
 use Rattle.cfb_mini.specs.Changing.{mini_of}
 use Rattle.cfb_mini.specs.MiniSectors.{KeepsMiniBytesBut}

@@ -1,26 +1,33 @@
-use Rattle.std.proofs.Common.{◌≡◌, ◌∷◌, ℕ, List, refl, sym, ap, subst, chars}
+use Rattle.std.proofs.Common.{◌≡◌, ◌≤◌, ◌∷◌, ℕ, List, refl, sym, ap, subst, chars, length}
 use Rattle.std.specs.Prelude.{Some}
 use Rattle.std.proofs.lemmas.Result.{err_from_is_err_and}
 use Rattle.cfb_format.specs.declared.validate.Validation.TheVariants.{Permissive, Strict}
+use Rattle.cfb_format.specs.Bytes.{no_stream}
 use Rattle.cfb_format.specs.Reading.{IsOutline, Outline}
+use Rattle.cfb_format.specs.Siblings.{entry_at}
 use Rattle.cfb_rules.specs.Finding.{last_name, parent_names}
 use Rattle.cfb_siblings.specs.Children.{KeepsBalance}
 use Rattle.cfb_siblings.specs.Paths.{number_from}
 use Rattle.cfb_trees.specs.Reached.{IsReached}
+use Rattle.cfb_tables.specs.Changes.{NoneFree}
 use Rattle.cfb_tables.specs.Refused.{ChangeRefused}
 use Rattle.cfb_alloc.specs.Frame.{Spares}
 use Rattle.cfb_directory.specs.State.{IsFullForEntry}
 use Rattle.cfb_directory.specs.Steps.{IsDirectoryNotHeld}
 use Rattle.cfb_objects.specs.Laws.{BecomesTree}
-use Rattle.cfb_mini_sectors.specs.State.{HoldsMini, MiniState, bytes_of, cases_of, entries_of, table_of}
+use Rattle.cfb_mini_sectors.specs.State.{HoldsMini, MiniState, bytes_of, cases_of, entries_of, table_of, tables_in}
 use Rattle.cfb_mini_sectors.specs.Steps.{KeepsMini, StopsShort}
-use Rattle.cfb_content.specs.Contents.{len_of}
+use Rattle.cfb_content.specs.Contents.{KeepsFixedHeader, len_of}
+use Rattle.cfb_content.proofs.FixedHeader.{spared-keeps-header}
 use Rattle.cfb_insertion.specs.Balance.{StayBalanced}
 use Rattle.cfb_insertion.proofs.Entries.{put-is-balanced, put-is-found, put-is-new, put-keeps-root, put-leaves-none-free}
 use Rattle.cfb_agreement.specs.Changes.{KeepsStreams, object_added_at}
 use Rattle.cfb_agreement.specs.Files.{Agrees, FileState, Holds, IsAsMade, IsFullFile, LeavesNoneFree}
 use Rattle.cfb_format.specs.Refused.{IsBreak}
-use Rattle.cfb_volume.proofs.InsertedObjects.{ended, insert-holds, insert-keeps-streams, insert-made, insert-tree, puts-object, refused-agrees, refused-full, refused-reason, same-file, streams-ended}
+use Rattle.cfb_entry_changes.specs.Kept.{KeepsFound}
+use Rattle.cfb_entry_changes.specs.Standing.{StandStill}
+use Rattle.cfb_volume.proofs.PutObjects.{put-is-childless, put-keeps-found, put-no-shorter, put-stands-still, put-stays-full}
+use Rattle.cfb_volume.proofs.InsertedObjects.{ended, header-ended, insert-holds, insert-keeps-streams, insert-made, insert-tree, puts-object, refused-agrees, refused-full, refused-reason, same-file, streams-ended}
 use Rattle.cfb_volume.proofs.volume.Volume.insert.Goals as goal
 
 -- ---- refused
@@ -32,6 +39,11 @@ returns-in_err-number-clause-others g c told holds =
     let e = ap (λ (f : FileState). f.base) c.self.view_is in
     insert-keeps-streams c.args.self.now mid c.requires.sound holds
     (subst (λ (s : MiniState). Spares s.directory.sectors (table_of s) (table_of mid)) e (was.spares told)) (subst (λ (s : MiniState). KeepsMini s mid) e was.mini)
+
+pub returns-in_err-number-clause-header : goal.returns-in_err-number-clause-header
+returns-in_err-number-clause-header g c told =
+    let mid = c.insert_dir_entry.new.self in
+    subst (λ (f : FileState). KeepsFixedHeader f.base mid) c.self.view_is (spared-keeps-header _ c.self.inside.mini mid (c.insert_dir_entry.ensures.spares told))
 
 pub returns-in_err-number-clause-agrees : goal.returns-in_err-number-clause-agrees
 returns-in_err-number-clause-agrees g c told holds =
@@ -108,6 +120,12 @@ returns-clause-others g c told holds =
     (insert-keeps-streams c.args.self.now mid c.requires.sound holds
     (subst (λ (s : MiniState). Spares s.directory.sectors (table_of s) (table_of mid)) e (was.spares told)) (subst (λ (s : MiniState). KeepsMini s mid) e was.mini)))
 
+pub returns-clause-header : goal.returns-clause-header
+returns-clause-header g c told =
+    let mid = c.insert_dir_entry.new.self in
+    subst (λ (s : MiniState). KeepsFixedHeader c.args.self.now.base s) (sym c.end_change.ensures) (header-ended c.args.self.now.base mid
+    (subst (λ (f : FileState). KeepsFixedHeader f.base mid) c.self.view_is (spared-keeps-header _ c.self.inside.mini mid (c.insert_dir_entry.ensures.spares told))))
+
 pub returns-clause-made : goal.returns-clause-made
 returns-clause-made g c told holds made =
     let w = c.in_ok-number.ensures in
@@ -164,3 +182,48 @@ returns-clause-agrees g c told holds unfailed =
     (insert-holds old mid c.args.parent c.in_ok-number.number (chars c.args.name.now) c.args.kind c.args.moment put
     (subst (λ (s : MiniState). Spares s.directory.sectors (table_of s) (table_of mid)) e (w.spares told)) c.requires.sound holds
     (w.holds told Permissive (subst (λ (s : MiniState). HoldsMini Permissive s) (sym e) (holds.sound c.requires.sound).held)))
+
+pub returns-clause-childless : goal.returns-clause-childless
+returns-clause-childless g c =
+    let w = c.in_ok-number.ensures in
+    let mid = c.insert_dir_entry.new.self in
+    let put = puts-object c.self.inside.mini c.args.self.now.base mid c.args.parent c.in_ok-number.number (chars c.args.name.now) c.args.kind c.args.moment
+    (ap (λ (f : FileState). f.base) c.self.view_is) c.requires.parent c.requires.kind w.inserted w.red_apart w.kept w.lengthened w.mini w.limits in
+    subst (λ (s : MiniState). (entry_at (entries_of s) c.in_ok-number.number).child ≡ no_stream) (sym c.end_change.ensures)
+    (put-is-childless c.args.self.now.base mid c.args.parent c.in_ok-number.number (chars c.args.name.now) c.args.kind c.args.moment put)
+
+pub returns-clause-stays : goal.returns-clause-stays
+returns-clause-stays g c =
+    let w = c.in_ok-number.ensures in
+    let mid = c.insert_dir_entry.new.self in
+    let put = puts-object c.self.inside.mini c.args.self.now.base mid c.args.parent c.in_ok-number.number (chars c.args.name.now) c.args.kind c.args.moment
+    (ap (λ (f : FileState). f.base) c.self.view_is) c.requires.parent c.requires.kind w.inserted w.red_apart w.kept w.lengthened w.mini w.limits in
+    subst (λ (s : MiniState). KeepsFound c.args.self.now.base s) (sym c.end_change.ensures)
+    (put-keeps-found c.args.self.now.base mid c.args.parent c.in_ok-number.number (chars c.args.name.now) c.args.kind c.args.moment put)
+
+pub returns-clause-still : goal.returns-clause-still
+returns-clause-still g c =
+    let w = c.in_ok-number.ensures in
+    let mid = c.insert_dir_entry.new.self in
+    let put = puts-object c.self.inside.mini c.args.self.now.base mid c.args.parent c.in_ok-number.number (chars c.args.name.now) c.args.kind c.args.moment
+    (ap (λ (f : FileState). f.base) c.self.view_is) c.requires.parent c.requires.kind w.inserted w.red_apart w.kept w.lengthened w.mini w.limits in
+    subst (λ (s : MiniState). StandStill c.args.self.now.base s) (sym c.end_change.ensures)
+    (put-stands-still c.args.self.now.base mid c.args.parent c.in_ok-number.number (chars c.args.name.now) c.args.kind c.args.moment put)
+
+pub returns-clause-no_shorter : goal.returns-clause-no_shorter
+returns-clause-no_shorter g c =
+    let w = c.in_ok-number.ensures in
+    let mid = c.insert_dir_entry.new.self in
+    let put = puts-object c.self.inside.mini c.args.self.now.base mid c.args.parent c.in_ok-number.number (chars c.args.name.now) c.args.kind c.args.moment
+    (ap (λ (f : FileState). f.base) c.self.view_is) c.requires.parent c.requires.kind w.inserted w.red_apart w.kept w.lengthened w.mini w.limits in
+    subst (λ (s : MiniState). length (tables_in c.args.self.now.base).fat ≤ length (tables_in s).fat) (sym c.end_change.ensures)
+    (put-no-shorter c.args.self.now.base mid c.args.parent c.in_ok-number.number (chars c.args.name.now) c.args.kind c.args.moment put)
+
+pub returns-clause-stays_full : goal.returns-clause-stays_full
+returns-clause-stays_full g c none =
+    let w = c.in_ok-number.ensures in
+    let mid = c.insert_dir_entry.new.self in
+    let put = puts-object c.self.inside.mini c.args.self.now.base mid c.args.parent c.in_ok-number.number (chars c.args.name.now) c.args.kind c.args.moment
+    (ap (λ (f : FileState). f.base) c.self.view_is) c.requires.parent c.requires.kind w.inserted w.red_apart w.kept w.lengthened w.mini w.limits in
+    subst (λ (s : MiniState). NoneFree (tables_in s).fat) (sym c.end_change.ensures)
+    (put-stays-full c.args.self.now.base mid c.args.parent c.in_ok-number.number (chars c.args.name.now) c.args.kind c.args.moment put none)

@@ -31,6 +31,7 @@ refused g c told =
       limits = e.limits;
       entries = e.entries;
       others = λ v change. e.others told v change;
+      header = e.header told;
       still = c.in_err-resize_content.ensures.still;
       unwritten = λ calm. e.unwritten told calm;
     })
@@ -112,6 +113,7 @@ changed g c told =
       limits = e.limits;
       entries = e.entries;
       others = λ v change. e.others told v change;
+      header = e.header told;
       holds = λ v change. ok.holds told v change;
       owned = λ v change all. ok.owned told v change all;
       sized = λ v change. ok.sized told v change;

@@ -33,6 +33,7 @@ refused g c told =
       limits = e.limits;
       entries = e.entries;
       others = λ v change. e.others told v change;
+      header = e.header told;
       still = c.in_err-count.ensures.still;
       unwritten = λ calm. e.unwritten told calm;
     })
@@ -96,6 +97,7 @@ changed g c told =
       limits = e.limits;
       entries = e.entries;
       others = λ v change. e.others told v change;
+      header = e.header told;
       holds = λ v change. ok.holds told v change;
       owned = λ v change all. ok.owned told v change all;
       sized = λ v change. ok.sized told v change;

@@ -1,0 +1,4 @@
+pub mod Before
+pub mod Calls
+pub mod Steps
+pub mod Made

@@ -1,0 +1,40 @@
+-- What the calls on a file promise each for itself makes the steps of a run.
+use Rattle.std.specs.Prelude.{ℕ, Bool, List, Option}
+use Rattle.cfb_format.specs.declared.medium.MediumFault.{MediumFault}
+use Rattle.cfb_format.specs.Tree.{Tree}
+use Rattle.cfb_rules.specs.Calls.{Call, Reply}
+use Rattle.cfb_rules.specs.Lists.{CallStep, ClosingStep, Command, CommandReply, IsLegalRun, StreamCallStep, names_at}
+use Rattle.cfb_rules.specs.Refusal.{Refusal}
+use Rattle.cfb_rules.specs.Runs.{Setting}
+use Rattle.cfb_rules.specs.StreamCalls.{StreamCall, StreamReply}
+use Rattle.cfb_agreement.specs.Files.{Agrees, FileState, SameSetting}
+use Rattle.cfb_path_changes.specs.Answers.{MeansTree, setting_of}
+use Rattle.cfb_compound_file.specs.StreamAnswers.{OpenStream, stream_in}
+use Rattle.cfb_command_steps.specs.Promised.{CallKeeps, IsClosedOf, IsOpenSince, IsWorkedOn, promised}
+use Rattle.cfb_command_steps.specs.Made.{StaysMade}
+use Rattle.cfb_command_steps.specs.Seen.{Standing, seen_as, standing_at}
+
+-- a call by path, in a run whose setting was that of the file at first
+abbrev pub CallsAreSteps : Type 0
+CallsAreSteps = (can_give : MediumFault → Bool) (first old new : FileState) (tree : Tree) (call : Call) (reply : Reply)
+    → SameSetting first old → CallKeeps can_give old call reply new → MeansTree old tree
+    → (after : Tree) × MeansTree new after × CallStep seen_as (promised can_give) (setting_of first) (standing_at old tree) call reply (standing_at new after)
+
+-- a call on an open stream, whatever tree is named beside the file; the stream is open as before then
+abbrev pub StreamCallsAreSteps : Type 0
+StreamCallsAreSteps = (can_give : MediumFault → Bool) (first opened : FileState) (path : List ℕ) (old new : OpenStream) (tree : Tree) (call : StreamCall) (reply : StreamReply)
+    → SameSetting first opened → IsOpenSince opened path old → IsWorkedOn old call reply new
+    → StreamCallStep seen_as (promised can_give) (setting_of first) (names_at path) (stream_in old) (standing_at old.file tree) call reply (stream_in new) (standing_at new.file tree)
+    × IsOpenSince opened path new
+
+-- the closing of a stream that was opened in a file with this tree
+abbrev pub ClosingsAreSteps : Type 0
+ClosingsAreSteps = (can_give : MediumFault → Bool) (first opened : FileState) (path : List ℕ) (old : OpenStream) (new : FileState) (tree : Tree) (closing : Option Refusal)
+    → SameSetting first opened → Agrees opened → MeansTree opened tree → IsOpenSince opened path old → IsClosedOf opened old closing new
+    → (after : Tree) × MeansTree new after
+    × ClosingStep seen_as (promised can_give) (setting_of first) path tree (stream_in old) (standing_at old.file tree) closing (standing_at new after)
+
+-- a list of commands keeps what each of its calls keeps
+abbrev pub RunsStayMade : Type 0
+RunsStayMade = (can_give : MediumFault → Bool) (setting : Setting) (old new : Standing) (commands : List Command) (replies : List CommandReply)
+    → IsLegalRun seen_as (promised can_give) setting old commands replies new → StaysMade old.file new.file

@@ -1,0 +1,4 @@
+pub mod Seen
+pub mod Promised
+pub mod Made
+pub mod Laws

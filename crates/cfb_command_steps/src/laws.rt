@@ -1,0 +1,18 @@
+//! Each call on a file is a step of a run of commands. None of these functions does anything: each has a law as its contract.
+ghost use Rattle.cfb_command_steps.specs.Laws.{CallsAreSteps, ClosingsAreSteps, RunsStayMade, StreamCallsAreSteps};
+
+/// A call by path is a step.
+pub fn calls_are_steps()
+    ensures { CallsAreSteps }
+{}
+
+/// So is a call on an open stream, and its closing.
+pub fn streams_are_steps()
+    ensures calls { StreamCallsAreSteps }
+    ensures closed { ClosingsAreSteps }
+{}
+
+/// A list of commands keeps the setting, and a file that was made here in order.
+pub fn runs_stay_made()
+    ensures { RunsStayMade }
+{}

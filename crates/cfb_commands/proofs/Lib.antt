@@ -1,0 +1,10 @@
+pub mod Errors
+pub mod Growing
+pub mod Lending
+pub mod Operations
+pub mod Working
+pub mod Openings
+pub mod Runs
+pub mod Quiet
+pub mod Asking
+pub mod Calls

@@ -1,0 +1,15 @@
+use Rattle.std.proofs.Common.{chars, refl}
+use Rattle.std.proofs.lemmas.Result.{err_from_is_err_and}
+use Rattle.cfb_rules.specs.Calls.{read_storage}
+use Rattle.cfb_commands.proofs.Asking.{memory_answers}
+use Rattle.cfb_commands.proofs.queries.read_list.Goals as goal
+
+pub returns-in_err-clone : goal.returns-in_err-clone
+returns-in_err-clone g c =
+    let p = err_from_is_err_and c.from_residual-in_err-clone.result c.from_residual-in_err-clone.ensures.1 in
+    rw (p.1, p.2) (λ told. memory_answers c.args.file.now (read_storage (chars c.args.path.now)) refl)
+
+pub returns-in_err-collect : goal.returns-in_err-collect
+returns-in_err-collect g c =
+    let p = err_from_is_err_and c.from_residual-in_err-collect.result c.from_residual-in_err-collect.ensures.1 in
+    rw (p.1, p.2) (λ told. memory_answers c.args.file.now (read_storage (chars c.args.path.now)) refl)

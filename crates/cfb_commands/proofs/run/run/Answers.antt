@@ -1,0 +1,32 @@
+use Rattle.std.proofs.Common.{◌≤◌, ◌∙◌, ◌∷◌, [], List, ap, arith, length, length-append, map, subst, take, drop}
+use Rattle.std.proofs.lemmas.List.{take-append-le, take_all}
+use Rattle.std.specs.Prelude.{◌||◌}
+use Rattle.cfb_commands.specs.declared.command.Command.{Command as TheCommand}
+use Rattle.cfb_commands.specs.Commands.{command_of, reply_of}
+use Rattle.cfb_commands.specs.Working.{RunsLegally}
+use Rattle.cfb_commands.proofs.Runs.{runs_more, stays_made}
+use Rattle.cfb_commands.proofs.run.run.Goals as goal
+
+pub loop-command-preserved : goal.loop-command-preserved
+loop-command-preserved g c =
+    let i = c.loop-command.invariant in
+    let first = length c.args.replies.now.items in
+    let longer = ap length c.push_reserved.ensures.items ∙ length-append c.loop-command.replies.items (c.run_one-reply.result ∷ []) in
+    let least : first ≤ length c.loop-command.replies.items = omega (arith, i.count) in
+    record {
+      count = omega (arith, longer, i.count);
+      room = c.push_reserved.ensures.capacity ∙ i.room;
+      kept = ap (take first) c.push_reserved.ensures.items ∙ take-append-le first c.loop-command.replies.items (c.run_one-reply.result ∷ []) least ∙ i.kept;
+      runs = λ told. runs_more _ c.args.file.now c.loop-command.file c.run_one-reply.new.file c.args.commands.now c.loop-command.command-index c.command-item.result first
+          c.loop-command.replies.items c.push_reserved.new.self.items c.run_one-reply.result c.loop-command-test.true c.command-item.is c.push_reserved.ensures.items least (i.runs told)
+          (c.run_one-reply.ensures told);
+    }
+
+pub returns-clause-order : goal.returns-clause-order
+returns-clause-order g c = λ told. stays_made _ c.args.file.now c.loop-command.file _ _ (c.is_failed-is_failed.ensures.agrees told) (c.loop-command.invariant.runs told)
+
+pub returns-clause-runs : goal.returns-clause-runs
+returns-clause-runs g c = λ told.
+    subst (λ (commands : List (TheCommand g.row.A.Denot)). RunsLegally (λ f. g.F.ReadMedium.read_faults f || g.F.Medium.write_faults f) c.args.file.now (map command_of commands)
+    (map reply_of (drop (length c.args.replies.now.items) c.loop-command.replies.items)) c.loop-command.file) (take_all c.loop-command.command-index c.args.commands.now c.loop-command-test.false)
+    (c.loop-command.invariant.runs told)

@@ -1,0 +1,108 @@
+//! Commands on a compound file, and their replies.
+use cfb_codecs::timestamp::Timestamp;
+use cfb_format::error::Error;
+use cfb_listing::entry::Entry as Told;
+use std::alloc::{Allocator as Heap, Global};
+use std::io::SeekFrom;
+use uuid::Uuid;
+
+/// How the stream of a command is opened.
+#[derive(Clone, Copy, Debug, PartialEq, Eq)]
+pub enum Opening {
+    /// One that is there, by `open_stream`.
+    Open,
+    /// A new one, or the one that is there, emptied, by `create_stream`.
+    Create,
+    /// A new one, by `create_new_stream`.
+    CreateNew,
+}
+
+/// What is done with an open stream. Lengths and places are in bytes.
+#[derive(Drop)]
+pub enum StreamOp<A: Heap = Global> {
+    /// At most so many bytes are read from the position on.
+    Read(usize),
+    /// The bytes from the position to the end are read.
+    ReadToEnd,
+    /// A beginning of these bytes is written at the position.
+    Write(Vec<u8, A>),
+    /// The position is moved there.
+    Seek(SeekFrom),
+    /// The stream is cut to this length, or padded with zeros.
+    SetLen(u64),
+    /// What is kept back is written out.
+    Flush,
+    /// The position is asked for.
+    Position,
+    /// The length is asked for.
+    Len,
+}
+
+/// A call of `CompoundFile`, by its name and with its arguments; or what is done with one stream, from its opening to its closing.
+#[derive(Drop)]
+pub enum Command<A: Heap = Global> {
+    /// `create_storage`: the path, and the new storage's moment.
+    CreateStorage(String<A>, Timestamp),
+    /// `create_storage_all`: the path, and the moment of each new storage.
+    CreateStorageAll(String<A>, Timestamp),
+    /// `remove_storage`.
+    RemoveStorage(String<A>),
+    /// `remove_storage_all`.
+    RemoveStorageAll(String<A>),
+    /// `remove_stream`.
+    RemoveStream(String<A>),
+    /// `set_storage_clsid`.
+    SetStorageClsid(String<A>, Uuid),
+    /// `set_state_bits`.
+    SetStateBits(String<A>, u32),
+    /// `set_created_time`.
+    SetCreatedTime(String<A>, Timestamp),
+    /// `set_modified_time`.
+    SetModifiedTime(String<A>, Timestamp),
+    /// `touch`: the path, and the moment.
+    Touch(String<A>, Timestamp),
+    /// `flush`.
+    Flush,
+    /// `exists`.
+    Exists(String<A>),
+    /// `is_stream`.
+    IsStream(String<A>),
+    /// `is_storage`.
+    IsStorage(String<A>),
+    /// `entry`.
+    Entry(String<A>),
+    /// `read_storage`.
+    ReadStorage(String<A>),
+    /// `walk_storage`.
+    WalkStorage(String<A>),
+    /// How a stream is opened, its path, and what is done with it before it is closed.
+    Stream(Opening, String<A>, Vec<StreamOp<A>, A>),
+}
+
+/// What one operation on an open stream answers.
+#[derive(Drop)]
+pub enum StreamReply<A: Heap = Global> {
+    /// To `Read` and `ReadToEnd`: the bytes.
+    Bytes(Result<Vec<u8, A>, Error>),
+    /// To `Write`: how many of the bytes were written.
+    Count(Result<usize, Error>),
+    /// To `Seek` and `Position` the position, and to `Len` the length.
+    Place(Result<u64, Error>),
+    /// To `SetLen` and `Flush`.
+    Done(Result<(), Error>),
+}
+
+/// What one command answers.
+#[derive(Drop)]
+pub enum Reply<A: Heap = Global> {
+    /// To a call that changes the file, and to `Flush`.
+    Done(Result<(), Error>),
+    /// To `Exists`, `IsStream` and `IsStorage`.
+    Flag(bool),
+    /// To `Entry`: what is told of the object.
+    Entry(Result<Told<A>, Error>),
+    /// To `ReadStorage` and `WalkStorage`: what is told of each object, in order.
+    Entries(Result<Vec<Told<A>, A>, Error>),
+    /// To `Stream`: what each operation answered, and what closing did; or why no stream was opened.
+    Stream(Result<(Vec<StreamReply<A>, A>, Result<(), Error>), Error>),
+}

@@ -1,0 +1,8 @@
+//! Lists of commands on a compound file: each is a call by its name and arguments, or what is done with one stream from its opening to its
+//! closing, and is answered by one reply.
+#![tactic(auto)]
+
+pub mod command;
+mod queries;
+pub mod run;
+mod streams;

@@ -1,0 +1,80 @@
+//! Commands are done one after the other.
+ghost use Rattle.std.specs.Prelude.{◌≡◌, ◌≤◌, ◌+◌, ◌||◌, IsTrue, drop, length, map, take, vec_capacity};
+ghost use Rattle.cfb_commands.specs.Commands.{command_of, reply_of};
+ghost use Rattle.cfb_command_steps.specs.Made.{StaysMade};
+ghost use Rattle.cfb_commands.specs.Working.{Answers, RunsLegally};
+
+use crate::command::{Command, Reply};
+use crate::queries::{read_list, walk_list};
+use crate::streams::run_on_stream;
+use cfb_compound_file::compound_file::CompoundFile;
+use cfb_format::medium::Medium;
+use std::alloc::Allocator as Heap;
+
+/// Does one command.
+fn run_one<F: Medium, A: Heap + Clone>(
+    alloc: &A,
+    file: &mut CompoundFile<F, A>,
+    command: &Command<A>,
+) -> Reply<A>
+    ensures { IsTrue F.tells → Answers (λ f. F.read_faults f || F.write_faults f) file.old
+        (command_of command.now) (reply_of result) file.new }
+{
+    match command {
+        Command::CreateStorage(path, moment) => Reply::Done(file.create_storage(path, *moment)),
+        Command::CreateStorageAll(path, moment) => {
+            Reply::Done(file.create_storage_all(path, *moment))
+        }
+        Command::RemoveStorage(path) => Reply::Done(file.remove_storage(path)),
+        Command::RemoveStorageAll(path) => Reply::Done(file.remove_storage_all(path)),
+        Command::RemoveStream(path) => Reply::Done(file.remove_stream(path)),
+        Command::SetStorageClsid(path, clsid) => {
+            Reply::Done(file.set_storage_clsid(path, *clsid))
+        }
+        Command::SetStateBits(path, bits) => Reply::Done(file.set_state_bits(path, *bits)),
+        Command::SetCreatedTime(path, moment) => {
+            Reply::Done(file.set_created_time(path, *moment))
+        }
+        Command::SetModifiedTime(path, moment) => {
+            Reply::Done(file.set_modified_time(path, *moment))
+        }
+        Command::Touch(path, moment) => Reply::Done(file.touch(path, *moment)),
+        Command::Flush => Reply::Done(file.flush()),
+        Command::Exists(path) => Reply::Flag(file.exists(path)),
+        Command::IsStream(path) => Reply::Flag(file.is_stream(path)),
+        Command::IsStorage(path) => Reply::Flag(file.is_storage(path)),
+        Command::Entry(path) => Reply::Entry(file.entry(path)),
+        Command::ReadStorage(path) => Reply::Entries(read_list(alloc, file, path)),
+        Command::WalkStorage(path) => Reply::Entries(walk_list(alloc, file, path)),
+        Command::Stream(how, path, ops) => {
+            Reply::Stream(run_on_stream(alloc, file, *how, path, ops))
+        }
+    }
+}
+
+/// Does these commands in their order, whether or not one is refused, and appends one reply a command; `replies` has room for them.
+///
+/// Each command is answered as its call is. A stream command on a failed file is answered by `Failed`; else room is had for its replies
+/// (`Memory`), the stream is opened, its operations are done in their order, whether or not one is refused, and it is closed. `Read` has
+/// room for no more bytes than are left (`Memory`), and `ReadStorage` and `WalkStorage` for a list (`Memory`).
+pub fn run<F: Medium, A: Heap + Clone>(
+    file: &mut CompoundFile<F, A>,
+    commands: &[Command<A>],
+    replies: &mut Vec<Reply<A>, A>,
+)
+    requires room { length replies.old.items + length commands.now ≤ vec_capacity replies.old }
+    ensures kept { take (length replies.old.items) replies.new.items ≡ replies.old.items }
+    ensures one_each { length replies.new.items
+        ≡ length replies.old.items + length commands.now }
+    ensures runs { IsTrue F.tells → RunsLegally (λ f. F.read_faults f || F.write_faults f) file.old
+        (map command_of commands.now) (map reply_of (drop (length replies.old.items)
+        replies.new.items)) file.new }
+    ensures order { IsTrue F.tells → StaysMade file.old file.new }
+{
+    // What the file keeps in memory is what its bytes say.
+    let _is_failed = file.is_failed();
+    for command in commands {
+        let reply = run_one(replies.allocator(), file, command);
+        replies.push_reserved(reply);
+    }
+}

@@ -1,0 +1,24 @@
+use Rattle.std.proofs.Common.{false, refl}
+use Rattle.cfb_std_streams.proofs.Knowing.{read_known, rest_stays}
+use Rattle.cfb_compound_file.specs.Stored.{stored_of}
+use Rattle.cfb_compound_file.proofs.StdStreams.{same_failed}
+use Rattle.cfb_compound_file.specs.StreamAnswers.{causes_of_reading}
+use Rattle.cfb_compound_file.proofs.std_read_stream.ReadStreamRead.read.Goals as goal
+
+pub returns-in-Ok-clause-bytes : goal.returns-in-Ok-clause-bytes
+returns-in-Ok-clause-bytes g c =
+    let old = c.args.self.now in
+    let new = c.read.new.self in
+    read_known g.F.ReadMedium.tells (causes_of_reading old.file.now new.file.now) (stored_of old.file.now old.entry) (stored_of new.file.now new.entry) old.window new.window false false
+    (λ told. old.is_open told) (λ _ _. refl) _ c.in-Ok.count c.read.new.into (λ told. c.in-Ok.ensures.runs told) c.read.auto.into c.in-Ok.ensures.most
+
+pub returns-in-Err-clause-bytes : goal.returns-in-Err-clause-bytes
+returns-in-Err-clause-bytes g c =
+    let old = c.args.self.now in
+    let new = c.read.new.self in
+    rest_stays g.F.ReadMedium.tells (causes_of_reading old.file.now new.file.now) (stored_of old.file.now old.entry) (stored_of new.file.now new.entry) old.window new.window false false
+    (λ told. old.is_open told) (λ _ _. refl) _ (λ told _. same_failed old.file.now new.file.now (c.read.ensures.kept told))
+    (λ told. (let why = (c.in-Err.ensures.refused told).rules in (why.0, why.2)))
+
+pub returns-in-Err-clause-refused : goal.returns-in-Err-clause-refused
+returns-in-Err-clause-refused g c = λ told. (c.in-Err.error, c.std_error.ensures, c.in-Err.ensures.refused told)

@@ -1,0 +1,58 @@
+use Rattle.std.proofs.Common.{refl}
+use Rattle.cfb_std_streams.proofs.Knowing.{calm_then, lent_ahead, lent_end, lent_from, lent_front, lent_keeps, lent_unfailed, nothing_said, rest_stays}
+use Rattle.cfb_compound_file.specs.Stored.{stored_of}
+use Rattle.cfb_compound_file.specs.StdStreams.{rest_in}
+use Rattle.cfb_compound_file.specs.StreamAnswers.{open_stream_of}
+use Rattle.cfb_compound_file.proofs.StdStreams.{same_failed}
+use Rattle.cfb_compound_file.proofs.StreamCalls.{stays_or_fails}
+use Rattle.cfb_rules.specs.StreamCalls.{fill_buf}
+use Rattle.cfb_path_changes.specs.Answers.{causes_of}
+use Rattle.cfb_compound_file.proofs.std_stream.StreamBufRead.fill_buf.Goals as goal
+
+pub returns-in-Ok : goal.returns-in-Ok
+returns-in-Ok g c =
+    let old = c.args.self.now in
+    let keeps = lent_keeps g.F.ReadMedium.tells (causes_of old.file.now c.fill.new.content) (stored_of old.file.now old.entry) (stored_of c.fill.new.content old.entry) old.window c.fill.new.self
+    old.window.pending c.fill.new.self.pending (λ told. old.is_open told) (calm_then old.window.pending c.fill.new.self.pending) c.rest.result.now _ c.rest.ensures (λ told. c.in-Ok.ensures.runs (record { told = told; suits = old.is_open told })) in
+    let ahead = lent_ahead g.F.ReadMedium.tells (causes_of old.file.now c.fill.new.content) (stored_of old.file.now old.entry) (stored_of c.fill.new.content old.entry) old.window c.fill.new.self
+    old.window.pending c.fill.new.self.pending (λ told. old.is_open told) (calm_then old.window.pending c.fill.new.self.pending) c.rest.result.now _ c.rest.ensures (λ told. c.in-Ok.ensures.runs (record { told = told; suits = old.is_open told })) in (
+      (refl, (λ _. tt), (keeps, ahead)),
+      record {
+        front = lent_front g.F.ReadMedium.tells (causes_of old.file.now c.fill.new.content) (stored_of old.file.now old.entry) (stored_of c.fill.new.content old.entry) old.window c.fill.new.self
+            old.window.pending c.fill.new.self.pending (λ told. old.is_open told) (calm_then old.window.pending c.fill.new.self.pending) c.rest.result.now _ c.rest.ensures (λ told. c.in-Ok.ensures.runs (record { told = told; suits = old.is_open told }));
+        end = lent_end g.F.ReadMedium.tells (causes_of old.file.now c.fill.new.content) (stored_of old.file.now old.entry) (stored_of c.fill.new.content old.entry) old.window c.fill.new.self
+            old.window.pending c.fill.new.self.pending (λ told. old.is_open told) (calm_then old.window.pending c.fill.new.self.pending) c.rest.result.now _ c.rest.ensures (λ told. c.in-Ok.ensures.runs (record { told = told; suits = old.is_open told }));
+        refused = λ told. tt;
+        unfailed = lent_unfailed g.F.ReadMedium.tells (causes_of old.file.now c.fill.new.content) (stored_of old.file.now old.entry) (stored_of c.fill.new.content old.entry) old.window c.fill.new.self
+            old.window.pending c.fill.new.self.pending (λ told. old.is_open told) (calm_then old.window.pending c.fill.new.self.pending) c.rest.result.now _ c.rest.ensures (λ told. c.in-Ok.ensures.runs (record { told = told; suits = old.is_open told }));
+        lent = λ told. (let k = (lent_from g.F.ReadMedium.tells (causes_of old.file.now c.fill.new.content) (stored_of old.file.now old.entry) (stored_of c.fill.new.content old.entry) old.window c.fill.new.self
+            old.window.pending c.fill.new.self.pending (λ told. old.is_open told) (calm_then old.window.pending c.fill.new.self.pending) c.rest.result.now _ c.rest.ensures (λ told. c.in-Ok.ensures.runs (record { told = told; suits = old.is_open told })) told).0 in record { front = k.front; end = k.end });
+        after_borrow = tt;
+      },
+    )
+
+pub returns-in-Err : goal.returns-in-Err
+returns-in-Err g c =
+    let old = c.args.self.now in
+    let known = rest_in g.F.ReadMedium.tells (open_stream_of old.file.now old.entry old.window) in
+    let keeps = rest_stays g.F.ReadMedium.tells (causes_of old.file.now c.fill.new.content) (stored_of old.file.now old.entry) (stored_of c.fill.new.content old.entry) old.window c.fill.new.self
+    old.window.pending c.fill.new.self.pending (λ told. old.is_open told) (calm_then old.window.pending c.fill.new.self.pending) fill_buf
+    (λ told calm. same_failed old.file.now c.fill.new.content (c.fill.ensures.calm told calm).kept)
+    (λ told. (let why = (c.in-Err.ensures.refused (record { told = told; suits = old.is_open told })).rules in (why.0, why.2))) in (
+      (refl, (λ _. tt), (keeps, nothing_said known)),
+      record {
+        front = nothing_said known;
+        end = nothing_said known;
+        refused = λ told. (let why = c.in-Err.ensures.refused (record { told = told; suits = old.is_open told }) in (
+          c.in-Err.error,
+          c.std_error.ensures,
+          (
+            open_stream_of c.fill.new.content old.entry c.fill.new.self,
+            record { rules = why.rules; stops = why.stops; stays = stays_or_fails _ _ (c.in-Err.ensures.around told).stays; untouched = why.untouched; counts = (c.in-Err.ensures.around told).counts },
+          ),
+        ));
+        unfailed = λ told. tt;
+        lent = λ told. tt;
+        after_borrow = tt;
+      },
+    )

@@ -1,0 +1,52 @@
+-- What `fill_buf` of std's `BufRead` answers on an open stream, and what it leaves once the bytes are given back.
+use Rattle.std.specs.Prelude.{ℕ, ◌≡◌, Bool, List, [], Result, Some, length}
+use Rattle.std.specs.Borrow.{Bor, Fml, MutBor, RattleType}
+use Rattle.std.specs.Io.{StartsWith}
+use Rattle.std.specs.Io.BufRead.{FillKeeps, Rests}
+use Rattle.std.specs.declared.io.Error.{Error as StdError}
+use mir.Syntax.{named}
+use Rattle.std.specs.declared.alloc.Allocator as heap
+use Rattle.cfb_format.specs.declared.error.Error.{Error}
+use Rattle.cfb_format.specs.declared.medium.Medium as writing
+use Rattle.cfb_format.specs.declared.medium.MediumFault.{MediumFault}
+use Rattle.cfb_format.specs.declared.medium.ReadMedium as reading
+use Rattle.cfb_rules.specs.StreamCalls.{fill_buf}
+use Rattle.cfb_stream_window.specs.Windows.{Window}
+use Rattle.cfb_stream_window.specs.contracts.read_window.ReadWindow as read_window
+use Rattle.cfb_stream_window.specs.contracts.window.Window as window
+use Rattle.cfb_std_streams.specs.Known.{rest_of}
+use Rattle.cfb_path_changes.specs.Answers.{causes_of}
+use Rattle.cfb_compound_file.specs.declared.held.Held as held
+use Rattle.cfb_compound_file.specs.declared.read_stream.ReadStream.{ReadStream}
+use Rattle.cfb_compound_file.specs.declared.stream.Stream.{Stream}
+use Rattle.cfb_compound_file.specs.contracts.read_stream.ReadStream as read_stream
+use Rattle.cfb_compound_file.specs.contracts.stream.Stream as stream
+use Rattle.cfb_compound_file.specs.ReadStreams as reads
+use Rattle.cfb_compound_file.specs.Streams as writes
+use Rattle.cfb_compound_file.specs.StdStreams.{rest_in, rest_to_read}
+use Rattle.cfb_compound_file.specs.StreamAnswers.{IsStreamRefused, OpenStream, causes_of_reading, stored_in}
+
+-- they are a beginning of what is left, and none only at the end
+pub record IsLentFrom (old : OpenStream) (bytes : List ℕ) : Type 0 where
+  pub front : StartsWith (rest_of (stored_in old) old.window) bytes
+  pub end : length bytes ≡ 0 → rest_of (stored_in old) old.window ≡ []
+
+-- it was refused by the rules, from this state to some other
+abbrev pub IsLendingRefused : (can_give : MediumFault → Bool) → OpenStream → Error → Type 0
+IsLendingRefused can_give old e = (new : OpenStream) × IsStreamRefused (causes_of old.file new.file) can_give old fill_buf new e
+
+-- of a stream that is only read
+abbrev pub IsReadLendingRefused : (can_give : MediumFault → Bool) → OpenStream → Error → Type 0
+IsReadLendingRefused can_give old e = (new : OpenStream) × IsStreamRefused (causes_of_reading old.file new.file) can_give old fill_buf new e
+
+-- ---- what is known of the bytes that are left stays, and what was lent can be consumed
+
+abbrev pub keeps_to_read : (F A : RattleType) (r : reading.Ghosts F.Denot) (h : heap.Ghosts A.Denot) {b : held.Ghosts Window} → MutBor (ReadStream F.Denot A.Denot Window r b)
+    → Result (Bor (List ℕ)) StdError → Fml
+keeps_to_read F A r h {b} s result = Rests (read_stream.the_row (record { mir = named 1; lft = [] }) F A (read_window.the_row A h) r b h) s
+    (λ new. FillKeeps (rest_to_read r.tells (reads.open_of s.now)) (rest_to_read r.tells (reads.open_of new)) (Some (reads.window_of new).ahead) result)
+
+abbrev pub keeps : (F A : RattleType) (r : reading.Ghosts F.Denot) (g : writing.Ghosts F.Denot) (h : heap.Ghosts A.Denot) {b : held.Ghosts Window}
+    → MutBor (Stream F.Denot A.Denot Window g r b) → Result (Bor (List ℕ)) StdError → Fml
+keeps F A r g h {b} s result = Rests (stream.the_row (record { mir = named 1; lft = [] }) F A (window.the_row A h) g r b h) s
+    (λ new. FillKeeps (rest_in r.tells (writes.open_of s.now)) (rest_in r.tells (writes.open_of new)) (Some (writes.window_of new).ahead) result)

@@ -1,0 +1,69 @@
+//! How a directory drops all that is in one of its storages: first in memory, then the slots of the entries that changed.
+ghost use Rattle.std.specs.Prelude.{◌≡◌, ◌∷◌, ℕ, List, true, IsTrue, IfErr, OnOk};
+ghost use Rattle.cfb_format.specs.declared.validate.Validation.{Validation};
+ghost use Rattle.cfb_format.specs.Reading.{Outline, numbers};
+ghost use Rattle.cfb_format.specs.Refused.{CountsFailure};
+ghost use Rattle.cfb_outline.specs.Outlines.{HasInside, IsReachedStorage};
+ghost use Rattle.cfb_tables.specs.Refused.{ChangeRefused};
+ghost use Rattle.cfb_alloc.specs.Frame.{Spares};
+ghost use Rattle.cfb_entries.specs.Clearing.{HasCleared};
+ghost use Rattle.cfb_directory.specs.Clearing.{KeepsSlotsOutside};
+ghost use Rattle.cfb_directory.specs.Slots.{IsLeastAbove};
+ghost use Rattle.cfb_directory.specs.State.{HoldsDirectory, KeepsDirectoryLimits, directory_of};
+ghost use Rattle.cfb_directory.specs.Steps.{IsDirectoryNotHeld, KeepsWholeHeader, DirectoryStopsShort};
+
+use crate::changing::unplaced;
+use crate::slots::{are_placed, write_entries};
+use cfb_alloc::alloc::Allocator;
+use cfb_entries::entries::Entries;
+use cfb_format::error::Error;
+use cfb_format::medium::Medium;
+use std::alloc::Allocator as Heap;
+
+/// Takes all that is in the storage `top` out of it, in memory and in the slots: all of `Directory::clear`.
+pub(crate) fn clear_storage<F: Medium, A: Heap + Clone>(
+    allocator: &mut Allocator<F, A>,
+    sectors: &[u32],
+    above: usize,
+    entries: &mut Entries<A>,
+    heap: &A,
+    top: u32,
+    inside: &[u32],
+) -> Result<(), Error>
+    requires above { IsLeastAbove sectors.now above }
+    requires top { IsReachedStorage entries.old.cases entries.old.entries top }
+    requires all { (o : Outline)
+        → HasInside entries.old.cases entries.old.entries top o → inside.now ≡ numbers o }
+    ensures cleared { OnOk result
+        (HasCleared entries.old.entries entries.new.entries top inside.now) }
+    ensures kept { allocator.new.tables ≡ allocator.old.tables }
+    ensures holds { IsTrue F.tells → (validation : Validation)
+        → HoldsDirectory validation (directory_of allocator.old sectors.now entries.old)
+        → OnOk result
+        (HoldsDirectory validation (directory_of allocator.new sectors.now entries.new)) }
+    ensures spares { IsTrue F.tells → Spares sectors.now allocator.old allocator.new }
+    ensures header { IsTrue F.tells
+        → KeepsWholeHeader (directory_of allocator.old sectors.now entries.old)
+        (directory_of allocator.new sectors.now entries.new) }
+    ensures slots { IsTrue F.tells → (validation : Validation)
+        → HoldsDirectory validation (directory_of allocator.old sectors.now entries.old)
+        → KeepsSlotsOutside (top ∷ inside.now) (directory_of allocator.old sectors.now entries.old)
+        (directory_of allocator.new sectors.now entries.new) }
+    ensures limits { KeepsDirectoryLimits (directory_of allocator.old sectors.now entries.old)
+        (directory_of allocator.new sectors.now entries.new) }
+    ensures begun { OnOk result (allocator.new.file.begun ≡ true) }
+    ensures refused { IfErr result (DirectoryStopsShort (directory_of allocator.old
+        sectors.now entries.old) (directory_of allocator.new sectors.now entries.new)) }
+    ensures err { IfErr result (ChangeRefused
+        (IsDirectoryNotHeld (directory_of allocator.old sectors.now entries.old)) Unit ⊥ Unit) }
+    ensures counts { IsTrue F.tells → CountsFailure
+        F.write_faults result allocator.old.file.failures allocator.new.file.failures }
+{
+    let count = entries.list().len();
+    if !are_placed(allocator, sectors, above, count) {
+        return Err(unplaced(count));
+    }
+    let touched = entries.clear(heap, top, inside)?;
+    allocator.begin_change();
+    write_entries(allocator, sectors, entries.list(), &touched)
+}

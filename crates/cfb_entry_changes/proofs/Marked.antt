@@ -1,0 +1,171 @@
+-- Other fields of one entry in the directory of a file.
+use Rattle.std.proofs.Common.{◌≡◌, ◌≢◌, inl, inr, ℕ, refl, sym, ◌∙◌, ap, subst, length, arith}
+use Rattle.std.specs.Prelude.{Contains, ◌%◌}
+use Rattle.std.proofs.lemmas.Bool.{cases_eq}
+use Rattle.cfb_format.specs.declared.objtype.ObjType.TheVariants.{Stream}
+use Rattle.cfb_format.specs.declared.validate.Validation.{Validation}
+use Rattle.cfb_format.specs.DirectoryEntry.{Entry}
+use Rattle.cfb_format.specs.Meaning.{storage_info}
+use Rattle.cfb_format.specs.Reading.{IsOutline, Outline, stream_numbers}
+use Rattle.cfb_format.specs.Siblings.{entry_at}
+use Rattle.cfb_format.specs.Tree.{StorageInfo, StreamInfo}
+use Rattle.cfb_format.proofs.Unique.{IsOutline-unique}
+use Rattle.cfb_rules.specs.CallChanges.{fields_changed_at}
+use Rattle.cfb_siblings.specs.Laws.{SameObject}
+use Rattle.cfb_siblings.specs.Paths.{number_from}
+use Rattle.cfb_trees.specs.Changes.{ButFields}
+use Rattle.cfb_trees.specs.Colors.{AreColored}
+use Rattle.cfb_trees.specs.Reached.{IsReached}
+use Rattle.cfb_trees.proofs.Colored.{fields-keep-colors}
+use Rattle.cfb_trees.proofs.Members.{root-is-no-stream, streams-are-by-kind}
+use Rattle.cfb_trees.proofs.PathNames.{same-from}
+use Rattle.cfb_trees.proofs.PathReached.{found-is-reached}
+use Rattle.cfb_trees.proofs.Recolored.{root-or-below}
+use Rattle.cfb_trees.proofs.Same.{fields-keep-outline, set-fields}
+use Rattle.cfb_entries.specs.Fields.{entry_with_fields}
+use Rattle.cfb_entries.specs.declared.fields.Fields.{Fields}
+use Rattle.cfb_directory.proofs.ChangedFields.{changed_beside, changed_here, changed_length}
+use Rattle.cfb_objects.specs.Changes.{ChangesFields}
+use Rattle.cfb_objects.proofs.Fields.{fields-change-in-place}
+use Rattle.cfb_mini_sectors.specs.State.{MiniState, cases_of, content_of, entries_of}
+use Rattle.cfb_content.specs.Contents.{len_of}
+use Rattle.cfb_insertion.proofs.Balance.{fields-keep-balance}
+use Rattle.cfb_entry_changes.specs.Standing.{SameContent, StreamsStand, WritesEntries}
+use Rattle.cfb_entry_changes.specs.Marking.{GivesFields, MarksEntry, WritesFields}
+use Rattle.cfb_entry_changes.specs.Laws.{MarkedChangesTree, MarkedHasOutline, MarkedIsAllUsed, MarkedIsBalanced, MarkedIsChangeable, MarkedIsColored, MarkedIsFound, MarkedIsSnug, MarkedKeepsRoot}
+use Rattle.cfb_entry_changes.proofs.Standing.{all-used-now, changeable-now, reads-as-before, snug-now}
+use Rattle.cfb_entry_changes.proofs.Trees.{entries-become}
+
+module _ (old new : MiniState) (i : ℕ) (fields : Fields) (t : MarksEntry old new i fields) where
+  but : ButFields (entry_at (entries_of old) i) (entry_with_fields (entry_at (entries_of old) i) fields)
+  but = record { name = refl; obj_type = refl; color = refl; left_sibling = refl; right_sibling = refl; child = refl }
+
+  here : entry_at (entries_of new) i ≡ entry_with_fields (entry_at (entries_of old) i) fields
+  here = ap (λ es. entry_at es i) t.entries ∙ changed_here (entries_of old) i fields t.inside
+
+  beside : (k : ℕ) → k ≢ i → entry_at (entries_of new) k ≡ entry_at (entries_of old) k
+  beside k ne = ap (λ es. entry_at es k) t.entries ∙ changed_beside (entries_of old) i fields k ne
+
+  -- each entry names the content that it named
+  same-at : (k : ℕ) → SameContent (entry_at (entries_of old) k) (entry_at (entries_of new) k)
+  same-at k = elim (cases_eq k i) [
+    | inl e ↦ subst (λ (j : ℕ). SameContent (entry_at (entries_of old) j) (entry_at (entries_of new) j)) (sym e) (record {
+      start = ap (λ (x : Entry). x.start_sector) here ∙ t.start;
+      len = ap (λ (x : Entry). x.stream_len) here ∙ t.len;
+    })
+    | inr ne ↦ record { start = ap (λ (x : Entry). x.start_sector) (beside k ne); len = ap (λ (x : Entry). x.stream_len) (beside k ne) }
+  ]
+
+  fields-at : (k : ℕ) → ButFields (entry_at (entries_of old) k) (entry_at (entries_of new) k)
+  fields-at k = subst (λ es. ButFields (entry_at (entries_of old) k) (entry_at es k)) (sym t.entries)
+      (set-fields (entries_of old) i (entry_with_fields (entry_at (entries_of old) i) fields) but k)
+
+  module _ (o : Outline) (is : IsOutline (cases_of old) (entries_of old) o) where
+    root-len : i ≡ 0 → fields.stream_len % 64 ≡ 0
+    root-len e = ap (λ (n : ℕ). n % 64) (t.len ∙ ap (len_of old) e) ∙ is.root_len
+
+    pub now : IsOutline (cases_of old) (entries_of new) o
+    now = subst (λ es. IsOutline (cases_of old) es o) (sym t.entries)
+        (fields-keep-outline (cases_of old) (entries_of old) i (entry_with_fields (entry_at (entries_of old) i) fields) o is but root-len)
+
+    pub new_is : IsOutline (cases_of new) (entries_of new) o
+    new_is = subst (λ c. IsOutline c (entries_of new) o) (sym t.kept.limits.cases) now
+
+    pub stands : StreamsStand old new o o (λ k. k)
+    stands = record {
+      came = λ k m. m;
+      same = λ k m. same-at k;
+      once = λ j k m n e. e;
+      rest = λ k m. inr (k, m, refl);
+    }
+
+-- ---- in memory
+
+pub marked-has-outline : MarkedHasOutline
+marked-has-outline old new i fields t o is = new_is old new i fields t o is
+
+pub marked-is-colored : MarkedIsColored
+marked-is-colored old new i fields t was o is =
+    subst (λ es. AreColored es o) (sym t.entries)
+    (fields-keep-colors (cases_of old) (entries_of old) i (entry_with_fields (entry_at (entries_of old) i) fields) o is (but old new i fields t) (was o is))
+
+pub marked-keeps-root : MarkedKeepsRoot
+marked-keeps-root old new i fields t = (same-at old new i fields t 0).len
+
+-- the outline is the one that there was
+same-outline : (old new : MiniState) (i : ℕ) (fields : Fields) → MarksEntry old new i fields → (before after : Outline) → IsOutline (cases_of old) (entries_of old) before
+    → IsOutline (cases_of new) (entries_of new) after → before ≡ after
+same-outline old new i fields t before after is is' = IsOutline-unique (cases_of new) (entries_of new) before after (new_is old new i fields t before is) is'
+
+pub marked-is-balanced : MarkedIsBalanced
+marked-is-balanced old new i fields t before after is is' k there kind was =
+    let f = fields-at old new i fields t in
+    let longer = ap length t.entries ∙ changed_length (entries_of old) i fields in
+    fields-keep-balance (entries_of old) (entries_of new) k (omega (arith, longer)) f
+    (was (subst (λ (o : Outline). IsReached o k) (sym (same-outline old new i fields t before after is is')) there) (λ s. kind ((f k).obj_type ∙ s)))
+
+pub marked-is-found : MarkedIsFound
+marked-is-found old new i fields t before after is is' names =
+    subst (λ c. number_from c (entries_of new) 0 after names ≡ number_from (cases_of old) (entries_of old) 0 before names) (sym t.kept.limits.cases)
+    (subst (λ (o : Outline). number_from (cases_of old) (entries_of new) 0 o names ≡ number_from (cases_of old) (entries_of old) 0 before names) (same-outline old new i fields t before after is is')
+    (same-from (cases_of old) (entries_of old) (entries_of new) (λ k. (fields-at old new i fields t k).name) names 0 before))
+
+-- ---- in the file
+
+module _ (v : Validation) (old new : MiniState) (i : ℕ) (fields : Fields) (w : WritesFields v old new i fields) where
+  writes : WritesEntries v old new
+  writes = record { changeable = w.changeable; held = w.held; spares = w.spares; kept = w.marked.kept }
+
+  module _ (f : StorageInfo → StorageInfo) (g : StreamInfo → StreamInfo) (gives : GivesFields (entry_at (entries_of old) i) fields f g)
+      (o : Outline) (is : IsOutline (cases_of old) (entries_of old) o) where
+    -- a stream reads as before
+    reads : (k : ℕ) → Contains (stream_numbers o) k → content_of new (entry_at (entries_of new) k) ≡ content_of old (entry_at (entries_of old) k)
+    reads k m = reads-as-before v old new writes o is k m (entry_at (entries_of new) k) (same-at old new i fields w.marked k)
+
+    -- what is reached and a stream is one of the streams
+    of-kind : (k : ℕ) → IsReached o k → (entry_at (entries_of old) k).obj_type ≡ Stream → Contains (stream_numbers o) k
+    of-kind k r s = elim (root-or-below o k r) [
+      | inl e ↦ absurd (root-is-no-stream (entry_at (entries_of old) 0).obj_type is.root (ap (λ (j : ℕ). (entry_at (entries_of old) j).obj_type) (sym e) ∙ s))
+      | inr c ↦ (streams-are-by-kind (cases_of old) (entries_of old) o k is).1 (c, s)
+    ]
+
+    same-object : (k : ℕ) → IsReached o k → k ≢ i → SameObject (entries_of old) (entries_of new) (content_of old) (content_of new) k k
+    same-object k r ne =
+        let e = beside old new i fields w.marked k ne in
+        record {
+          name = ap (λ (x : Entry). x.name) e;
+          kind = ap (λ (x : Entry). x.obj_type) e;
+          storage = ap storage_info e;
+          stream = λ s. let c = reads k (of-kind k r s) in λ d. record { state_bits = (e d).state_bits; len = (e d).stream_len; content = c d };
+        }
+
+    changes : IsReached o i → ChangesFields (entries_of old) (entries_of new) (content_of old) (content_of new) o i f g
+    changes r = record {
+      same_length = ap length w.marked.entries ∙ changed_length (entries_of old) i fields;
+      root_len = (now old new i fields w.marked o is).root_len;
+      kept = fields-at old new i fields w.marked;
+      storage = λ ne. ap storage_info (here old new i fields w.marked) ∙ gives.storage ne;
+      stream = λ s.
+          let c = reads i (of-kind i r s) in
+          let e = here old new i fields w.marked in
+          (λ d. record { state_bits = (e d).state_bits; len = (e d).stream_len; content = c d }) ∙ gives.stream s (content_of old (entry_at (entries_of old) i));
+      others = same-object;
+    }
+
+pub marked-is-changeable : MarkedIsChangeable
+marked-is-changeable v old new i fields o is w =
+    changeable-now v old new o o (λ k. k) (writes v old new i fields w) is (new_is old new i fields w.marked o is) (stands old new i fields w.marked o is)
+
+pub marked-is-all-used : MarkedIsAllUsed
+marked-is-all-used v old new i fields o is w =
+    all-used-now v old new o o (λ k. k) (writes v old new i fields w) is (new_is old new i fields w.marked o is) (stands old new i fields w.marked o is)
+
+pub marked-is-snug : MarkedIsSnug
+marked-is-snug v old new i fields o is w =
+    snug-now v old new o o (λ k. k) (writes v old new i fields w) is (new_is old new i fields w.marked o is) (stands old new i fields w.marked o is)
+
+pub marked-changes-tree : MarkedChangesTree
+marked-changes-tree v old new i fields w f g names o is at gives =
+    let r = found-is-reached (cases_of old) (entries_of old) o names i is at in
+    let changed = fields-change-in-place (cases_of old) (entries_of old) (entries_of new) (content_of old) (content_of new) o names i f g is at (changes v old new i fields w f g gives o is r) in
+    entries-become v old new o o (writes v old new i fields w) is (new_is old new i fields w.marked o is) (fields_changed_at (cases_of old) f g names) changed.1

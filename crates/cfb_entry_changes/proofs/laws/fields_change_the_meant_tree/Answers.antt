@@ -1,0 +1,14 @@
+use Rattle.cfb_entry_changes.proofs.Marked.{marked-changes-tree, marked-is-all-used, marked-is-changeable, marked-is-snug}
+use Rattle.cfb_entry_changes.proofs.laws.fields_change_the_meant_tree.Goals as goal
+
+pub returns-clause-changeable : goal.returns-clause-changeable
+returns-clause-changeable c = marked-is-changeable
+
+pub returns-clause-all_used : goal.returns-clause-all_used
+returns-clause-all_used c = marked-is-all-used
+
+pub returns-clause-tree : goal.returns-clause-tree
+returns-clause-tree c = marked-changes-tree
+
+pub returns-clause-snug : goal.returns-clause-snug
+returns-clause-snug c = marked-is-snug

@@ -1,0 +1,14 @@
+use Rattle.cfb_entry_changes.proofs.Taken.{taken-is-all-used, taken-is-changeable, taken-is-snug, taken-leaves-tree}
+use Rattle.cfb_entry_changes.proofs.laws.removals_leave_the_meant_tree.Goals as goal
+
+pub returns-clause-changeable : goal.returns-clause-changeable
+returns-clause-changeable c = taken-is-changeable
+
+pub returns-clause-all_used : goal.returns-clause-all_used
+returns-clause-all_used c = taken-is-all-used
+
+pub returns-clause-tree : goal.returns-clause-tree
+returns-clause-tree c = taken-leaves-tree
+
+pub returns-clause-snug : goal.returns-clause-snug
+returns-clause-snug c = taken-is-snug

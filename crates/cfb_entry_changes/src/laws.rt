@@ -1,0 +1,82 @@
+//! What changes of entries make of a file. None of these functions does anything: each has a law as
+//! its contract.
+ghost use Rattle.cfb_entry_changes.specs.Laws.{ClearedEmptiesTree, ClearedHasOutline, ClearedIsAllUsed, ClearedIsChangeable, ClearedIsColored, ClearedIsFound, ClearedIsSnug, ClearedKeepsRoot, EntriesKeepStreams, MarkedChangesTree, MarkedHasOutline, MarkedIsAllUsed, MarkedIsBalanced, MarkedIsChangeable, MarkedIsColored, MarkedIsFound, MarkedIsSnug, MarkedKeepsRoot, MovedIsFound, ObjectIsRemoved, StandingIsAllUsed, StandingIsChangeable, StandingIsSnug, StreamsAreKeptInTurn, TakenHasOutline, TakenIsAllUsed, TakenIsChangeable, TakenIsColored, TakenIsNotFound, TakenIsSnug, TakenKeepsRoot, TakenLeavesTree, TakenStandsAt};
+
+/// The contents of all streams stay where entries alone are written. Where each stream stands at an
+/// entry of its own again, a sound file is sound again, nothing is loose in it, if nothing was, and
+/// its chains are as long as they need to be, if they were.
+pub fn streams_stand_at_their_entries()
+    ensures kept { EntriesKeepStreams }
+    ensures in_turn { StreamsAreKeptInTurn }
+    ensures changeable { StandingIsChangeable }
+    ensures all_used { StandingIsAllUsed }
+    ensures snug { StandingIsSnug }
+{}
+
+/// A childless object that is taken from the children of a storage is gone from the tree of
+/// objects.
+pub fn removal_is_removal()
+    ensures { ObjectIsRemoved }
+{}
+
+/// The taken object is found no more, and all else is, in the slots where it stands now; the mini
+/// stream keeps its length, and the children of all storages their colours.
+pub fn taken_objects_are_gone()
+    ensures outline { TakenHasOutline }
+    ensures names { TakenIsNotFound }
+    ensures streams { TakenStandsAt }
+    ensures root { TakenKeepsRoot }
+    ensures colors { TakenIsColored }
+{}
+
+/// A sound file is sound again, nothing is loose in it and its chains are as long as they need to
+/// be,
+/// if it was so before, and its bytes mean the tree without the object.
+pub fn removals_leave_the_meant_tree()
+    ensures changeable { TakenIsChangeable }
+    ensures all_used { TakenIsAllUsed }
+    ensures snug { TakenIsSnug }
+    ensures tree { TakenLeavesTree }
+{}
+
+/// Where all that was in a storage is taken at once, what was not in it is found as before; the
+/// mini
+/// stream keeps its length, and the children of all storages their colours.
+pub fn cleared_storages_are_empty()
+    ensures outline { ClearedHasOutline }
+    ensures names { ClearedIsFound }
+    ensures root { ClearedKeepsRoot }
+    ensures colors { ClearedIsColored }
+{}
+
+/// A sound file is sound again, nothing is loose in it and its chains are as long as they need to
+/// be,
+/// if it was so before, and its bytes mean the tree with nothing in that storage.
+pub fn clearings_empty_the_meant_storage()
+    ensures changeable { ClearedIsChangeable }
+    ensures all_used { ClearedIsAllUsed }
+    ensures snug { ClearedIsSnug }
+    ensures tree { ClearedEmptiesTree }
+{}
+
+/// Other fields of an entry change nothing of what is found, of the colours, of the balance and of
+/// the
+/// mini stream's length; nor is anything found elsewhere where the content of a stream changes.
+pub fn fields_keep_the_outline()
+    ensures outline { MarkedHasOutline }
+    ensures colors { MarkedIsColored }
+    ensures root { MarkedKeepsRoot }
+    ensures balance { MarkedIsBalanced }
+    ensures names { MarkedIsFound }
+    ensures content { MovedIsFound }
+{}
+
+/// A sound file is sound again, nothing is loose in it and its chains are as long as they need to
+/// be,
+/// if it was so before, and its bytes mean the tree with these fields.
+pub fn fields_change_the_meant_tree()
+    ensures changeable { MarkedIsChangeable }
+    ensures all_used { MarkedIsAllUsed }
+    ensures snug { MarkedIsSnug }
+    ensures tree { MarkedChangesTree }
+{}

@@ -1,0 +1,156 @@
+-- A new object in its place.
+use Rattle.std.proofs.Common.{◌≡◌, ◌⊎◌, inl, inr, ℕ, List, ◌∷◌, Bool, Bor, false, sym, ◌∙◌, ap, subst}
+use Rattle.std.specs.Prelude.{◌||◌, Some, chars}
+use Rattle.cfb_format.specs.declared.error.Error.{Error}
+use Rattle.cfb_format.specs.declared.error.Error.TheVariants.{Full}
+use Rattle.cfb_format.specs.declared.medium.MediumFault.{MediumFault}
+use Rattle.cfb_format.specs.declared.objtype.ObjType.{ObjType}
+use Rattle.cfb_format.specs.declared.objtype.ObjType.TheVariants.{Storage, Stream}
+use Rattle.cfb_format.specs.Reading.{IsOutline, Outline}
+use Rattle.cfb_format.specs.Refused.{CountsError, IsBreak}
+use Rattle.cfb_format.specs.Siblings.{entry_at}
+use Rattle.cfb_rules.specs.Calls.{done}
+use Rattle.cfb_rules.specs.Finding.{last_name, parent_names}
+use Rattle.cfb_rules.specs.Steps.{kind_on}
+use Rattle.cfb_rules.specs.StreamCalls.{resized}
+use Rattle.cfb_tables.specs.Refused.{ChangeRefused}
+use Rattle.cfb_directory.specs.State.{IsFullForEntry}
+use Rattle.cfb_siblings.specs.Paths.{number_from}
+use Rattle.cfb_entries.specs.EntryList.{AreInOrder}
+use Rattle.cfb_trees.specs.Reached.{IsReached}
+use Rattle.cfb_objects.specs.Laws.{BecomesTree}
+use Rattle.cfb_mini_sectors.specs.State.{bytes_of, cases_of, entries_of}
+use Rattle.cfb_content.specs.Contents.{IsStreamOf, IsTooLongFor, KeepsFixedHeader, MovesContent, len_of}
+use Rattle.cfb_insertion.specs.Balance.{StayBalanced}
+use Rattle.cfb_agreement.specs.Changes.{ChangesOneContent, KeepsStreams, StaysOrFails, object_added_at}
+use Rattle.cfb_agreement.specs.Files.{FileState, Holds, IsAsMade, IsFullFile, LeavesNoneFree, SameSetting, failures_of, is_failed}
+use Rattle.cfb_volume.specs.Answers.{content_at}
+use Rattle.cfb_path_changes.specs.Adding.{IsMissing, IsThere, creation, kind_made}
+use Rattle.cfb_path_changes.specs.declared.placing.Creation.{Creation}
+use Rattle.cfb_path_changes.specs.declared.placing.Creation.TheVariants.{EmptyStream, NewStorage, NewStream}
+use Rattle.cfb_path_changes.specs.Answers.{IsDoneBy, IsRefusedBy, causes_of_call}
+use Rattle.cfb_path_changes.specs.Place.{HasNewStream, IsPlace, IsPlaceOf, IsSomePlace}
+use Rattle.cfb_path_changes.specs.declared.placing.Place.{Place}
+use Rattle.cfb_path_changes.specs.declared.placing.Place.TheVariants.{Missing, There}
+use Rattle.cfb_path_changes.proofs.ReachedStreams.{reached_stream}
+use Rattle.cfb_path_changes.proofs.NewObjects.{added_done, creation_asks, emptied_done, moved_leads, nothing_there, path_leads, there_may_be_lost}
+use Rattle.cfb_path_changes.proofs.Refusing.{refused_by_break, unchanged_setting}
+use Rattle.cfb_path_changes.proofs.CallKinds.{creating_lacks, kind_missing}
+use Rattle.cfb_path_changes.proofs.Counting.{counts_either}
+use Rattle.cfb_path_changes.proofs.Balanced.{added_balanced}
+use Rattle.cfb_path_changes.proofs.Sparing.{none_changed, one_spared_not}
+
+-- ---- what is made
+
+-- it is a storage or a stream
+pub made_kind : (what : Creation) (kind : ObjType) → kind ≡ kind_made what → (kind ≡ Storage) ⊎ (kind ≡ Stream)
+made_kind EmptyStream kind is = inr is
+made_kind NewStream kind is = inr is
+made_kind NewStorage kind is = inl is
+
+-- ---- its place
+
+pub there_at : (what : Creation) (old : FileState) (place : Place) (k : ℕ) → place ≡ There k → (some : IsSomePlace old what place) → IsThere old what some.1.names k
+there_at what old place k is some = subst (λ (p : Place). IsPlace old what some.1.names p) is some.1.at
+
+pub missing_at : (what : Creation) (old : FileState) (place : Place) (parent : ℕ) (name : Bor (List ℕ)) → place ≡ Missing parent name → (some : IsSomePlace old what place)
+    → IsMissing old some.1.names parent (chars name.now)
+missing_at what old place parent name is some = subst (λ (p : Place). IsPlace old what some.1.names p) is some.1.at
+
+-- ---- a stream that is there
+
+module _ (what : Creation) (moment : ℕ) (old new : FileState) (place : Place) (k : ℕ) (is : place ≡ There k) where
+  there_of : (path : List ℕ) (at : IsPlaceOf old what path place) → IsThere old what at.names k
+  there_of path at = subst (λ (p : Place). IsPlace old what at.names p) is at.at
+
+  pub there_filled : IsSomePlace old what place → SameSetting old new → MovesContent old.base new.base k → IsStreamOf new.base k → len_of new.base k ≡ 0 → is_failed new ≡ false
+      → HasNewStream old what place new k
+  there_filled some setting moves stream empty unfailed = record {
+    setting = setting;
+    stream = stream;
+    empty = empty;
+    unfailed = unfailed;
+    stands = λ path at. path_leads new path at.names k at.named (moved_leads old new k at.names (Some k) setting moves (there_of some.0 some.1).stream (there_of path at).found);
+  }
+
+  pub there_done : Holds old → Holds new → SameSetting old new → ChangesOneContent k old new → is_failed new ≡ false → content_at new k ≡ resized (content_at old k) 0
+      → failures_of new ≡ failures_of old → (path : List ℕ) → IsPlaceOf old what path place → IsDoneBy old (creation what moment path) done new
+  there_done held now setting changes ended bytes same_count path at =
+      emptied_done old new what moment path at.unfailed at.sound held setting ended at.names at.named k (there_of path at) now changes bytes same_count
+
+  pub there_refused : (can_give : MediumFault → Bool) (e : Error) → SameSetting old new → StaysOrFails old new → ChangesOneContent k old new → (IsTooLongFor old.base k 0 → ⊥)
+      → IsBreak (IsTooLongFor old.base k 0 × (new ≡ old)) e → CountsError can_give (failures_of old) (failures_of new) e
+      → (path : List ℕ) → IsPlaceOf old what path place → IsRefusedBy can_give old (creation what moment path) new e
+  there_refused can_give e setting stays changes never why counts path at =
+      refused_by_break can_give (creation what moment path) (creation_asks what moment path).changes old new at.unfailed setting stays
+      (one_spared_not old new (creation what moment path) k changes (there_may_be_lost old what moment path at.names k at.named (there_of path at))) changes.header
+      (new ≡ old) (IsTooLongFor old.base k 0 × (new ≡ old)) (λ full. absurd (never full.0)) e why counts
+
+-- ---- where nothing is
+
+module _ (what : Creation) (moment : ℕ) (old new : FileState) (place : Place) (parent : ℕ) (name : Bor (List ℕ)) (is : place ≡ Missing parent name) where
+  missing_of : (path : List ℕ) (at : IsPlaceOf old what path place) → IsMissing old at.names parent (chars name.now)
+  missing_of path at = subst (λ (p : Place). IsPlace old what at.names p) is at.at
+
+  pub missing_filled : (n : ℕ) (order : AreInOrder (cases_of new.base) (entries_of new.base)) → SameSetting old new
+      → ((o : Outline) → IsOutline (cases_of new.base) (entries_of new.base) o → IsReached o n) → (entry_at (entries_of new.base) n).obj_type ≡ Stream
+      → len_of new.base n ≡ 0 → is_failed new ≡ false
+      → ((first : List ℕ) (names : List (List ℕ)) (before after : Outline) → IsOutline (cases_of old.base) (entries_of old.base) before
+      → IsOutline (cases_of new.base) (entries_of new.base) after
+      → number_from (cases_of old.base) (entries_of old.base) 0 before (parent_names (first ∷ names)) ≡ Some parent → last_name (first ∷ names) ≡ chars name.now
+      → number_from (cases_of new.base) (entries_of new.base) 0 after (first ∷ names) ≡ Some n)
+      → HasNewStream old what place new n
+  missing_filled n order setting reached kind empty unfailed found = record {
+    setting = setting;
+    stream = reached_stream new.base n order (reached order.outline order.is) kind;
+    empty = empty;
+    unfailed = unfailed;
+    stands = λ path at. path_leads new path at.names n at.named (λ o is.
+        let m = missing_of path at in
+        let before = m.storage.outline in
+        ap (number_from (cases_of new.base) (entries_of new.base) 0 o) m.some
+        ∙ found m.first m.rest before o m.storage.is is
+        (ap (λ (names : List (List ℕ)). number_from (cases_of old.base) (entries_of old.base) 0 before (parent_names names)) (sym m.some) ∙ m.above before m.storage.is)
+        (ap last_name (sym m.some) ∙ m.last));
+  }
+
+  abbrev BecomesSo : ObjType → List (List ℕ) → Type 0
+  BecomesSo kind names = BecomesTree (cases_of old.base) (bytes_of old.base) (bytes_of new.base) (object_added_at (cases_of old.base) kind moment names)
+
+  pub missing_done : (kind : ObjType) → kind ≡ kind_made what → Holds old → SameSetting old new → is_failed new ≡ false → (IsAsMade old.base → IsAsMade new.base)
+      → ((before after : Outline) → IsOutline (cases_of old.base) (entries_of old.base) before → IsOutline (cases_of new.base) (entries_of new.base) after
+      → StayBalanced (entries_of old.base) before (entries_of new.base) after)
+      → LeavesNoneFree old.base new.base → len_of new.base 0 ≡ len_of old.base 0 → KeepsStreams old.base new.base → KeepsFixedHeader old.base new.base
+      → (IsFullForEntry old.base.directory → ⊥) → failures_of new ≡ failures_of old
+      → ((names : List (List ℕ)) (o : Outline) → IsOutline (cases_of old.base) (entries_of old.base) o
+      → number_from (cases_of old.base) (entries_of old.base) 0 o (parent_names names) ≡ Some parent → last_name names ≡ chars name.now → BecomesSo kind names)
+      → (path : List ℕ) → IsPlaceOf old what path place → IsDoneBy old (creation what moment path) done new
+  missing_done kind is_kind held setting ended made balanced grows root_len keeps header enough same_count becomes path at =
+      let m = missing_of path at in
+      added_done old new what moment path at.unfailed at.sound held setting ended at.names at.named parent (chars name.now) m made
+      (added_balanced old new m.storage.outline m.storage.is balanced) grows root_len keeps header enough same_count
+      (λ names o is above last. subst (λ (t : ObjType). BecomesSo t names) is_kind (becomes names o is above last))
+
+  -- numbers lack for an entry
+  lacks_entry : (full memory stays : Type 0) (e : Error) → IsBreak (full × stays) e → ChangeRefused ⊥ memory (IsFullForEntry old.base.directory) (Unit {0}) e
+      → IsBreak (IsFullForEntry old.base.directory × stays) e
+  lacks_entry full memory stays Full why lacks = (lacks, why.1)
+  lacks_entry full memory stays e why lacks = why
+
+  pub missing_refused : (reads writes : MediumFault → Bool) (e : Error) → Holds old → SameSetting old new → StaysOrFails old new → KeepsStreams old.base new.base → KeepsFixedHeader old.base new.base
+      → IsBreak (IsFullFile new × (new ≡ old)) e
+      → ChangeRefused ⊥ (IsFullForEntry old.base.directory → ⊥) (IsFullForEntry old.base.directory) (Unit {0}) e
+      → CountsError writes (failures_of old) (failures_of new) e
+      → (path : List ℕ) → IsPlaceOf old what path place → IsRefusedBy (λ f. reads f || writes f) old (creation what moment path) new e
+  missing_refused reads writes e held setting stays keeps header why reason counts path at =
+      refused_by_break (λ f. reads f || writes f) (creation what moment path) (creation_asks what moment path).changes old new at.unfailed setting stays
+      (none_changed old new (creation what moment path) keeps) header (new ≡ old) (IsFullForEntry old.base.directory × (new ≡ old))
+      (λ full. (
+        λ tree means. creating_lacks (causes_of_call old new) (kind_on (cases_of old.base) tree (creation what moment path))
+            (kind_missing (cases_of old.base) tree path what moment
+            (nothing_there old old what moment path at.unfailed at.sound held (unchanged_setting old) at.unfailed at.names at.named (missing_of path at).none tree means))
+            (subst (λ (f : FileState). IsFullForEntry f.base.directory) (sym full.1) full.0),
+        full.1,
+      )) e
+      (lacks_entry (IsFullFile new) (IsFullForEntry old.base.directory → ⊥) (new ≡ old) e why reason)
+      (counts_either reads writes (failures_of old) (failures_of new) e counts)

@@ -1,0 +1,111 @@
+-- What calls on a file answer, by the rules of calls.
+use Rattle.std.specs.Prelude.{◌≡◌, Bool, true, false}
+use Rattle.cfb_format.specs.declared.error.Error.{Error}
+use Rattle.cfb_format.specs.declared.medium.MediumFault.{MediumFault}
+use Rattle.cfb_format.specs.Bytes.{max_stream_len}
+use Rattle.cfb_format.specs.Meaning.{Means}
+use Rattle.cfb_format.specs.Medium.{Rises}
+use Rattle.cfb_format.specs.Refused.{CountsError, HasReason, at_every_error}
+use Rattle.cfb_format.specs.Tree.{Tree}
+use Rattle.cfb_rules.specs.Calls.{Call, Reply, refused, remove_storage, remove_storage_all, remove_stream}
+use Rattle.cfb_rules.specs.Refusal.{IsRefusal, Refusal}
+use Rattle.cfb_rules.specs.Runs.{CallRuns, Causes, Setting, TreeState}
+use Rattle.cfb_rules.specs.Steps.{creating, kind_on}
+use Rattle.cfb_directory.specs.State.{IsFullForEntry}
+use Rattle.cfb_mini_sectors.specs.State.{bytes_of, cases_of, entries_of, root_len_of, version_of}
+use Rattle.cfb_content.specs.Contents.{KeepsFixedHeader}
+use Rattle.cfb_insertion.specs.Balance.{AreAllBalanced}
+use Rattle.cfb_agreement.specs.Changes.{StaysOrFails}
+use Rattle.cfb_agreement.specs.Files.{FileState, IsAsMade, IsFullFile, LeavesNoneFree, SameSetting, failures_of, is_failed}
+use Rattle.cfb_path_changes.specs.Sparing.{SparesStreams}
+
+-- what stays the same of a file
+abbrev pub setting_of : FileState → Setting
+setting_of file = record { cases = cases_of file.base; stream = record { limit = max_stream_len (version_of file.base); sound = file.is_sound } }
+
+-- the medium is blamed only where its count of failures rose, and the numbers only where the tables are full as the call leaves them
+abbrev pub causes_of : FileState → FileState → Causes
+causes_of old new = record { medium = Rises (failures_of old) (failures_of new); full = IsFullFile new }
+
+-- by a call by path the numbers are blamed only where no entry can be had then
+abbrev pub causes_of_call : FileState → FileState → Causes
+causes_of_call old new = record (causes_of old new) { full = IsFullForEntry new.base.directory }
+
+-- the bytes of a file that has not failed mean this tree
+abbrev pub MeansTree : FileState → Tree → Type 0
+MeansTree file tree = is_failed file ≡ false → Means (cases_of file.base) (bytes_of file.base) tree
+
+-- the state that the rules speak of, where the bytes mean this tree
+abbrev pub state_with : FileState → Tree → TreeState
+state_with file tree = record { tree = tree; root_len = root_len_of file.base; failed = is_failed file }
+
+-- by the rules of calls: for the tree that the bytes mean there is one that they mean afterwards, and the rules hold between them
+unfoldable pub RunsOn : Causes → FileState → Call → Reply → FileState → Type 0
+RunsOn causes old call reply new = (tree : Tree) → MeansTree old tree
+    → (after : Tree) × MeansTree new after × CallRuns causes (setting_of old) (state_with old tree) call reply (state_with new after)
+
+-- a question was answered so, and changes nothing
+abbrev pub Answers : FileState → Call → Reply → Type 0
+Answers file call reply = RunsOn (causes_of_call file file) file call reply file
+
+-- it was refused so
+abbrev pub AnswersNot : FileState → Call → Error → Type 0
+AnswersNot file call e = (refusal : Refusal) × IsRefusal refusal e × Answers file call (refused refusal)
+
+-- ---- calls that may change the file
+
+-- the children of every storage are in balance
+abbrev pub IsBalancedFile : FileState → Type 0
+IsBalancedFile file = AreAllBalanced (cases_of file.base) (entries_of file.base)
+
+-- unless the file failed its storages are in balance if they were
+abbrev pub KeepsFileBalanced : FileState → FileState → Type 0
+KeepsFileBalanced old new = is_failed new ≡ false → IsBalancedFile old → IsBalancedFile new
+
+-- only a call that takes an object away may leave a storage out of balance
+abbrev pub may_unbalance : Call → Bool
+may_unbalance (remove_storage path) = true
+may_unbalance (remove_storage_all path) = true
+may_unbalance (remove_stream path) = true
+may_unbalance call = false
+
+-- the bytes of the header that nobody reads stay; and unless the file failed: if it was made here it is in order still, and where a sector was
+-- appended none is free
+pub record StaysInOrder (old new : FileState) : Type 0 where
+  pub setting : SameSetting old new
+  pub header : KeepsFixedHeader old.base new.base
+  pub made : is_failed new ≡ false → IsAsMade old.base → IsAsMade new.base
+  pub grows : is_failed new ≡ false → LeavesNoneFree old.base new.base
+
+-- if the call makes an object, an entry could be had
+abbrev pub HasRoomFor : FileState → Call → Type 0
+HasRoomFor file call = (tree : Tree) → MeansTree file tree → kind_on (cases_of file.base) tree call ≡ creating → IsFullForEntry file.base.directory → ⊥
+
+-- the call was done, no call of the medium failed, and the streams that it is not about stay
+pub record IsDoneBy (old : FileState) (call : Call) (reply : Reply) (new : FileState) : Type 0 where
+  pub runs : RunsOn (causes_of_call old new) old call reply new
+  pub order : StaysInOrder old new
+  pub balanced : may_unbalance call ≡ false → KeepsFileBalanced old new
+  pub spares : SparesStreams old call new
+  pub room : HasRoomFor old call
+  pub calm : failures_of new ≡ failures_of old
+
+-- It was refused: by the rules, and then nothing has changed; since numbers lack, and then so much holds; or by the medium or for memory, and
+-- then all is as before but the count of failures, or the file has failed
+pub record IsRefusedLeaving (full : Type 0) (can_give : MediumFault → Bool) (old : FileState) (call : Call) (new : FileState) (e : Error) : Type 0 where
+  pub refusal : Refusal
+  pub is : IsRefusal refusal e
+  pub runs : RunsOn (causes_of_call old new) old call (refused refusal) new
+  pub stays : HasReason (record (at_every_error (new ≡ old)) { medium = λ f. StaysOrFails old new; memory = StaysOrFails old new; full = full }) e
+  pub order : StaysInOrder old new
+  pub balanced : KeepsFileBalanced old new
+  pub spares : SparesStreams old call new
+  pub counts : CountsError can_give (failures_of old) (failures_of new) e
+
+-- where numbers lack nothing has changed
+abbrev pub IsRefusedBy : (MediumFault → Bool) → FileState → Call → FileState → Error → Type 0
+IsRefusedBy can_give old call new = IsRefusedLeaving (new ≡ old) can_give old call new
+
+-- of a call that is several changes in turn numbers can lack for a later one
+abbrev pub IsRefusedInTurn : (MediumFault → Bool) → FileState → Call → FileState → Error → Type 0
+IsRefusedInTurn can_give old call new = IsRefusedLeaving (StaysOrFails old new) can_give old call new

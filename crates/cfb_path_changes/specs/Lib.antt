@@ -1,0 +1,10 @@
+pub mod Finding
+pub mod Sparing
+pub mod Answers
+pub mod Calls
+pub mod Adding
+pub mod Place
+pub mod Wanted
+pub mod Marking
+pub mod Ways
+pub mod Removing

@@ -1,0 +1,14 @@
+//! Tests of streams by std's traits.
+#![tactic(auto)]
+
+pub mod copies;
+#[cfg(test)]
+mod files;
+#[cfg(test)]
+mod kinds;
+#[cfg(test)]
+mod reading;
+#[cfg(test)]
+mod refusals;
+#[cfg(test)]
+mod writing;

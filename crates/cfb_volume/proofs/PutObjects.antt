@@ -1,0 +1,63 @@
+-- What else a new object in the directory leaves.
+use Rattle.std.proofs.Common.{◌≡◌, ◌≤◌, inl, inr, ℕ, List, refl, sym, ◌∙◌, ap, subst, ◌++◌, length, arith}
+use Rattle.std.specs.Prelude.{Some}
+use Rattle.std.proofs.lemmas.Bool.{cases_lt}
+use Rattle.cfb_format.specs.declared.objtype.ObjType.{ObjType}
+use Rattle.cfb_format.specs.Bytes.{no_stream}
+use Rattle.cfb_format.specs.DirectoryEntry.{Entry}
+use Rattle.cfb_format.specs.Reading.{IsOutline}
+use Rattle.cfb_format.specs.Siblings.{entry_at}
+use Rattle.cfb_codecs.specs.EntryModel.{new_entry}
+use Rattle.cfb_tables.specs.Changes.{NoneFree}
+use Rattle.cfb_tables.specs.Tables.{HasTaken, TableState}
+use Rattle.cfb_tables.proofs.Members.{Contains-or}
+use Rattle.cfb_tables.proofs.TakenLemmas.{taken-busy}
+use Rattle.cfb_entries.specs.EntryList.{has_free}
+use Rattle.cfb_trees.proofs.PathReached.{reached-is-found}
+use Rattle.cfb_directory.proofs.NamesFound.{inserted-is-found}
+use Rattle.cfb_mini_sectors.specs.State.{MiniState, cases_of, entries_of, tables_in}
+use Rattle.cfb_siblings.specs.Paths.{number_from}
+use Rattle.cfb_insertion.specs.Putting.{PutsObject}
+use Rattle.cfb_insertion.proofs.Entries.{either, kept-links, reached, streams}
+use Rattle.cfb_entry_changes.specs.Kept.{KeepsFound}
+use Rattle.cfb_entry_changes.specs.Standing.{StandStill}
+use Rattle.cfb_entry_changes.proofs.Taken.{same-content}
+
+-- where none was free none is, whatever is taken
+taken-stays-full : (a b : TableState) (touched more : List ℕ) → HasTaken a b touched more → NoneFree a.fat → NoneFree b.fat
+taken-stays-full a b touched more h none = elim (cases_lt (length a.fat) (length b.fat)) [
+  | inl longer ↦ h.none_free longer
+  | inr few ↦ λ i lt. elim (Contains-or (touched ++ more ++ h.fats ++ h.difats) i) [
+    | inl m ↦ taken-busy a b touched more h i m
+    | inr out ↦ λ e. none i (omega (arith, lt, few)) (sym (h.only i out) ∙ e)
+  ]
+]
+
+module _ (old new : MiniState) (parent n : ℕ) (name : List ℕ) (kind : ObjType) (moment : ℕ) (put : PutsObject old new parent n name kind moment) where
+  pub put-is-childless : (entry_at (entries_of new) n).child ≡ no_stream
+  put-is-childless = ap (λ (e : Entry). e.child) put.entry.inserted.entry_kept
+
+  pub put-no-shorter : length (tables_in old).fat ≤ length (tables_in new).fat
+  put-no-shorter = either (has_free (entries_of old))
+      (λ free. let same = ap (λ (t : TableState). length t.fat) (put.kept free).1 in omega (arith, same))
+      (λ none. (put.lengthened none).taken.longer)
+
+  pub put-stays-full : NoneFree (tables_in old).fat → NoneFree (tables_in new).fat
+  put-stays-full full = either (has_free (entries_of old))
+      (λ free. subst (λ (t : TableState). NoneFree t.fat) (sym (put.kept free).1) full)
+      (λ none. taken-stays-full (tables_in old) (tables_in new) _ _ (put.lengthened none).taken full)
+
+  -- each stream stands where it stood
+  pub put-stands-still : StandStill old new
+  put-stands-still before after is new_is k m = (
+    (streams old new parent n name kind moment put before is after new_is k).1 (inr m),
+    same-content (entry_at (entries_of old) k) (entry_at (entries_of new) k) (kept-links old new parent n name kind moment put before is k m),
+  )
+
+  -- and names lead to what they led to
+  pub put-keeps-found : KeepsFound old new
+  put-keeps-found before after is new_is names k at =
+      let there = reached-is-found (cases_of old) (entries_of old) before parent is (reached old new parent n name kind moment put before is) in
+      let finds = inserted-is-found old.directory new.directory parent n (new_entry name kind moment) before after there.0 put.entry put.storage.kind refl is
+      (subst (λ c. IsOutline c (entries_of new) after) put.limits.cases new_is) there.1 in
+      subst (λ c. number_from c (entries_of new) 0 after names ≡ Some k) (sym put.limits.cases) (finds.kept names k at)

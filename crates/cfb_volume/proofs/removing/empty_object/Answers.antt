@@ -1,0 +1,77 @@
+use Rattle.std.proofs.Common.{refl, sym, ◌∙◌, ap}
+use Rattle.std.specs.Prelude.{IsTrue}
+use Rattle.std.proofs.lemmas.Result.{err_from_is_err_and}
+use Rattle.cfb_format.specs.declared.validate.Validation.{Validation}
+use Rattle.cfb_format.specs.DirectoryEntry.{Entry}
+use Rattle.cfb_entries.specs.EntryList.{AreInOrder}
+use Rattle.cfb_trees.proofs.Members.{reached-is-within}
+use Rattle.cfb_trees.proofs.Recolored.{below-reached}
+use Rattle.cfb_mini_sectors.specs.State.{HoldsMini, cases_of, entries_of}
+use Rattle.cfb_content.specs.Contents.{IsNotChangeable, IsStreamOf, IsTooLongFor}
+use Rattle.cfb_content.proofs.FixedHeader.{bytes-keep-header}
+use Rattle.cfb_content.proofs.Kept.{nothing-is-moved}
+use Rattle.cfb_content.proofs.Outlines.{same-entries-moved}
+use Rattle.cfb_content.proofs.Snug.{sized-is-snug}
+use Rattle.cfb_volume.proofs.Emptying.{emptying-fits}
+use Rattle.cfb_volume.proofs.RemovedObjects.{below-stream, empty-break, none-emptied}
+use Rattle.cfb_volume.proofs.removing.empty_object.Goals as goal
+use Rattle.cfb_volume.proofs.removing.empty_object.Goals.{In-Stream}
+
+pub dir_entry-requires : goal.dir_entry-requires
+dir_entry-requires g c =
+    let s = c.args.mini.now in
+    let order : AreInOrder (cases_of s) (entries_of s) = c.entries-entries.ensures.in_order in
+    reached-is-within (cases_of s) (entries_of s) order.outline c.args.entry order.is (below-reached order.outline c.args.entry (c.requires.below order.outline order.is))
+
+stream : (g : _) (c : In-Stream g) → IsStreamOf c.args.mini.now c.args.entry
+stream g c =
+    let s = c.args.mini.now in
+    let order : AreInOrder (cases_of s) (entries_of s) = c.entries-entries.ensures.in_order in
+    below-stream s order.outline c.args.entry order.is (c.requires.below order.outline order.is) (sym (ap (λ (x : Entry). x.obj_type) c.dir_entry.ensures) ∙ c.in-Stream.is)
+
+pub resize_content-requires-clause-stream : goal.resize_content-requires-clause-stream
+resize_content-requires-clause-stream g c = stream g (goal.at.resize_content-requires-clause-stream g c).In-Stream
+
+pub returns-in_err-resize_content-in-Stream-clause-err : goal.returns-in_err-resize_content-in-Stream-clause-err
+returns-in_err-resize_content-in-Stream-clause-err g c told v change =
+    let s = c.args.mini.now in
+    let i = c.args.entry in
+    let p = err_from_is_err_and c.from_residual.result c.from_residual.ensures.1 in
+    rw (p.1, p.2) (empty-break (IsTrue g.F.ReadMedium.tells → IsNotChangeable s) ((validation : Validation) → HoldsMini validation s → IsTooLongFor s i 0)
+    (λ none. none told v change) (λ long. emptying-fits s i change.held c.minifat_len.ensures.short (long v change.held))
+    c.in_err-resize_content-in-Stream.field-0.0 c.in_err-resize_content-in-Stream.ensures.err)
+
+pub returns-in_ok-resize_content-in-Stream-clause-emptied : goal.returns-in_ok-resize_content-in-Stream-clause-emptied
+returns-in_ok-resize_content-in-Stream-clause-emptied g c told =
+    let e = c.resize_content.ensures in
+    let ok = c.in_ok-resize_content-in-Stream.ensures in
+    record {
+      limits = e.limits;
+      entries = e.entries;
+      others = λ v change. e.others told v change;
+      holds = λ v change. ok.holds told v change;
+      owned = λ v change used. ok.owned told v change used;
+      exact = ok.exact;
+      snug = λ v change snug. sized-is-snug c.args.mini.now c.resize_content.new.mini c.args.entry e.limits e.entries (e.others told v change)
+          (stream g (goal.at.returns-in_ok-resize_content-in-Stream-clause-emptied g c).In-Stream) (ok.sized told v change) snug;
+      empty = λ stream. ok.len;
+    }
+
+pub returns-in_default : goal.returns-in_default
+returns-in_default g c =
+    let s = c.args.mini.now in
+    record {
+      kept_chain = c.requires.kept_chain;
+      emptied = λ told. none-emptied s c.args.entry (λ e. c.in_default.not-Stream (ap (λ (x : Entry). x.obj_type) c.dir_entry.ensures ∙ e));
+      entries = same-entries-moved s s c.args.entry refl;
+      others = λ told v change. nothing-is-moved c.args.entry s;
+      header = λ told. bytes-keep-header s s refl;
+      takes_none = refl;
+      limits = record { version = refl; cases = refl; max_sectors = refl; max_mini_sectors = refl };
+      none = λ ne. refl;
+      quiet = λ down. refl;
+      still = tt;
+      unwritten = λ told down. refl;
+      err = λ told v change. tt;
+      counts = λ told. refl;
+    }

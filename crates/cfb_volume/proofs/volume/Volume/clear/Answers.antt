@@ -1,0 +1,123 @@
+use Rattle.std.proofs.Common.{◌≡◌, ℕ, List, refl, sym, ap, subst}
+use Rattle.std.specs.Prelude.{Contains, Some}
+use Rattle.std.proofs.lemmas.Result.{err_from_is_err_and}
+use Rattle.cfb_format.specs.declared.validate.Validation.TheVariants.{Permissive, Strict}
+use Rattle.cfb_format.specs.Reading.{IsOutline, Outline, numbers, stream_numbers}
+use Rattle.cfb_outline.specs.Outlines.{HasInside, IsReachedStorage}
+use Rattle.cfb_siblings.specs.Paths.{number_from}
+use Rattle.cfb_tables.specs.Refused.{ChangeRefused}
+use Rattle.cfb_alloc.specs.Frame.{Spares}
+use Rattle.cfb_directory.specs.Steps.{IsDirectoryNotHeld}
+use Rattle.cfb_objects.specs.Laws.{BecomesTree}
+use Rattle.cfb_mini_sectors.specs.State.{HoldsMini, MiniState, bytes_of, cases_of, entries_of, table_of}
+use Rattle.cfb_mini_sectors.specs.Steps.{KeepsMini, StopsShort}
+use Rattle.cfb_content.specs.Contents.{KeepsFixedHeader, len_of}
+use Rattle.cfb_content.proofs.FixedHeader.{spared-keeps-header}
+use Rattle.cfb_agreement.specs.Changes.{KeepsStreams}
+use Rattle.cfb_agreement.specs.Files.{Agrees, FileState, Holds, IsAsMade}
+use Rattle.cfb_entry_changes.specs.Clearing.{ClearsStorage}
+use Rattle.cfb_volume.specs.Clearing.{emptied_at}
+use Rattle.cfb_volume.proofs.ClearedStorages.{clear-break, clear-holds, clear-made, clear-tree, clearing-ended, clears-storage}
+use Rattle.cfb_volume.proofs.InsertedObjects.{ended, header-ended, insert-keeps-streams, refused-agrees, same-file, streams-ended}
+use Rattle.cfb_volume.proofs.volume.Volume.clear.Goals as goal
+
+pub clear-requires-clause-all : goal.clear-requires-clause-all
+clear-requires-clause-all g c =
+    let back = sym (ap (λ (f : FileState). f.base) c.self.view_is) in
+    subst (λ (s : MiniState). (o : Outline) → HasInside (cases_of s) (entries_of s) c.args.top o → c.args.inside.now ≡ numbers o) back c.requires.all
+
+-- ---- refused
+
+pub returns-in_err-clear-clause-others : goal.returns-in_err-clear-clause-others
+returns-in_err-clear-clause-others g c told holds =
+    let was = c.clear.ensures in
+    let mid = c.clear.new.self in
+    let e = ap (λ (f : FileState). f.base) c.self.view_is in
+    insert-keeps-streams c.args.self.now mid c.requires.sound holds
+    (subst (λ (s : MiniState). Spares s.directory.sectors (table_of s) (table_of mid)) e (was.spares told)) (subst (λ (s : MiniState). KeepsMini s mid) e was.mini)
+
+pub returns-in_err-clear-clause-agrees : goal.returns-in_err-clear-clause-agrees
+returns-in_err-clear-clause-agrees g c told holds =
+    let mid = c.clear.new.self in
+    let stops = subst (λ (f : FileState). StopsShort f.base mid c.in_err-clear.field-0.0) c.self.view_is c.in_err-clear.ensures.refused in
+    subst (λ (f : FileState). Agrees f) (same-file c.self.inside.mini mid mid c.self.inside.is_sound c.self.inside.buffer_limit c.args.self.now c.self.view_is refl)
+    (refused-agrees c.args.self.now mid c.in_err-clear.field-0.0 stops holds)
+
+pub returns-in_err-clear-clause-err : goal.returns-in_err-clear-clause-err
+returns-in_err-clear-clause-err g c holds =
+    let old = c.args.self.now in
+    let p = err_from_is_err_and c.from_residual.result c.from_residual.ensures.1 in
+    rw (p.1, p.2) (clear-break old c.requires.sound holds c.in_err-clear.field-0.0
+    (subst (λ (f : FileState). ChangeRefused (IsDirectoryNotHeld f.base.directory) (Unit {0}) ⊥ (Unit {0}) c.in_err-clear.field-0.0) c.self.view_is c.in_err-clear.ensures.err))
+
+-- ---- cleared
+
+clears : (g : _) (c : goal.After-end_change g) → ClearsStorage c.args.self.now.base c.clear.new.self c.args.top
+clears g c =
+    let w = c.in_ok-clear.ensures in
+    let mid = c.clear.new.self in
+    let s = c.self.inside.mini in
+    let e = ap (λ (f : FileState). f.base) c.self.view_is in
+    let back = sym e in
+    subst (λ (x : MiniState). ClearsStorage x mid c.args.top) e
+    (clears-storage s mid c.args.top c.args.inside.now (subst (λ (x : MiniState). IsReachedStorage (cases_of x) (entries_of x) c.args.top) back c.requires.top)
+    (subst (λ (x : MiniState). (o : Outline) → HasInside (cases_of x) (entries_of x) c.args.top o → c.args.inside.now ≡ numbers o) back c.requires.all)
+    (subst (λ (x : MiniState). (o : Outline) → HasInside (cases_of x) (entries_of x) c.args.top o → (k : ℕ) → Contains (stream_numbers o) k → len_of x k ≡ 0) back c.requires.empty)
+    w.cleared w.kept w.mini w.limits)
+
+pub returns-clause-cleared : goal.returns-clause-cleared
+returns-clause-cleared g c =
+    subst (λ (s : MiniState). ClearsStorage c.args.self.now.base s c.args.top) (sym c.end_change.ensures) (clearing-ended c.args.self.now.base c.clear.new.self c.args.top (clears g c))
+
+pub returns-clause-tree : goal.returns-clause-tree
+returns-clause-tree g c told holds =
+    let w = c.in_ok-clear.ensures in
+    let mid = c.clear.new.self in
+    let old = c.args.self.now in
+    let e = ap (λ (f : FileState). f.base) c.self.view_is in
+    subst (λ (s : MiniState). (names : List (List ℕ)) (o : Outline) → IsOutline (cases_of old.base) (entries_of old.base) o
+    → number_from (cases_of old.base) (entries_of old.base) 0 o names ≡ Some c.args.top
+    → BecomesTree (cases_of old.base) (bytes_of old.base) (bytes_of s) (emptied_at old names)) (sym c.end_change.ensures)
+    (clear-tree old mid c.args.top (clears g c) (subst (λ (s : MiniState). Spares s.directory.sectors (table_of s) (table_of mid)) e (w.spares told)) c.requires.sound holds
+    (w.holds told Permissive (subst (λ (s : MiniState). HoldsMini Permissive s) (sym e) (holds.sound c.requires.sound).held)))
+
+pub returns-clause-others : goal.returns-clause-others
+returns-clause-others g c told holds =
+    let was = c.clear.ensures in
+    let mid = c.clear.new.self in
+    let e = ap (λ (f : FileState). f.base) c.self.view_is in
+    subst (λ (s : MiniState). KeepsStreams c.args.self.now.base s) (sym c.end_change.ensures) (streams-ended c.args.self.now.base mid
+    (insert-keeps-streams c.args.self.now mid c.requires.sound holds
+    (subst (λ (s : MiniState). Spares s.directory.sectors (table_of s) (table_of mid)) e (was.spares told)) (subst (λ (s : MiniState). KeepsMini s mid) e was.mini)))
+
+pub returns-clause-made : goal.returns-clause-made
+returns-clause-made g c told holds made =
+    let w = c.in_ok-clear.ensures in
+    let mid = c.clear.new.self in
+    let old = c.args.self.now in
+    let e = ap (λ (f : FileState). f.base) c.self.view_is in
+    subst (λ (s : MiniState). IsAsMade s) (sym c.end_change.ensures)
+    (clear-made old mid c.args.top (clears g c) (subst (λ (s : MiniState). Spares s.directory.sectors (table_of s) (table_of mid)) e (w.spares told)) made
+    (w.holds told Strict (subst (λ (s : MiniState). HoldsMini Strict s) (sym e) made.changeable.held)))
+
+pub returns-clause-agrees : goal.returns-clause-agrees
+returns-clause-agrees g c told holds unfailed =
+    let w = c.in_ok-clear.ensures in
+    let mid = c.clear.new.self in
+    let old = c.args.self.now in
+    let e = ap (λ (f : FileState). f.base) c.self.view_is in
+    subst (λ (f : FileState). Holds f)
+    (same-file c.self.inside.mini (ended mid) c.end_change.new.self c.self.inside.is_sound c.self.inside.buffer_limit c.args.self.now c.self.view_is c.end_change.ensures)
+    (clear-holds old mid c.args.top (clears g c) (subst (λ (s : MiniState). Spares s.directory.sectors (table_of s) (table_of mid)) e (w.spares told)) c.requires.sound holds
+    (w.holds told Permissive (subst (λ (s : MiniState). HoldsMini Permissive s) (sym e) (holds.sound c.requires.sound).held)))
+
+pub returns-in_err-clear-clause-header : goal.returns-in_err-clear-clause-header
+returns-in_err-clear-clause-header g c told =
+    let mid = c.clear.new.self in
+    subst (λ (f : FileState). KeepsFixedHeader f.base mid) c.self.view_is (spared-keeps-header _ c.self.inside.mini mid (c.clear.ensures.spares told))
+
+pub returns-clause-header : goal.returns-clause-header
+returns-clause-header g c told =
+    let mid = c.clear.new.self in
+    subst (λ (s : MiniState). KeepsFixedHeader c.args.self.now.base s) (sym c.end_change.ensures) (header-ended c.args.self.now.base mid
+    (subst (λ (f : FileState). KeepsFixedHeader f.base mid) c.self.view_is (spared-keeps-header _ c.self.inside.mini mid (c.clear.ensures.spares told))))

@@ -1,0 +1,188 @@
+use Rattle.std.proofs.Common.{◌≡◌, ◌≢◌, ◌⊎◌, ◌∷◌, ℕ, List, false, true, refl, sym, ap, subst, chars}
+use Rattle.std.specs.Prelude.{IsTrue}
+use Rattle.std.proofs.lemmas.Result.{err_from_is_err_and}
+use Rattle.cfb_format.specs.declared.objtype.ObjType.TheVariants.{Stream}
+use Rattle.cfb_format.specs.declared.validate.Validation.{Validation}
+use Rattle.cfb_format.specs.declared.validate.Validation.TheVariants.{Permissive}
+use Rattle.cfb_format.specs.Bytes.{no_stream}
+use Rattle.cfb_format.specs.Siblings.{entry_at}
+use Rattle.cfb_outline.specs.Outlines.{IsReachedStorage}
+use Rattle.cfb_rules.specs.CallChanges.{removed_at}
+use Rattle.cfb_siblings.specs.Children.{HasChildren, IsChildNamed}
+use Rattle.cfb_directory.specs.Steps.{IsDirectoryNotHeld}
+use Rattle.cfb_objects.specs.Laws.{BecomesTree}
+use Rattle.cfb_mini_sectors.specs.State.{IsChangeable, MiniState, bytes_of, cases_of, entries_of, table_of}
+use Rattle.cfb_mini.specs.MiniSectors.{IsStill}
+use Rattle.cfb_content.specs.Contents.{KeepsFixedHeader, KeepsOthers, len_of}
+use Rattle.cfb_content.proofs.FixedHeader.{header-then, spared-keeps-header}
+use Rattle.cfb_entry_changes.specs.Kept.{FindsAllBut}
+use Rattle.cfb_agreement.specs.Changes.{StaysOrFails}
+use Rattle.cfb_agreement.specs.Files.{Agrees, FileState, Holds, IsAsMade}
+use Rattle.cfb_volume.specs.Removing.{WasEmptied}
+use Rattle.cfb_volume.proofs.InsertedObjects.{ended, header-ended, same-file}
+use Rattle.cfb_volume.proofs.RemovedObjects.{WasRemoved, child-stays, empty-break, others-ended, others-then, remove-finds, remove-holds, remove-keeps-root, remove-made, remove-tree, stays-agrees, stays-by, stays-then, storage-stays, was-removed}
+use Rattle.cfb_volume.proofs.volume.Volume.remove.Goals as goal
+use Rattle.cfb_volume.proofs.volume.Volume.remove.Goals.{After-remove_dir_entry, In_ok-remove_dir_entry}
+
+-- ---- the object was not emptied
+
+pub returns-in_err-empty_object-clause-agrees : goal.returns-in_err-empty_object-clause-agrees
+returns-in_err-empty_object-clause-agrees g c told holds =
+    let old = c.args.self.now in
+    let s = c.self.inside.mini in
+    let mid = c.empty_object.new.mini in
+    let e = ap (λ (f : FileState). f.base) c.self.view_is in
+    let still = subst (λ (m : MiniState). IsStill m mid ⊎ ((table_of mid).file.begun ≡ true)) e c.in_err-empty_object.ensures.still in
+    let calm = subst (λ (m : MiniState). (table_of mid).file.begun ≡ false → bytes_of mid ≡ bytes_of m) e (c.empty_object.ensures.unwritten told) in
+    subst (λ (f : FileState). Agrees f) (same-file s mid mid c.self.inside.is_sound c.self.inside.buffer_limit old c.self.view_is refl)
+    (stays-agrees old _ (stays-by old mid still calm c.requires.unfailed) holds)
+
+pub returns-in_err-empty_object-clause-err : goal.returns-in_err-empty_object-clause-err
+returns-in_err-empty_object-clause-err g c told holds =
+    let e = ap (λ (f : FileState). f.base) c.self.view_is in
+    let p = err_from_is_err_and c.from_residual.result c.from_residual.ensures.1 in
+    rw (p.1, p.2) (c.in_err-empty_object.ensures.err told Permissive (subst (λ (m : MiniState). IsChangeable Permissive m) (sym e) (holds.sound c.requires.sound)))
+
+-- ---- the entry is there still
+
+pub remove_dir_entry-requires-clause-parent : goal.remove_dir_entry-requires-clause-parent
+remove_dir_entry-requires-clause-parent g c =
+    let s = c.self.inside.mini in
+    let back = sym (ap (λ (f : FileState). f.base) c.self.view_is) in
+    storage-stays s c.empty_object.new.mini c.args.child c.empty_object.ensures.limits c.empty_object.ensures.entries c.args.parent
+    (subst (λ (m : MiniState). IsReachedStorage (cases_of m) (entries_of m) c.args.parent) back c.requires.parent)
+
+pub remove_dir_entry-requires-clause-there : goal.remove_dir_entry-requires-clause-there
+remove_dir_entry-requires-clause-there g c =
+    let s = c.self.inside.mini in
+    let back = sym (ap (λ (f : FileState). f.base) c.self.view_is) in
+    child-stays s c.empty_object.new.mini c.args.child c.empty_object.ensures.limits c.empty_object.ensures.entries c.args.parent c.args.child (chars c.args.name.now)
+    (subst (λ (m : MiniState). (list : List ℕ) → HasChildren (cases_of m) (entries_of m) c.args.parent list → IsChildNamed (cases_of m) (entries_of m) (chars c.args.name.now) list c.args.child) back
+    c.requires.named)
+    (subst (λ (m : MiniState). (entry_at (entries_of m) c.args.child).child ≡ no_stream) back c.requires.childless)
+
+-- ---- it was not taken
+
+pub returns-in_err-remove_dir_entry-clause-agrees : goal.returns-in_err-remove_dir_entry-clause-agrees
+returns-in_err-remove_dir_entry-clause-agrees g c told holds =
+    let old = c.args.self.now in
+    let s = c.self.inside.mini in
+    let mid = c.empty_object.new.mini in
+    let new = c.remove_dir_entry.new.self in
+    let e = ap (λ (f : FileState). f.base) c.self.view_is in
+    let quiet = subst (λ (m : MiniState). (table_of mid).file.begun ≡ false → mid ≡ m) e c.in_ok-empty_object.ensures.quiet in
+    subst (λ (f : FileState). Agrees f) (same-file s new new c.self.inside.is_sound c.self.inside.buffer_limit old c.self.view_is refl)
+    (stays-agrees old _ (stays-then old mid new c.in_err-remove_dir_entry.field-0.0 quiet c.in_err-remove_dir_entry.ensures.refused) holds)
+
+pub returns-in_err-remove_dir_entry-clause-refused : goal.returns-in_err-remove_dir_entry-clause-refused
+returns-in_err-remove_dir_entry-clause-refused g c told holds =
+    let old = c.args.self.now in
+    let s = c.self.inside.mini in
+    let mid = c.empty_object.new.mini in
+    let new = c.remove_dir_entry.new.self in
+    let e = ap (λ (f : FileState). f.base) c.self.view_is in
+    let p = err_from_is_err_and c.from_residual-in_err-remove_dir_entry.result c.from_residual-in_err-remove_dir_entry.ensures.1 in
+    let quiet = subst (λ (m : MiniState). (table_of mid).file.begun ≡ false → mid ≡ m) e c.in_ok-empty_object.ensures.quiet in
+    rw p.1 (subst (λ (f : FileState). StaysOrFails old f) (same-file s new new c.self.inside.is_sound c.self.inside.buffer_limit old c.self.view_is refl)
+    (stays-then old mid new c.in_err-remove_dir_entry.field-0.0 quiet c.in_err-remove_dir_entry.ensures.refused))
+
+pub returns-in_err-remove_dir_entry-clause-err : goal.returns-in_err-remove_dir_entry-clause-err
+returns-in_err-remove_dir_entry-clause-err g c told holds =
+    let old = c.args.self.now in
+    let s = c.self.inside.mini in
+    let mid = c.empty_object.new.mini in
+    let new = c.remove_dir_entry.new.self in
+    let e = ap (λ (f : FileState). f.base) c.self.view_is in
+    let p = err_from_is_err_and c.from_residual-in_err-remove_dir_entry.result c.from_residual-in_err-remove_dir_entry.ensures.1 in
+    let emptied = subst (λ (m : MiniState). WasEmptied m mid c.args.child) e (c.in_ok-empty_object.ensures.emptied told) in
+    rw (p.1, p.2) (empty-break (IsDirectoryNotHeld mid.directory) ⊥ (λ none. none Permissive (emptied.holds Permissive (holds.sound c.requires.sound)).held.directory) (λ z. z)
+    c.in_err-remove_dir_entry.field-0.0 c.in_err-remove_dir_entry.ensures.err)
+
+-- the contents of the other streams stay
+pub returns-in_err-remove_dir_entry-clause-others : goal.returns-in_err-remove_dir_entry-clause-others
+returns-in_err-remove_dir_entry-clause-others g c told holds =
+    let old = c.args.self.now in
+    let mid = c.empty_object.new.mini in
+    let e = ap (λ (f : FileState). f.base) c.self.view_is in
+    let emptied = subst (λ (m : MiniState). WasEmptied m mid c.args.child) e (c.in_ok-empty_object.ensures.emptied told) in
+    others-then old.base mid c.remove_dir_entry.new.self c.args.child Permissive emptied (holds.sound c.requires.sound)
+    (c.remove_dir_entry.ensures.spares told) c.remove_dir_entry.ensures.mini
+
+pub returns-in_err-empty_object-clause-others : goal.returns-in_err-empty_object-clause-others
+returns-in_err-empty_object-clause-others g c told holds =
+    let old = c.args.self.now in
+    let mid = c.empty_object.new.mini in
+    let e = ap (λ (f : FileState). f.base) c.self.view_is in
+    subst (λ (m : MiniState). (v : Validation) → IsChangeable v m → KeepsOthers c.args.child m mid) e (c.empty_object.ensures.others told)
+    Permissive (holds.sound c.requires.sound)
+
+-- and so do the bytes of the header that nobody reads
+pub returns-in_err-empty_object-clause-header : goal.returns-in_err-empty_object-clause-header
+returns-in_err-empty_object-clause-header g c told =
+    subst (λ (f : FileState). KeepsFixedHeader f.base c.empty_object.new.mini) c.self.view_is (c.empty_object.ensures.header told)
+
+header-kept : (g : _) (c : After-remove_dir_entry g) → IsTrue g.F.ReadMedium.tells → KeepsFixedHeader c.args.self.now.base c.remove_dir_entry.new.self
+header-kept g c told =
+    let s = c.self.inside.mini in
+    let mid = c.empty_object.new.mini in
+    let new = c.remove_dir_entry.new.self in
+    subst (λ (f : FileState). KeepsFixedHeader f.base new) c.self.view_is
+    (header-then s mid new c.empty_object.ensures.limits.version (c.empty_object.ensures.header told) (spared-keeps-header _ mid new (c.remove_dir_entry.ensures.spares told)))
+
+pub returns-in_err-remove_dir_entry-clause-header : goal.returns-in_err-remove_dir_entry-clause-header
+returns-in_err-remove_dir_entry-clause-header g c told = header-kept g (goal.at.returns-in_err-remove_dir_entry-clause-header g c).After-remove_dir_entry told
+
+-- ---- it was taken
+
+removed : (g : _) (c : In_ok-remove_dir_entry g) → IsTrue g.F.ReadMedium.tells
+    → WasRemoved c.args.self.now c.empty_object.new.mini c.remove_dir_entry.new.self c.args.parent c.args.child (chars c.args.name.now)
+removed g c told =
+    let mid = c.empty_object.new.mini in
+    let e = ap (λ (f : FileState). f.base) c.self.view_is in
+    let w = c.in_ok-remove_dir_entry.ensures in
+    was-removed c.args.self.now mid c.remove_dir_entry.new.self c.args.parent c.args.child (chars c.args.name.now)
+    (subst (λ (m : MiniState). WasEmptied m mid c.args.child) e (c.in_ok-empty_object.ensures.emptied told))
+    (subst (λ (m : MiniState). (entry_at (entries_of m) c.args.child).obj_type ≢ Stream → mid ≡ m) e c.empty_object.ensures.none)
+    c.requires.parent c.requires.named w.removed w.red_apart w.kept w.mini w.limits (w.spares told) (λ v held. w.holds told v held)
+
+pub returns-clause-tree : goal.returns-clause-tree
+returns-clause-tree g c told holds first names o is above at last =
+    let old = c.args.self.now in
+    subst (λ (m : MiniState). BecomesTree (cases_of old.base) (bytes_of old.base) (bytes_of m) (removed_at (cases_of old.base) (first ∷ names))) (sym c.end_change.ensures)
+    (remove-tree (removed g (goal.at.returns-clause-tree g c).In_ok-remove_dir_entry told) c.requires.sound holds first names o is (c.requires.below o is) above at last)
+
+pub returns-clause-finds : goal.returns-clause-finds
+returns-clause-finds g c told =
+    subst (λ (m : MiniState). FindsAllBut c.args.self.now.base m c.args.child) (sym c.end_change.ensures)
+    (remove-finds (removed g (goal.at.returns-clause-finds g c).In_ok-remove_dir_entry told))
+
+pub returns-clause-others : goal.returns-clause-others
+returns-clause-others g c told holds =
+    let old = c.args.self.now in
+    let new = c.remove_dir_entry.new.self in
+    let r = removed g (goal.at.returns-clause-others g c).In_ok-remove_dir_entry told in
+    subst (λ (m : MiniState). KeepsOthers c.args.child old.base m) (sym c.end_change.ensures)
+    (others-ended c.args.child old.base new
+    (others-then old.base c.empty_object.new.mini new c.args.child Permissive r.emptied (holds.sound c.requires.sound) r.spares r.taken.kept.mini))
+
+pub returns-clause-header : goal.returns-clause-header
+returns-clause-header g c told =
+    subst (λ (m : MiniState). KeepsFixedHeader c.args.self.now.base m) (sym c.end_change.ensures)
+    (header-ended c.args.self.now.base c.remove_dir_entry.new.self (header-kept g (goal.at.returns-clause-header g c).After-remove_dir_entry told))
+
+pub returns-clause-made : goal.returns-clause-made
+returns-clause-made g c told holds made =
+    let storage : IsReachedStorage (cases_of c.args.self.now.base) (entries_of c.args.self.now.base) c.args.parent = c.requires.parent in
+    subst (λ (m : MiniState). IsAsMade m) (sym c.end_change.ensures)
+    (remove-made (removed g (goal.at.returns-clause-made g c).In_ok-remove_dir_entry told) storage.outline storage.is made)
+
+pub returns-clause-root_len : goal.returns-clause-root_len
+returns-clause-root_len g c told kind =
+    subst (λ (m : MiniState). len_of m 0 ≡ len_of c.args.self.now.base 0) (sym c.end_change.ensures)
+    (remove-keeps-root (removed g (goal.at.returns-clause-root_len g c).In_ok-remove_dir_entry told) kind)
+
+pub returns-clause-agrees : goal.returns-clause-agrees
+returns-clause-agrees g c told holds unfailed =
+    subst (λ (f : FileState). Holds f)
+    (same-file c.self.inside.mini (ended c.remove_dir_entry.new.self) c.end_change.new.self c.self.inside.is_sound c.self.inside.buffer_limit c.args.self.now c.self.view_is c.end_change.ensures)
+    (remove-holds (removed g (goal.at.returns-clause-agrees g c).In_ok-remove_dir_entry told) c.requires.sound holds)

@@ -1,0 +1,20 @@
+-- What becomes of an object's content before the object is taken.
+use Rattle.std.specs.Prelude.{ℕ, ◌≡◌}
+use Rattle.cfb_format.specs.declared.objtype.ObjType.TheVariants.{Stream}
+use Rattle.cfb_format.specs.declared.validate.Validation.{Validation}
+use Rattle.cfb_format.specs.Siblings.{entry_at}
+use Rattle.cfb_tables.specs.Tables.{AreExactTables}
+use Rattle.cfb_mini_sectors.specs.State.{IsChangeable, MiniState, entries_of, tables_in}
+use Rattle.cfb_mini_sectors.specs.Steps.{KeepsLimits}
+use Rattle.cfb_content.specs.Contents.{AreAllUsed, AreSnug, KeepsOthers, MovesContent, len_of}
+
+-- the object of entry i has no content: a stream's was given back, and all else is as before
+pub record WasEmptied (old new : MiniState) (i : ℕ) : Type 0 where
+  pub limits : KeepsLimits old new
+  pub entries : MovesContent old new i
+  pub others : (v : Validation) → IsChangeable v old → KeepsOthers i old new
+  pub holds : (v : Validation) → IsChangeable v old → IsChangeable v new
+  pub owned : (v : Validation) → IsChangeable v old → AreAllUsed old → AreAllUsed new
+  pub snug : (v : Validation) → IsChangeable v old → AreSnug old → AreSnug new
+  pub exact : AreExactTables (tables_in old) → AreExactTables (tables_in new)
+  pub empty : (entry_at (entries_of old) i).obj_type ≡ Stream → len_of new i ≡ 0

@@ -1,0 +1,283 @@
+//! All that is in a storage, and the storage itself, taken from a file whose memory is what its bytes say.
+ghost use Rattle.std.specs.Prelude.{◌≡◌, ◌≢◌, ◌||◌, ◌&&◌, ◌∷◌, ℕ, List, [], false, true, Contains, length, IsTrue, IfOk, IfErr, IfNone, IfSome, OnOk, OnErr, Some, chars, is_err, if◌then◌else◌};
+ghost use Rattle.cfb_format.specs.declared.objtype.ObjType.TheVariants.{Stream};
+ghost use Rattle.cfb_format.specs.Reading.{IsOutline, Outline, numbers, stream_numbers};
+ghost use Rattle.cfb_format.specs.Siblings.{entry_at};
+ghost use Rattle.cfb_format.specs.Refused.{CountsFailure, IsBreak};
+ghost use Rattle.cfb_outline.specs.Outlines.{HasInside, IsReachedStorage};
+ghost use Rattle.cfb_rules.specs.CallChanges.{removed_at};
+ghost use Rattle.cfb_rules.specs.Finding.{last_name, parent_names};
+ghost use Rattle.cfb_siblings.specs.Children.{HasChildren, IsChildNamed};
+ghost use Rattle.cfb_siblings.specs.Paths.{number_from};
+ghost use Rattle.cfb_trees.specs.Reached.{IsReached};
+ghost use Rattle.cfb_objects.specs.Laws.{BecomesTree};
+ghost use Rattle.cfb_mini_sectors.specs.State.{bytes_of, cases_of, entries_of, tables_in};
+ghost use Rattle.cfb_content.specs.Contents.{IsStreamOf, KeepsFixedHeader, len_of};
+ghost use Rattle.cfb_agreement.specs.Changes.{KeepsStreams, StaysOrFails};
+ghost use Rattle.cfb_agreement.specs.Files.{Agrees, Holds, IsAsMade, LeavesNoneFree, SameSetting, failures_of, is_failed};
+ghost use Rattle.cfb_agreement.specs.Laws.{with_flags};
+ghost use Rattle.cfb_entry_changes.specs.Clearing.{ClearsStorage};
+ghost use Rattle.cfb_volume.specs.Clearing.{BreaksOff, EmptiesStorage, EmptiesStreams, KeepsStreamsBut, KeepsStreamsBeside, RemovesWithAll, StandsAs, emptied_at};
+
+use crate::volume::Volume;
+use cfb_format::consts::NO_STREAM;
+use cfb_format::error::{Detail, Error};
+use cfb_format::medium::{Medium, ReadMedium};
+use cfb_format::objtype::ObjType;
+use cfb_outline::listing::contents;
+use std::alloc::Allocator as Heap;
+
+impl<F: ReadMedium, A: Heap> Volume<F, A> {
+    /// Whether the entry is that of a stream that has bytes.
+    fn has_bytes(&self, entry: u32) -> bool
+        requires below { (o : Outline)
+            → IsOutline (cases_of self.now.base) (entries_of self.now.base) o
+            → Contains (numbers o) entry }
+        ensures stream { result ≡ true → IsStreamOf self.now.base entry }
+        ensures none { result ≡ false → (entry_at (entries_of self.now.base) entry).obj_type
+            ≡ Stream → len_of self.now.base entry ≡ 0 }
+    {
+        let _entries = self.entries();
+        let found = self.mini.dir_entry(entry);
+        match found.obj_type {
+            ObjType::Stream => found.stream_len > 0,
+            _ => false,
+        }
+    }
+}
+
+impl<F: Medium, A: Heap> Volume<F, A> {
+    /// Hands on how a step went. Where it was refused, and a step before it had changed something, the file has failed.
+    fn hand_on<T>(&mut self, changed: bool, step: Result<T, Error>) -> Result<T, Error>
+        ensures step { result ≡ step }
+        ensures fails { self.new ≡ (if changed && is_err step
+            then with_flags self.old (failures_of self.old) true else self.old) }
+    {
+        if changed && step.is_err() {
+            self.fail();
+        }
+        step
+    }
+}
+
+impl<F: Medium, A: Heap + Clone> Volume<F, A> {
+    /// Takes all that is in the storage `top`, whose numbers `inside` lists, out of it at once. Each stream in it is empty.
+    ///
+    /// `Memory`: nothing has changed then. After `Medium`, where the medium fails, the file has failed.
+    fn clear(&mut self, top: u32, inside: &[u32]) -> Result<(), Error>
+        requires sound { self.old.is_sound ≡ true }
+        requires unfailed { is_failed self.old ≡ false }
+        requires top { IsReachedStorage (cases_of self.old.base) (entries_of self.old.base) top }
+        requires all { (o : Outline) → HasInside (cases_of self.old.base) (entries_of self.old.base) top o
+            → inside.now ≡ numbers o }
+        requires empty { (o : Outline) → HasInside (cases_of self.old.base) (entries_of self.old.base) top o
+            → (k : ℕ) → Contains (stream_numbers o) k → len_of self.old.base k ≡ 0 }
+        ensures setting { SameSetting self.old self.new }
+        ensures cleared { OnOk result (ClearsStorage self.old.base self.new.base top) }
+        ensures tree { IsTrue F.tells → Holds self.old → OnOk result ((names : List (List ℕ)) (o : Outline)
+            → IsOutline (cases_of self.old.base) (entries_of self.old.base) o
+            → number_from (cases_of self.old.base) (entries_of self.old.base) 0 o names ≡ Some top
+            → BecomesTree (cases_of self.old.base) (bytes_of self.old.base)
+            (bytes_of self.new.base) (emptied_at self.old names)) }
+        ensures others { IsTrue F.tells → Holds self.old → KeepsStreams self.old.base self.new.base }
+        ensures header { IsTrue F.tells → KeepsFixedHeader self.old.base self.new.base }
+        ensures made { IsTrue F.tells
+            → Holds self.old → IsAsMade self.old.base → OnOk result (IsAsMade self.new.base) }
+        ensures same_tables { tables_in self.new.base ≡ tables_in self.old.base }
+        ensures agrees { IsTrue F.tells → Holds self.old → Agrees self.new }
+        ensures ended { OnOk result (is_failed self.new ≡ false) }
+        ensures refused { OnErr result (StaysOrFails self.old self.new) }
+        ensures err { Holds self.old → IfErr result (IsBreak ⊥) }
+        ensures counts { IsTrue F.tells
+            → CountsFailure F.write_faults result (failures_of self.old) (failures_of self.new) }
+    {
+        self.mini.clear(top, inside)?;
+        self.mini.end_change();
+        Ok(())
+    }
+
+    /// Gives the bytes of the entry back, if it is that of a stream, and answers whether there were any.
+    ///
+    /// `Memory`, and `Medium` where the medium fails: all is as before, or the file has failed.
+    fn empty_stream(&mut self, entry: u32) -> Result<bool, Error>
+        requires sound { self.old.is_sound ≡ true }
+        requires unfailed { is_failed self.old ≡ false }
+        requires below { (o : Outline)
+            → IsOutline (cases_of self.old.base) (entries_of self.old.base) o
+            → Contains (numbers o) entry }
+        ensures emptied { OnOk result
+            (EmptiesStreams F.tells (entry ∷ []) (entry ∷ []) self.old self.new) }
+        ensures none { IfOk result (λ some. some ≡ false → self.new ≡ self.old) }
+        ensures others { IsTrue F.tells → Holds self.old
+            → KeepsStreamsBut (entry ∷ []) self.old.base self.new.base }
+        ensures refused { IfErr result (BreaksOff F.tells (λ f. F.read_faults f
+            || F.write_faults f) self.old self.new) }
+    {
+        if !self.has_bytes(entry) {
+            return Ok(false);
+        }
+        self.resize(entry, 0)?;
+        Ok(true)
+    }
+
+    /// Gives the bytes of all streams among these entries back, and answers whether there were any.
+    ///
+    /// `Memory`, and `Medium` where the medium fails: all is as before, or the file has failed.
+    fn empty_streams(&mut self, list: &[u32]) -> Result<bool, Error>
+        requires sound { self.old.is_sound ≡ true }
+        requires unfailed { is_failed self.old ≡ false }
+        requires below { (k : ℕ) → Contains list.now k → (o : Outline)
+            → IsOutline (cases_of self.old.base) (entries_of self.old.base) o
+            → Contains (numbers o) k }
+        ensures emptied { OnOk result
+            (EmptiesStreams F.tells list.now list.now self.old self.new) }
+        ensures none { IfOk result (λ some. some ≡ false → self.new ≡ self.old) }
+        ensures others { IsTrue F.tells → Holds self.old
+            → KeepsStreamsBut list.now self.old.base self.new.base }
+        ensures refused { IfErr result (BreaksOff F.tells (λ f. F.read_faults f
+            || F.write_faults f) self.old self.new) }
+    {
+        let _entries = self.entries();
+        let mut some = false;
+        for entry in list {
+            let emptied = self.empty_stream(*entry);
+            let had = self.hand_on(some, emptied)?;
+            some |= had;
+        }
+        Ok(some)
+    }
+
+    /// Takes all that is in the storage `top` out of it, all of it at once, once the bytes of all streams in it are given back.
+    ///
+    /// `Memory`, and `Medium` where the medium fails: all is as before, or the file has failed.
+    pub(crate) fn empty_storage(&mut self, top: u32) -> Result<(), Error>
+        requires sound { self.old.is_sound ≡ true }
+        requires unfailed { is_failed self.old ≡ false }
+        requires top { IsReachedStorage (cases_of self.old.base) (entries_of self.old.base) top }
+        ensures emptied { OnOk result (EmptiesStorage F.tells top self.old self.new) }
+        ensures others { IsTrue F.tells → Holds self.old
+            → KeepsStreamsBeside top self.old.base self.new.base }
+        ensures refused { IfErr result (BreaksOff F.tells (λ f. F.read_faults f
+            || F.write_faults f) self.old self.new) }
+    {
+        let inside = contents(self.heap().clone()?, self.entries(), top)?;
+        let some = self.empty_streams(&inside)?;
+        let cleared = self.clear(top, &inside);
+        self.hand_on(some, cleared)?;
+        Ok(())
+    }
+
+    /// Takes the storage `top` of that name out of the storage `parent`, once all that is in it is taken.
+    ///
+    /// `Memory`, and `Medium` where the medium fails: all is as before, or the file has failed.
+    fn remove_storage(&mut self, parent: u32, top: u32, name: &str) -> Result<(), Error>
+        requires storage { (entry_at (entries_of self.old.base) top).obj_type ≢ Stream }
+        requires sound { self.old.is_sound ≡ true }
+        requires unfailed { is_failed self.old ≡ false }
+        requires parent { IsReachedStorage
+            (cases_of self.old.base) (entries_of self.old.base) parent }
+        requires below { (o : Outline)
+            → IsOutline (cases_of self.old.base) (entries_of self.old.base) o
+            → Contains (numbers o) top }
+        requires named { (list : List ℕ)
+            → HasChildren (cases_of self.old.base) (entries_of self.old.base) parent list
+            → IsChildNamed
+            (cases_of self.old.base) (entries_of self.old.base) (chars name.now) list top }
+        ensures removed { OnOk result
+            (RemovesWithAll F.tells parent top (chars name.now) self.old self.new) }
+        ensures others { IsTrue F.tells → Holds self.old
+            → KeepsStreamsBeside top self.old.base self.new.base }
+        ensures refused { IfErr result (BreaksOff F.tells (λ f. F.read_faults f
+            || F.write_faults f) self.old self.new) }
+    {
+        let _entries = self.entries();
+        self.empty_storage(top)?;
+        let removed = self.remove(parent, top, name);
+        self.hand_on(true, removed)?;
+        Ok(())
+    }
+
+    /// Takes the object `top` of that name out of the storage `parent`, with all that is in it.
+    ///
+    /// `Memory`, and `Medium` where the medium fails: all is as before, or the file has failed.
+    fn remove_with_all(&mut self, parent: u32, top: u32, name: &str) -> Result<(), Error>
+        requires sound { self.old.is_sound ≡ true }
+        requires unfailed { is_failed self.old ≡ false }
+        requires parent { IsReachedStorage
+            (cases_of self.old.base) (entries_of self.old.base) parent }
+        requires below { (o : Outline)
+            → IsOutline (cases_of self.old.base) (entries_of self.old.base) o
+            → Contains (numbers o) top }
+        requires named { (list : List ℕ)
+            → HasChildren (cases_of self.old.base) (entries_of self.old.base) parent list
+            → IsChildNamed
+            (cases_of self.old.base) (entries_of self.old.base) (chars name.now) list top }
+        ensures removed { OnOk result
+            (RemovesWithAll F.tells parent top (chars name.now) self.old self.new) }
+        ensures others { IsTrue F.tells → Holds self.old
+            → KeepsStreamsBeside top self.old.base self.new.base }
+        ensures refused { IfErr result (BreaksOff F.tells (λ f. F.read_faults f
+            || F.write_faults f) self.old self.new) }
+    {
+        let _entries = self.entries();
+        if self.mini.dir_entry(top).child == NO_STREAM {
+            self.remove(parent, top, name)?;
+            return Ok(());
+        }
+        match self.mini.dir_entry(top).obj_type {
+            ObjType::Stream => Err(Error::InvalidData(Detail::text("stream with a child"))),
+            _ => self.remove_storage(parent, top, name),
+        }
+    }
+
+    /// Takes the object `top` out of its storage, with all that is in it; of the root, which is in none, all that is in it. The pair is
+    /// the number of the storage and the object's name in it.
+    ///
+    /// `Memory`, and `Medium` where the medium fails: all is as before, or the file has failed.
+    pub fn remove_all(&mut self, parent: Option<(u32, &str)>, top: u32) -> Result<(), Error>
+        requires sound { self.old.is_sound ≡ true }
+        requires unfailed { is_failed self.old ≡ false }
+        requires root { IfNone parent (top ≡ 0) }
+        requires storage { IfSome parent (λ p.
+            IsReachedStorage (cases_of self.old.base) (entries_of self.old.base) p.0) }
+        requires below { IfSome parent (λ p. (o : Outline)
+            → IsOutline (cases_of self.old.base) (entries_of self.old.base) o
+            → Contains (numbers o) top) }
+        requires named { IfSome parent (λ p. (list : List ℕ)
+            → HasChildren (cases_of self.old.base) (entries_of self.old.base) p.0 list
+            → IsChildNamed
+            (cases_of self.old.base) (entries_of self.old.base) (chars p.1.now) list top) }
+        ensures tree { IsTrue F.tells → Holds self.old → OnOk result (IfSome parent.entry (λ p.
+            (names : List (List ℕ)) (o : Outline)
+            → IsOutline (cases_of self.old.base) (entries_of self.old.base) o
+            → StandsAs self.old.base o p.0 top (chars p.1.now) names
+            → BecomesTree (cases_of self.old.base) (bytes_of self.old.base)
+            (bytes_of self.new.base) (removed_at (cases_of self.old.base) names))) }
+        ensures root_tree { IsTrue F.tells → Holds self.old → OnOk result (IfNone parent.entry
+            (BecomesTree (cases_of self.old.base) (bytes_of self.old.base)
+            (bytes_of self.new.base) (removed_at (cases_of self.old.base) []))) }
+        ensures made { IsTrue F.tells
+            → Holds self.old → IsAsMade self.old.base → OnOk result (IsAsMade self.new.base) }
+        ensures takes_none { OnOk result (length (tables_in self.new.base).fat
+            ≡ length (tables_in self.old.base).fat) }
+        ensures grows { OnOk result (LeavesNoneFree self.old.base self.new.base) }
+        ensures ended { OnOk result (is_failed self.new ≡ false) }
+        ensures setting { SameSetting self.old self.new }
+        ensures others { IsTrue F.tells → Holds self.old
+            → KeepsStreamsBeside top self.old.base self.new.base }
+        ensures header { IsTrue F.tells
+            → Holds self.old → KeepsFixedHeader self.old.base self.new.base }
+        ensures agrees { IsTrue F.tells → Holds self.old → Agrees self.new }
+        ensures refused { IsTrue F.tells
+            → Holds self.old → OnErr result (StaysOrFails self.old self.new) }
+        ensures err { IsTrue F.tells → Holds self.old → IfErr result (IsBreak ⊥) }
+        ensures counts { IsTrue F.tells → CountsFailure (λ f. F.read_faults f
+            || F.write_faults f) result (failures_of self.old) (failures_of self.new) }
+    {
+        let _entries = self.entries();
+        match parent {
+            Some((storage, name)) => self.remove_with_all(storage, top, name),
+            None => self.empty_storage(top),
+        }
+    }
+}

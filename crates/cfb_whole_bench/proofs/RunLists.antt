@@ -1,0 +1,63 @@
+-- A list of commands on a file in memory.
+use Rattle.std.proofs.Common.{◌≡◌, ◌∙◌, ℕ, Bool, true, false, List, refl, sym, ap, subst}
+use Rattle.std.specs.Prelude.{Option, Some, None}
+use Rattle.cfb_format.specs.declared.medium.MediumFault.{MediumFault}
+use Rattle.cfb_format.specs.declared.version.Version.{Version}
+use Rattle.cfb_format.specs.Bytes.{max_stream_len}
+use Rattle.cfb_format.specs.Created.{empty_tree}
+use Rattle.cfb_format.specs.Meaning.{Means}
+use Rattle.cfb_format.specs.Names.{Cases}
+use Rattle.cfb_format.specs.Tree.{Tree}
+use Rattle.cfb_rules.specs.Lists.{Command, CommandReply, IsLegal}
+use Rattle.cfb_rules.specs.Runs.{Setting}
+use Rattle.cfb_rules.proofs.LegalRuns.{trees_legal}
+use Rattle.cfb_mini_sectors.specs.State.{bytes_of, cases_of, root_len_of}
+use Rattle.cfb_agreement.specs.Files.{FileState, is_failed}
+use Rattle.cfb_path_changes.specs.Answers.{MeansTree, setting_of, state_with}
+use Rattle.cfb_command_steps.specs.Made.{StaysMade}
+use Rattle.cfb_command_steps.specs.Promised.{promised}
+use Rattle.cfb_command_steps.specs.Seen.{seen_as, standing_at}
+use Rattle.cfb_commands.specs.Working.{RunsLegally}
+use Rattle.cfb_whole_bench.specs.Lists.{RunsTo, setting_in}
+use Rattle.cfb_whole_bench.specs.OneStream.{IsMadeWith, IsReopenedWith}
+
+module _ (version : Version) (old new : FileState) (is : IsMadeWith version empty_tree old) where
+  setting_is : setting_of old ≡ setting_in version
+  setting_is = λ j. record { cases = is.letters j; stream = record { limit = ap max_stream_len is.in_version j; sound = is.sound j } }
+
+  abbrev pub means_nothing : MeansTree old empty_tree
+  means_nothing = λ calm. subst (λ (cs : Cases). Means cs (bytes_of old.base) empty_tree) (sym is.letters) is.means
+
+  -- the file is in order still, with the tree that its bytes mean
+  pub still_made : (after : Tree) → StaysMade old new → is_failed new ≡ false → MeansTree new after → IsMadeWith version after new
+  still_made after stays calm means = record {
+    in_version = stays.setting.limits.version ∙ is.in_version;
+    sound = stays.setting.is_sound ∙ is.sound;
+    unfailed = calm;
+    made = stays.made calm is.made;
+    letters = stays.setting.limits.cases ∙ is.letters;
+    limit = stays.setting.limits.max_sectors ∙ is.limit;
+    means = subst (λ (cs : Cases). Means cs (bytes_of new.base) after) (stays.setting.limits.cases ∙ is.letters) (means calm);
+  }
+
+  module _ (can_give : MediumFault → Bool) (commands : List Command) (replies : List CommandReply) (runs : RunsLegally can_give old commands replies new) where
+    abbrev pub tree_after : Tree
+    tree_after = (runs empty_tree means_nothing).0
+
+    legal : IsLegal (setting_in version) (record { tree = empty_tree; root_len = root_len_of old.base; failed = false }) commands replies (state_with new tree_after)
+    legal =
+        subst (λ (s : Setting). IsLegal s (record { tree = empty_tree; root_len = root_len_of old.base; failed = false }) commands replies (state_with new tree_after)) setting_is
+        (subst (λ (b : Bool). IsLegal (setting_of old) (record { tree = empty_tree; root_len = root_len_of old.base; failed = b }) commands replies (state_with new tree_after)) is.unfailed
+        (trees_legal seen_as (promised can_give) (setting_of old) (standing_at old empty_tree) (standing_at new tree_after) commands replies (runs empty_tree means_nothing).2))
+
+    -- the file failed
+    pub ran_and_failed : is_failed new ≡ true → RunsTo version commands replies None
+    ran_and_failed failed = record { root_len = root_len_of old.base; last = state_with new tree_after; legal = legal; opened = failed }
+
+    -- it was opened again
+    pub ran_and_opened : (reopened : FileState) → is_failed new ≡ false → IsReopenedWith version tree_after reopened → RunsTo version commands replies (Some reopened)
+    ran_and_opened reopened calm opened = record { root_len = root_len_of old.base; last = state_with new tree_after; legal = legal; opened = (calm, opened) }
+
+    -- what opening it again needs
+    pub made_after : StaysMade old new → is_failed new ≡ false → IsMadeWith version tree_after new
+    made_after stays calm = still_made tree_after stays calm (runs empty_tree means_nothing).1
