@@ -10,6 +10,8 @@ pub use cfb_compound_file::compound_file::CompoundFile;
 pub use cfb_compound_file::options::OpenOptions;
 pub use cfb_compound_file::read_stream::ReadStream;
 pub use cfb_compound_file::stream::Stream;
+pub use cfb_files::file::{FileMedium, FileReadMedium};
+pub use cfb_files_opening::{create, open, open_rw};
 pub use cfb_format::error::{Detail, Error};
 pub use cfb_format::medium::{Medium, MediumFault, ReadMedium};
 pub use cfb_format::memory::MemoryMedium;

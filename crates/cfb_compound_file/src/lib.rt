@@ -5,6 +5,8 @@ pub mod adding;
 pub mod changes;
 pub mod compound_file;
 pub mod contents;
+pub mod copying;
+pub mod files;
 pub mod flushing;
 pub mod held;
 pub mod opening_streams;

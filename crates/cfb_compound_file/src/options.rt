@@ -24,7 +24,7 @@ use std::alloc::{Allocator as Heap, Global};
 use std::marker::Model;
 
 /// For how many bytes the buffer of a stream may have room, unless it is said otherwise.
-const DEFAULT_BUFFER_SIZE: usize = 1048576;
+pub(crate) const DEFAULT_BUFFER_SIZE: usize = 1048576;
 
 /// How a compound file is opened or made.
 #[derive(Drop)]

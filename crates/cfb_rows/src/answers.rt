@@ -20,18 +20,8 @@ pub enum Answer {
 }
 
 /// The words for refusals, by their numbers.
-const REFUSALS: [&str; 11] = [
-    "ok",
-    "absent",
-    "there",
-    "input",
-    "data",
-    "medium",
-    "memory",
-    "full",
-    "unsound",
-    "failed",
-    "unsupported",
+const REFUSALS: [&str; 10] = [
+    "ok", "absent", "there", "input", "data", "medium", "memory", "full", "unsound", "failed",
 ];
 
 /// The word for a refusal.
@@ -60,6 +50,14 @@ impl Answer {
     pub fn counted(done: Result<u64, Error>) -> Answer {
         match done {
             Ok(count) => Answer::Count(count),
+            Err(e) => Answer::Refused(e),
+        }
+    }
+
+    /// What came of a call whose answer was told in words.
+    pub fn told(done: Result<(), Error>) -> Answer {
+        match done {
+            Ok(()) => Answer::Text,
             Err(e) => Answer::Refused(e),
         }
     }

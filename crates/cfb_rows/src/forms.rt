@@ -13,6 +13,10 @@ pub enum Part {
     /// Pairs of digits, in sixteens.
     Digits,
     Content,
+    /// Seconds from the beginning of 1970 on, with a sign before them, if need be; or, behind `@`, hundreds of nanoseconds from that of 1601 on.
+    Moment,
+    /// Sixteen bytes, as class ids are written.
+    Class,
     /// Any word: a path, a name, a letter.
     Word,
     /// This word.
@@ -36,6 +40,8 @@ impl Part {
             Part::Signed => word.parse::<i64>().is_ok(),
             Part::Digits => are_digits(word),
             Part::Content => is_content(word),
+            Part::Moment => is_moment(word),
+            Part::Class => word.len() == 36 && word.split("-").all(are_digits),
             Part::Word => !word.is_empty(),
             Part::Is(wanted) => word == *wanted,
             Part::Either(first, second) => word == *first || word == *second,
@@ -54,6 +60,13 @@ fn is_content(word: &str) -> bool {
     match word.split_once("x") {
         Some((count, byte)) => number(count).is_some() && byte.len() == 2 && are_digits(byte),
         None => false,
+    }
+}
+
+fn is_moment(word: &str) -> bool {
+    match word.strip_prefix("@") {
+        Some(units) => number(units).is_some(),
+        None => word.parse::<i64>().is_ok(),
     }
 }
 
@@ -83,7 +96,7 @@ pub fn fits(forms: &[Form], line: &Line<'_>) -> bool {
 
 /// Lines between sessions.
 #[rattlefmt::skip]
-pub const BETWEEN: [Form; 30] = [
+pub const BETWEEN: [Form; 34] = [
     Form { call: "create", parts: &[Part::Either("3", "4")] },
     Form { call: "keep", parts: &[] },
     Form { call: "back", parts: &[] },
@@ -97,7 +110,9 @@ pub const BETWEEN: [Form; 30] = [
     Form { call: "rising", parts: &[Part::Number, Part::Number, Part::Number] },
     Form { call: "rising", parts: &[Part::Number, Part::Number, Part::Number, Part::Is("every"), Part::Number] },
     Form { call: "alike", parts: &[Part::Number, Part::Number, Part::Number] },
+    Form { call: "alike", parts: &[Part::Number, Part::Number, Part::Number, Part::Is("every"), Part::Number] },
     Form { call: "fill", parts: &[Part::Number, Part::Number, Part::Number] },
+    Form { call: "slot", parts: &[Part::Number] },
     Form { call: "slot", parts: &[Part::Number, Part::Word, Part::Either("storage", "stream"), Part::Either("red", "black"), Part::Link, Part::Link, Part::Link] },
     Form { call: "links", parts: &[Part::Number, Part::Link, Part::Link, Part::Link] },
     Form { call: "size", parts: &[] },
@@ -106,6 +121,8 @@ pub const BETWEEN: [Form; 30] = [
     Form { call: "free", parts: &[Part::Number] },
     Form { call: "chain", parts: &[Part::Number] },
     Form { call: "mutate", parts: &[Part::Number, Part::Number] },
+    Form { call: "random", parts: &[Part::Number, Part::Number, Part::Number, Part::Is("by"), Part::Number] },
+    Form { call: "random", parts: &[Part::Number, Part::Number, Part::Number, Part::Is("lacking")] },
     Form { call: "set", parts: &[Part::Is("buffer"), Part::Number] },
     Form { call: "set", parts: &[Part::Is("sectors"), Part::Number] },
     Form { call: "set", parts: &[Part::Is("piece"), Part::Number] },
@@ -118,7 +135,7 @@ pub const BETWEEN: [Form; 30] = [
 
 /// Lines on a file.
 #[rattlefmt::skip]
-pub const ON_FILES: [Form; 30] = [
+pub const ON_FILES: [Form; 43] = [
     Form { call: "put", parts: &[Part::Word, Part::Content] },
     Form { call: "put", parts: &[Part::Word, Part::Content, Part::Is("by"), Part::Number] },
     Form { call: "add", parts: &[Part::Word, Part::Content] },
@@ -128,6 +145,16 @@ pub const ON_FILES: [Form; 30] = [
     Form { call: "open", parts: &[Part::Word] },
     Form { call: "make", parts: &[Part::Word] },
     Form { call: "new", parts: &[Part::Word] },
+    Form { call: "storage", parts: &[Part::Word, Part::Moment] },
+    Form { call: "storages", parts: &[Part::Word, Part::Moment] },
+    Form { call: "remove", parts: &[Part::Word] },
+    Form { call: "remove-storage", parts: &[Part::Word] },
+    Form { call: "remove-all", parts: &[Part::Word] },
+    Form { call: "class", parts: &[Part::Word, Part::Class] },
+    Form { call: "bits", parts: &[Part::Word, Part::Number] },
+    Form { call: "created", parts: &[Part::Word, Part::Moment] },
+    Form { call: "modified", parts: &[Part::Word, Part::Moment] },
+    Form { call: "touch", parts: &[Part::Word, Part::Moment] },
     Form { call: "flush", parts: &[] },
     Form { call: "exists", parts: &[Part::Word] },
     Form { call: "is-stream", parts: &[Part::Word] },
@@ -145,15 +172,18 @@ pub const ON_FILES: [Form; 30] = [
     Form { call: "told", parts: &[] },
     Form { call: "entry", parts: &[] },
     Form { call: "entry", parts: &[Part::Word] },
+    Form { call: "fields", parts: &[] },
+    Form { call: "fields", parts: &[Part::Word] },
     Form { call: "stream", parts: &[Part::Either("open", "read"), Part::Word] },
     Form { call: "stream", parts: &[Part::Either("make", "new"), Part::Word] },
     Form { call: "memory", parts: &[Part::Either("none", "ample")] },
+    Form { call: "commands", parts: &[] },
     Form { call: "end", parts: &[] },
 ];
 
 /// Lines on a stream.
 #[rattlefmt::skip]
-pub const ON_STREAMS: [Form; 21] = [
+pub const ON_STREAMS: [Form; 22] = [
     Form { call: "write", parts: &[Part::Content] },
     Form { call: "write", parts: &[Part::Content, Part::Is("by"), Part::Number] },
     Form { call: "once", parts: &[Part::Content] },
@@ -169,6 +199,7 @@ pub const ON_STREAMS: [Form; 21] = [
     Form { call: "lent-up", parts: &[Part::Content] },
     Form { call: "take", parts: &[Part::Number] },
     Form { call: "rest", parts: &[Part::Content] },
+    Form { call: "all", parts: &[] },
     Form { call: "pieces", parts: &[Part::Content] },
     Form { call: "pieces", parts: &[Part::Content, Part::Is("by"), Part::Number] },
     Form { call: "at", parts: &[Part::Number] },

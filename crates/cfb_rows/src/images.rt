@@ -3,6 +3,7 @@
 use crate::answers::Answer;
 use crate::lines::{Line, number_or_0};
 use cfb_format::error::Error;
+use std::fmt::Write;
 
 /// What is answered where a line names a place that the file does not have.
 const PAST_END: Answer = Answer::Wrong("that is past the end of the file");
@@ -131,6 +132,56 @@ fn put_slot(bytes: &mut [u8], line: &Line<'_>) -> bool {
         && put_bytes(bytes, start.saturating_add(66), &[kind, colour])
         && put_links(bytes, start, line, 5)
         && put_word(bytes, start.saturating_add(116), first)
+}
+
+/// Tells a slot as a line puts one: its name, kind, colour, siblings and child; or that it is free.
+pub fn slot_told(bytes: &[u8], line: &Line<'_>, text: &mut String) -> Answer {
+    let start = slot_place(line);
+    match bytes.get(start..start.saturating_add(128)) {
+        Some(slot) => Answer::told(tell_slot(slot, text)),
+        None => PAST_END,
+    }
+}
+
+fn tell_slot(slot: &[u8], text: &mut String) -> Result<(), Error> {
+    let kind = match slot.get(66) {
+        Some(0) => "free",
+        Some(1) => "storage",
+        Some(2) => "stream",
+        _ => "root",
+    };
+    if kind == "free" {
+        text.push_str(kind)?;
+        return Ok(());
+    }
+    let units = usize::from(slot.get(64).copied().unwrap_or(0)) / 2;
+    for i in 1..units {
+        let at = i.saturating_sub(1).saturating_mul(2);
+        text.push(char::from(slot.get(at).copied().unwrap_or(0)))?;
+    }
+    text.push_str(" ")?;
+    text.push_str(kind)?;
+    text.push_str(if slot.get(67) == Some(&0) {
+        " red"
+    } else {
+        " black"
+    })?;
+    for at in [68usize, 72, 76] {
+        tell_link(word(slot, at), text)?;
+    }
+    Ok(())
+}
+
+/// Tells the number of a slot behind a space.
+fn tell_link(link: Option<u32>, text: &mut String) -> Result<(), Error> {
+    let done = match link {
+        Some(0xffff_ffff) | None => write!(text, " -"),
+        Some(link) => write!(text, " {link}"),
+    };
+    match done {
+        Ok(()) => Ok(()),
+        Err(_) => Err(Error::Memory),
+    }
 }
 
 /// How many sectors of this length the root's chain has, where one FAT sector says it.

@@ -16,7 +16,7 @@ const TOLD: u64 = 20;
 const REFUSED: u64 = 9;
 
 /// Calls that a failed file may answer, too.
-const QUESTIONS: [&str; 19] = [
+const QUESTIONS: [&str; 20] = [
     "exists",
     "is-stream",
     "is-storage",
@@ -33,6 +33,7 @@ const QUESTIONS: [&str; 19] = [
     "below",
     "told",
     "entry",
+    "fields",
     "take",
     "memory",
     "end",

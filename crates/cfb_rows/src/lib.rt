@@ -9,3 +9,4 @@ pub mod images;
 pub mod judge;
 pub mod lines;
 pub mod media;
+pub mod unfolding;

@@ -2,14 +2,13 @@
 //! prints how many it played, and tells each line that went otherwise on standard error, with status 1 then.
 #![tactic(auto)]
 
-mod calls;
 mod mutations;
 mod sessions;
-mod streams;
 mod world;
 
 use cfb_media::refusing::Refusing;
 use cfb_rows::lines::script_of;
+use cfb_rows::unfolding::unfolded;
 use std::alloc::Global;
 use std::io::{self, Write};
 use std::process::ExitCode;
@@ -33,6 +32,13 @@ fn main(rt: HostRuntime) -> ExitCode {
 
 /// Plays all rows of a text, and says whether there was memory for them.
 fn play(alloc: Global, world: &mut World<'_>, text: &str) -> bool {
+    match unfolded(alloc, text) {
+        Ok(text) => play_unfolded(alloc, world, &text),
+        Err(_) => false,
+    }
+}
+
+fn play_unfolded(alloc: Global, world: &mut World<'_>, text: &str) -> bool {
     match script_of(alloc, text) {
         Ok(lines) => {
             play_lines(world, &lines);

@@ -1,7 +1,7 @@
 //! A file over a medium, from its opening to its end.
 
-use crate::calls::play_file;
 use cfb::{CaseMapper, CompoundFile, Error, Medium, MemoryMedium, OpenOptions, Version};
+use cfb_play::calls::play_file;
 use cfb_rows::answers::Answer;
 use cfb_rows::faults::Plan;
 use cfb_rows::judge::Judge;
@@ -118,11 +118,12 @@ pub struct Outcome {
 
 /// Plays the lines of a session on a file, and gives back its medium, with whether the file has failed.
 fn played<F: Medium, A: Allocator + Clone>(
+    alloc: &A,
     mut file: CompoundFile<F, A>,
     script: &mut Script<'_>,
     judge: &mut Judge<'_>,
 ) -> (bool, F) {
-    if play_file(&mut file, script, judge).is_none() {
+    if play_file(alloc, &mut file, script, judge).is_none() {
         note_unended(script, judge);
     }
     (file.is_failed(), file.into_inner())
@@ -171,7 +172,8 @@ fn play_opened<'h>(
 ) -> Result<Outcome, Error> {
     let file = got(judge.heap, before, line, settings, &judge.plan)?;
     judge.hears_opened(line);
-    let (is_failed, medium) = played(file, script, judge);
+    let heap = judge.heap;
+    let (is_failed, medium) = played(&heap, file, script, judge);
     judge.heap.refuse_none();
     Ok(outcome_of(is_failed, medium, after))
 }

@@ -3,10 +3,11 @@
 use crate::mutations::mutated;
 use crate::sessions::{Outcome, Settings, make, play_once};
 use cfb_media::media::Kind;
+use cfb_random::lists::played_at_random;
 use cfb_rows::answers::Answer;
 use cfb_rows::faults::Plan;
 use cfb_rows::forms::{BETWEEN, fits};
-use cfb_rows::images::{asked, place_of};
+use cfb_rows::images::{asked, place_of, slot_told};
 use cfb_rows::judge::Judge;
 use cfb_rows::lines::{Line, Script};
 use cfb_rows::media::Heap;
@@ -187,6 +188,13 @@ fn answered(world: &mut World<'_>, line: &Line<'_>) -> Answer {
             &mut world.bytes,
             line.number_at(1) as usize,
             line.number_at(2) as usize,
+        ),
+        "slot" if line.count == 2 => slot_told(&world.bytes, line, &mut world.judge.text),
+        "random" => played_at_random(
+            world.judge.alloc,
+            world.judge.heap,
+            line,
+            &mut world.judge.text,
         ),
         _ => asked(&mut world.bytes, line),
     }

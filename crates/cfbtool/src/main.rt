@@ -2,14 +2,14 @@
 //! are listed at `tool`.
 #![tactic(auto)]
 
-mod commands;
-mod files;
+mod refusal;
 #[cfg(test)]
 mod tests;
+mod words;
 
-pub use commands::tool;
 use std::env;
 use std::process::ExitCode;
+pub use words::tool;
 
 fn main(rt: HostRuntime) -> ExitCode {
     let words = match env::args(&rt) {

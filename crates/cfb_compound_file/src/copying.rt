@@ -1,0 +1,42 @@
+//! A compound file copied into an empty medium.
+ghost use Rattle.std.specs.Prelude.{◌≡◌, ◌||◌, [], false, true, IsTrue, IfErr, IfOk, IsErrAnd, OnOk};
+ghost use Rattle.cfb_format.specs.declared.error.Error.TheVariants.{Failed};
+ghost use Rattle.cfb_agreement.specs.Files.{failures_of, is_failed};
+ghost use Rattle.cfb_copies.specs.Copies.{CanBeCopied, CopyRefused, IsMadeCopy, MeansTheSame, RefusesUnless, TakesAfter};
+ghost use Rattle.cfb_copies.specs.Steps.{CountsEither, IsReadOnly};
+ghost use Rattle.cfb_compound_file.specs.Opening.{permissive_options};
+
+use crate::compound_file::CompoundFile;
+use crate::options::DEFAULT_BUFFER_SIZE;
+use cfb_copies::copying::copy_volume;
+use cfb_format::error::Error;
+use cfb_format::medium::{Medium, ReadMedium};
+use std::alloc::Allocator as Heap;
+
+impl<F: ReadMedium, A: Heap + Clone> CompoundFile<F, A> {
+    /// Copies the file into a medium without bytes. The copy has its version, its letters and its tree, the root's fields among it, and
+    /// no sector without an owner; its limits are those that `create` gives. It goes by entries, so that a name which no path says does
+    /// not stop it, and it copies a file that is not sound, if each of its streams can be read to its end.
+    ///
+    /// `Failed` exactly on a failed file; `InvalidData` exactly where some stream can't be read to its end; `Full` exactly where no file
+    /// of the version has room for the tree: nothing is written then. `Memory`, and `Medium` where one of the two media fails. The file
+    /// itself is as before, but for its medium's count of failures.
+    pub fn copy_to<W: Medium>(&mut self, dest: W) -> Result<CompoundFile<W, A>, Error>
+        requires empty_medium { IsTrue W.tells → W.bytes dest ≡ [] }
+        ensures reads { IsReadOnly F.tells self.old self.new }
+        ensures after { IfOk result (TakesAfter permissive_options.buffer_limit self.old) }
+        ensures made { IsTrue W.tells → IfOk result (IsMadeCopy (W.failures dest)) }
+        ensures tree { IsTrue F.tells → IsTrue W.tells → IfOk result (MeansTheSame self.old) }
+        ensures failed { is_failed self.old ≡ true → IsErrAnd result (λ e. e ≡ Failed) }
+        ensures allowed { IsTrue F.tells → OnOk result (CanBeCopied self.old) }
+        ensures unless { IsTrue F.tells → is_failed self.old ≡ false
+            → RefusesUnless self.old result }
+        ensures err { IsTrue F.tells → IsTrue W.tells → IfErr result (CopyRefused self.old) }
+        ensures counts { IsTrue F.tells → CountsEither F.read_faults W.tells
+            (λ f. W.read_faults f || W.write_faults f) result
+            (failures_of self.old) (failures_of self.new) }
+    {
+        let volume = copy_volume(&mut self.volume, dest, DEFAULT_BUFFER_SIZE)?;
+        Ok(CompoundFile { volume })
+    }
+}

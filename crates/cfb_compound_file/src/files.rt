@@ -1,0 +1,64 @@
+//! Compound files in files of the system. What such a file holds is known to nobody, so no call here
+//! promises what its bytes mean.
+ghost use Rattle.std.specs.Prelude.{IfErr, IfOk, ◌≡◌};
+ghost use Rattle.cfb_format.specs.declared.version.Version.TheVariants.{V4};
+ghost use Rattle.cfb_mini_sectors.specs.State.{version_of};
+ghost use Rattle.cfb_opening.specs.Opened.{IsOfOpening};
+ghost use Rattle.cfb_compound_file.specs.Opening.{IsOfCreating};
+
+use crate::compound_file::CompoundFile;
+use crate::options::OpenOptions;
+use cfb_files::file::{FileMedium, FileReadMedium};
+use cfb_format::error::Error;
+use std::alloc::Allocator as Heap;
+use std::fs::File;
+use std::rt::Files;
+
+impl<A: Heap + Clone> OpenOptions<A> {
+    /// Opens the compound file at this path of the system, to be read.
+    ///
+    /// `Medium(Open)` where the file is not opened; else it is refused as `open_with` is.
+    pub fn open<R: Files<File = File>>(
+        self,
+        rt: &R,
+        alloc: A,
+        path: &str,
+    ) -> Result<CompoundFile<FileReadMedium, A>, Error>
+        ensures { IfErr result IsOfOpening }
+    {
+        let medium = FileReadMedium::open(rt, path)?;
+        self.open_with(alloc, medium)
+    }
+
+    /// Opens the compound file at this path of the system, to be read and changed in place.
+    ///
+    /// `Medium(Open)` where the file is not opened; else it is refused as `open_with` is.
+    pub fn open_rw<R: Files<File = File>>(
+        self,
+        rt: &R,
+        alloc: A,
+        path: &str,
+    ) -> Result<CompoundFile<FileMedium, A>, Error>
+        ensures { IfErr result IsOfOpening }
+    {
+        let medium = FileMedium::open(rt, path)?;
+        self.open_with(alloc, medium)
+    }
+
+    /// Makes a compound file of version 4 with nothing in it at this path of the system. An older
+    /// file there is emptied first.
+    ///
+    /// `Medium(Open)` where the file is not opened; else it is refused as `create_with` is.
+    pub fn create<R: Files<File = File>>(
+        self,
+        rt: &R,
+        alloc: A,
+        path: &str,
+    ) -> Result<CompoundFile<FileMedium, A>, Error>
+        ensures version { IfOk result (λ file. version_of file.base ≡ V4) }
+        ensures kinds { IfErr result IsOfCreating }
+    {
+        let medium = FileMedium::create(rt, path)?;
+        self.create_with(alloc, medium)
+    }
+}

@@ -1,0 +1,56 @@
+-- A target that gets all objects, from an empty one on.
+use Rattle.std.proofs.Common.{◌≡◌, ◌↔◌, ℕ, List, [], sym, ◌∙◌, ap, subst}
+use Rattle.std.specs.List.{All}
+use Rattle.cfb_format.specs.Meaning.{Means, storage_info}
+use Rattle.cfb_format.specs.Names.{Cases}
+use Rattle.cfb_format.specs.Reading.{IsOutline, Outline}
+use Rattle.cfb_format.specs.Siblings.{entry_at}
+use Rattle.cfb_format.specs.Tree.{AreWhole, IsOrdered, Objects, Tree, nothing}
+use Rattle.cfb_rules.specs.CallChanges.{fields_changed_at, same_stream}
+use Rattle.cfb_built.specs.Copied.{CanAllBeCopied, CopyIsTheTree, WalkCanBeCopied, parts_copied}
+use Rattle.cfb_objects.specs.Laws.{BecomesTree}
+use Rattle.cfb_objects.specs.Objects.{tree_from}
+use Rattle.cfb_places.specs.declared.walk.Place.{Place}
+use Rattle.cfb_places.specs.Laws.{IsWholeAt, StreamsAreWhole, TreeIsOrdered}
+use Rattle.cfb_mini_sectors.specs.State.{bytes_of, cases_of, content_of, entries_of}
+use Rattle.cfb_agreement.specs.Files.{FileState, Holds}
+use Rattle.cfb_copies.specs.Copies.{AreReadable, HasNoObjects, ListsObjects, MeansTheSame, parts_in_file}
+use Rattle.cfb_copies.proofs.Prepared.{means_in, tree_in, tree_is}
+
+-- the root alone, with the fields that the source's has
+abbrev pub root_alone : FileState → Tree
+root_alone source = record { root = storage_info (entry_at (entries_of source.base) 0); objects = nothing }
+
+-- once an empty file's root has these fields its bytes mean that
+pub starts : (source target : FileState) (bytes : List ℕ) → Holds target → HasNoObjects target
+    → BecomesTree (cases_of target.base) (bytes_of target.base) bytes (fields_changed_at (cases_of target.base) (λ old. storage_info (entry_at (entries_of source.base) 0)) same_stream [])
+    → Means (cases_of target.base) bytes (root_alone source)
+starts source target bytes held none becomes =
+    subst (λ (objects : Objects). Means (cases_of target.base) bytes (record { root = storage_info (entry_at (entries_of source.base) 0); objects = objects }))
+    (none (tree_in target held) (means_in target held)) (becomes (tree_in target held) (means_in target held))
+
+module _ (source : FileState) (held : Holds source) (list : List Place) (lists : ListsObjects source list) (readable : AreReadable source list)
+    (ordered : TreeIsOrdered) (whole : StreamsAreWhole) (o : Outline) (is : IsOutline (cases_of source.base) (entries_of source.base) o) where
+  abbrev tree_of_it : Tree
+  tree_of_it = tree_from (entries_of source.base) (content_of source.base) o
+
+  rises : IsOrdered (cases_of source.base) tree_of_it.objects
+  rises = ordered (cases_of source.base) (entries_of source.base) (content_of source.base) o is
+
+  all_whole : AreWhole tree_of_it.objects
+  all_whole = (subst (λ (l : List Place). AreWhole tree_of_it.objects ↔ All (λ (p : Place). IsWholeAt (entries_of source.base) (content_of source.base) p.entry) l) (sym (lists o is))
+      (whole (cases_of source.base) (entries_of source.base) (content_of source.base) o is)).1 readable
+
+  -- all parts can be added to that
+  pub starts_allowed : WalkCanBeCopied → (cases : Cases) → cases ≡ cases_of source.base → CanAllBeCopied cases (parts_in_file source o) (root_alone source)
+  starts_allowed walk cases same = subst (λ (cs : Cases). CanAllBeCopied cs (parts_in_file source o) (root_alone source)) (sym same)
+      (walk (cases_of source.base) (storage_info (entry_at (entries_of source.base) 0)) tree_of_it.objects rises all_whole)
+
+  -- and then it is the tree
+  pub ends : CopyIsTheTree → (cases : Cases) → cases ≡ cases_of source.base → parts_copied cases (parts_in_file source o) (root_alone source) ≡ tree_of_it
+  ends copy cases same = ap (λ (cs : Cases). parts_copied cs (parts_in_file source o) (root_alone source)) same
+      ∙ copy (cases_of source.base) (storage_info (entry_at (entries_of source.base) 0)) tree_of_it.objects rises all_whole
+
+-- so whatever tree the source's bytes are said to mean
+pub means_same : (source copy : FileState) (held : Holds source) → Means (cases_of copy.base) (bytes_of copy.base) (tree_in source held) → MeansTheSame source copy
+means_same source copy held means tree said = subst (λ (t : Tree). Means (cases_of copy.base) (bytes_of copy.base) t) (tree_is source held tree said) means

@@ -1,0 +1,15 @@
+pub mod Settings
+pub mod Reading
+pub mod Filling
+pub mod Growing
+pub mod Faults
+pub mod Likes
+pub mod Next
+pub mod Stored
+pub mod Prepared
+pub mod Filled
+pub mod Emptied
+pub mod Adding
+pub mod Appended
+pub mod Joining
+pub mod Turns

@@ -1,0 +1,22 @@
+-- The setting of a file stays.
+use Rattle.std.proofs.Common.{refl, ◌∙◌}
+use Rattle.cfb_agreement.specs.Files.{FileState, SameSetting}
+
+pub setting_same : (file : FileState) → SameSetting file file
+setting_same file = record {
+  limits = record { version = refl; cases = refl; max_sectors = refl; max_mini_sectors = refl };
+  is_sound = refl;
+  buffer_limit = refl;
+}
+
+pub setting_then : (a b c : FileState) → SameSetting a b → SameSetting b c → SameSetting a c
+setting_then a b c p q = record {
+  limits = record {
+    version = q.limits.version ∙ p.limits.version;
+    cases = q.limits.cases ∙ p.limits.cases;
+    max_sectors = q.limits.max_sectors ∙ p.limits.max_sectors;
+    max_mini_sectors = q.limits.max_mini_sectors ∙ p.limits.max_mini_sectors;
+  };
+  is_sound = q.is_sound ∙ p.is_sound;
+  buffer_limit = q.buffer_limit ∙ p.buffer_limit;
+}

@@ -1,0 +1,80 @@
+use Rattle.std.proofs.Common.{List, sym, ◌∙◌, subst}
+use Rattle.std.proofs.lemmas.Result.{err_from_is_err_and}
+use Rattle.std.specs.Prelude.{◌||◌}
+use Rattle.cfb_format.specs.declared.error.Error.{Error}
+use Rattle.cfb_format.specs.declared.medium.MediumFault.{MediumFault}
+use Rattle.cfb_places.specs.declared.walk.Place.{Place}
+use Rattle.cfb_agreement.specs.Files.{failures_of}
+use Rattle.cfb_copies.specs.Copies.{AreCopyable, AreReadable, CopyRefused, ListsObjects}
+use Rattle.cfb_copies.specs.Steps.{IsFaultOfEither}
+use Rattle.cfb_copies.proofs.Faults.{counted_counts, counted_refused, no_fault_counts, unprepared_refused}
+use Rattle.cfb_copies.proofs.Prepared.{refused_early}
+use Rattle.cfb_copies.proofs.copying.copy_volume.Goals as goal
+
+pub returns-in_err-list-clause-unless : goal.returns-in_err-list-clause-unless
+returns-in_err-list-clause-unless g c told agrees calm =
+    let p = err_from_is_err_and c.from_residual.result c.from_residual.ensures.1 in
+    rw (p.1, p.2) (refused_early c.args.source.now c.in_err-list.field-0.0 (c.in_err-list.ensures.err told (agrees calm)))
+
+pub returns-in_err-list-clause-counts : goal.returns-in_err-list-clause-counts
+returns-in_err-list-clause-counts g c told =
+    let p = err_from_is_err_and c.from_residual.result c.from_residual.ensures.1 in
+    rw (p.1, p.2) (no_fault_counts _ _ _ _ c.in_err-list.field-0.0 c.in_err-list.ensures.calm)
+
+pub returns-in_err-list-clause-err : goal.returns-in_err-list-clause-err
+returns-in_err-list-clause-err g c told tells agrees =
+    let p = err_from_is_err_and c.from_residual.result c.from_residual.ensures.1 in
+    let calm = sym c.is_failed.ensures ∙ c.if-is_failed.false in
+    rw (p.1, p.2) (unprepared_refused c.args.source.now c.in_err-list.field-0.0 calm (c.in_err-list.ensures.err told (agrees calm)))
+
+pub returns-in_err-target-clause-unless : goal.returns-in_err-target-clause-unless
+returns-in_err-target-clause-unless g c told agrees calm tree means =
+    let can = c.in_ok-list.ensures.allowed told (agrees calm) tree means in (λ broken. absurd (broken can.0), λ whole large. absurd (can.1 large))
+
+pub fill-requires-clause-listed : goal.fill-requires-clause-listed
+fill-requires-clause-listed g c = subst (λ (l : List Place). ListsObjects c.args.source.now l) (sym c.as_slice-listed.ensures.value) c.in_ok-list.ensures.listed
+
+pub fill-requires-clause-copyable : goal.fill-requires-clause-copyable
+fill-requires-clause-copyable g c = subst (λ (l : List Place). AreCopyable c.args.source.now l) (sym c.as_slice-listed.ensures.value) c.in_ok-list.ensures.copyable
+
+pub returns-clause-unless : goal.returns-clause-unless
+returns-clause-unless g c told agrees calm tree means =
+    let can = c.in_ok-list.ensures.allowed told (agrees calm) tree means in (λ broken. absurd (broken can.0), λ whole large. absurd (can.1 large))
+
+pub returns-clause-err : goal.returns-clause-err
+returns-clause-err g c told tells agrees =
+    let calm = sym c.is_failed.ensures ∙ c.if-is_failed.false in
+    let m = c.in_ok-target.ensures in
+    let readable = subst (λ (l : List Place). AreReadable c.args.source.now l) (sym c.as_slice-listed.ensures.value) (c.in_ok-list.ensures.readable told (agrees calm)) in
+    subst (λ (e : Error). CopyRefused c.args.source.now e) (sym c.counted.ensures)
+    (counted_refused c.args.source.now c.in-Err.error calm (c.in-Err.ensures.err told tells (agrees calm) (m.made tells).holds readable (m.empty tells)))
+
+pub returns-clause-counts : goal.returns-clause-counts
+returns-clause-counts g c told =
+    let gives = g.F.ReadMedium.read_faults in
+    let can = λ (f : MediumFault). g.W.ReadMedium.read_faults f || g.W.Medium.write_faults f in
+    let was = failures_of c.args.source.now in
+    let now = failures_of c.fill.new.source in
+    subst (λ (e : Error). IsFaultOfEither gives g.W.ReadMedium.tells can was now e) (sym c.counted.ensures)
+    (counted_counts gives g.W.ReadMedium.tells can was now c.in-Err.error (c.in-Err.ensures.counts told))
+
+pub returns-in-Ok-clause-made : goal.returns-in-Ok-clause-made
+returns-in-Ok-clause-made g c tells =
+    let m = c.in_ok-target.ensures.made tells in
+    let w = c.in-Ok.ensures.grows in
+    record { holds = w.holds tells m.holds; made = w.made tells m.holds m.made; balanced = w.balanced m.balanced; calm = w.calm tells ∙ m.calm }
+
+pub returns-in-Ok-clause-tree : goal.returns-in-Ok-clause-tree
+returns-in-Ok-clause-tree g c told tells agrees =
+    let calm = sym c.is_failed.ensures ∙ c.if-is_failed.false in
+    let m = c.in_ok-target.ensures in
+    let readable = subst (λ (l : List Place). AreReadable c.args.source.now l) (sym c.as_slice-listed.ensures.value) (c.in_ok-list.ensures.readable told (agrees calm)) in
+    c.in-Ok.ensures.tree told tells (agrees calm) (m.made tells).holds readable (m.empty tells)
+
+pub returns-in-Ok-clause-allowed : goal.returns-in-Ok-clause-allowed
+returns-in-Ok-clause-allowed g c told agrees =
+    let calm = sym c.is_failed.ensures ∙ c.if-is_failed.false in c.in_ok-list.ensures.allowed told (agrees calm)
+
+pub returns-in-Ok-clause-unless : goal.returns-in-Ok-clause-unless
+returns-in-Ok-clause-unless g c told agrees calm tree means =
+    let can = c.in_ok-list.ensures.allowed told (agrees calm) tree means in (λ broken. absurd (broken can.0), λ whole large. absurd (can.1 large))

@@ -1,0 +1,118 @@
+use Rattle.std.proofs.Common.{◌≡◌, ◌≢◌, List, [], refl, sym, ◌∙◌, ap, subst, rules}
+use Rattle.std.proofs.lemmas.Result.{err_from_is_err_and, on_ok_weaker}
+use Rattle.cfb_codecs.specs.EntryModel.{entry_of}
+use Rattle.cfb_format.specs.declared.objtype.ObjType.TheVariants.{Root, Stream}
+use Rattle.cfb_format.specs.DirectoryEntry.{Entry, IsValidEntry}
+use Rattle.cfb_format.specs.Meaning.{Means, storage_info}
+use Rattle.cfb_format.specs.Names.{Cases}
+use Rattle.cfb_format.specs.Siblings.{entry_at}
+use Rattle.cfb_format.specs.Tree.{StorageInfo, Tree}
+use Rattle.cfb_rules.specs.CallChanges.{fields_changed_at, same_stream}
+use Rattle.cfb_entries.specs.declared.fields.Fields.{Fields}
+use Rattle.cfb_entries.specs.Fields.{entry_with_fields, fields_in}
+use Rattle.cfb_entry_changes.specs.Marking.{GivesFields}
+use Rattle.cfb_objects.specs.Laws.{BecomesTree}
+use Rattle.cfb_mini_sectors.specs.State.{bytes_of, cases_of, entries_of, version_of}
+use Rattle.cfb_copies.specs.Copies.{AreReady}
+use Rattle.cfb_copies.specs.Steps.{fields_like}
+use Rattle.cfb_copies.proofs.Faults.{medium_breaks}
+use Rattle.cfb_copies.proofs.Filled.{ends, means_same, root_alone, starts, starts_allowed}
+use Rattle.cfb_copies.proofs.Growing.{grows_by, grows_then, ordered}
+use Rattle.cfb_copies.proofs.Likes.{gives_all, like_len, like_start, like_valid}
+use Rattle.cfb_copies.proofs.copying.fill.Goals as goal
+
+pub set_fields-requires-clause-start : goal.set_fields-requires-clause-start
+set_fields-requires-clause-start g c = λ f post.
+    let like = entry_of c.listed_entry-root.result.now in
+    let old = fields_in (entry_at (entries_of c.args.target.now.base) 0) in
+    let is : f ≡ fields_like like old = search rules in
+    ap (λ (x : Fields). x.start_sector) is ∙ like_start like old
+
+pub set_fields-requires-clause-len : goal.set_fields-requires-clause-len
+set_fields-requires-clause-len g c = λ f post.
+    let like = entry_of c.listed_entry-root.result.now in
+    let old = fields_in (entry_at (entries_of c.args.target.now.base) 0) in
+    let is : f ≡ fields_like like old = search rules in
+    ap (λ (x : Fields). x.stream_len) is ∙ like_len like old
+
+pub set_fields-requires-clause-valid : goal.set_fields-requires-clause-valid
+set_fields-requires-clause-valid g c = λ f post valid.
+    let like = entry_of c.listed_entry-root.result.now in
+    let old = entry_at (entries_of c.args.target.now.base) 0 in
+    let is : f ≡ fields_like like (fields_in old) = search rules in
+    subst (λ (x : Fields). IsValidEntry (version_of c.args.target.now.base) (entry_with_fields old x)) (sym is)
+    (like_valid like old (version_of c.args.target.now.base) (λ s. absurd (let w : Root ≡ Stream = sym c.entries-before.ensures.in_order.is.root ∙ s in cc)) valid)
+
+pub returns-in_err-set_fields-clause-err : goal.returns-in_err-set_fields-clause-err
+returns-in_err-set_fields-clause-err g c told tells holds target readable none =
+    let p = err_from_is_err_and c.from_residual.result c.from_residual.ensures.1 in
+    rw (p.1, p.2) (medium_breaks _ c.in_err-set_fields.field-0.0 (c.in_err-set_fields.ensures.err tells target))
+
+pub returns-clause-grows : goal.returns-clause-grows
+returns-clause-grows g c =
+    let tells = g.W.ReadMedium.tells in
+    let old = c.args.target.now in
+    let mid = c.set_fields.new.self in
+    let s = c.in_ok-set_fields.ensures in
+    let first = grows_by tells old mid s.setting s.ended (ordered old c.entries-before.ensures.in_order) (ordered mid c.entries-behind.ensures.in_order)
+    (λ before after was is names k at. s.finds before after was is names ∙ at) s.balanced (λ told holds. s.agrees told holds) (λ told holds made. s.made told holds made) (λ told. s.counts told) in
+    on_ok_weaker c.copy_listed.result (λ more. grows_then tells old mid c.copy_listed.new.target first more) c.copy_listed.ensures.grows
+
+pub returns-clause-tree : goal.returns-clause-tree
+returns-clause-tree g c told tells holds target readable none =
+    let source = c.args.source.now in
+    let old = c.args.target.now in
+    let mid = c.set_fields.new.self in
+    let s = c.in_ok-set_fields.ensures in
+    let order = c.entries-before.ensures.in_order in
+    let root = entry_of c.listed_entry-root.result.now in
+    let is_root : root ≡ entry_at (entries_of source.base) 0 = c.listed_entry-root.ensures ∙ ap (λ (es : List Entry). entry_at es 0) c.entries-entries.ensures.entries in
+    let at : (entry_at (entries_of old.base) 0).obj_type ≢ Stream = λ x. let w : Root ≡ Stream = sym order.is.root ∙ x in cc in
+    let own : root.obj_type ≢ Stream = λ x. let w : Root ≡ Stream = sym (ap (λ (e : Entry). e.obj_type) is_root ∙ holds.reads.outline.root) ∙ x in cc in
+    let becomes = s.tree tells target (λ (info : StorageInfo). storage_info root) same_stream [] order.outline order.is refl
+    (λ fields post. let is : fields ≡ fields_like root (fields_in (entry_at (entries_of old.base) 0)) = search rules in
+    subst (λ (x : Fields). GivesFields (entry_at (entries_of old.base) 0) x (λ (info : StorageInfo). storage_info root) same_stream) (sym is) (gives_all root (entry_at (entries_of old.base) 0) own at)) in
+    let means = starts source old (bytes_of mid.base) target none
+    (subst (λ (e : Entry). BecomesTree (cases_of old.base) (bytes_of old.base) (bytes_of mid.base) (fields_changed_at (cases_of old.base) (λ (info : StorageInfo). storage_info e) same_stream [])) is_root becomes) in
+    let cases = s.setting.limits.cases ∙ c.requires.letters in
+    let laws = c.parts_stand_at_places.ensures in
+    let ready : AreReady source mid c.args.list.now (root_alone source) = record {
+      held = holds;
+      target_held = s.agrees tells target s.ended;
+      readable = readable;
+      means = subst (λ (cs : Cases). Means cs (bytes_of mid.base) (root_alone source)) (sym s.setting.limits.cases) means;
+      allowed = λ o is. starts_allowed source holds c.args.list.now c.requires.listed readable laws.ordered laws.whole o is c.copied_objects_are_the_tree.ensures.allowed (cases_of mid.base) cases;
+    } in
+    let o = holds.outline in
+    let is = holds.reads.outline in
+    on_ok_weaker c.copy_listed.result
+    (λ meant. means_same source c.copy_listed.new.target holds
+    (subst (λ (t : Tree). Means (cases_of c.copy_listed.new.target.base) (bytes_of c.copy_listed.new.target.base) t)
+    (ends source holds c.args.list.now c.requires.listed readable laws.ordered laws.whole o is c.copied_objects_are_the_tree.ensures.tree (cases_of mid.base) cases) meant))
+    (c.copy_listed.ensures.tree told tells (root_alone source) o is ready)
+
+pub returns-clause-err : goal.returns-clause-err
+returns-clause-err g c told tells holds target readable none =
+    let source = c.args.source.now in
+    let old = c.args.target.now in
+    let mid = c.set_fields.new.self in
+    let s = c.in_ok-set_fields.ensures in
+    let order = c.entries-before.ensures.in_order in
+    let root = entry_of c.listed_entry-root.result.now in
+    let is_root : root ≡ entry_at (entries_of source.base) 0 = c.listed_entry-root.ensures ∙ ap (λ (es : List Entry). entry_at es 0) c.entries-entries.ensures.entries in
+    let at : (entry_at (entries_of old.base) 0).obj_type ≢ Stream = λ x. let w : Root ≡ Stream = sym order.is.root ∙ x in cc in
+    let own : root.obj_type ≢ Stream = λ x. let w : Root ≡ Stream = sym (ap (λ (e : Entry). e.obj_type) is_root ∙ holds.reads.outline.root) ∙ x in cc in
+    let becomes = s.tree tells target (λ (info : StorageInfo). storage_info root) same_stream [] order.outline order.is refl
+    (λ fields post. let is : fields ≡ fields_like root (fields_in (entry_at (entries_of old.base) 0)) = search rules in
+    subst (λ (x : Fields). GivesFields (entry_at (entries_of old.base) 0) x (λ (info : StorageInfo). storage_info root) same_stream) (sym is) (gives_all root (entry_at (entries_of old.base) 0) own at)) in
+    let means = starts source old (bytes_of mid.base) target none
+    (subst (λ (e : Entry). BecomesTree (cases_of old.base) (bytes_of old.base) (bytes_of mid.base) (fields_changed_at (cases_of old.base) (λ (info : StorageInfo). storage_info e) same_stream [])) is_root becomes) in
+    let cases = s.setting.limits.cases ∙ c.requires.letters in
+    let laws = c.parts_stand_at_places.ensures in
+    c.copy_listed.ensures.err told tells (root_alone source) (record {
+      held = holds;
+      target_held = s.agrees tells target s.ended;
+      readable = readable;
+      means = subst (λ (cs : Cases). Means cs (bytes_of mid.base) (root_alone source)) (sym s.setting.limits.cases) means;
+      allowed = λ o is. starts_allowed source holds c.args.list.now c.requires.listed readable laws.ordered laws.whole o is c.copied_objects_are_the_tree.ensures.allowed (cases_of mid.base) cases;
+    })

@@ -1,0 +1,140 @@
+-- A copy of a file: when there is one, and what it is.
+use Rattle.std.specs.Prelude.{ℕ, ◌≡◌, ◌<◌, ◌⊎◌, true, false, List, All, Result, IsErrAnd, length, slice_index_or, ⊤}
+use Rattle.cfb_format.specs.declared.error.Error.{Error}
+use Rattle.cfb_format.specs.declared.error.Error.TheVariants.{AlreadyExists, Failed, Full, InvalidData, InvalidInput, Medium, Memory, NotFound, Unsound}
+use Rattle.cfb_format.specs.Bytes.{max_regular_sector}
+use Rattle.cfb_format.specs.Full.{IsTooLarge}
+use Rattle.cfb_format.specs.Meaning.{Means}
+use Rattle.cfb_format.specs.Reading.{IsOutline, Outline}
+use Rattle.cfb_format.specs.Refused.{HasReason, no_error, number_of}
+use Rattle.cfb_format.specs.Tree.{AreWhole, Tree, nothing}
+use Rattle.cfb_built.specs.Copied.{CanAllBeCopied, Part, names_of, parts_copied}
+use Rattle.cfb_insertion.specs.Balance.{AreAllBalanced}
+use Rattle.cfb_places.specs.declared.walk.Place.{Place}
+use Rattle.cfb_places.specs.Laws.{IsWholeAt}
+use Rattle.cfb_places.specs.Parts.{part_at, parts_of}
+use Rattle.cfb_places.specs.Places.{places_of}
+use Rattle.cfb_mini_sectors.specs.State.{bytes_of, cases_of, content_of, entries_of, tables_in, version_of}
+use Rattle.cfb_agreement.specs.Files.{FileState, Holds, IsAsMade, failures_of, is_failed}
+use Rattle.cfb_copies.specs.Steps.{IsCopyable, LeadTo}
+
+-- ---- what is copied
+
+-- the list has all objects of the file, in the order of a walk
+abbrev pub ListsObjects : FileState → List Place → Type 0
+ListsObjects file list = (o : Outline) → IsOutline (cases_of file.base) (entries_of file.base) o → list ≡ places_of o
+
+-- each of them can be given to another file
+abbrev pub AreCopyable : FileState → List Place → Type 0
+AreCopyable file list = All (λ (p : Place). IsCopyable file p.entry) list
+
+-- and read to its end
+abbrev pub AreReadable : FileState → List Place → Type 0
+AreReadable file list = All (λ (p : Place). IsWholeAt (entries_of file.base) (content_of file.base) p.entry) list
+
+-- the parts of the file's tree, in the order of a walk
+abbrev pub parts_in_file : FileState → Outline → List Part
+parts_in_file file o = parts_of (entries_of file.base) (content_of file.base) o
+
+-- ---- on the way
+
+-- the first of these parts stand in the target, each at its names, at the entries of these numbers
+abbrev pub AreNumbered : FileState → List Part → List ℕ → Type 0
+AreNumbered target parts numbers = (j : ℕ) → j < length numbers → LeadTo target (names_of (part_at parts j)) (slice_index_or numbers j 0)
+
+-- the target's bytes mean a tree to which these parts can be added, and then it is the goal
+pub record IsOnTheWay (target : FileState) (parts : List Part) (goal : Tree) : Type 0 where
+  pub tree : Tree
+  pub means : Means (cases_of target.base) (bytes_of target.base) tree
+  pub allowed : CanAllBeCopied (cases_of target.base) parts tree
+  pub becomes : parts_copied (cases_of target.base) parts tree ≡ goal
+
+-- the source can be read as its list says, and the target's bytes mean this tree, to which all its parts can be added
+pub record AreReady (source target : FileState) (list : List Place) (tree : Tree) : Type 0 where
+  pub held : Holds source
+  pub target_held : Holds target
+  pub readable : AreReadable source list
+  pub means : Means (cases_of target.base) (bytes_of target.base) tree
+  pub allowed : (o : Outline) → IsOutline (cases_of source.base) (entries_of source.base) o
+      → CanAllBeCopied (cases_of target.base) (parts_in_file source o) tree
+
+-- ---- the copy
+
+-- the copy has the file's version and letters, may grow as far as there are numbers, is sound and has not failed
+pub record TakesAfter (room : ℕ) (source copy : FileState) : Type 0 where
+  pub in_version : version_of copy.base ≡ version_of source.base
+  pub letters : cases_of copy.base ≡ cases_of source.base
+  pub limit : (tables_in copy.base).max_sectors ≡ max_regular_sector
+  pub buffer_limit : copy.buffer_limit ≡ room
+  pub sound : copy.is_sound ≡ true
+  pub unfailed : is_failed copy ≡ false
+
+-- it is what its bytes say, and as a file that was made here is, with the siblings of every storage in balance; so many calls of its
+-- medium have failed
+pub record IsMadeCopy (failures : ℕ) (copy : FileState) : Type 0 where
+  pub holds : Holds copy
+  pub made : IsAsMade copy.base
+  pub balanced : AreAllBalanced (cases_of copy.base) (entries_of copy.base)
+  pub calm : failures_of copy ≡ failures
+
+-- its bytes mean the tree that those of the file mean
+abbrev pub MeansTheSame : FileState → FileState → Type 0
+MeansTheSame source copy = (tree : Tree) → Means (cases_of source.base) (bytes_of source.base) tree → Means (cases_of copy.base) (bytes_of copy.base) tree
+
+-- nothing is in the file
+abbrev pub HasNoObjects : FileState → Type 0
+HasNoObjects file = (tree : Tree) → Means (cases_of file.base) (bytes_of file.base) tree → tree.objects ≡ nothing
+
+-- ---- refusals
+
+-- some stream of the tree can't be read to its end
+abbrev pub IsNotWhole : FileState → Type 0
+IsNotWhole file = (tree : Tree) → Means (cases_of file.base) (bytes_of file.base) tree → AreWhole tree.objects → ⊥
+
+-- each stream can be read to its end, and no file of its version has room for the tree
+abbrev pub HasNoRoom : FileState → Type 0
+HasNoRoom file = (tree : Tree) → Means (cases_of file.base) (bytes_of file.base) tree
+    → AreWhole tree.objects × IsTooLarge (version_of file.base) max_regular_sector tree
+
+-- each stream can be read to its end, and a file of its version has room for the tree
+abbrev pub CanBeCopied : FileState → Type 0
+CanBeCopied file = (tree : Tree) → Means (cases_of file.base) (bytes_of file.base) tree
+    → AreWhole tree.objects × (IsTooLarge (version_of file.base) max_regular_sector tree → ⊥)
+
+-- why a file that has not failed can't be copied, found before anything is made
+abbrev pub IsNotPrepared : FileState → Error → Type 0
+IsNotPrepared file = HasReason (record no_error { invalid_data = IsNotWhole file; full = HasNoRoom file; memory = ⊤ })
+
+-- why there is no copy: the file failed earlier, some stream is not whole, the tree is too large, a medium failed, or memory was refused
+abbrev pub CopyRefused : FileState → Error → Type 0
+CopyRefused file = HasReason (record no_error {
+  failed = is_failed file ≡ true;
+  invalid_data = (is_failed file ≡ false) × IsNotWhole file;
+  full = (is_failed file ≡ false) × HasNoRoom file;
+  medium = λ fault. is_failed file ≡ false;
+  memory = is_failed file ≡ false;
+})
+
+-- the error is of this number, or memory was refused
+abbrev pub IsKindOrMemory : ℕ → Error → Type 0
+IsKindOrMemory kind e = (number_of e ≡ kind) ⊎ (number_of e ≡ 6)
+
+-- what can't be copied is refused so: where a stream is not whole by 4, and else, where the tree is too large, by 7; or memory was refused
+abbrev pub RefusesUnless : {T : Type 0} → FileState → Result T Error → Type 0
+RefusesUnless file result = (tree : Tree) → Means (cases_of file.base) (bytes_of file.base) tree
+    → ((AreWhole tree.objects → ⊥) → IsErrAnd result (IsKindOrMemory 4))
+    × (AreWhole tree.objects → IsTooLarge (version_of file.base) max_regular_sector tree → IsErrAnd result (IsKindOrMemory 7))
+
+-- ---- numbers that lack on the way
+
+-- want of numbers is told as want of memory
+abbrev pub error_counted : Error → Error
+error_counted (NotFound d) = NotFound d
+error_counted (AlreadyExists d) = AlreadyExists d
+error_counted (InvalidInput d) = InvalidInput d
+error_counted (InvalidData d) = InvalidData d
+error_counted (Medium f) = Medium f
+error_counted Memory = Memory
+error_counted Full = Memory
+error_counted Unsound = Unsound
+error_counted Failed = Failed

@@ -1,0 +1,139 @@
+-- The steps of a copy: what each leaves alone in the source, and what it makes of the target.
+use Rattle.std.specs.Prelude.{ℕ, ◌≡◌, ◌≢◌, ◌<◌, ◌≤◌, ◌⊎◌, Bool, true, false, IsTrue, List, ◌∷◌, length, Result, MatchResult, Some, ⊤}
+use Rattle.cfb_format.specs.declared.error.Error.{Error}
+use Rattle.cfb_format.specs.declared.medium.MediumFault.{MediumFault}
+use Rattle.cfb_format.specs.declared.objtype.ObjType.TheVariants.{Storage, Stream}
+use Rattle.cfb_format.specs.Bytes.{max_stream_len}
+use Rattle.cfb_format.specs.DirectoryEntry.{Entry, unless_stream}
+use Rattle.cfb_format.specs.Meaning.{storage_info, stream_info}
+use Rattle.cfb_format.specs.Medium.{FailsBy}
+use Rattle.cfb_format.specs.Names.{Cases, is_valid_name}
+use Rattle.cfb_format.specs.Reading.{IsOutline, Outline}
+use Rattle.cfb_format.specs.Refused.{HasReason, at_every_error}
+use Rattle.cfb_format.specs.Siblings.{entry_at}
+use Rattle.cfb_format.specs.Tree.{Tree}
+use Rattle.cfb_rules.specs.CallChanges.{fields_changed_at, same_storage, same_stream, storage_added_at, stream_added_at}
+use Rattle.cfb_rules.specs.Finding.{last_name, parent_names}
+use Rattle.cfb_built.specs.Copied.{Part, names_of, storage_part, stream_part}
+use Rattle.cfb_siblings.specs.Children.{HasChildren, IsAbsent}
+use Rattle.cfb_siblings.specs.Paths.{HasOutline, number_from}
+use Rattle.cfb_trees.specs.Reached.{IsObject, IsReached}
+use Rattle.cfb_entries.specs.declared.fields.Fields.{Fields}
+use Rattle.cfb_insertion.specs.Balance.{AreAllBalanced}
+use Rattle.cfb_mini_sectors.specs.State.{cases_of, entries_of, version_of}
+use Rattle.cfb_content.specs.Contents.{IsStreamOf, KeepsOthers, MovesContent, len_of}
+use Rattle.cfb_entry_changes.specs.Kept.{KeepsFound}
+use Rattle.cfb_agreement.specs.Files.{FileState, Holds, IsAsBefore, IsAsMade, SameSetting, failures_of, is_failed}
+
+-- ---- the source
+
+-- the file was read at most: all is as before but the count of failures
+pub record IsReadOnly (tells : Bool) (old new : FileState) : Type 0 where
+  pub setting : SameSetting old new
+  pub flag : is_failed new ≡ is_failed old
+  pub entries : entries_of new.base ≡ entries_of old.base
+  pub same : IsTrue tells → IsAsBefore old new
+
+-- ---- refusals
+
+-- the medium's error is one of the source, whose count of failures rose by it, or one that the target can give; at any other the count stays
+abbrev pub IsFaultOfEither : (MediumFault → Bool) → Bool → (MediumFault → Bool) → ℕ → ℕ → Error → Type 0
+IsFaultOfEither source_gives target_tells target_gives old new = HasReason (record (at_every_error (new ≡ old)) {
+  medium = λ fault. FailsBy source_gives old new fault ⊎ ((new ≡ old) × (IsTrue target_tells → IsTrue (target_gives fault)));
+})
+
+-- it is no error of a medium
+abbrev pub IsNoFault : Error → Type 0
+IsNoFault = HasReason (record (at_every_error ⊤) { medium = λ fault. ⊥ })
+
+-- the medium's error is one that it can give
+abbrev pub GivesFault : (MediumFault → Bool) → Error → Type 0
+GivesFault gives = HasReason (record (at_every_error ⊤) { medium = λ fault. IsTrue (gives fault) })
+
+-- a success counts no failure
+abbrev pub CountsEither : {T : Type 0} → (MediumFault → Bool) → Bool → (MediumFault → Bool) → Result T Error → ℕ → ℕ → Type 0
+CountsEither source_gives target_tells target_gives result old new =
+    MatchResult result (λ _. new ≡ old) (IsFaultOfEither source_gives target_tells target_gives old new)
+
+-- ---- the target
+
+-- the stream of that entry got other bytes, and nothing else has changed
+pub record FillsStream (tells : Bool) (entry : ℕ) (old new : FileState) : Type 0 where
+  pub setting : SameSetting old new
+  pub unfailed : is_failed new ≡ false
+  pub stream : IsStreamOf new.base entry
+  pub moves : MovesContent old.base new.base entry
+  pub holds : IsTrue tells → Holds old → Holds new
+  pub others : IsTrue tells → Holds old → KeepsOthers entry old.base new.base
+  pub made : IsTrue tells → Holds old → IsAsMade old.base → IsAsMade new.base
+  pub calm : IsTrue tells → failures_of new ≡ failures_of old
+
+-- objects were added, and what was found before is found
+pub record GrowsTree (tells : Bool) (old new : FileState) : Type 0 where
+  pub setting : SameSetting old new
+  pub unfailed : is_failed new ≡ false
+  pub outline : HasOutline (cases_of new.base) (entries_of new.base)
+  pub stays : KeepsFound old.base new.base
+  pub balanced : AreAllBalanced (cases_of old.base) (entries_of old.base) → AreAllBalanced (cases_of new.base) (entries_of new.base)
+  pub holds : IsTrue tells → Holds old → Holds new
+  pub made : IsTrue tells → Holds old → IsAsMade old.base → IsAsMade new.base
+  pub calm : IsTrue tells → failures_of new ≡ failures_of old
+
+-- ---- one object
+
+-- the entry is a storage or a stream of a name that a new one may be given
+pub record CanBeLike (entries : List Entry) (entry : ℕ) : Type 0 where
+  pub within : entry < length entries
+  pub object : IsObject (entry_at entries entry)
+  pub name : is_valid_name (entry_at entries entry).name ≡ true
+
+-- and a stream's length is one of the file's version
+pub record IsCopyable (file : FileState) (entry : ℕ) : Type 0 where
+  pub like : CanBeLike (entries_of file.base) entry
+  pub len : (entry_at (entries_of file.base) entry).obj_type ≡ Stream → len_of file.base entry ≤ max_stream_len (version_of file.base)
+
+-- a new object of that name can be put into the entry `parent`: it is no stream, and none of its children has the name
+pub record TakesName (file : FileState) (parent : ℕ) (name : List ℕ) : Type 0 where
+  pub kind : (entry_at (entries_of file.base) parent).obj_type ≢ Stream
+  pub absent : (list : List ℕ) → HasChildren (cases_of file.base) (entries_of file.base) parent list
+      → IsAbsent (cases_of file.base) (entries_of file.base) name list
+
+-- the entry is reached from the root
+abbrev pub IsReachedIn : FileState → ℕ → Type 0
+IsReachedIn file entry = (o : Outline) → IsOutline (cases_of file.base) (entries_of file.base) o → IsReached o entry
+
+-- the names lead to the entry
+abbrev pub LeadTo : FileState → List (List ℕ) → ℕ → Type 0
+LeadTo file names entry = (o : Outline) → IsOutline (cases_of file.base) (entries_of file.base) o
+    → number_from (cases_of file.base) (entries_of file.base) 0 o names ≡ Some entry
+
+-- of what a change may set, an object like this one has: a stream its bits, and any other all that tells nothing of content
+abbrev pub fields_like : Entry → Fields → Fields
+fields_like e f = unless_stream e.obj_type (record f { state_bits = e.state_bits })
+    (record f { clsid = e.clsid; state_bits = e.state_bits; creation_time = e.creation_time; modified_time = e.modified_time })
+
+-- once it is there, with no content
+abbrev pub like_added : Cases → Entry → List (List ℕ) → Tree → Tree
+like_added cases e names tree = unless_stream e.obj_type
+    (fields_changed_at cases same_storage (λ old. record old { state_bits = e.state_bits }) names (stream_added_at cases names tree))
+    (fields_changed_at cases (λ old. storage_info e) same_stream names (storage_added_at cases e.creation_time names tree))
+
+-- the entry n is of that kind, and empty
+pub record IsLikeIn (e : Entry) (file : FileState) (n : ℕ) : Type 0 where
+  pub kind : (entry_at (entries_of file.base) n).obj_type ≡ e.obj_type
+  pub empty : len_of file.base n ≡ 0
+
+-- the part is the object of this entry, with this content
+pub record IsPart (content : Entry → List ℕ) (e : Entry) (part : Part) : Type 0 where
+  pub first : List ℕ
+  pub rest : List (List ℕ)
+  pub some : names_of part ≡ first ∷ rest
+  pub storage : e.obj_type ≡ Storage → part ≡ storage_part (names_of part) (storage_info e)
+  pub stream : e.obj_type ≡ Stream → part ≡ stream_part (names_of part) (stream_info content e)
+  pub named : last_name (names_of part) ≡ e.name
+
+-- the object n of the target is new, and stands at each names whose last one is this behind those of `parent`
+pub record IsNewIn (old new : FileState) (parent n : ℕ) (name : List ℕ) : Type 0 where
+  pub reached : IsReachedIn new n
+  pub found : (first : List ℕ) (names : List (List ℕ)) → LeadTo old (parent_names (first ∷ names)) parent → last_name (first ∷ names) ≡ name
+      → LeadTo new (first ∷ names) n

@@ -1,0 +1,7 @@
+//! A file copied into an empty medium, object by object: the copy has the tree of the file and nothing else.
+#![tactic(auto)]
+
+mod checking;
+pub mod copying;
+mod parts;
+mod pieces;

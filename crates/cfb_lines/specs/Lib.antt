@@ -1,0 +1,5 @@
+pub mod Lines
+pub mod Fields
+pub mod Words
+pub mod Commands
+pub mod Wrong

@@ -1,0 +1,13 @@
+//! Commands on a compound file, written as lines of text.
+#![tactic(auto)]
+
+mod error;
+mod fields;
+mod hex;
+pub mod lines;
+mod numbers;
+#[cfg(test)]
+mod tests;
+mod word;
+
+pub use error::LinesError;

@@ -1,0 +1,6 @@
+mod Levels
+mod Walking
+mod Standing
+mod Stood
+mod Whole
+mod Ordered

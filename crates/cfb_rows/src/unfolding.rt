@@ -1,0 +1,33 @@
+//! Long words, written short: `{5*ab}` stands for `ababababab`, and `{U+0000}` for the letter of this number.
+
+use crate::lines::number_or_0;
+use std::alloc::{AllocError, Global};
+
+/// A text with all that is folded in it unfolded.
+pub fn unfolded(alloc: Global, text: &str) -> Result<String, AllocError> {
+    let mut whole = String::new(alloc);
+    for part in text.split("{") {
+        match part.split_once("}") {
+            Some((folded, rest)) => {
+                unfold(folded, &mut whole)?;
+                whole.push_str(rest)?;
+            }
+            None => whole.push_str(part)?,
+        }
+    }
+    Ok(whole)
+}
+
+fn unfold(folded: &str, whole: &mut String) -> Result<(), AllocError> {
+    if let Some(digits) = folded.strip_prefix("U+") {
+        let number = u32::from_str_radix(digits, 16).unwrap_or(0xfffd);
+        return whole.push(char::from_u32(number).unwrap_or('\u{fffd}'));
+    }
+    let Some((count, run)) = folded.split_once("*") else {
+        return whole.push_str(folded);
+    };
+    for _turn in 0..number_or_0(count) {
+        whole.push_str(run)?;
+    }
+    Ok(())
+}

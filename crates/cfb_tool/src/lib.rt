@@ -1,0 +1,9 @@
+//! What the program `cfbtool` does with a compound file, on any medium, and what its words ask for.
+#![tactic(auto)]
+
+pub mod asking;
+pub mod content;
+pub mod listing;
+pub mod playing;
+mod replies;
+pub mod soundness;
