@@ -3,7 +3,7 @@ use Rattle.std.proofs.Common.{◌≡◌, ◌≢◌, ℕ, List, true, refl, sym, 
 use Rattle.std.specs.Prelude.{Contains, Some}
 use Rattle.cfb_format.specs.declared.objtype.ObjType.TheVariants.{Stream}
 use Rattle.cfb_format.specs.declared.validate.Validation.TheVariants.{Permissive}
-use Rattle.cfb_format.specs.DirectoryEntry.{Entry, ButContent}
+use Rattle.cfb_format.specs.DirectoryEntry.{Entry}
 use Rattle.cfb_format.specs.Names.{Cases}
 use Rattle.cfb_format.specs.Reading.{IsOutline, Outline, Reads, stream_numbers}
 use Rattle.cfb_format.specs.Siblings.{entry_at}
@@ -12,16 +12,17 @@ use Rattle.cfb_format.specs.Tree.{Tree}
 use Rattle.cfb_format.proofs.Unique.{IsOutline-unique}
 use Rattle.cfb_rules.specs.CallChanges.{content_changed_at}
 use Rattle.cfb_siblings.specs.Paths.{number_from}
-use Rattle.cfb_trees.specs.Changes.{ButFields}
-use Rattle.cfb_trees.specs.Colors.{AreColored}
-use Rattle.cfb_trees.proofs.Colored.{colors-same}
+use Rattle.cfb_trees.specs.Balance.{AreAllBalanced}
+use Rattle.cfb_trees.specs.Reached.{IsReached}
 use Rattle.cfb_trees.proofs.Members.{streams-are-by-kind}
 use Rattle.cfb_objects.specs.Changes.{MovesContentOf}
 use Rattle.cfb_objects.specs.Laws.{BecomesTree}
 use Rattle.cfb_objects.specs.Objects.{tree_from}
+use Rattle.cfb_objects.proofs.Balance.{all-stay-balanced, content-keeps-balance}
 use Rattle.cfb_objects.proofs.Becoming.{tree-becomes}
 use Rattle.cfb_objects.proofs.Fields.{content-changes-in-place}
-use Rattle.cfb_mini_sectors.specs.State.{IsChangeable, bytes_of, cases_of, content_of, entries_of, reading_of}
+use Rattle.cfb_mini_sectors.specs.State.{IsChangeable, MiniState, bytes_of, cases_of, content_of, entries_of, reading_of}
+use Rattle.cfb_mini_sectors.specs.Steps.{KeepsLimits}
 use Rattle.cfb_mini_sectors.proofs.HeldMini.{held-mini-is-read}
 use Rattle.cfb_content.specs.Contents.{IsStreamOf, KeepsOthers, MovesContent, len_of}
 use Rattle.cfb_content.proofs.Apart.{content-is}
@@ -105,15 +106,14 @@ content-keeps-stream i k old new change at = stream-stays old.base new.base i k 
 
 -- ---- files that were made here
 
-but-fields : (a b : Entry) → ButContent a b → ButFields a b
-but-fields a b e = record {
-  name = ap (λ (x : Entry). x.name) e;
-  obj_type = ap (λ (x : Entry). x.obj_type) e;
-  color = ap (λ (x : Entry). x.color) e;
-  left_sibling = ap (λ (x : Entry). x.left_sibling) e;
-  right_sibling = ap (λ (x : Entry). x.right_sibling) e;
-  child = ap (λ (x : Entry). x.child) e;
-}
+-- where the content of one stream moved all storages stay in balance
+pub moved-is-balanced : (old new : MiniState) (i : ℕ) → KeepsLimits old new → MovesContent old new i → IsStreamOf old i
+    → AreAllBalanced (cases_of old) (entries_of old) → AreAllBalanced (cases_of new) (entries_of new)
+moved-is-balanced old new i limits moves stream = all-stay-balanced (cases_of old) (cases_of new) (entries_of old) (entries_of new) stream.outline stream.is
+    (λ before after was is k there kind balanced.
+    let same : before ≡ after = IsOutline-unique (cases_of new) (entries_of new) before after (moved-is-outline old new i before limits.cases moves was) is in
+    content-keeps-balance (entries_of old) (entries_of new) k moves.same_length (λ j. moved-at old new i j moves)
+    (balanced (subst (λ (p : Outline). IsReached p k) (sym same) there) (λ e. kind (ap (λ (x : Entry). x.obj_type) (moved-at old new i k moves) ∙ e))))
 
 pub content-keeps-made : ContentKeepsMade
 content-keeps-made i old new limits moves stream made change used exact snug = record {
@@ -121,9 +121,5 @@ content-keeps-made i old new limits moves stream made change used exact snug = r
   used = used;
   exact = exact;
   snug = snug;
-  colored = λ o out.
-      subst (λ (p : Outline). AreColored (entries_of new) p)
-      (IsOutline-unique (cases_of new) (entries_of new) stream.outline o (moved-is-outline old new i stream.outline limits.cases moves stream.is) out)
-      (colors-same (entries_of old) (entries_of new) stream.outline
-      (λ k. but-fields (entry_at (entries_of old) k) (entry_at (entries_of new) k) (moved-at old new i k moves)) (made.colored stream.outline stream.is));
+  balanced = moved-is-balanced old new i limits moves stream made.balanced;
 }

@@ -66,7 +66,7 @@ module _ (s : MiniState) (n : ℕ) (b : Bool) where
     snug = λ k at.
         let fits = m.snug k (record { outline = at.outline; is = at.is; reached = at.reached }) in
         record { sectors = fits.sectors; mini_sectors = fits.mini_sectors };
-    colored = m.colored;
+    balanced = m.balanced;
   }
 
 pub flags-not-read : FlagsAreNotRead

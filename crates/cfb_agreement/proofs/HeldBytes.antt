@@ -13,9 +13,10 @@ use Rattle.cfb_format.specs.Soundness.{IsSound, IsSoundFile}
 use Rattle.cfb_format.proofs.Unique.{IsOutline-unique, Reads-unique}
 use Rattle.cfb_soundness.proofs.Owned.{nothing-loose-owned}
 use Rattle.cfb_objects.specs.Objects.{tree_from}
+use Rattle.cfb_objects.proofs.Balance.{balanced-is-red-apart, balanced-storages-are-low}
 use Rattle.cfb_mini_sectors.specs.State.{MiniState, bytes_of, cases_of, content_of, entries_of, header_of_version, reading_of, tables_in, version_of}
 use Rattle.cfb_mini_sectors.proofs.HeldMini.{held-mini-is-read, held-mini-is-strict}
-use Rattle.cfb_agreement.specs.Laws.{AsMadeIsInOrder, ChangeableIsHeld, HeldMeansItsTree, SoundIsExact}
+use Rattle.cfb_agreement.specs.Laws.{AsMadeIsInOrder, AsMadeIsLow, ChangeableIsHeld, HeldMeansItsTree, SoundIsExact}
 
 pub changeable-is-held : ChangeableIsHeld
 changeable-is-held file o counts change out =
@@ -66,12 +67,16 @@ sound-is-exact file held = (
 
 -- ---- files that were made here
 
+pub as-made-is-low : AsMadeIsLow
+as-made-is-low s o made out k there kind = balanced-storages-are-low (entries_of s) k (made.balanced o out k there kind)
+
 pub as-made-is-in-order : AsMadeIsInOrder
 as-made-is-in-order file held made = record {
   strict = record {
     reading = r;
     reads = held.reads;
-    holds = held-mini-is-strict file.base held.header held.outline made.changeable.held held.reads.header held.reads.outline (made.colored held.outline held.reads.outline).apart;
+    holds = held-mini-is-strict file.base held.header held.outline made.changeable.held held.reads.header held.reads.outline
+        (balanced-is-red-apart (cases_of file.base) (entries_of file.base) held.outline held.reads.outline (made.balanced held.outline held.reads.outline));
   };
   owned = record {
     reading = r;
@@ -85,6 +90,11 @@ as-made-is-in-order file held made = record {
       fats = subst (λ w. length (tables_in file.base).fat_sectors ≡ rounded_up (length (tables_in file.base).fat) (words_per_sector w)) (sym held.version) made.exact.fats;
       difats = subst (λ w. length (tables_in file.base).difat_sectors ≡ rounded_up (length (tables_in file.base).fat_sectors - header_difat_len) (words_per_sector w - 1)) (sym held.version) made.exact.difats;
     };
+  };
+  low = record {
+    reading = r;
+    reads = held.reads;
+    holds = as-made-is-low file.base held.outline made held.reads.outline;
   };
 }
   where

@@ -3,11 +3,11 @@ use Rattle.std.specs.Prelude.{ℕ, ◌≡◌, ◌<◌, Bool, true, false, length
 use Rattle.cfb_format.specs.declared.header.Header.{Header}
 use Rattle.cfb_format.specs.declared.validate.Validation.TheVariants.{Permissive, Strict}
 use Rattle.cfb_format.specs.Full.{IsFull}
-use Rattle.cfb_format.specs.Reading.{IsOutline, Outline, Reads}
+use Rattle.cfb_format.specs.Reading.{Outline, Reads}
 use Rattle.cfb_format.specs.Soundness.{IsSound}
 use Rattle.cfb_tables.specs.Changes.{NoneFree}
 use Rattle.cfb_tables.specs.Tables.{AreExactTables}
-use Rattle.cfb_trees.specs.Colors.{AreColored}
+use Rattle.cfb_trees.specs.Balance.{AreAllBalanced}
 use Rattle.cfb_mini_sectors.specs.State.{IsChangeable, MiniState, bytes_of, cases_of, entries_of, parts_of, reading_of, table_of, tables_in, version_of}
 use Rattle.cfb_mini_sectors.specs.Steps.{KeepsLimits}
 use Rattle.cfb_mini.specs.MiniSectors.{IsStill}
@@ -48,13 +48,13 @@ Agrees file = is_failed file ≡ false → Holds file
 
 -- what creation gives and each success keeps: the bytes are sound, and such as strict opening takes; each sector and each mini sector is
 -- free or has an owner; the tables are as long as the file needs, and each stream's chain as long as its length needs; and the siblings of
--- each storage have a black top and no red one under a red one
+-- each storage are in balance
 pub record IsAsMade (s : MiniState) : Type 0 where
   pub changeable : IsChangeable Strict s
   pub used : AreAllUsed s
   pub exact : AreExactTables (tables_in s)
   pub snug : AreSnug s
-  pub colored : (o : Outline) → IsOutline (cases_of s) (entries_of s) o → AreColored (entries_of s) o
+  pub balanced : AreAllBalanced (cases_of s) (entries_of s)
 
 -- ---- what stays
 

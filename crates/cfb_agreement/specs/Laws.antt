@@ -10,6 +10,7 @@ use Rattle.cfb_rules.specs.CallChanges.{content_changed_at}
 use Rattle.cfb_siblings.specs.Paths.{number_from}
 use Rattle.cfb_tables.specs.Changes.{NoneFree}
 use Rattle.cfb_tables.specs.Tables.{AreExactTables}
+use Rattle.cfb_objects.specs.Balance.{AreLow, IsLowFile}
 use Rattle.cfb_objects.specs.Laws.{BecomesTree}
 use Rattle.cfb_objects.specs.Objects.{tree_from}
 use Rattle.cfb_mini_sectors.specs.Held.{with_table}
@@ -54,14 +55,20 @@ HeldMeansItsTree = (file : FileState) (o : Outline) → Holds file → IsOutline
 abbrev pub SoundIsExact : Type 0
 SoundIsExact = (file : FileState) → Holds file → (file.is_sound ≡ true) ↔ IsSoundFile (cases_of file.base) (bytes_of file.base)
 
--- those of a file that was made here are what strict opening takes, each sector is free or has an owner, and the tables are exact
+-- those of a file that was made here are what strict opening takes, each sector is free or has an owner, the tables are exact, and each
+-- storage's tree of siblings is low
 pub record IsInOrder (file : FileState) : Type 0 where
   pub strict : IsStrictFile (cases_of file.base) (bytes_of file.base)
   pub owned : IsOwnedFile (cases_of file.base) (bytes_of file.base)
   pub exact : HasExactTablesFile (cases_of file.base) (bytes_of file.base)
+  pub low : IsLowFile (cases_of file.base) (bytes_of file.base)
 
 abbrev pub AsMadeIsInOrder : Type 0
 AsMadeIsInOrder = (file : FileState) → Holds file → IsAsMade file.base → IsInOrder file
+
+-- what memory has of its storages is as low, whatever its bytes are
+abbrev pub AsMadeIsLow : Type 0
+AsMadeIsLow = (s : MiniState) (o : Outline) → IsAsMade s → IsOutline (cases_of s) (entries_of s) o → AreLow (entries_of s) o
 
 -- ---- one stream's content
 
@@ -73,7 +80,7 @@ ContentBecomesTree = (old new : FileState) (i : ℕ) (o : Outline) (names : List
     → BecomesTree (cases_of old.base) (bytes_of old.base) (bytes_of new.base)
     (content_changed_at (cases_of old.base) (content_of new.base (entry_at (entries_of new.base) i)) names)
 
--- a file that was made here is so again, where the tables and the chains are in order: the colours are kept
+-- a file that was made here is so again, where the tables and the chains are in order: the balance is kept
 abbrev pub ContentKeepsMade : Type 0
 ContentKeepsMade = (i : ℕ) (old new : MiniState) → KeepsLimits old new → MovesContent old new i → IsStreamOf old i → IsAsMade old
     → IsChangeable Strict new → AreAllUsed new → AreExactTables (tables_in new) → AreSnug new → IsAsMade new

@@ -1,5 +1,5 @@
 //! What follows from what a file keeps. None of these functions does anything: each has a law as its contract.
-ghost use Rattle.cfb_agreement.specs.Laws.{AsBeforeIsNone, AsBeforeIsSame, AsMadeIsInOrder, ChangeableIsHeld, ContentBecomesTree, ContentKeepsMade, ContentKeepsStream, ContentsInTurn, FlagsAreNotMade, FlagsAreNotRead, HeldMeansItsTree, SameContentIsNone, SoundIsExact};
+ghost use Rattle.cfb_agreement.specs.Laws.{AsBeforeIsNone, AsBeforeIsSame, AsMadeIsInOrder, AsMadeIsLow, ChangeableIsHeld, ContentBecomesTree, ContentKeepsMade, ContentKeepsStream, ContentsInTurn, FlagsAreNotMade, FlagsAreNotRead, HeldMeansItsTree, SameContentIsNone, SoundIsExact};
 
 /// What holds does not hang on whether a change was begun, nor on the count of failures.
 pub fn flags_are_not_read()
@@ -18,6 +18,12 @@ pub fn bytes_are_what_is_held()
     ensures means { HeldMeansItsTree }
     ensures sound { SoundIsExact }
     ensures in_order { AsMadeIsInOrder }
+{}
+
+/// In a file that was made here each storage with n names has a tree of siblings of at most 2b levels,
+/// for a b with 2^b at most n + 1 (MS-CFB 2.6.4).
+pub fn made_files_have_low_storages()
+    ensures { AsMadeIsLow }
 {}
 
 /// Where the content of one stream changed, the bytes mean the tree with that content, and a file that was made here is in order still.

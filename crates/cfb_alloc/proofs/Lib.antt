@@ -13,6 +13,7 @@ pub mod FrameLemmas
 pub mod FreeingLemmas
 pub mod GrowthLemmas
 pub mod HeldLemmas
+pub mod RunWords
 pub mod SeekLemmas
 pub mod SoundTables
 pub mod StrictFat

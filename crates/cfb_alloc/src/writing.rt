@@ -1,11 +1,12 @@
 //! Writing what has changed in the tables to the sectors that hold them (MS-CFB 2.3 and 2.5).
-ghost use Rattle.std.specs.Prelude.{◌≡◌, ℕ, List, [], ◌∷◌, ◌++◌, ◌+◌, ◌*◌, ◌-◌, ◌<◌, ◌≤◌, length, take, drop, true, IsTrue, Contains, OnOk, IfErr, IfOk, nat_eq, nat_lt, slice_index, max, ◌^◌, if◌then◌else◌};
+ghost use Rattle.std.specs.Prelude.{◌≡◌, ◌%◌, ℕ, List, [], ◌∷◌, ◌++◌, ◌+◌, ◌*◌, ◌-◌, ◌<◌, ◌≤◌, length, take, drop, true, IsTrue, Contains, OnOk, IfErr, IfOk, nat_eq, nat_lt, slice_index, max, ◌^◌, if◌then◌else◌};
 ghost use Rattle.std.specs.List.{IsDistinct};
 ghost use Rattle.cfb_format.specs.declared.validate.Validation.{Validation};
 ghost use Rattle.cfb_format.specs.Bytes.{max_regular_sector, is_whole_sector, sector_start, sector_len, words_per_sector};
-ghost use Rattle.cfb_format.specs.Medium.{ChangesOnlyBytes};
+ghost use Rattle.cfb_format.specs.Medium.{ChangesOnlyBytes, written};
 ghost use Rattle.cfb_alloc.specs.Agreement.{word_home};
 ghost use Rattle.cfb_tables.specs.Changes.{AreDisjoint};
+ghost use Rattle.cfb_tables.specs.Consecutive.{FollowOn};
 ghost use Rattle.cfb_sectors.specs.Words.{RangeStays, with_word};
 ghost use Rattle.cfb_format.specs.Full.{rounded_up};
 ghost use Rattle.cfb_format.specs.Header.{header_difat_len};
@@ -17,10 +18,12 @@ ghost use Rattle.cfb_tables.specs.Tables.{TableState, HasTaken, IsCovered};
 ghost use Rattle.cfb_alloc.specs.Difat.{ListsTables, difat_places, difat_place, freed_behind, listed_in_header, listed_in_sector, linked, link_place};
 ghost use Rattle.cfb_alloc.specs.Alloc.{IsPlaced, IsMeasured, HoldsBut, IsFilled, IsTablesWord, ChangesSectors};
 
+use cfb_format::bytes::put_words;
 use cfb_format::consts::{FREE_SECTOR, NUM_DIFAT_ENTRIES_IN_HEADER};
 use cfb_format::error::Error;
 use cfb_format::medium::Medium;
 use cfb_sectors::sector::{SectorInit, Sectors};
+use cfb_tables::consecutive::count_consecutive;
 use cfb_tables::tables::Tables;
 use std::alloc::Allocator;
 
@@ -157,51 +160,62 @@ fn write_tables_word<F: Medium>(
     sectors.write_header_word(offset, value)
 }
 
-/// Writes a value at the place of a sector's number in the FAT (MS-CFB 2.3). `Medium`.
-fn write_fat_word<F: Medium>(
+/// Writes these bytes into one of these sectors, from a word of it on. `Medium`.
+fn write_words_in<F: Medium>(
     sectors: &mut Sectors<F>,
-    fat_sectors: &[u32],
-    number: u32,
-    value: u32,
+    list: &[u32],
+    place: usize,
+    index: usize,
+    from: &[u8],
 ) -> Result<(), Error>
-    requires there { number < length fat_sectors.now * words_per_sector sectors.old.version }
-    requires below { (i : ℕ) → Contains fat_sectors.now i → i < sectors.old.num_sectors }
+    requires some { 0 < length from.now }
+    requires place { place < length list.now }
+    requires inside { 4 * index + length from.now ≤ sector_len sectors.old.version }
+    requires below { (i : ℕ) → Contains list.now i → i < sectors.old.num_sectors }
     ensures kept { sectors.new ≡ record sectors.old {
       len = sectors.new.len;
       bytes = sectors.new.bytes;
       failures = sectors.new.failures;
       begun = true;
     } }
-    ensures ok { IsTrue F.tells → OnOk result (sectors.new.bytes ≡ with_word sectors.old.bytes
-        (word_home sectors.old.version fat_sectors.now number) value) }
+    ensures ok { IsTrue F.tells → OnOk result (sectors.new.bytes
+        ≡ written sectors.old.bytes (sector_start sectors.old.version (slice_index list.now place)
+        + 4 * index) from.now) }
     ensures len { IsTrue F.tells → OnOk result (sectors.new.len
-        ≡ max sectors.old.len (word_home sectors.old.version fat_sectors.now number + 4)) }
-    ensures only { IsTrue F.tells
-        → ChangesOnlyBytes (word_home sectors.old.version fat_sectors.now number)
-        4 sectors.old.bytes sectors.new.bytes }
+        ≡ max sectors.old.len (sector_start sectors.old.version (slice_index list.now place)
+        + 4 * index + length from.now)) }
     ensures changes { IsTrue F.tells
-        → ChangesSectors fat_sectors.now sectors.old.version sectors.old.bytes sectors.new.bytes }
-    ensures fits { value < 2 ^ 32 }
+        → ChangesSectors list.now sectors.old.version sectors.old.bytes sectors.new.bytes }
     ensures header { sector_len sectors.old.version ≤ sectors.old.len }
     ensures err { IfErr result IsMediumError }
     ensures counts { IsTrue F.tells
         → CountsFailure F.write_faults result sectors.old.failures sectors.new.failures }
 {
-    let _fact = sectors.num_sectors();
-    let words = sectors.version().words_per_sector();
-    let number = number as usize;
-    write_word_in(sectors, fat_sectors, number / words, number % words, value)
+    let _count = sectors.num_sectors();
+    sectors.write_contiguous(list[place], 4 * index, from)
 }
 
-/// Writes the value of a sector into the FAT (MS-CFB 2.3). `Medium`.
-fn write_value<F: Medium, A: Allocator>(
+/// Each value has the width of a word. It does nothing.
+fn values_fit(fat: &[u32])
+    ensures { (i : ℕ) → slice_index fat.now i < 2 ^ 32 }
+{
+    let _values = fat;
+}
+
+/// Writes the values of sectors whose numbers follow each other, and whose words stand in one FAT
+/// sector, by one call of the medium (MS-CFB 2.3). `Medium`.
+fn write_run<F: Medium, A: Allocator>(
     sectors: &mut Sectors<F>,
     tables: &Tables<A>,
-    number: u32,
+    numbers: &[u32],
 ) -> Result<(), Error>
     requires placed { IsPlaced sectors.old tables.now }
     requires covered { IsCovered tables.now }
-    requires below { number < length tables.now.fat }
+    requires some { 0 < length numbers.now }
+    requires run { FollowOn numbers.now 0 (length numbers.now) }
+    requires together { slice_index numbers.now 0 % words_per_sector sectors.old.version
+        + length numbers.now ≤ words_per_sector sectors.old.version }
+    requires below { slice_index numbers.now 0 + length numbers.now ≤ length tables.now.fat }
     ensures kept { sectors.new ≡ record sectors.old {
       len = sectors.new.len;
       bytes = sectors.new.bytes;
@@ -209,7 +223,7 @@ fn write_value<F: Medium, A: Allocator>(
       begun = true;
     } }
     ensures ok { IsTrue F.tells → (validation : Validation) (late : List ℕ)
-        → HoldsBut validation (number ∷ late) sectors.old tables.now
+        → HoldsBut validation (numbers.now ++ late) sectors.old tables.now
         → OnOk result (HoldsBut validation late sectors.new tables.now) }
     ensures changes { IsTrue F.tells → ChangesSectors
         tables.now.fat_sectors sectors.old.version sectors.old.bytes sectors.new.bytes }
@@ -217,8 +231,19 @@ fn write_value<F: Medium, A: Allocator>(
     ensures counts { IsTrue F.tells
         → CountsFailure F.write_faults result sectors.old.failures sectors.new.failures }
 {
-    let value = tables.fat()[number as usize];
-    write_fat_word(sectors, tables.fat_sectors(), number, value)
+    let words = sectors.version().words_per_sector();
+    let first = numbers[0] as usize;
+    let fat = tables.fat();
+    values_fit(fat);
+    let mut buffer = [0; 4096];
+    let end = put_words(&mut buffer, 0, &fat[first..first + numbers.len()]);
+    write_words_in(
+        sectors,
+        tables.fat_sectors(),
+        first / words,
+        first % words,
+        &buffer[..end],
+    )
 }
 
 /// Writes the values of these sectors into the FAT (MS-CFB 2.3). `Medium`.
@@ -247,8 +272,13 @@ pub fn write_values<F: Medium, A: Allocator>(
     ensures counts { IsTrue F.tells
         → CountsFailure F.write_faults result sectors.old.failures sectors.new.failures }
 {
-    for number in numbers {
-        write_value(sectors, tables, *number)?;
+    let words = sectors.version().words_per_sector();
+    let mut done = 0;
+    while done < numbers.len() {
+        let first = numbers[done] as usize;
+        let run = count_consecutive(numbers, done, words - first % words);
+        write_run(sectors, tables, &numbers[done..done + run])?;
+        done += run;
     }
     Ok(())
 }

@@ -8,3 +8,5 @@ mod files;
 mod listed;
 #[cfg(test)]
 mod pieces;
+#[cfg(test)]
+mod words;

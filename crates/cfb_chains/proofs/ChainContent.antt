@@ -10,8 +10,8 @@ use Rattle.cfb_format.specs.declared.version.Version.{Version}
 use Rattle.cfb_format.specs.declared.version.Version.TheVariants.{V3, V4}
 use Rattle.cfb_format.specs.Bytes.{sector_len, sector_start, sector_bytes}
 use Rattle.cfb_format.specs.Content.{bytes_along}
-use Rattle.cfb_format.specs.Medium.{part, written}
-use Rattle.cfb_format.proofs.ByteLemmas.{length-written, written_below, written_at, written_above, written_from_bytes, written_inside, part_at, length-part}
+use Rattle.cfb_format.specs.Medium.{written}
+use Rattle.cfb_format.proofs.ByteLemmas.{length-written, written_below, written_at, written_above, written_from_bytes, written_inside}
 use Rattle.cfb_alloc.specs.Agreement.{HasSectors, KeepsSectors}
 use Rattle.cfb_alloc.specs.Alloc.{IsFilled}
 use Rattle.cfb_chains.specs.ChainPlaces.{place_along}
@@ -262,31 +262,6 @@ along_written v bytes ids k from once h inside short =
     let low : i < length ids * sector_len v = omega (arith, within, long) in
     along_at v new ids i has low ∙ beside_kept bytes (place_along v ids k) (place_along v ids i) from (beside v ids i k (length from) once low inside short (inr more))
     ∙ sym (along_at v bytes ids i h low))
-
--- ---- a read within one of its sectors
-
-place_fits : (v : Version) (bytes ids : List ℕ) (k : ℕ) → HasSectors v bytes ids → k < length ids * sector_len v
-    → sector_start v (slice_index ids (k / sector_len v)) + sector_len v ≤ length bytes
-place_fits v bytes ids k h inside = h (slice_index ids (k / sector_len v)) (Contains-get_or ids (k / sector_len v) 0 (index_inside v k (length ids) inside))
-
-pub along_read : (v : Version) (bytes ids : List ℕ) (k n : ℕ) → HasSectors v bytes ids → k < length ids * sector_len v → k % sector_len v + n ≤ sector_len v
-    → part bytes (sector_start v (slice_index ids (k / sector_len v)) + k % sector_len v) n ≡ part (bytes_along v bytes ids) k n
-along_read v bytes ids k n h inside short =
-    let at = place_along v ids k in
-    let fits = place_fits v bytes ids k h inside in
-    let step = step_within v k (length ids) n inside short in
-    let left = length-part bytes at n in
-    let right = length-part (bytes_along v bytes ids) k n in
-    let long = along_len v bytes ids h in
-    let left_full : length (part bytes at n) ≡ n = omega (arith, left, fits, short) in
-    let right_full : length (part (bytes_along v bytes ids) k n) ≡ n = omega (arith, right, long, step) in
-    ext_get_or 0 (part bytes at n) (part (bytes_along v bytes ids) k n) (left_full ∙ sym right_full)
-    (λ i within.
-    let less : i < n = omega (arith, within, left_full) in
-    part_at bytes at n i less
-    ∙ ap (slice_index bytes) (sym (place_later v ids k i (omega (arith, short, less))))
-    ∙ sym (along_at v bytes ids (k + i) h (omega (arith, step, less)))
-    ∙ sym (part_at (bytes_along v bytes ids) k n i less))
 
 -- ---- the end is cut off
 

@@ -1,5 +1,5 @@
 -- The list of a chain's sectors, as the chain grows, is cut, or breaks off.
-use Rattle.std.proofs.Common.{◌≡◌, ◌≢◌, ◌<◌, ◌≤◌, ◌+◌, ◌-◌, ◌*◌, ◌⊎◌, min, inl, inr, ℕ, true, List, [], ◌∷◌, ◌++◌, sym, ◌∙◌, ap, subst, length, take, arith}
+use Rattle.std.proofs.Common.{◌≡◌, ◌<◌, ◌≤◌, ◌+◌, ◌-◌, ◌*◌, ◌⊎◌, min, inl, inr, ℕ, true, List, [], ◌∷◌, ◌++◌, sym, ◌∙◌, ap, subst, length, take, arith}
 use Rattle.std.specs.Prelude.{Some, Result, Ok, Err, OnOk, OnErr, IfErr, Contains}
 use Rattle.std.proofs.lemmas.Bool.{cases_eq}
 use Rattle.std.proofs.lemmas.List.{take_more, take_all}

@@ -1,23 +1,22 @@
 -- What stands along a lent chain, as it is read, written, grown and cut.
 use Rattle.std.proofs.Common.{◌≡◌, ◌<◌, ◌≤◌, ◌+◌, ◌-◌, ◌*◌, ◌/◌, ◌%◌, ◌⊎◌, inl, inr, ℕ, zero, suc, min, List, ◌++◌, refl, sym, ◌∙◌, ap, subst, length, take, replicate, arith, length-take}
-use Rattle.std.specs.Prelude.{Some, Contains, slice_index, nat_eq, Result, Ok, Err}
+use Rattle.std.specs.Prelude.{Some, Contains, slice_index, Result, Ok, Err}
 use Rattle.std.specs.Result.{OnOk}
-use Rattle.std.specs.List.{IsDistinct}
 use Rattle.std.proofs.lemmas.List.{append-nil, take-take, take_all, length-replicate}
 use Rattle.std.proofs.lemmas.List.Elements.{Contains-append_cases}
 use Rattle.cfb_format.specs.declared.validate.Validation.{Validation}
 use Rattle.cfb_format.specs.declared.version.Version.{Version}
 use Rattle.cfb_format.specs.declared.version.Version.TheVariants.{V3, V4}
-use Rattle.cfb_format.specs.Bytes.{sector_len, sector_start, fat_sector, difat_sector, max_regular_sector, end_of_chain}
+use Rattle.cfb_format.specs.Bytes.{sector_len, fat_sector, difat_sector, max_regular_sector, end_of_chain}
 use Rattle.cfb_format.specs.Chain.{value, chain_from}
 use Rattle.cfb_format.specs.Content.{bytes_along}
 use Rattle.cfb_format.specs.Full.{rounded_up}
-use Rattle.cfb_format.specs.Medium.{part, written}
+use Rattle.cfb_format.specs.Medium.{written}
 use Rattle.cfb_alloc.specs.Agreement.{HasSectors, KeepsSectors}
 use Rattle.cfb_alloc.specs.Alloc.{AllocatorState, HoldsTables, ChangesSectors, OthersStay, IsFilled}
 use Rattle.cfb_sectors.specs.Sectors.{copies, init_bytes}
 use Rattle.cfb_sectors.specs.declared.sector.SectorInit.{SectorInit}
-use Rattle.cfb_chains.proofs.ChainContent.{along_len, along_stays, sectors_stay, along_grown, grown_has, along_written, written_has, along_read, along_cut, cut_has, written_to_end}
+use Rattle.cfb_chains.proofs.ChainContent.{along_len, along_stays, sectors_stay, along_grown, grown_has, along_cut, cut_has, written_to_end}
 use Rattle.cfb_tables.proofs.ChainLemmas.{follows-values, members-busy}
 use Rattle.cfb_alloc.proofs.ChainView.{found_chain}
 use Rattle.cfb_tables.proofs.Members.{Contains-nil, value-at}
@@ -26,7 +25,7 @@ use Rattle.cfb_tables.proofs.Members.{Contains-nil, value-at}
 abbrev pub HasContent : Version → List ℕ → List ℕ → List ℕ → Type 0
 HasContent v bytes ids content = HasSectors v bytes ids × (bytes_along v bytes ids ≡ content)
 
-content_same : (v v' : Version) (bytes bytes' ids ids' content : List ℕ) → v' ≡ v → bytes' ≡ bytes → ids' ≡ ids → HasContent v bytes ids content → HasContent v' bytes' ids' content
+pub content_same : (v v' : Version) (bytes bytes' ids ids' content : List ℕ) → v' ≡ v → bytes' ≡ bytes → ids' ≡ ids → HasContent v bytes ids content → HasContent v' bytes' ids' content
 content_same v v' bytes bytes' ids ids' content version same listed h =
     subst (λ (w : Version). HasContent w bytes' ids' content) (sym version)
     (subst (λ (b : List ℕ). HasContent v b ids' content) (sym same)
@@ -61,23 +60,6 @@ keeps_own validation a b s ids e h others i m =
 pub keeps_cut : (validation : Validation) (a b : AllocatorState) (s : ℕ) (ids : List ℕ) → chain_from a.tables.fat s ≡ Some ids → HoldsTables validation a
     → ChangesSectors a.tables.fat_sectors a.tables.version a.file.bytes b.file.bytes → KeepsSectors a.tables.version ids a.file.bytes b.file.bytes
 keeps_cut validation a b s ids e h changes i m = changes.sectors i (no_fat_sector validation a s ids e h i m)
-
--- ---- reading and writing
-
-pub content_read : (v : Version) (bytes ids into : List ℕ) (sector offset k n : ℕ) → sector ≡ slice_index ids (k / sector_len v) → offset ≡ k % sector_len v
-    → HasSectors v bytes ids → k < length ids * sector_len v → offset + n ≤ sector_len v → take n into ≡ part bytes (sector_start v sector + offset) n
-    → take n into ≡ part (bytes_along v bytes ids) k n
-content_read v bytes ids into sector offset k n is off h inside short read =
-    read ∙ (λ j. part bytes (sector_start v (is j) + off j) n) ∙ along_read v bytes ids k n h inside (omega (arith, short, off))
-
-pub content_written : (v v' : Version) (old new ids ids' : List ℕ) (k at : ℕ) (from : List ℕ) → v' ≡ v → ids' ≡ ids → IsDistinct nat_eq ids → HasSectors v old ids
-    → k < length ids * sector_len v → k % sector_len v + length from ≤ sector_len v
-    → at ≡ sector_start v (slice_index ids (k / sector_len v)) + k % sector_len v → new ≡ written old at from
-    → HasContent v' new ids' (written (bytes_along v old ids) k from)
-content_written v v' old new ids ids' k at from version listed once h inside short place is =
-    let there = sector_start v (slice_index ids (k / sector_len v)) + k % sector_len v in
-    content_same v v' (written old there from) new ids ids' (written (bytes_along v old ids) k from) version (is ∙ ap (λ n. written old n from) place) listed
-    (written_has v old ids there from h, along_written v old ids k from once h inside short)
 
 -- ---- growing and cutting
 

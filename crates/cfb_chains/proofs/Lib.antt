@@ -1,10 +1,10 @@
 pub mod ChainBytes
 pub mod ChainContent
-pub mod ChainHeld
 pub mod ChainLists
 pub mod ChainWrites
 pub mod LentContent
 pub mod OwnWrites
 pub mod PlacedBytes
 pub mod PlacedChains
+pub mod ChainRuns
 pub mod Sparing

@@ -1,5 +1,5 @@
 -- What a write and a set length make of each byte of a lent chain.
-use Rattle.std.proofs.Common.{◌≡◌, ◌≤◌, ◌<◌, ◌+◌, ◌-◌, ◌*◌, ◌/◌, ◌%◌, ◌⊎◌, inl, inr, ℕ, List, ◌++◌, sym, ◌∙◌, ap, subst, length, take, replicate, arith, length-take, get_or-take}
+use Rattle.std.proofs.Common.{◌≡◌, ◌≤◌, ◌<◌, ◌+◌, ◌-◌, ◌*◌, ◌/◌, ◌%◌, ◌⊎◌, inl, inr, ℕ, List, ◌++◌, sym, ◌∙◌, ap, subst, length, take, replicate, arith}
 use Rattle.std.specs.Prelude.{Contains, Vec, slice_index, nat_eq}
 use Rattle.std.specs.List.{IsDistinct}
 use Rattle.std.proofs.lemmas.Bool.{cases_lt}
@@ -8,40 +8,19 @@ use Rattle.cfb_format.specs.Bytes.{sector_len, free_sector}
 use Rattle.cfb_format.specs.Chain.{value}
 use Rattle.cfb_format.specs.declared.version.Version.{Version}
 use Rattle.cfb_format.specs.Full.{rounded_up}
-use Rattle.cfb_format.specs.Medium.{ChangesOnlyBytes, written}
+use Rattle.cfb_format.specs.Medium.{written}
 use Rattle.cfb_format.specs.declared.medium.ReadMedium as medium
 use Rattle.cfb_alloc.specs.Agreement.{KeepsSectors}
 use Rattle.cfb_alloc.specs.Alloc.{IsFilled}
 use Rattle.cfb_chains.specs.ChainPlaces.{place_along}
-use Rattle.cfb_chains.specs.LentChain.{allocator_of, ids_of, init_of, version_of, len_of, position_of, file_bytes_of, place_at, place_of, byte_of, HoldsWanted, ChangesOnlyWanted, HasWritten, HasResized}
+use Rattle.cfb_chains.specs.LentChain.{allocator_of, ids_of, init_of, version_of, len_of, position_of, file_bytes_of, place_at, byte_of, HoldsWanted, ChangesOnlyWanted, HasWritten, HasResized}
 use Rattle.cfb_chains.specs.declared.chain.Chain.{Chain}
 use Rattle.cfb_chains.specs.declared.chain.Numbers as numbers
-use Rattle.cfb_chains.proofs.ChainContent.{place_later}
 use Rattle.cfb_chains.proofs.OwnWrites.{enough_by}
-use Rattle.cfb_chains.proofs.PlacedBytes.{as_many, gained_member, index_before, grown_fresh, grown_place, grown_stays, kept_beside, kept_there, left_len, left_place, longer_chain, no_more, put_there, zero_kept, zero_there}
+use Rattle.cfb_chains.proofs.PlacedBytes.{as_many, gained_member, index_before, grown_fresh, grown_place, grown_stays, kept_there, left_len, left_place, longer_chain, no_more, zero_kept, zero_there}
 
 module _ {F A : Type 0} {g : medium.Ghosts F} {l : numbers.Ghosts (Vec ℕ A)} where
-  -- ---- a write within a sector
-
-  -- another byte of the file than those that were written
-  pub only_wanted : (old new : Chain F A (Vec ℕ A) g l) (count m : ℕ) → ChangesOnlyBytes (place_of old) m (file_bytes_of old) (file_bytes_of new) → m ≤ count
-      → position_of old + m ≤ len_of old → position_of old % sector_len (version_of old) + m ≤ sector_len (version_of old) → ChangesOnlyWanted count old new
-  only_wanted old new count m change few fits short = record {
-    no_shorter = change.no_shorter;
-    others = λ i within other.
-        let at = place_of old in
-        elim (cases_lt i at) [
-          | inl below ↦ change.below i within below
-          | inr from ↦
-              elim (cases_lt i (at + m)) [
-                | inl inside ↦
-                    (let p = position_of old in
-                    let later = place_later (version_of old) (ids_of old) p (i - at) (omega (arith, short, from, inside)) in
-                    absurd (other (p + (i - at)) (omega arith) (omega (arith, few, from, inside)) (omega (arith, fits, from, inside)) (later ∙ omega (arith, from))))
-                | inr above ↦ change.above i within above
-              ]
-        ];
-  }
+  -- ---- a write
 
   pub nothing_wanted : (old new : Chain F A (Vec ℕ A) g l) (count : ℕ) → file_bytes_of new ≡ file_bytes_of old → ChangesOnlyWanted count old new
   nothing_wanted old new count same = record {
@@ -64,41 +43,6 @@ module _ {F A : Type 0} {g : medium.Ghosts F} {l : numbers.Ghosts (Vec ℕ A)} w
       gap = λ as_long k inside other past. (λ j. slice_index (same j) (same_place k j)) ∙ get_or_past (file_bytes_of old) (place_at old k) 0 past;
       fresh = λ k low high behind. let is = same_len in absurd (omega (arith, is, low, high));
     }
-
-    module _ (once : IsDistinct nat_eq (ids_of old)) (put : file_bytes_of new ≡ written (file_bytes_of old) (place_of old) (take m from)) (inside : position_of old < len_of old)
-        (short : position_of old % sector_len (version_of old) + m ≤ sector_len (version_of old)) (few : m ≤ length from) where
-      count : length (take m from) ≡ m
-      count = omega (arith, few, length-take m from)
-
-      fits : position_of old % sector_len (version_of old) + length (take m from) ≤ sector_len (version_of old)
-      fits = let is = count in omega (arith, is, short)
-
-      kept : (k : ℕ) → k < len_of old → (k < position_of old) ⊎ (position_of old + m ≤ k) → byte_of new k ≡ byte_of old k
-      kept k low other =
-          let is = count in
-          let apart : (k < position_of old) ⊎ (position_of old + length (take m from) ≤ k) = elim other [ inl below ↦ inl below | inr above ↦ inr (omega (arith, above, is)) ] in
-          (λ j. slice_index (put j) (same_place k j))
-          ∙ kept_beside (version_of old) (ids_of old) (file_bytes_of old) (position_of old) (take m from) once inside fits k low apart
-
-      there : (j : ℕ) → j < m → (place_at new (position_of old + j) < length (file_bytes_of new)) × (byte_of new (position_of old + j) ≡ slice_index from j)
-      there j less =
-          let is = count in
-          let stands = put_there (version_of old) (ids_of old) (file_bytes_of old) (position_of old) (take m from) once inside fits j (omega (arith, is, less)) in
-          let at = same_place (position_of old + j) in
-          let long = ap (λ (xs : List ℕ). length xs) put in
-          let within = stands.0 in (
-            omega (arith, at, long, within),
-            (λ i. slice_index (put i) (at i)) ∙ stands.1 ∙ get_or-take m from j 0 less,
-          )
-
-      pub wrote_here : HasWritten m from old new
-      wrote_here = record {
-        places = λ k low. same_place k;
-        written = there;
-        stays = λ k low other had. kept k low other;
-        gap = λ as_long k low other past. kept k low other ∙ get_or_past (file_bytes_of old) (place_at old k) 0 past;
-        fresh = λ k low high behind. let is = same_len in absurd (omega (arith, is, low, high));
-      }
 
   -- ---- growth, and a write then
 

@@ -1,18 +1,10 @@
 -- What the calls on a chain spare: every sector in use that is none of the chain's.
-use Rattle.std.proofs.Common.{◌≡◌, ◌⊎◌, inl, inr, ℕ, List, [], ◌∷◌, ◌++◌, take, subst}
-use Rattle.std.specs.Prelude.{Contains}
-use Rattle.cfb_format.specs.Bytes.{free_sector}
-use Rattle.cfb_format.specs.Chain.{value}
+use Rattle.std.proofs.Common.{◌≡◌, inl, inr, ℕ, List, ◌++◌, take}
 use Rattle.cfb_alloc.specs.Alloc.{AllocatorState}
 use Rattle.cfb_alloc.specs.Frame.{Spares}
-use Rattle.cfb_alloc.proofs.Frames.{spares-less, spares-then}
+use Rattle.cfb_alloc.proofs.Frames.{spares-then}
 use Rattle.cfb_tables.specs.Tables.{HasTaken}
-use Rattle.cfb_tables.proofs.Members.{Contains-one}
 use Rattle.cfb_chains.proofs.OwnWrites.{own_gained, own_kept}
-
--- a change of one member
-pub member_spared : (ids : List ℕ) (sector : ℕ) (old new : AllocatorState) → Contains ids sector → Spares (sector ∷ []) old new → Spares ids old new
-member_spared ids sector old new member = spares-less (sector ∷ []) ids old new (λ i m. subst (Contains ids) (Contains-one sector i m) member)
 
 -- sectors are gained, and then the chain is written
 pub gained_spared : (ids ids' more touched : List ℕ) (old mid new : AllocatorState) → ids' ≡ ids ++ more → HasTaken old.tables mid.tables touched more

@@ -1,5 +1,5 @@
 -- What is seen of a chain whose allocator is lent: one list of bytes with a position (MS-CFB 2.3).
-use Rattle.std.specs.Prelude.{◌≡◌, ◌<◌, ◌≤◌, ◌⊎◌, ℕ, ◌+◌, ◌-◌, ◌*◌, ◌/◌, ◌%◌, min, List, [], ◌++◌, length, take, Result, Vec, slice_index, nat_lt, if◌then◌else◌}
+use Rattle.std.specs.Prelude.{◌≡◌, ◌<◌, ◌≤◌, ◌⊎◌, ℕ, ◌+◌, ◌-◌, ◌*◌, ◌/◌, ◌%◌, min, List, ◌++◌, length, take, Result, Vec, slice_index, nat_lt, if◌then◌else◌}
 use Rattle.std.specs.Borrow.{RattleType, MutBor, Fml, RestsIfErr}
 use Rattle.std.specs.declared.alloc.Allocator as heap
 use Rattle.cfb_format.specs.Bytes.{sector_len}

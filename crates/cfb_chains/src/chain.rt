@@ -20,6 +20,8 @@ ghost use Rattle.cfb_tables.specs.Listed.{ends_of, gained, last_or_end};
 use cfb_alloc::alloc::Allocator;
 use cfb_format::error::{Detail, Error};
 use cfb_format::medium::{Medium, ReadMedium};
+use cfb_runs::reading::read_run;
+use cfb_runs::writing::{write_run, zero_run};
 use cfb_sectors::sector::SectorInit;
 use cfb_tables::ends::first_number;
 use std::alloc::{Allocator as Heap, Global};
@@ -148,37 +150,12 @@ impl<'a, F: ReadMedium, A: Heap> Chain<'a, F, A> {
         Ok(())
     }
 
-    /// The sector where a byte lies, and 0 past the end.
-    fn sector_at(&self, position: u64) -> u32
-        ensures sector { result
-            ≡ slice_index (ids_of self.now) (position / sector_len (version_of self.now)) }
-        ensures member { position < len_of self.now → Contains (ids_of self.now) result }
-        ensures inside { position < len_of self.now
-            → result < length (allocator_of self.now).now.tables.fat }
+    /// How many bytes it has from the next one on.
+    fn left(&self) -> u64
+        ensures left { result ≡ left_of self.now }
+        ensures within { 0 < result → position_of self.now < len_of self.now }
     {
-        let index = position / self.allocator.sector_len() as u64;
-        self.ids.numbers().get(index as usize).copied().unwrap_or(0)
-    }
-
-    /// How far into its sector the next byte lies.
-    fn offset_here(&self) -> usize
-        ensures offset { result ≡ position_of self.now % sector_len (version_of self.now) }
-        ensures short { result < sector_len (version_of self.now) }
-    {
-        (self.position % self.allocator.sector_len() as u64) as usize
-    }
-
-    /// How many bytes its sector has from the next byte on, and 0 at the end.
-    fn room_here(&self) -> usize
-        ensures room { result ≡ room_of self.now }
-        ensures inside { 0 < result → position_of self.now < len_of self.now }
-        ensures within { 0 < result → position_of self.now % sector_len (version_of self.now)
-            + result ≤ sector_len (version_of self.now) }
-    {
-        if self.position >= self.len() {
-            return 0;
-        }
-        self.allocator.sector_len() - self.offset_here()
+        self.len() - self.position
     }
 
     /// Reads a beginning of what there is from the position on, as far as `into` has room, goes on behind it, and answers how many
@@ -220,54 +197,11 @@ impl<'a, F: ReadMedium, A: Heap> Chain<'a, F, A> {
         ensures counts { IsTrue F.tells → CountsFailure F.read_faults result
             (allocator_of self.old).now.file.failures (allocator_of self.new).now.file.failures }
     {
-        let room = into.len().min(self.room_here());
+        let room = (into.len() as u64).min(self.left());
         if room == 0 {
             return Ok(0);
         }
-        let count = self.read_here(&mut into[..room])?;
-        Ok(count)
-    }
-
-    /// Reads what is there of the sector at the position from there on, as far as `into` has room.
-    fn read_here(&mut self, into: &mut [u8]) -> Result<usize, Error>
-        requires some { 0 < length into.old }
-        requires inside { position_of self.old < len_of self.old }
-        requires within { position_of self.old % sector_len (version_of self.old) + length into.old
-            ≤ sector_len (version_of self.old) }
-        ensures same_allocator { (allocator_of self.new).ghost_name
-            ≡ (allocator_of self.old).ghost_name }
-        ensures tables { (allocator_of self.new).now.tables ≡ (allocator_of self.old).now.tables }
-        ensures kept { (allocator_of self.new).now.file ≡ record (allocator_of self.old).now.file {
-          bytes = (allocator_of self.new).now.file.bytes;
-          failures = (allocator_of self.new).now.file.failures;
-        } }
-        ensures chain { (ids_of self.new ≡ ids_of self.old) × (start_sector_of self.new
-            ≡ start_sector_of self.old) × (init_of self.new ≡ init_of self.old) }
-        ensures count { IfOk result (λ n. n
-            ≡ min (length into.old) ((allocator_of self.old).now.file.len - place_of self.old)) }
-        ensures some { IfOk result (λ n. 0 < n) }
-        ensures position { MatchResult result (λ n. position_of self.new
-            ≡ position_of self.old + n) (λ _. position_of self.new ≡ position_of self.old) }
-        ensures ok { IsTrue F.tells → IfOk result (λ n. take n into.new ≡ placed_from
-            (allocator_of self.old).now.file.bytes (place_in_chain (version_of self.old)
-            (allocator_of self.old).now.file.bytes (ids_of self.old)) (position_of self.old) n) }
-        ensures rest { IfOk result (λ n. drop n into.new ≡ drop n into.old) }
-        ensures content { IsTrue F.tells → IsWholeChain self.old → IfOk result (λ n. take n into.new
-            ≡ part (content_of self.old) (position_of self.old) n) }
-        ensures cut { (allocator_of self.old).now.file.len ≤ place_of self.old
-            → IsErrAnd result IsInvalidData }
-        ensures err { place_of self.old < (allocator_of self.old).now.file.len
-            → IfErr result IsMediumError }
-        ensures same { IsTrue F.tells
-            → OnOk result ((allocator_of self.new).now ≡ (allocator_of self.old).now) }
-        ensures bytes { IsTrue F.tells
-            → (allocator_of self.new).now.file.bytes ≡ (allocator_of self.old).now.file.bytes }
-        ensures counts { IsTrue F.tells → CountsFailure F.read_faults result
-            (allocator_of self.old).now.file.failures (allocator_of self.new).now.file.failures }
-    {
-        let sector = self.sector_at(self.position);
-        let offset = self.offset_here();
-        let count = read_sector(self.allocator, sector, offset, into)?;
+        let count = read_run(self.allocator, self.ids.numbers(), self.position, into)?;
         self.position += count as u64;
         Ok(count)
     }
@@ -337,62 +271,13 @@ impl<'a, F: Medium, A: Heap> Chain<'a, F, A> {
         ensures counts { IsTrue F.tells → CountsFailure F.write_faults result
             (allocator_of self.old).now.file.failures (allocator_of self.new).now.file.failures }
     {
-        let room = from.len().min(self.room_here());
+        let room = (from.len() as u64).min(self.left());
         if room == 0 {
             return Ok(0);
         }
-        self.write_here(&from[..room])?;
-        Ok(room)
-    }
-
-    /// Writes all of `from` over what the sector at the position has from there on.
-    fn write_here(&mut self, from: &[u8]) -> Result<(), Error>
-        requires some { 0 < length from.now }
-        requires inside { position_of self.old < len_of self.old }
-        requires within { position_of self.old % sector_len (version_of self.old) + length from.now
-            ≤ sector_len (version_of self.old) }
-        ensures same_allocator { (allocator_of self.new).ghost_name
-            ≡ (allocator_of self.old).ghost_name }
-        ensures tables { (allocator_of self.new).now.tables ≡ (allocator_of self.old).now.tables }
-        ensures kept { (allocator_of self.new).now.file ≡ record (allocator_of self.old).now.file {
-          len = (allocator_of self.new).now.file.len;
-          bytes = (allocator_of self.new).now.file.bytes;
-          failures = (allocator_of self.new).now.file.failures;
-          begun = (allocator_of self.new).now.file.begun;
-        } }
-        ensures chain { (ids_of self.new ≡ ids_of self.old) × (start_sector_of self.new
-            ≡ start_sector_of self.old) × (init_of self.new ≡ init_of self.old) }
-        ensures position { MatchResult result (λ _. position_of self.new ≡ position_of self.old
-            + length from.now) (λ _. position_of self.new ≡ position_of self.old) }
-        ensures ok { IsTrue F.tells → OnOk result ((allocator_of self.new).now.file
-            ≡ record (allocator_of self.old).now.file {
-              bytes = written (allocator_of self.old).now.file.bytes (place_of self.old) from.now;
-              len = max (allocator_of self.old).now.file.len (place_of self.old + length from.now);
-              begun = true;
-            }) }
-        ensures holds { IsTrue F.tells
-            → (validation : Validation) → HoldsTables validation (allocator_of self.old).now
-            → OnOk result (HoldsTables validation (allocator_of self.new).now) }
-        ensures content { IsTrue F.tells → IsWholeChain self.old → OnOk result
-            (HasBytes self.new (written (content_of self.old) (position_of self.old) from.now)) }
-        ensures err { IfErr result IsMediumError }
-        ensures begun { (allocator_of self.new).now.file.begun ≡ true }
-        ensures sectors { IsTrue F.tells → (i : ℕ) → i ≢ slice_index
-            (ids_of self.old) (position_of self.old / sector_len (version_of self.old))
-            → SectorStays (version_of self.old) i
-            (allocator_of self.old).now.file.bytes (allocator_of self.new).now.file.bytes }
-        ensures others { IsTrue F.tells → ChangesOnlyBytes (place_of self.old) (length from.now)
-            (allocator_of self.old).now.file.bytes (allocator_of self.new).now.file.bytes }
-        ensures spares { IsTrue F.tells
-            → Spares (ids_of self.old) (allocator_of self.old).now (allocator_of self.new).now }
-        ensures counts { IsTrue F.tells → CountsFailure F.write_faults result
-            (allocator_of self.old).now.file.failures (allocator_of self.new).now.file.failures }
-    {
-        let sector = self.sector_at(self.position);
-        let offset = self.offset_here();
-        write_sector(self.allocator, sector, offset, from)?;
-        self.position += from.len() as u64;
-        Ok(())
+        let written = write_run(self.allocator, self.ids.numbers(), self.position, from)?;
+        self.position += written as u64;
+        Ok(written)
     }
 
     /// Makes the bytes from this one to the end of its sector zeros: none where a sector begins there. `Medium` where the medium
@@ -448,12 +333,18 @@ impl<'a, F: Medium, A: Heap> Chain<'a, F, A> {
         ensures counts { IsTrue F.tells → CountsFailure F.write_faults result
             (allocator_of self.old).now.file.failures (allocator_of self.new).now.file.failures }
     {
-        let rest = (offset % self.allocator.sector_len() as u64) as usize;
+        let sector_len = self.allocator.sector_len();
+        let rest = (offset % sector_len as u64) as usize;
         if rest == 0 {
             return Ok(());
         }
-        let sector = self.sector_at(offset);
-        zero_behind(self.allocator, sector, rest)
+        let _zeroed = zero_run(
+            self.allocator,
+            self.ids.numbers(),
+            offset,
+            sector_len - rest,
+        )?;
+        Ok(())
     }
 }
 
@@ -849,143 +740,6 @@ fn shorten_list<F: Medium, A: Heap + Clone>(
     let cut = allocator.cut_listed(ids, count);
     *start = first_number(ids);
     cut
-}
-
-/// Reads what is there of a sector from `offset` on, and answers how many bytes that is. `InvalidData` exactly where the file ends
-/// before that, and `Medium` where the medium fails.
-fn read_sector<F: ReadMedium, A: Heap>(
-    allocator: &mut Allocator<F, A>,
-    sector: u32,
-    offset: usize,
-    into: &mut [u8],
-) -> Result<usize, Error>
-    requires some { 0 < length into.old }
-    requires within { offset + length into.old ≤ sector_len allocator.old.tables.version }
-    ensures tables { allocator.new.tables ≡ allocator.old.tables }
-    ensures kept { allocator.new.file
-        ≡ record allocator.old.file {
-          bytes = allocator.new.file.bytes;
-          failures = allocator.new.file.failures;
-        } }
-    ensures count { IfOk result (λ n. n ≡ min (length into.old) (allocator.old.file.len
-        - (sector_start allocator.old.tables.version sector + offset))) }
-    ensures some { IfOk result (λ n. 0 < n) }
-    ensures ok { IsTrue F.tells → IfOk result (λ n. take n into.new
-        ≡ part allocator.old.file.bytes (sector_start allocator.old.tables.version sector
-        + offset) n) }
-    ensures rest { IfOk result (λ n. drop n into.new ≡ drop n into.old) }
-    ensures cut { allocator.old.file.len ≤ sector_start allocator.old.tables.version sector + offset
-        → IsErrAnd result IsInvalidData }
-    ensures there { sector_start allocator.old.tables.version sector + offset
-        < allocator.old.file.len → IfErr result IsMediumError }
-    ensures same { IsTrue F.tells → OnOk result (allocator.new ≡ allocator.old) }
-    ensures bytes { IsTrue F.tells → allocator.new.file.bytes ≡ allocator.old.file.bytes }
-    ensures counts { IsTrue F.tells → CountsFailure
-        F.read_faults result allocator.old.file.failures allocator.new.file.failures }
-{
-    let at = (sector as u64 + 1) * allocator.sector_len() as u64 + offset as u64;
-    if at >= allocator.file_len() {
-        return Err(cut_off(sector, at));
-    }
-    let count = allocator.read_contiguous(sector, offset, into)?;
-    Ok(count)
-}
-
-/// Writes all of `from` into a sector. `Medium` where the medium fails.
-fn write_sector<F: Medium, A: Heap>(
-    allocator: &mut Allocator<F, A>,
-    sector: u32,
-    offset: usize,
-    from: &[u8],
-) -> Result<(), Error>
-    requires some { 0 < length from.now }
-    requires within { offset + length from.now ≤ sector_len allocator.old.tables.version }
-    requires there { sector < length allocator.old.tables.fat }
-    ensures tables { allocator.new.tables ≡ allocator.old.tables }
-    ensures kept { allocator.new.file ≡ record allocator.old.file {
-      len = allocator.new.file.len;
-      bytes = allocator.new.file.bytes;
-      failures = allocator.new.file.failures;
-      begun = allocator.new.file.begun;
-    } }
-    ensures ok { IsTrue F.tells → OnOk result (allocator.new.file
-        ≡ record allocator.old.file {
-          bytes = written allocator.old.file.bytes
-              (sector_start allocator.old.tables.version sector + offset) from.now;
-          len = max allocator.old.file.len (sector_start allocator.old.tables.version sector
-              + offset + length from.now);
-          begun = true;
-        }) }
-    ensures err { IfErr result IsMediumError }
-    ensures begun { allocator.new.file.begun ≡ true }
-    ensures sectors { IsTrue F.tells → (i : ℕ) → i ≢ sector → SectorStays
-        allocator.old.tables.version i allocator.old.file.bytes allocator.new.file.bytes }
-    ensures others { IsTrue F.tells
-        → ChangesOnlyBytes (sector_start allocator.old.tables.version sector
-        + offset) (length from.now) allocator.old.file.bytes allocator.new.file.bytes }
-    ensures spares { IsTrue F.tells → Spares (sector ∷ []) allocator.old allocator.new }
-    ensures counts { IsTrue F.tells → CountsFailure
-        F.write_faults result allocator.old.file.failures allocator.new.file.failures }
-{
-    let len = allocator.file_len();
-    let _fact = len;
-    allocator.write_contiguous(sector, offset, from)
-}
-
-/// Makes the bytes of a sector from `offset` on zeros. `Medium` where the medium fails.
-fn zero_behind<F: Medium, A: Heap>(
-    allocator: &mut Allocator<F, A>,
-    sector: u32,
-    offset: usize,
-) -> Result<(), Error>
-    requires within { offset < sector_len allocator.old.tables.version }
-    requires there { sector < length allocator.old.tables.fat }
-    ensures tables { allocator.new.tables ≡ allocator.old.tables }
-    ensures kept { allocator.new.file ≡ record allocator.old.file {
-      len = allocator.new.file.len;
-      bytes = allocator.new.file.bytes;
-      failures = allocator.new.file.failures;
-      begun = allocator.new.file.begun;
-    } }
-    ensures ok { IsTrue F.tells → OnOk result (allocator.new.file ≡ record allocator.old.file {
-      bytes = written allocator.old.file.bytes (sector_start allocator.old.tables.version sector
-          + offset) (replicate (sector_len allocator.old.tables.version - offset) 0);
-      len = max allocator.old.file.len (sector_start allocator.old.tables.version sector
-          + offset + (sector_len allocator.old.tables.version - offset));
-      begun = true;
-    }) }
-    ensures err { IfErr result IsMediumError }
-    ensures begun { allocator.new.file.begun ≡ true }
-    ensures sectors { IsTrue F.tells → (i : ℕ) → i ≢ sector → SectorStays
-        allocator.old.tables.version i allocator.old.file.bytes allocator.new.file.bytes }
-    ensures others { IsTrue F.tells
-        → ChangesOnlyBytes (sector_start allocator.old.tables.version sector
-        + offset) (sector_len allocator.old.tables.version
-        - offset) allocator.old.file.bytes allocator.new.file.bytes }
-    ensures spares { IsTrue F.tells → Spares (sector ∷ []) allocator.old allocator.new }
-    ensures counts { IsTrue F.tells → CountsFailure
-        F.write_faults result allocator.old.file.failures allocator.new.file.failures }
-{
-    let zeros = [0; 4096];
-    let len = allocator.sector_len() - offset;
-    write_sector(allocator, sector, offset, first_zeros(&zeros, len))
-}
-
-/// So many of these zeros.
-#[tactic(auto, using(crate::proofs::ChainWrites::zeros_of))]
-fn first_zeros(zeros: &[u8], len: usize) -> &[u8]
-    requires zeros { zeros.now ≡ replicate 4096 0 }
-    requires few { len ≤ 4096 }
-    ensures { result.now ≡ replicate len 0 }
-{
-    &zeros[..len]
-}
-
-/// A refusal of what the file ends before.
-fn cut_off(sector: u32, at: u64) -> Error
-    ensures { IsInvalidData result }
-{
-    Error::InvalidData(Detail::numbers("file ends inside the sector", sector as u64, at))
 }
 
 /// A refusal of a place past the end of a chain.

@@ -1,7 +1,8 @@
 //! Names of storages and streams, and paths to them (MS-CFB 2.6.1 and 2.6.4).
 ghost use Rattle.std.specs.Prelude.{◌≡◌, ◌≤◌, ◌+◌, ◌*◌, ◌<◌, ℕ, not, true, false, map, length, [], ◌∷◌, List, Some, None, IfOk, IfErr, OnOk, IfSome, IfNone, is_some, string_bytes};
 ghost use Rattle.std.specs.Cmp.Lexicographic.{slice_cmp};
-ghost use Rattle.std.specs.Ordering.{nat_cmp};
+ghost use Rattle.std.specs.Ordering.{nat_cmp, ordering_then};
+ghost use Rattle.std.specs.Char.{to_ascii_uppercase};
 ghost use Rattle.std.specs.Str.{chars};
 ghost use Rattle.std.specs.List.{list_any};
 ghost use Rattle.cfb_format.specs.Names.{Cases, default_cases, paired, upper_case, has_ascii_letter, utf16_units, key_of_name, name_cmp, is_forbidden_character, is_valid_name};
@@ -171,9 +172,36 @@ pub fn name_key<A: Allocator>(
 pub fn compare_names<A: Allocator>(cases: &CaseMapper<A>, a: &str, b: &str) -> Ordering
     ensures { result ≡ name_cmp cases.now (chars a.now) (chars b.now) }
 {
+    if a.is_ascii() && b.is_ascii() {
+        return compare_ascii(a.as_bytes(), b.as_bytes());
+    }
     unit_count(a)
         .cmp(&unit_count(b))
         .then_with(|| compare_letters(cases, a, b))
+}
+
+/// The order of two names of ASCII characters: each is one unit, and its upper case is that of ASCII.
+fn compare_ascii(a: &[u8], b: &[u8]) -> Ordering
+    ensures { result ≡ ordering_then (nat_cmp (length a.now) (length b.now)) (slice_cmp nat_cmp (map to_ascii_uppercase a.now) (map to_ascii_uppercase b.now)) }
+{
+    if a.len() != b.len() {
+        return a.len().cmp(&b.len());
+    }
+    compare_upper(a, b)
+}
+
+/// The order of as many bytes as ASCII letters in upper case.
+fn compare_upper(a: &[u8], b: &[u8]) -> Ordering
+    requires { length a.now ≡ length b.now }
+    ensures { result ≡ slice_cmp nat_cmp (map to_ascii_uppercase a.now) (map to_ascii_uppercase b.now) }
+{
+    for i in 0..a.len() {
+        let (x, y) = (a[i].to_ascii_uppercase(), b[i].to_ascii_uppercase());
+        if x != y {
+            return x.cmp(&y);
+        }
+    }
+    Ordering::Equal
 }
 
 /// The order of the characters in upper case.

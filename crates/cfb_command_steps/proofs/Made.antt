@@ -9,6 +9,8 @@ use Rattle.cfb_rules.specs.Runs.{CallRuns, Causes, FollowsRules, IsBroken, OnFai
 use Rattle.cfb_rules.specs.Steps.{CallKind, asking, asking_freely, changing, creating, emptying, flushing, kind_of, opening, opening_to_read}
 use Rattle.cfb_rules.specs.StreamCalls.{StreamCall, StreamReply, StreamState}
 use Rattle.cfb_agreement.specs.Files.{FileState, IsAsMade, is_failed}
+use Rattle.cfb_agreement.proofs.HeldBytes.{as-made-is-low}
+use Rattle.cfb_command_steps.specs.Laws.{RunsStayLow}
 use Rattle.cfb_command_steps.specs.Made.{StaysMade}
 use Rattle.cfb_command_steps.specs.Promised.{Asks, Changes, IsKeptBy, StreamKeeps, promised}
 use Rattle.cfb_command_steps.specs.Seen.{Standing, seen_as}
@@ -115,3 +117,7 @@ module _ (can_give : MediumFault → Bool) (setting : Setting) where
 pub runs_stay_made : (can_give : MediumFault → Bool) (setting : Setting) (old new : Standing) (commands : List Command) (replies : List CommandReply)
     → IsLegalRun seen_as (promised can_give) setting old commands replies new → StaysMade old.file new.file
 runs_stay_made can_give setting = run_stays can_give setting
+
+pub runs_stay_low : RunsStayLow
+runs_stay_low can_give setting old new commands replies o runs made calm out =
+    as-made-is-low new.file.base o ((runs_stay_made can_give setting old new commands replies runs).made calm made) out

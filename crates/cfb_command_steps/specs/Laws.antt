@@ -1,13 +1,16 @@
 -- What the calls on a file promise each for itself makes the steps of a run.
-use Rattle.std.specs.Prelude.{ℕ, Bool, List, Option}
+use Rattle.std.specs.Prelude.{ℕ, ◌≡◌, Bool, false, List, Option}
 use Rattle.cfb_format.specs.declared.medium.MediumFault.{MediumFault}
+use Rattle.cfb_format.specs.Reading.{IsOutline, Outline}
 use Rattle.cfb_format.specs.Tree.{Tree}
 use Rattle.cfb_rules.specs.Calls.{Call, Reply}
 use Rattle.cfb_rules.specs.Lists.{CallStep, ClosingStep, Command, CommandReply, IsLegalRun, StreamCallStep, names_at}
 use Rattle.cfb_rules.specs.Refusal.{Refusal}
 use Rattle.cfb_rules.specs.Runs.{Setting}
 use Rattle.cfb_rules.specs.StreamCalls.{StreamCall, StreamReply}
-use Rattle.cfb_agreement.specs.Files.{Agrees, FileState, SameSetting}
+use Rattle.cfb_objects.specs.Balance.{AreLow}
+use Rattle.cfb_mini_sectors.specs.State.{cases_of, entries_of}
+use Rattle.cfb_agreement.specs.Files.{Agrees, FileState, IsAsMade, SameSetting, is_failed}
 use Rattle.cfb_path_changes.specs.Answers.{MeansTree, setting_of}
 use Rattle.cfb_compound_file.specs.StreamAnswers.{OpenStream, stream_in}
 use Rattle.cfb_command_steps.specs.Promised.{CallKeeps, IsClosedOf, IsOpenSince, IsWorkedOn, promised}
@@ -38,3 +41,9 @@ ClosingsAreSteps = (can_give : MediumFault → Bool) (first opened : FileState) 
 abbrev pub RunsStayMade : Type 0
 RunsStayMade = (can_give : MediumFault → Bool) (setting : Setting) (old new : Standing) (commands : List Command) (replies : List CommandReply)
     → IsLegalRun seen_as (promised can_give) setting old commands replies new → StaysMade old.file new.file
+
+-- and in a file that was made here, unless it fails, each storage's tree of siblings is low afterwards
+abbrev pub RunsStayLow : Type 0
+RunsStayLow = (can_give : MediumFault → Bool) (setting : Setting) (old new : Standing) (commands : List Command) (replies : List CommandReply) (o : Outline)
+    → IsLegalRun seen_as (promised can_give) setting old commands replies new → IsAsMade old.file.base → is_failed new.file ≡ false
+    → IsOutline (cases_of new.file.base) (entries_of new.file.base) o → AreLow (entries_of new.file.base) o

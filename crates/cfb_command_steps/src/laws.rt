@@ -1,5 +1,5 @@
 //! Each call on a file is a step of a run of commands. None of these functions does anything: each has a law as its contract.
-ghost use Rattle.cfb_command_steps.specs.Laws.{CallsAreSteps, ClosingsAreSteps, RunsStayMade, StreamCallsAreSteps};
+ghost use Rattle.cfb_command_steps.specs.Laws.{CallsAreSteps, ClosingsAreSteps, RunsStayLow, RunsStayMade, StreamCallsAreSteps};
 
 /// A call by path is a step.
 pub fn calls_are_steps()
@@ -12,7 +12,8 @@ pub fn streams_are_steps()
     ensures closed { ClosingsAreSteps }
 {}
 
-/// A list of commands keeps the setting, and a file that was made here in order.
+/// A list of commands keeps the setting, and a file that was made here in order: each storage's tree of siblings is low then.
 pub fn runs_stay_made()
-    ensures { RunsStayMade }
+    ensures made { RunsStayMade }
+    ensures low { RunsStayLow }
 {}

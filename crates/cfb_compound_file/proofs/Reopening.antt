@@ -6,7 +6,8 @@ use Rattle.cfb_format.specs.declared.version.Version.{Version}
 use Rattle.cfb_format.specs.Full.{max_mini_sectors}
 use Rattle.cfb_format.specs.Header.{IfStrict}
 use Rattle.cfb_format.specs.Reading.{IsStrict, Reading}
-use Rattle.cfb_mini_sectors.specs.State.{HoldsMini, bytes_of, cases_of, reading_of, version_of}
+use Rattle.cfb_objects.proofs.Balance.{balanced-is-red-apart}
+use Rattle.cfb_mini_sectors.specs.State.{HoldsMini, bytes_of, cases_of, entries_of, reading_of, version_of}
 use Rattle.cfb_mini_sectors.proofs.HeldMini.{held-mini-is-strict}
 use Rattle.cfb_agreement.specs.Files.{FileState, Holds, IsAsMade}
 use Rattle.cfb_compound_file.specs.Opening.{CanBeReopened, IsAcceptedAs}
@@ -34,5 +35,6 @@ module _ (file : FileState) (held : Holds file) (short : length file.base.minifa
   can-be-reopened sound = record {
     permissive = accepted Permissive Permissive (held.sound sound).held tt;
     strict = λ (made : IsAsMade file.base). accepted Strict Strict made.changeable.held
-        (held-mini-is-strict file.base held.header held.outline made.changeable.held held.reads.header held.reads.outline (made.colored held.outline held.reads.outline).apart);
+        (held-mini-is-strict file.base held.header held.outline made.changeable.held held.reads.header held.reads.outline
+        (balanced-is-red-apart (cases_of file.base) (entries_of file.base) held.outline held.reads.outline (made.balanced held.outline held.reads.outline)));
   }

@@ -55,7 +55,7 @@ stays file = record {
 }
 
 pub flush-done : (file : FileState) → is_failed file ≡ false → IsDoneBy file flush done file
-flush-done file unfailed = record { runs = runs-done file unfailed; order = stays file; balanced = λ _ _ all. all; spares = spares_all file flush; room = λ tree means creates. absurd (let clash : flushing ≡ creating = creates in cc); calm = refl }
+flush-done file unfailed = record { runs = runs-done file unfailed; order = stays file; balanced = λ _ all. all; spares = spares_all file flush; room = λ tree means creates. absurd (let clash : flushing ≡ creating = creates in cc); calm = refl }
 
 pub flush-on-failed : (can : MediumFault → Bool) (file : FileState) → is_failed file ≡ true → IsRefusedBy can file flush file Failed
 flush-on-failed can file failed = record {

@@ -122,7 +122,7 @@ impl<F: ReadMedium, A: Heap + Clone> CompoundFile<F, A> {
     {
         let entries = self.volume.entries();
         let path = path_from_name_chain(self.volume.heap().clone()?, names)?;
-        entry_of(self.volume.heap().clone()?, entries, number, path)
+        entry_of(entries, number, path)
     }
 
     /// What is told of the objects on the first level of the storage of this number, which has these names in its path. `Memory`.

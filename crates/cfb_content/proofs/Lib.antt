@@ -17,6 +17,7 @@ pub mod WholeStreams
 pub mod Written
 pub mod PlacedWrites
 pub mod PutAlong
+pub mod MinisAlong
 pub mod MinisPut
 pub mod ReadablePlaces
 pub mod FixedHeader

@@ -1,24 +1,25 @@
 -- Bytes that are put into mini sectors by their list: their places, and what stays beside them.
-use Rattle.std.proofs.Common.{◌≡◌, ◌≢◌, ◌≤◌, ◌<◌, ◌+◌, ◌-◌, ◌*◌, ◌/◌, ◌%◌, inr, ℕ, List, [], ◌∷◌, ◌++◌, sym, ◌∙◌, ap, subst, length, arith}
+use Rattle.std.proofs.Common.{◌≡◌, ◌≢◌, ◌≤◌, ◌<◌, ◌+◌, ◌-◌, ◌*◌, ◌/◌, inr, ℕ, List, ◌++◌, sym, ◌∙◌, ap, subst, length, take, length-take, arith}
 use Rattle.std.specs.Prelude.{Contains, slice_index, nat_eq}
 use Rattle.std.specs.List.{IsDistinct}
-use Rattle.std.proofs.lemmas.List.Elements.{Contains-get_or}
 use Rattle.cfb_format.specs.declared.validate.Validation.{Validation}
 use Rattle.cfb_format.specs.Content.{mini_sector_len}
-use Rattle.cfb_format.specs.Medium.{ChangesOnlyBytes, written}
-use Rattle.cfb_format.proofs.ByteLemmas.{length-written, written_at}
-use Rattle.cfb_tables.proofs.Members.{Contains-one, distinct-right}
+use Rattle.cfb_format.specs.Medium.{written}
+use Rattle.cfb_format.proofs.ByteLemmas.{ChangesOnly_after}
+use Rattle.cfb_tables.proofs.Members.{distinct-right}
 use Rattle.cfb_alloc.specs.Frame.{Spares}
 use Rattle.cfb_alloc.proofs.Frames as frames
 use Rattle.cfb_soundness.specs.Places.{mini_start}
 use Rattle.cfb_mini_sectors.specs.State.{HoldsMini, MiniState, bytes_of, mini_place, mini_stream_of, table_of, version_of}
 use Rattle.cfb_mini_sectors.specs.Steps.{SparesMini}
 use Rattle.cfb_mini_sectors.proofs.MiniFrames.{held-places, spares-then}
+use Rattle.cfb_mini.specs.MiniRuns.{ChangesMiniStretch, IsMiniRun, IsMiniStretch}
 use Rattle.cfb_mini.specs.MiniSectors.{ChangesFileOnly, HasMiniSector}
 use Rattle.cfb_content.specs.Contents.{mini_place_along}
 use Rattle.cfb_content.specs.Parts.{ChangesOnlyPlaces}
 use Rattle.cfb_content.proofs.PlacedOnce.{minis-placed-once}
-use Rattle.cfb_content.proofs.PutAlong.{StandsTo, only-range}
+use Rattle.cfb_content.proofs.MinisAlong.{shorter-run, stretch-places, stretch-stands}
+use Rattle.cfb_content.proofs.PutAlong.{StandsTo}
 
 -- the list has a mini sector for that byte, which the mini stream has
 abbrev pub IsPlacedInMinis : MiniState → List ℕ → ℕ → Type 0
@@ -30,29 +31,6 @@ pub minis-once : (validation : Validation) (s : MiniState) (ids : List ℕ) → 
 minis-once validation s ids h once i k low high =
     minis-placed-once (version_of s) (mini_stream_of s) ids i k (distinct-right (s.directory.sectors ++ s.minifat_sectors) (mini_stream_of s) h.apart) once low.0 high.0
     low.1.in_stream high.1.in_stream
-
--- ---- a piece within one mini sector
-
-module _ (s : MiniState) (ids : List ℕ) (p index offset : ℕ) (is : index * 64 + offset ≡ p) where
-  place-on : (j : ℕ) → offset + j < 64 → mini_place_along s ids (p + j) ≡ mini_place s (slice_index ids index) + offset + j
-  place-on j short =
-      let q : (p + j) / 64 ≡ index = omega (arith, is, short) in
-      let r : (p + j) % 64 ≡ offset + j = omega (arith, is, short) in
-      (λ i. mini_place s (slice_index ids (q i)) + r i) ∙ omega arith
-
-  pub piece-places : (n : ℕ) (b c : List ℕ) → offset + n ≤ 64 → ChangesOnlyBytes (mini_place s (slice_index ids index) + offset) n b c
-      → ChangesOnlyPlaces (mini_place_along s ids) p n b c
-  piece-places n b c short change =
-      only-range (mini_place_along s ids) p n (mini_place s (slice_index ids index) + offset) b c (λ j less. place-on j (omega (arith, short, less))) change
-
-  pub piece-stands : (f b c : List ℕ) → offset + length f ≤ 64 → c ≡ written b (mini_place s (slice_index ids index) + offset) f
-      → StandsTo (mini_place_along s ids) p (slice_index f) (length f) c
-  piece-stands f b c short put j low =
-      let at = mini_place s (slice_index ids index) + offset in
-      let on = place-on j (omega (arith, short, low)) in
-      let long = length-written b at f in
-      subst (λ (xs : List ℕ). (mini_place_along s ids (p + j) < length xs) × (slice_index xs (mini_place_along s ids (p + j)) ≡ slice_index f j)) (sym put)
-      (omega (arith, on, long, low), ap (slice_index (written b at f)) on ∙ written_at b at f j low)
 
 -- ---- after a change of the file alone
 
@@ -88,11 +66,7 @@ pub minis-spared : (validation : Validation) (ids more : List ℕ) (a b c : Mini
 minis-spared validation ids more a b c h kept among first second =
     spares-then ids more a b c (held-places a h.mini_stream) (ap version_of kept) (λ m n. inr (among m n)) first second
 
--- a listed mini sector
-pub listed-one : (ids : List ℕ) (index : ℕ) → index < length ids → (m : ℕ) → Contains (slice_index ids index ∷ []) m → Contains ids m
-listed-one ids index low m member = subst (λ (n : ℕ). Contains ids n) (Contains-one (slice_index ids index) m member) (Contains-get_or ids index 0 low)
-
--- the same by the number in the list and the byte of the mini sector
+-- a listed mini sector, by the number in the list and the byte of it
 pub placed-there : (s : MiniState) (ids : List ℕ) (p index offset : ℕ) → index * 64 + offset ≡ p → offset < 64 → IsPlacedInMinis s ids p
     → (index < length ids) × HasMiniSector s (slice_index ids index)
 placed-there s ids p index offset is short placed =
@@ -107,21 +81,25 @@ puts-apart validation s ids at n placed h once k j low less high =
     subst (λ m. IsPlacedInMinis s ids m) (omega (arith, from)) (placed (i - at) (omega (arith, from, to))) in
     minis-once validation s ids h once j k (there j (omega (arith, low, less)) high) (there k low (omega (arith, less, high))) (omega (arith, less))
 
--- a piece that was written after other changes of the file alone
-module _ (s b new : MiniState) (kept : ChangesFileOnly s b) (ids : List ℕ) (p index offset : ℕ) (is : index * 64 + offset ≡ p) (f : List ℕ) (count : ℕ) (size : length f ≡ count)
-    (short : offset + count ≤ 64) where
-  pub step-places : ChangesOnlyBytes (mini_place b (slice_index ids index) + offset) (length f) (bytes_of b) (bytes_of new)
-      → ChangesOnlyPlaces (mini_place_along s ids) p count (bytes_of b) (bytes_of new)
-  step-places change =
-      piece-places s ids p index offset is count (bytes_of b) (bytes_of new) short
-      (subst (λ n. ChangesOnlyBytes (mini_place s (slice_index ids index) + offset) n (bytes_of b) (bytes_of new)) size
-      (subst (λ q. ChangesOnlyBytes (q + offset) (length f) (bytes_of b) (bytes_of new)) (same-place s b kept (slice_index ids index)) change))
-
-  pub step-stands : bytes_of new ≡ written (bytes_of b) (mini_place b (slice_index ids index) + offset) f → StandsTo (mini_place_along s ids) p (slice_index f) count (bytes_of new)
-  step-stands put =
-      subst (λ n. StandsTo (mini_place_along s ids) p (slice_index f) n (bytes_of new)) size
-      (piece-stands s ids p index offset is f (bytes_of b) (bytes_of new) (omega (arith, size, short))
-      (put ∙ ap (λ q. written (bytes_of b) (q + offset) f) (same-place s b kept (slice_index ids index))))
-
 pub same-along : (a b : MiniState) → ChangesFileOnly a b → (ids : List ℕ) → mini_place_along b ids ≡ mini_place_along a ids
 same-along a b kept ids = ap (λ (s : MiniState). mini_place_along s ids) kept
+
+-- a piece that was written after other changes of the file alone
+module _ (s b new : MiniState) (kept : ChangesFileOnly s b) (ids : List ℕ) (p index offset count : ℕ) (is : index * 64 + offset ≡ p) (run : IsMiniRun ids index offset count) where
+  pub step-places : (change : ChangesMiniStretch (slice_index ids index) offset count b new) → ChangesOnlyPlaces (mini_place_along s ids) p change.n (bytes_of b) (bytes_of new)
+  step-places change =
+      subst (λ (place : ℕ → ℕ). ChangesOnlyPlaces place p change.n (bytes_of b) (bytes_of new)) (same-along s b kept ids)
+      (stretch-places b ids p index offset change.n is (shorter-run ids index offset count change.n change.few run) change.stretch (bytes_of b) (bytes_of new) change.change)
+
+  -- all of which was put
+  pub step-put : (n : ℕ) (f : List ℕ) → n ≤ count → n ≤ length f → IsMiniStretch b (slice_index ids index) offset n
+      → bytes_of new ≡ written (bytes_of b) (mini_place b (slice_index ids index) + offset) (take n f)
+      → ChangesOnlyPlaces (mini_place_along s ids) p n (bytes_of b) (bytes_of new) × StandsTo (mini_place_along s ids) p (slice_index f) n (bytes_of new)
+  step-put n f few within stretch put =
+      let mine = shorter-run ids index offset count n few run in
+      let size = length-take n f in
+      let at = mini_place b (slice_index ids index) + offset in
+      subst (λ (place : ℕ → ℕ). ChangesOnlyPlaces place p n (bytes_of b) (bytes_of new) × StandsTo place p (slice_index f) n (bytes_of new)) (same-along s b kept ids) (
+        stretch-places b ids p index offset n is mine stretch (bytes_of b) (bytes_of new) (ChangesOnly_after at n (bytes_of b) (take n f) (bytes_of new) put (omega (arith, size, within))),
+        stretch-stands b ids p index offset n is mine stretch f (bytes_of b) (bytes_of new) within put,
+      )

@@ -1,20 +1,14 @@
 -- Contents by the places of their bytes in lists of sectors and mini sectors (MS-CFB 2.3 and 2.4): what of them the file has, and what is
 -- put there.
-use Rattle.std.specs.Prelude.{ℕ, ◌≡◌, ◌+◌, ◌/◌, ◌%◌, ◌<◌, ◌≤◌, List, [], length, slice_index}
+use Rattle.std.specs.Prelude.{ℕ, ◌≡◌, ◌/◌, ◌%◌, ◌<◌, ◌≤◌, List, [], length, slice_index}
 use Rattle.cfb_format.specs.declared.version.Version.{Version}
-use Rattle.cfb_format.specs.Bytes.{sector_len}
 use Rattle.cfb_format.specs.Chain.{IsChain}
 use Rattle.cfb_format.specs.Content.{mini_sector_len}
-use Rattle.cfb_chains.specs.ChainPlaces.{place_along}
 use Rattle.cfb_mini_sectors.specs.State.{MiniState}
 use Rattle.cfb_mini.specs.MiniSectors.{HasMiniByte}
+pub use Rattle.cfb_runs.specs.Along.{ChangesOnlyPlaces, IsThereInSectors, StandAlong}
 
 -- ---- what is there
-
--- byte k of these sectors, one after the other, is in the file
-pub record IsThereInSectors (version : Version) (ids : List ℕ) (file_len k : ℕ) : Type 0 where
-  pub listed : k / sector_len version < length ids
-  pub reached : place_along version ids k < file_len
 
 -- byte k of these mini sectors, one after the other, is in the file
 pub record IsThereInMinis (s : MiniState) (ids : List ℕ) (k : ℕ) : Type 0 where
@@ -37,14 +31,3 @@ pub record IsWholeMiniChain (s : MiniState) (start len : ℕ) (list : List ℕ) 
   pub chain : 0 < len → IsChain s.minifat start list
   pub none : len ≡ 0 → list ≡ []
   pub there : (k : ℕ) → k < len → IsThereInMinis s list k
-
--- ---- what is put
-
--- these bytes stand at their places from byte `at` on
-abbrev pub StandAlong : (ℕ → ℕ) → ℕ → List ℕ → List ℕ → Type 0
-StandAlong place at xs bytes = (k : ℕ) → k < length xs → (place (at + k) < length bytes) × (slice_index bytes (place (at + k)) ≡ slice_index xs k)
-
--- the file loses no byte, and all stay but those at the places of so many bytes from byte `at` on
-pub record ChangesOnlyPlaces (place : ℕ → ℕ) (at count : ℕ) (old new : List ℕ) : Type 0 where
-  pub no_shorter : length old ≤ length new
-  pub others : (i : ℕ) → i < length old → ((k : ℕ) → at ≤ k → k < at + count → place k ≡ i → ⊥) → slice_index new i ≡ slice_index old i

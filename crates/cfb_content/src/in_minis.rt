@@ -18,6 +18,8 @@ use cfb_format::consts::MINI_SECTOR_LEN;
 use cfb_format::error::Error;
 use cfb_format::medium::{Medium, ReadMedium};
 use cfb_mini::mini_allocator::MiniAllocator;
+use cfb_mini::mini_runs::mini_run;
+use cfb_runs::writing::zeros;
 use std::alloc::Allocator as Heap;
 
 /// How many bytes of a mini sector the file has.
@@ -84,7 +86,8 @@ pub fn whole_mini_chain<F: ReadMedium, A: Heap + Clone>(
     Ok(ids)
 }
 
-/// Reads from byte `at` of these mini sectors on as much as lies in one mini sector, as far as `into` has room and the file goes.
+/// Reads a beginning of the bytes of these mini sectors from byte `at` of them on, by one call of the medium: as many as follow each other
+/// in the file, as far as `into` has room and the file goes.
 fn read_in_minis<F: ReadMedium, A: Heap>(
     mini: &mut MiniAllocator<F, A>,
     ids: &[u32],
@@ -106,7 +109,9 @@ fn read_in_minis<F: ReadMedium, A: Heap>(
 {
     let index = (at / MINI_SECTOR_LEN as u64) as usize;
     let offset = (at % MINI_SECTOR_LEN as u64) as usize;
-    mini.read_mini(ids[index], offset, into)
+    let run = mini_run(ids, index, offset, into.len());
+    let count = mini.read_mini_run(ids[index], offset, &mut into[..run])?;
+    Ok(count)
 }
 
 /// Reads the bytes of these mini sectors from byte `at` on, as many as `into` has room for, all of which the file has.
@@ -153,7 +158,8 @@ pub fn get_from_minis<F: ReadMedium, A: Heap>(
     fill_from_minis(mini, ids, 0, into)
 }
 
-/// Writes all of these bytes into these mini sectors, from byte `at` of them on. `Medium` where the medium fails.
+/// Writes all of these bytes into these mini sectors, from byte `at` of them on: those that follow each other in the file by one call of the
+/// medium. `Medium` where the medium fails.
 pub fn put_in_minis<F: Medium, A: Heap>(
     mini: &mut MiniAllocator<F, A>,
     ids: &[u32],
@@ -177,11 +183,11 @@ pub fn put_in_minis<F: Medium, A: Heap>(
     let mut offset = (at % MINI_SECTOR_LEN as u64) as usize;
     let mut done = 0;
     while done < bytes.len() {
-        let count = (bytes.len() - done).min(MINI_SECTOR_LEN - offset);
-        mini.write_mini(ids[index], offset, &bytes[done..done + count])?;
+        let run = mini_run(ids, index, offset, bytes.len() - done);
+        let count = mini.write_mini_run(ids[index], offset, &bytes[done..done + run])?;
         done += count;
-        index += 1;
-        offset = 0;
+        index += (offset + count) / MINI_SECTOR_LEN;
+        offset = (offset + count) % MINI_SECTOR_LEN;
     }
     Ok(())
 }
@@ -206,11 +212,10 @@ pub fn zero_in_minis<F: Medium, A: Heap>(
     ensures err { IfErr result IsMediumError }
     ensures counts { IsTrue F.tells → CountsFailure F.write_faults result (table_of mini.old).file.failures (table_of mini.new).file.failures }
 {
-    let zeros = [0; MINI_SECTOR_LEN];
     let mut at = from;
     while at < to {
-        let count = (to - at).min(MINI_SECTOR_LEN as u64) as usize;
-        put_in_minis(mini, ids, at, &zeros[..count])?;
+        let count = (to - at).min(4096) as usize;
+        put_in_minis(mini, ids, at, zeros(count))?;
         at += count as u64;
     }
     Ok(())

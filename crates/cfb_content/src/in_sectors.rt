@@ -16,6 +16,8 @@ ghost use Rattle.cfb_content.specs.Parts.{ChangesOnlyPlaces, HasFirst, IsThereIn
 use cfb_alloc::alloc::Allocator;
 use cfb_format::error::{Detail, Error};
 use cfb_format::medium::{Medium, ReadMedium};
+use cfb_runs::reading::read_along;
+use cfb_runs::writing::{write_along, zero_along};
 use std::alloc::Allocator as Heap;
 
 /// A refusal of a stream whose chain has not all of its bytes in the file.
@@ -70,93 +72,6 @@ fn counted_in_sectors<F: ReadMedium, A: Heap>(
     there.min(len)
 }
 
-/// Reads what is there of the listed sector with that index, from `offset` on.
-fn read_listed<F: ReadMedium, A: Heap>(
-    allocator: &mut Allocator<F, A>,
-    ids: &[u32],
-    index: usize,
-    offset: usize,
-    into: &mut [u8],
-) -> Result<usize, Error>
-    requires some { 0 < length into.old }
-    requires short { offset + length into.old ≤ sector_len allocator.old.tables.version }
-    requires listed { index < length ids.now }
-    requires there { sector_start allocator.old.tables.version (slice_index ids.now index) + offset < allocator.old.file.len }
-    ensures tables { allocator.new.tables ≡ allocator.old.tables }
-    ensures kept { allocator.new.file ≡ record allocator.old.file { bytes = allocator.new.file.bytes; failures = allocator.new.file.failures } }
-    ensures count { IfOk result (λ n. n ≡ min (length into.old) (allocator.old.file.len - (sector_start allocator.old.tables.version (slice_index ids.now index) + offset))) }
-    ensures ok { IsTrue F.tells → IfOk result (λ n. take n into.new
-        ≡ part allocator.old.file.bytes (sector_start allocator.old.tables.version (slice_index ids.now index) + offset) n) }
-    ensures rest { IfOk result (λ n. drop n into.new ≡ drop n into.old) }
-    ensures err { IfErr result IsMediumError }
-    ensures same { IsTrue F.tells → OnOk result (allocator.new ≡ allocator.old) }
-    ensures bytes { IsTrue F.tells → allocator.new.file.bytes ≡ allocator.old.file.bytes }
-    ensures counts { IsTrue F.tells → CountsFailure F.read_faults result allocator.old.file.failures allocator.new.file.failures }
-{
-    let len = allocator.file_len();
-    let _met = len;
-    allocator.read_contiguous(ids[index], offset, into)
-}
-
-/// Reads what is there of the listed sector with that index, from `offset` on, as far as `into` has room.
-fn read_some<F: ReadMedium, A: Heap>(
-    allocator: &mut Allocator<F, A>,
-    ids: &[u32],
-    index: usize,
-    offset: usize,
-    into: &mut [u8],
-) -> Result<usize, Error>
-    requires some { 0 < length into.old }
-    requires short { offset < sector_len allocator.old.tables.version }
-    requires listed { index < length ids.now }
-    requires there { sector_start allocator.old.tables.version (slice_index ids.now index) + offset < allocator.old.file.len }
-    ensures tables { allocator.new.tables ≡ allocator.old.tables }
-    ensures kept { allocator.new.file ≡ record allocator.old.file { bytes = allocator.new.file.bytes; failures = allocator.new.file.failures } }
-    ensures count { IfOk result (λ n. (0 < n) × (n ≤ length into.old)) }
-    ensures within { IfOk result (λ n. (offset + n ≤ sector_len allocator.old.tables.version)
-        × (sector_start allocator.old.tables.version (slice_index ids.now index) + offset + n ≤ allocator.old.file.len)) }
-    ensures ok { IsTrue F.tells → IfOk result (λ n. take n into.new
-        ≡ part allocator.old.file.bytes (sector_start allocator.old.tables.version (slice_index ids.now index) + offset) n) }
-    ensures rest { IfOk result (λ n. drop n into.new ≡ drop n into.old) }
-    ensures len { length into.new ≡ length into.old }
-    ensures err { IfErr result IsMediumError }
-    ensures same { IsTrue F.tells → OnOk result (allocator.new ≡ allocator.old) }
-    ensures bytes { IsTrue F.tells → allocator.new.file.bytes ≡ allocator.old.file.bytes }
-    ensures counts { IsTrue F.tells → CountsFailure F.read_faults result allocator.old.file.failures allocator.new.file.failures }
-{
-    let room = into.len().min(allocator.sector_len() - offset);
-    let count = read_listed(allocator, ids, index, offset, &mut into[..room])?;
-    Ok(count)
-}
-
-/// Reads from byte `at` of these sectors on as much as lies in one sector, as far as `into` has room and the file goes.
-fn read_in_sectors<F: ReadMedium, A: Heap>(
-    allocator: &mut Allocator<F, A>,
-    ids: &[u32],
-    at: u64,
-    into: &mut [u8],
-) -> Result<usize, Error>
-    requires some { 0 < length into.old }
-    requires there { IsThereInSectors allocator.old.tables.version ids.now allocator.old.file.len at }
-    ensures tables { allocator.new.tables ≡ allocator.old.tables }
-    ensures kept { allocator.new.file ≡ record allocator.old.file { bytes = allocator.new.file.bytes; failures = allocator.new.file.failures } }
-    ensures count { IfOk result (λ n. (0 < n) × (n ≤ length into.old)) }
-    ensures within { IfOk result (λ n. (j : ℕ) → j < n → IsThereInSectors allocator.old.tables.version ids.now allocator.old.file.len (at + j)) }
-    ensures ok { IsTrue F.tells → IfOk result (λ n. (j : ℕ) → j < n
-        → slice_index into.new j ≡ slice_index allocator.old.file.bytes (place_along allocator.old.tables.version ids.now (at + j))) }
-    ensures rest { IfOk result (λ n. drop n into.new ≡ drop n into.old) }
-    ensures len { length into.new ≡ length into.old }
-    ensures err { IfErr result IsMediumError }
-    ensures same { IsTrue F.tells → OnOk result (allocator.new ≡ allocator.old) }
-    ensures bytes { IsTrue F.tells → allocator.new.file.bytes ≡ allocator.old.file.bytes }
-    ensures counts { IsTrue F.tells → CountsFailure F.read_faults result allocator.old.file.failures allocator.new.file.failures }
-{
-    let sector_len = allocator.sector_len() as u64;
-    let index = (at / sector_len) as usize;
-    let offset = (at % sector_len) as usize;
-    read_some(allocator, ids, index, offset, into)
-}
-
 /// Reads the bytes of these sectors from byte `at` on, as many as `into` has room for, all of which the file has.
 pub(crate) fn fill_from_sectors<F: ReadMedium, A: Heap>(
     allocator: &mut Allocator<F, A>,
@@ -176,12 +91,7 @@ pub(crate) fn fill_from_sectors<F: ReadMedium, A: Heap>(
     ensures bytes { IsTrue F.tells → allocator.new.file.bytes ≡ allocator.old.file.bytes }
     ensures counts { IsTrue F.tells → CountsFailure F.read_faults result allocator.old.file.failures allocator.new.file.failures }
 {
-    let mut done = 0;
-    while done < into.len() {
-        let count = read_in_sectors(allocator, ids, at + done as u64, &mut into[done..])?;
-        done += count;
-    }
-    Ok(())
+    read_along(allocator, ids, at, into)
 }
 
 /// Reads the first bytes of these sectors, as many as `into` has room for, all of which the file has.
@@ -202,41 +112,6 @@ pub fn get_from_sectors<F: ReadMedium, A: Heap>(
     ensures counts { IsTrue F.tells → CountsFailure F.read_faults result allocator.old.file.failures allocator.new.file.failures }
 {
     fill_from_sectors(allocator, ids, 0, into)
-}
-
-/// Writes all of `from` into the listed sector with that index, from `offset` on.
-fn put_listed<F: Medium, A: Heap>(
-    allocator: &mut Allocator<F, A>,
-    ids: &[u32],
-    index: usize,
-    offset: usize,
-    from: &[u8],
-) -> Result<(), Error>
-    requires some { 0 < length from.now }
-    requires short { offset + length from.now ≤ sector_len allocator.old.tables.version }
-    requires listed { index < length ids.now }
-    requires there { slice_index ids.now index < length allocator.old.tables.fat }
-    ensures tables { allocator.new.tables ≡ allocator.old.tables }
-    ensures kept { allocator.new.file ≡ record allocator.old.file {
-      len = allocator.new.file.len;
-      bytes = allocator.new.file.bytes;
-      failures = allocator.new.file.failures;
-      begun = allocator.new.file.begun;
-    } }
-    ensures ok { IsTrue F.tells → OnOk result (allocator.new.file.bytes
-        ≡ written allocator.old.file.bytes (sector_start allocator.old.tables.version (slice_index ids.now index) + offset) from.now) }
-    ensures others { IsTrue F.tells → ChangesOnlyBytes (sector_start allocator.old.tables.version (slice_index ids.now index) + offset) (length from.now)
-        allocator.old.file.bytes allocator.new.file.bytes }
-    ensures spares { IsTrue F.tells → Spares ids.now allocator.old allocator.new }
-    ensures holds { IsTrue F.tells → (validation : Validation) → HoldsTables validation allocator.old → AreDisjoint ids.now (table_sectors allocator.old.tables)
-        → OnOk result (HoldsTables validation allocator.new) }
-    ensures begun { allocator.new.file.begun ≡ true }
-    ensures err { IfErr result IsMediumError }
-    ensures counts { IsTrue F.tells → CountsFailure F.write_faults result allocator.old.file.failures allocator.new.file.failures }
-{
-    let len = allocator.file_len();
-    let _met = len;
-    allocator.write_contiguous(ids[index], offset, from)
 }
 
 /// Writes all of these bytes into these sectors, from byte `at` of them on. `Medium` where the medium fails.
@@ -267,18 +142,7 @@ pub fn put_in_sectors<F: Medium, A: Heap>(
     ensures err { IfErr result IsMediumError }
     ensures counts { IsTrue F.tells → CountsFailure F.write_faults result allocator.old.file.failures allocator.new.file.failures }
 {
-    let sector_len = allocator.sector_len();
-    let mut index = (at / sector_len as u64) as usize;
-    let mut offset = (at % sector_len as u64) as usize;
-    let mut done = 0;
-    while done < bytes.len() {
-        let count = (bytes.len() - done).min(sector_len - offset);
-        put_listed(allocator, ids, index, offset, &bytes[done..done + count])?;
-        done += count;
-        index += 1;
-        offset = 0;
-    }
-    Ok(())
+    write_along(allocator, ids, at, bytes)
 }
 
 /// Makes the bytes of these sectors zeros from one to before another. `Medium` where the medium fails.
@@ -309,12 +173,5 @@ pub fn zero_in_sectors<F: Medium, A: Heap>(
     ensures err { IfErr result IsMediumError }
     ensures counts { IsTrue F.tells → CountsFailure F.write_faults result allocator.old.file.failures allocator.new.file.failures }
 {
-    let zeros = [0; 4096];
-    let mut at = from;
-    while at < to {
-        let count = (to - at).min(4096) as usize;
-        put_in_sectors(allocator, ids, at, &zeros[..count])?;
-        at += count as u64;
-    }
-    Ok(())
+    zero_along(allocator, ids, from, to)
 }

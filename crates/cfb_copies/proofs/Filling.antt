@@ -1,26 +1,21 @@
 -- A stream of the target that gets its bytes.
-use Rattle.std.proofs.Common.{◌≡◌, ℕ, Bool, false, refl, sym, ◌∙◌, ap, subst, arith}
+use Rattle.std.proofs.Common.{◌≡◌, ℕ, Bool, false, refl, ◌∙◌, ap, subst}
 use Rattle.std.specs.Prelude.{IsTrue, Some}
-use Rattle.cfb_format.specs.DirectoryEntry.{ButContent, Entry}
+use Rattle.cfb_format.specs.DirectoryEntry.{Entry}
 use Rattle.cfb_format.specs.Names.{Cases}
 use Rattle.cfb_format.specs.Reading.{IsOutline, Outline}
-use Rattle.cfb_format.specs.Siblings.{entry_at}
 use Rattle.cfb_format.proofs.Unique.{IsOutline-unique}
 use Rattle.cfb_siblings.specs.Paths.{number_from}
-use Rattle.cfb_trees.specs.Changes.{ButFields}
-use Rattle.cfb_trees.specs.Reached.{IsReached}
 use Rattle.cfb_trees.proofs.PathNames.{same-from}
 use Rattle.cfb_mini_sectors.specs.State.{cases_of, entries_of}
 use Rattle.cfb_content.specs.Contents.{IsStreamOf, MovesContent}
 use Rattle.cfb_content.proofs.Kept.{nothing-is-moved, others-kept-then}
 use Rattle.cfb_content.proofs.Outlines.{content-moves-then, moved-at, moved-is-outline, same-entries-moved}
-use Rattle.cfb_insertion.specs.Balance.{AreAllBalanced}
-use Rattle.cfb_insertion.proofs.Balance.{fields-keep-balance}
 use Rattle.cfb_entry_changes.specs.Kept.{KeepsFound}
 use Rattle.cfb_agreement.specs.Changes.{ChangesOneContent}
 use Rattle.cfb_agreement.specs.Files.{Agrees, FileState, Holds, SameSetting, failures_of, is_failed}
 use Rattle.cfb_copies.proofs.Settings.{setting_same, setting_then}
-use Rattle.cfb_copies.specs.Steps.{FillsStream, GrowsTree}
+use Rattle.cfb_copies.specs.Steps.{FillsStream, GrowsTree, StaysWithoutFree}
 
 pub fills_none : (tells : Bool) (i : ℕ) (file : FileState) → is_failed file ≡ false → IsStreamOf file.base i → FillsStream tells i file file
 fills_none tells i file calm stream = record {
@@ -31,14 +26,16 @@ fills_none tells i file calm stream = record {
   holds = λ told holds. holds;
   others = λ told holds. nothing-is-moved i file.base;
   made = λ told holds made. made;
+  none_free = λ told holds none. none;
   calm = λ told. refl;
 }
 
 -- one write
 pub fills_written : (tells : Bool) (i : ℕ) (old new : FileState) → SameSetting old new → is_failed new ≡ false → IsStreamOf new.base i → MovesContent old.base new.base i
-    → (IsTrue tells → Holds old → Agrees new) → (IsTrue tells → Holds old → ChangesOneContent i old new) → (IsTrue tells → failures_of new ≡ failures_of old)
+    → (IsTrue tells → Holds old → Agrees new) → (IsTrue tells → Holds old → ChangesOneContent i old new) → (IsTrue tells → Holds old → StaysWithoutFree old new)
+    → (IsTrue tells → failures_of new ≡ failures_of old)
     → FillsStream tells i old new
-fills_written tells i old new setting calm stream moves agrees changes counted = record {
+fills_written tells i old new setting calm stream moves agrees changes full counted = record {
   setting = setting;
   unfailed = calm;
   stream = stream;
@@ -46,6 +43,7 @@ fills_written tells i old new setting calm stream moves agrees changes counted =
   holds = λ told holds. agrees told holds calm;
   others = λ told holds. (changes told holds).others;
   made = λ told holds made. (changes told holds).made calm made;
+  none_free = full;
   calm = counted;
 }
 
@@ -59,20 +57,11 @@ fills_then tells i a b c p q = record {
   holds = λ told holds. q.holds told (p.holds told holds);
   others = λ told holds. others-kept-then i a.base b.base c.base p.setting.limits p.moves (p.others told holds) (q.others told (p.holds told holds));
   made = λ told holds made. q.made told (p.holds told holds) (p.made told holds made);
+  none_free = λ told holds none. q.none_free told (p.holds told holds) (p.none_free told holds none);
   calm = λ told. q.calm told ∙ p.calm told;
 }
 
--- ---- the tree keeps its names and its balance
-
-but_fields : (a b : Entry) → ButContent a b → ButFields a b
-but_fields a b e = record {
-  name = ap (λ (x : Entry). x.name) e;
-  obj_type = ap (λ (x : Entry). x.obj_type) e;
-  color = ap (λ (x : Entry). x.color) e;
-  left_sibling = ap (λ (x : Entry). x.left_sibling) e;
-  right_sibling = ap (λ (x : Entry). x.right_sibling) e;
-  child = ap (λ (x : Entry). x.child) e;
-}
+-- ---- the tree keeps its names
 
 module _ (i : ℕ) (old new : FileState) (setting : SameSetting old new) (moves : MovesContent old.base new.base i) where
   same_outline : (before after : Outline) → IsOutline (cases_of old.base) (entries_of old.base) before → IsOutline (cases_of new.base) (entries_of new.base) after → before ≡ after
@@ -86,23 +75,14 @@ module _ (i : ℕ) (old new : FileState) (setting : SameSetting old new) (moves 
       ∙ same-from (cases_of old.base) (entries_of old.base) (entries_of new.base) (λ j. ap (λ (e : Entry). e.name) (moved-at old.base new.base i j moves)) names 0 before
       ∙ found)
 
-  moved_balanced : (before : Outline) → IsOutline (cases_of old.base) (entries_of old.base) before
-      → AreAllBalanced (cases_of old.base) (entries_of old.base) → AreAllBalanced (cases_of new.base) (entries_of new.base)
-  moved_balanced before was all o is =
-      let same : before ≡ o = same_outline before o was is in
-      let fields : (j : ℕ) → ButFields (entry_at (entries_of old.base) j) (entry_at (entries_of new.base) j) =
-      λ j. but_fields (entry_at (entries_of old.base) j) (entry_at (entries_of new.base) j) (moved-at old.base new.base i j moves) in
-      λ j there kind. fields-keep-balance (entries_of old.base) (entries_of new.base) j (omega (arith, moves.same_length)) fields
-      (all before was j (subst (λ (p : Outline). IsReached p j) (sym same) there) (λ s. kind ((fields j).obj_type ∙ s)))
-
 pub fills_grow : (tells : Bool) (i : ℕ) (old new : FileState) → IsStreamOf old.base i → FillsStream tells i old new → GrowsTree tells old new
 fills_grow tells i old new stream f = record {
   setting = f.setting;
   unfailed = f.unfailed;
   outline = (stream.outline, moved-is-outline old.base new.base i stream.outline f.setting.limits.cases f.moves stream.is);
   stays = moved_found i old new f.setting f.moves;
-  balanced = moved_balanced i old new f.setting f.moves stream.outline stream.is;
   holds = f.holds;
   made = f.made;
+  none_free = f.none_free;
   calm = f.calm;
 }

@@ -1,16 +1,18 @@
 -- A target that gets more objects.
-use Rattle.std.proofs.Common.{◌≡◌, ℕ, List, Bool, false, refl, ◌∙◌, subst}
+use Rattle.std.proofs.Common.{◌≡◌, ℕ, List, Bool, false, refl, sym, ◌∙◌, subst}
 use Rattle.std.specs.Prelude.{IsTrue, Some}
 use Rattle.cfb_format.specs.Reading.{IsOutline, Outline}
 use Rattle.cfb_format.proofs.Unique.{IsOutline-unique}
 use Rattle.cfb_siblings.specs.Paths.{HasOutline, number_from}
 use Rattle.cfb_trees.proofs.PathReached.{found-is-reached, reached-is-found}
 use Rattle.cfb_entries.specs.EntryList.{AreInOrder}
-use Rattle.cfb_mini_sectors.specs.State.{cases_of, entries_of}
-use Rattle.cfb_entry_changes.specs.Kept.{AllStayBalanced, KeepsFound}
+use Rattle.cfb_tables.specs.Changes.{NoneFree}
+use Rattle.cfb_tables.specs.Tables.{TableState}
+use Rattle.cfb_mini_sectors.specs.State.{cases_of, entries_of, tables_in}
+use Rattle.cfb_entry_changes.specs.Kept.{KeepsFound}
 use Rattle.cfb_agreement.specs.Files.{Agrees, FileState, Holds, IsAsMade, SameSetting, failures_of, is_failed}
 use Rattle.cfb_copies.proofs.Settings.{setting_same, setting_then}
-use Rattle.cfb_copies.specs.Steps.{GrowsTree, IsReachedIn, LeadTo}
+use Rattle.cfb_copies.specs.Steps.{GrowsTree, IsReachedIn, LeadTo, StaysWithoutFree}
 
 -- the entries in order have an outline
 pub ordered : (file : FileState) → AreInOrder (cases_of file.base) (entries_of file.base) → HasOutline (cases_of file.base) (entries_of file.base)
@@ -24,27 +26,31 @@ grows_none tells file calm outline = record {
   stays = λ before after was is names k found.
       subst (λ (p : Outline). number_from (cases_of file.base) (entries_of file.base) 0 p names ≡ Some k)
       (IsOutline-unique (cases_of file.base) (entries_of file.base) before after was is) found;
-  balanced = λ all. all;
   holds = λ told holds. holds;
   made = λ told holds made. made;
+  none_free = λ told holds none. none;
   calm = λ told. refl;
 }
 
 -- one change of entries
 pub grows_by : (tells : Bool) (old new : FileState) → SameSetting old new → is_failed new ≡ false → HasOutline (cases_of old.base) (entries_of old.base)
-    → HasOutline (cases_of new.base) (entries_of new.base) → KeepsFound old.base new.base → AllStayBalanced old.base new.base
-    → (IsTrue tells → Holds old → Agrees new) → (IsTrue tells → Holds old → IsAsMade old.base → IsAsMade new.base) → (IsTrue tells → failures_of new ≡ failures_of old)
+    → HasOutline (cases_of new.base) (entries_of new.base) → KeepsFound old.base new.base
+    → (IsTrue tells → Holds old → Agrees new) → (IsTrue tells → Holds old → IsAsMade old.base → IsAsMade new.base) → StaysWithoutFree old new → (IsTrue tells → failures_of new ≡ failures_of old)
     → GrowsTree tells old new
-grows_by tells old new setting calm was now stays balanced agrees made counted = record {
+grows_by tells old new setting calm was now stays agrees made full counted = record {
   setting = setting;
   unfailed = calm;
   outline = now;
   stays = stays;
-  balanced = λ all o is k there kind. balanced was.0 o was.1 is k there kind (all was.0 was.1 k);
   holds = λ told holds. agrees told holds calm;
   made = made;
+  none_free = λ told holds. full;
   calm = counted;
 }
+
+-- the same tables have as few free sectors
+pub same_tables : (old new : FileState) → tables_in new.base ≡ tables_in old.base → StaysWithoutFree old new
+same_tables old new same none = subst (λ (t : TableState). NoneFree t.fat) (sym same) none
 
 -- one after the other
 pub grows_then : (tells : Bool) (a b c : FileState) → GrowsTree tells a b → GrowsTree tells b c → GrowsTree tells a c
@@ -53,9 +59,9 @@ grows_then tells a b c p q = record {
   unfailed = q.unfailed;
   outline = q.outline;
   stays = λ before after was is names k found. q.stays p.outline.0 after p.outline.1 is names k (p.stays before p.outline.0 was p.outline.1 names k found);
-  balanced = λ all. q.balanced (p.balanced all);
   holds = λ told holds. q.holds told (p.holds told holds);
   made = λ told holds made. q.made told (p.holds told holds) (p.made told holds made);
+  none_free = λ told holds none. q.none_free told (p.holds told holds) (p.none_free told holds none);
   calm = λ told. q.calm told ∙ p.calm told;
 }
 

@@ -9,11 +9,11 @@ use Rattle.cfb_format.specs.Reading.{IsOutline, Outline}
 use Rattle.cfb_format.specs.Refused.{HasReason, no_error, number_of}
 use Rattle.cfb_format.specs.Tree.{AreWhole, Tree, nothing}
 use Rattle.cfb_built.specs.Copied.{CanAllBeCopied, Part, names_of, parts_copied}
-use Rattle.cfb_insertion.specs.Balance.{AreAllBalanced}
 use Rattle.cfb_places.specs.declared.walk.Place.{Place}
 use Rattle.cfb_places.specs.Laws.{IsWholeAt}
 use Rattle.cfb_places.specs.Parts.{part_at, parts_of}
 use Rattle.cfb_places.specs.Places.{places_of}
+use Rattle.cfb_tables.specs.Changes.{NoneFree}
 use Rattle.cfb_mini_sectors.specs.State.{bytes_of, cases_of, content_of, entries_of, tables_in, version_of}
 use Rattle.cfb_agreement.specs.Files.{FileState, Holds, IsAsMade, failures_of, is_failed}
 use Rattle.cfb_copies.specs.Steps.{IsCopyable, LeadTo}
@@ -69,12 +69,11 @@ pub record TakesAfter (room : ℕ) (source copy : FileState) : Type 0 where
   pub sound : copy.is_sound ≡ true
   pub unfailed : is_failed copy ≡ false
 
--- it is what its bytes say, and as a file that was made here is, with the siblings of every storage in balance; so many calls of its
--- medium have failed
+-- it is what its bytes say, and as a file that was made here is, and none of its sectors is free; so many calls of its medium have failed
 pub record IsMadeCopy (failures : ℕ) (copy : FileState) : Type 0 where
   pub holds : Holds copy
   pub made : IsAsMade copy.base
-  pub balanced : AreAllBalanced (cases_of copy.base) (entries_of copy.base)
+  pub none_free : NoneFree (tables_in copy.base).fat
   pub calm : failures_of copy ≡ failures
 
 -- its bytes mean the tree that those of the file mean

@@ -17,10 +17,10 @@ use Rattle.cfb_rules.specs.Finding.{last_name, parent_names}
 use Rattle.cfb_built.specs.Copied.{Part, names_of, storage_part, stream_part}
 use Rattle.cfb_siblings.specs.Children.{HasChildren, IsAbsent}
 use Rattle.cfb_siblings.specs.Paths.{HasOutline, number_from}
+use Rattle.cfb_tables.specs.Changes.{NoneFree}
 use Rattle.cfb_trees.specs.Reached.{IsObject, IsReached}
 use Rattle.cfb_entries.specs.declared.fields.Fields.{Fields}
-use Rattle.cfb_insertion.specs.Balance.{AreAllBalanced}
-use Rattle.cfb_mini_sectors.specs.State.{cases_of, entries_of, version_of}
+use Rattle.cfb_mini_sectors.specs.State.{cases_of, entries_of, tables_in, version_of}
 use Rattle.cfb_content.specs.Contents.{IsStreamOf, KeepsOthers, MovesContent, len_of}
 use Rattle.cfb_entry_changes.specs.Kept.{KeepsFound}
 use Rattle.cfb_agreement.specs.Files.{FileState, Holds, IsAsBefore, IsAsMade, SameSetting, failures_of, is_failed}
@@ -57,6 +57,10 @@ CountsEither source_gives target_tells target_gives result old new =
 
 -- ---- the target
 
+-- where no sector was free none is
+abbrev pub StaysWithoutFree : FileState → FileState → Type 0
+StaysWithoutFree old new = NoneFree (tables_in old.base).fat → NoneFree (tables_in new.base).fat
+
 -- the stream of that entry got other bytes, and nothing else has changed
 pub record FillsStream (tells : Bool) (entry : ℕ) (old new : FileState) : Type 0 where
   pub setting : SameSetting old new
@@ -66,6 +70,7 @@ pub record FillsStream (tells : Bool) (entry : ℕ) (old new : FileState) : Type
   pub holds : IsTrue tells → Holds old → Holds new
   pub others : IsTrue tells → Holds old → KeepsOthers entry old.base new.base
   pub made : IsTrue tells → Holds old → IsAsMade old.base → IsAsMade new.base
+  pub none_free : IsTrue tells → Holds old → StaysWithoutFree old new
   pub calm : IsTrue tells → failures_of new ≡ failures_of old
 
 -- objects were added, and what was found before is found
@@ -74,9 +79,9 @@ pub record GrowsTree (tells : Bool) (old new : FileState) : Type 0 where
   pub unfailed : is_failed new ≡ false
   pub outline : HasOutline (cases_of new.base) (entries_of new.base)
   pub stays : KeepsFound old.base new.base
-  pub balanced : AreAllBalanced (cases_of old.base) (entries_of old.base) → AreAllBalanced (cases_of new.base) (entries_of new.base)
   pub holds : IsTrue tells → Holds old → Holds new
   pub made : IsTrue tells → Holds old → IsAsMade old.base → IsAsMade new.base
+  pub none_free : IsTrue tells → Holds old → StaysWithoutFree old new
   pub calm : IsTrue tells → failures_of new ≡ failures_of old
 
 -- ---- one object

@@ -1,27 +1,26 @@
 -- What memory keeps of a created file is what its bytes say.
-use Rattle.std.proofs.Common.{◌≡◌, ◌∙◌, ℕ, zero, suc, ◌-◌, ◌<◌, List, [], ◌∷◌, true, false, refl, sym, ap, subst, arith, lit<}
-use Rattle.std.specs.Prelude.{◌≢◌, Contains, slice_index_or}
+use Rattle.std.proofs.Common.{◌≡◌, ◌∙◌, ℕ, zero, suc, ◌-◌, ◌<◌, List, [], ◌∷◌, true, refl, sym, ap, subst, arith, lit<}
+use Rattle.std.specs.Prelude.{Contains}
 use Rattle.cfb_format.specs.declared.header.Header.{Header}
 use Rattle.cfb_format.specs.declared.version.Version.{Version}
 use Rattle.cfb_format.specs.declared.version.Version.TheVariants.{V3, V4}
 use Rattle.cfb_format.specs.declared.validate.Validation.{Validation}
 use Rattle.cfb_format.specs.declared.validate.Validation.TheVariants.{Permissive, Strict}
-use Rattle.cfb_format.specs.declared.objtype.ObjType.TheVariants.{Stream}
-use Rattle.cfb_format.specs.Bytes.{entries_per_sector, max_regular_sector, stream_len_modulus}
+use Rattle.cfb_format.specs.Bytes.{entries_per_sector, max_regular_sector, no_stream, stream_len_modulus}
 use Rattle.cfb_format.specs.Created.{created_bytes, created_header, created_reading}
 use Rattle.cfb_format.specs.DirectoryEntry.{Entry, EntryFits, IsValidEntry, empty_root_entry}
 use Rattle.cfb_format.specs.Header.{IfStrict, IsHeader}
 use Rattle.cfb_format.specs.Laws.{AtMostOneHeader, AtMostOneOutline}
 use Rattle.cfb_format.specs.Names.{Cases}
 use Rattle.cfb_format.specs.Reading.{IsOutline, IsStrict, Outline, no_more, stream_numbers}
-use Rattle.cfb_format.specs.Siblings.{entry_at, is_red_at}
+use Rattle.cfb_format.specs.Siblings.{entry_at}
 use Rattle.cfb_format.specs.Soundness.{IsSound, used_sectors}
 use Rattle.cfb_format.proofs.CreatedFacts.{exact, reads, sound, strict, three_sectors}
 use Rattle.cfb_tables.specs.Owners.{AllUsed}
 use Rattle.cfb_tables.specs.Tables.{AreExactTables}
 use Rattle.cfb_tables.proofs.Members.{Contains-nil}
-use Rattle.cfb_trees.specs.Colors.{AreColored}
-use Rattle.cfb_trees.specs.Reached.{IsReached}
+use Rattle.cfb_trees.specs.Balance.{AreBalanced}
+use Rattle.cfb_objects.proofs.Balance.{nothing-hangs}
 use Rattle.cfb_directory.specs.State.{AreWritable}
 use Rattle.cfb_mini_sectors.specs.Held.{with_table}
 use Rattle.cfb_mini_sectors.specs.Laws.{SoundMiniIsHeld}
@@ -70,16 +69,9 @@ writable v zero few used = (root_fits, root_valid v)
 writable v (suc k) few used = absurd (used (ap (λ (e : Entry). e.obj_type) (unused_at (entries_per_sector v - 1) k)))
 
 -- the root has no child
-colored : (v : Version) → AreColored (created_reading v).entries no_more
-colored v = record { tops = top; apart = refl }
-  where
-    first : (k j : ℕ) → j < 1 → slice_index_or (0 ∷ []) j k ≡ k → is_red_at (created_reading v).entries (entry_at (created_reading v).entries k).child ≡ false
-    first k zero lt is = subst (λ n. is_red_at (created_reading v).entries (entry_at (created_reading v).entries n).child ≡ false) is refl
-    first k (suc j) lt is = absurd (omega arith)
-
-    top : (k : ℕ) → IsReached no_more k → (entry_at (created_reading v).entries k).obj_type ≢ Stream
-        → is_red_at (created_reading v).entries (entry_at (created_reading v).entries k).child ≡ false
-    top k (j, lt, is) used = first k j lt is
+balanced : (v : Version) → AreBalanced (created_reading v).entries no_more
+balanced v k (zero, lt, is) kind = nothing-hangs (created_reading v).entries k (subst (λ n. (entry_at (created_reading v).entries n).child ≡ no_stream) is refl)
+balanced v k (suc j, lt, is) kind = absurd (omega (arith, lt))
 
 -- ---- the tables
 
@@ -143,7 +135,7 @@ module _ (one_header : AtMostOneHeader) (one_outline : AtMostOneOutline) (v : Ve
       exact = exact_tables v limit;
       -- there is no stream
       snug = λ k at. absurd (Contains-nil k (subst (λ (p : Outline). Contains (stream_numbers p) k) (sym (the_outline at.outline at.is)) at.reached));
-      colored = λ o is. subst (AreColored (created_reading v).entries) (the_outline o is) (colored v);
+      balanced = λ o is. subst (AreBalanced (created_reading v).entries) (the_outline o is) (balanced v);
     }
 
 -- ---- with another limit

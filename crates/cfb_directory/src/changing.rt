@@ -6,7 +6,7 @@ ghost use Rattle.cfb_format.specs.DirectoryEntry.{IsValidEntry};
 ghost use Rattle.cfb_format.specs.Refused.{CountsFailure};
 ghost use Rattle.cfb_format.specs.Siblings.{entry_at};
 ghost use Rattle.cfb_outline.specs.Outlines.{IsReachedStorage};
-ghost use Rattle.cfb_siblings.specs.Children.{HasChildren, IsChildNamed};
+ghost use Rattle.cfb_siblings.specs.Children.{HasChildren, IsChildNamed, KeepsBalance};
 ghost use Rattle.cfb_sectors.specs.Sectors.{IsMediumError};
 ghost use Rattle.cfb_tables.specs.Refused.{ChangeRefused};
 ghost use Rattle.cfb_alloc.specs.Frame.{Spares};
@@ -50,6 +50,7 @@ pub(crate) fn remove_entry<F: Medium, A: Heap + Clone>(
         × ((entry_at entries.old.entries n).child ≡ no_stream) }
     ensures removed { OnOk result (RemovesEntry entries.old.cases entries.old.entries
         entries.new.entries parent (chars name.now)) }
+    ensures balanced { OnOk result (KeepsBalance entries.old.entries entries.new.entries parent) }
     ensures red_apart { OnOk result (StaysRedApart (directory_of allocator.old
         sectors.now entries.old) (directory_of allocator.new sectors.now entries.new) parent) }
     ensures kept { allocator.new.tables ≡ allocator.old.tables }

@@ -386,6 +386,7 @@ impl<F: Medium, A: Heap + Clone> Directory<F, A> {
             × ((entry_at self.old.entries n).child ≡ no_stream) }
         ensures removed { OnOk result (RemovesEntry self.old.cases self.old.entries self.new.entries
             parent (chars name.now)) }
+        ensures balanced { OnOk result (KeepsBalance self.old.entries self.new.entries parent) }
         ensures red_apart { OnOk result (StaysRedApart self.old self.new parent) }
         ensures kept { (self.new.sectors ≡ self.old.sectors)
             × (directory_tables self.new ≡ directory_tables self.old) }

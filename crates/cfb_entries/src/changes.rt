@@ -1,8 +1,8 @@
 //! Changes of a directory's entries that may be refused memory, over the two lists that a directory keeps.
 ghost use Rattle.std.specs.Prelude.{◌≡◌, ℕ, ◌+◌, ◌≤◌, ◌++◌, ◌∷◌, [], List, length, chars, vec_len, vec_capacity, IfOk, OnOk, OnErr};
 ghost use Rattle.cfb_codecs.specs.EntryModel.{entries_of};
-ghost use Rattle.cfb_siblings.specs.Children.{HasChildren, HasRedApart};
-ghost use Rattle.cfb_siblings.specs.Touched.{Touches, TouchesOnly};
+ghost use Rattle.cfb_siblings.specs.Children.{HasChildren, HasRedApart, KeepsBalance};
+ghost use Rattle.cfb_siblings.specs.Touched.{Touches, TouchesFew, TouchesOnly};
 ghost use Rattle.cfb_format.specs.Full.{max_entries};
 ghost use Rattle.cfb_entries.specs.EntryList.{IsChildless, RemovesEntry};
 
@@ -43,6 +43,8 @@ pub(crate) fn remove_child<A: Allocator + Clone>(
     ensures removed { OnOk result ((r : RemovesEntry letters.now
         (entries_of list.old.items) (entries_of list.new.items) parent (chars name.now))
         × (free.new.items ≡ free.old.items ++ r.freed ∷ [])) }
+    ensures balanced { OnOk result
+        (KeepsBalance (entries_of list.old.items) (entries_of list.new.items) parent) }
     ensures red_apart { OnOk result ((children : List ℕ)
         → HasChildren letters.now (entries_of list.old.items) parent children
         → HasRedApart (entries_of list.old.items) parent children
@@ -53,6 +55,8 @@ pub(crate) fn remove_child<A: Allocator + Clone>(
     ensures touches_only { IfOk result (λ touched. (children : List ℕ)
         → HasChildren letters.now (entries_of list.old.items) parent children
         → TouchesOnly parent children touched.items) }
+    ensures touches_few { IfOk result (λ touched.
+        TouchesFew (entries_of list.old.items) parent touched.items) }
     ensures refused { OnErr result ((list.new.items ≡ list.old.items)
         × (free.new.items ≡ free.old.items)) }
 {

@@ -11,7 +11,7 @@ ghost use Rattle.cfb_outline.specs.Outlines.{AcceptsOutline, HasInside, IsReache
 ghost use Rattle.cfb_siblings.specs.Children.{HasChildren, HasRedApart, IsAbsent, IsChildNamed, KeepsBalance};
 ghost use Rattle.cfb_siblings.specs.Laws.{grown_by};
 ghost use Rattle.cfb_siblings.specs.Paths.{number_from};
-ghost use Rattle.cfb_siblings.specs.Touched.{Touches, TouchesOnly};
+ghost use Rattle.cfb_siblings.specs.Touched.{Touches, TouchesFew, TouchesOnly};
 ghost use Rattle.cfb_format.specs.Full.{max_entries};
 ghost use Rattle.cfb_entries.specs.Clearing.{HasCleared};
 ghost use Rattle.cfb_entries.specs.EntryList.{AreInOrder, HaveShortNames, InsertsEntry, IsChildless, RemovesEntry, has_free};
@@ -115,7 +115,8 @@ impl<A: Allocator + Clone> Entries<A> {
     }
 
     /// Takes the child of that name, which is there and has no children, out of the storage `parent`, and answers the list of
-    /// the slots whose entries changed, each of them once. The slot that is free then is taken first of all.
+    /// the slots whose entries changed, each of them once: at most eight more than the children's tree has levels. The slot that
+    /// is free then is taken first of all.
     ///
     /// `AllocError` where memory is refused, and the entries have not changed then.
     pub fn remove(&mut self, heap: &A, parent: u32, name: &str) -> Result<Vec<u32, A>, AllocError>
@@ -124,6 +125,8 @@ impl<A: Allocator + Clone> Entries<A> {
         ensures cases { self.new.cases ≡ self.old.cases }
         ensures removed { OnOk result (RemovesEntry self.old.cases self.old.entries self.new.entries
             parent (chars name.now)) }
+        ensures balanced { OnOk result
+            (KeepsBalance self.old.entries self.new.entries parent) }
         ensures red_apart { OnOk result ((list : List ℕ)
             → HasChildren self.old.cases self.old.entries parent list
             → HasRedApart self.old.entries parent list
@@ -134,6 +137,8 @@ impl<A: Allocator + Clone> Entries<A> {
         ensures touches_only { IfOk result (λ touched. (list : List ℕ)
             → HasChildren self.old.cases self.old.entries parent list
             → TouchesOnly parent list touched.items) }
+        ensures touches_few { IfOk result (λ touched.
+            TouchesFew self.old.entries parent touched.items) }
         ensures refused { OnErr result (self.new ≡ record self.old { room = self.new.room }) }
     {
         remove_child(

@@ -10,3 +10,5 @@ pub mod directories;
 mod outlines;
 #[cfg(test)]
 mod refusals;
+#[cfg(test)]
+mod removals;

@@ -9,9 +9,9 @@ use Rattle.cfb_format.specs.DirectoryEntry.{Entry, unallocated_entry}
 use Rattle.cfb_format.specs.Meaning.{objects_from, storage_info, stream_info}
 use Rattle.cfb_format.specs.Names.{Cases}
 use Rattle.cfb_format.specs.Reading.{IsOutline, Outline, no_more, numbers, siblings}
-use Rattle.cfb_format.specs.Siblings.{Below, entry_at, leaf}
+use Rattle.cfb_format.specs.Siblings.{Balanced, Below, entry_at, in_order, leaf}
 use Rattle.cfb_format.specs.Tree.{is_same_name, nothing}
-use Rattle.cfb_format.proofs.Unique.{Below-unique}
+use Rattle.cfb_format.proofs.Unique.{Below-unique, HangsAt-unique}
 use Rattle.cfb_rules.specs.CallChanges.{tree_changed_at}
 use Rattle.cfb_siblings.specs.Children.{ButChild}
 use Rattle.cfb_siblings.specs.Laws.{SameEntry, SameLinks}
@@ -21,17 +21,17 @@ use Rattle.cfb_siblings.proofs.Kept.{below-kept, objects-kept}
 use Rattle.cfb_siblings.proofs.Outlines.{siblings-numbers}
 use Rattle.cfb_siblings.proofs.Tallies.{counted, hit-same, outside, present, uncounted}
 use Rattle.cfb_outline.specs.Outlines.{HasInside}
-use Rattle.cfb_tables.proofs.Members.{Contains-nil}
-use Rattle.cfb_trees.specs.Colors.{AreColored}
 use Rattle.cfb_trees.specs.Reached.{IsReached}
-use Rattle.cfb_trees.proofs.Colored.{SamePaint, none-is-red}
+use Rattle.cfb_trees.proofs.Colored.{SamePaint}
 use Rattle.cfb_trees.proofs.Kept.{SameNode, children-kept, contents-kept, same-node}
 use Rattle.cfb_trees.proofs.Members.{below-once, reached-is-within, reached-once, storage-is-no-stream}
 use Rattle.cfb_trees.proofs.Parents.{parent-kind, parent-links, root-len}
 use Rattle.cfb_trees.proofs.PathDown.{Down, down-number, number-down}
-use Rattle.cfb_trees.proofs.Recolored.{below-reached, recolored, root-is-reached, root-or-below}
+use Rattle.cfb_trees.proofs.Recolored.{below-reached, root-is-reached, root-or-below}
 use Rattle.cfb_trees.proofs.Replaced.{Becomes, becomes}
 use Rattle.cfb_trees.proofs.Standing.{StandsAt, at-apart, at-held, at-inner, at-within, owned, stands, stands-at, stands-held, stands-inner, stands-kind}
+use Rattle.cfb_trees.specs.Balance.{StayBalanced}
+use Rattle.cfb_objects.proofs.Balance.{balance-kept, nothing-hangs}
 use Rattle.cfb_objects.specs.Objects.{tree_from}
 use Rattle.cfb_objects.proofs.Added.{parent-object}
 use Rattle.cfb_objects.proofs.Level.{KeptBeside, replaced-tree}
@@ -244,7 +244,7 @@ module _ (cases : Cases) (old new : List Entry) (o : Outline) (top : ℕ) (x : O
   now-found path k e far = number-down cases new after now-is path k
       (down-now path 0 k (omega (arith, hit-same 0)) (apart-now 0 (omega (arith, hit-same 0))) far (down-number cases old o is path k e))
 
-  -- ---- colours
+  -- ---- balance
 
   paint : (k : ℕ) → times_in k (numbers x) ≡ 0 → SamePaint old new k
   paint k out = elim (cases_eq k top) [
@@ -264,20 +264,21 @@ module _ (cases : Cases) (old new : List Entry) (o : Outline) (top : ℕ) (x : O
     | inr c ↦ below-reached o k ((now-reaches k).0 c).0
   ]
 
-  pub now-colored : AreColored old o → AreColored new after
-  unfolding times_in
-  now-colored was = recolored cases old new o after top [] now-is
-      (record { parent_in = omega (arith, did.longer, reached-is-within cases old o top is reached); below = none-below cases new (entry_at new top).child did.none; apart = λ m. Contains-nil top m })
-      (none-is-red new (entry_at new top).child did.none, refl) was
-      (elim (root-or-below o top reached) [
-        | inl e ↦ root-is-reached after top e
-        | inr c ↦ below-reached after top ((now-reaches top).1 (c, outside top (numbers x) top-apart))
-      ])
-      (λ s. ne (sym (ap (λ (y : Entry). y.obj_type) did.top_kept) ∙ s))
-      (λ k r ns kt. inr (
-        k,
-        was-reached k r,
-        λ s. ns (kind-same k (counted k (0 ∷ numbers after) r) ∙ s),
-        ap (λ (y : Entry). y.child) (did.others_kept k kt (outside k (numbers x) (apart-now k (counted k (0 ∷ numbers after) r)))),
-      ))
-      (λ k c _. (((now-reaches k).0 c).0, paint k (uncounted k (numbers x) ((now-reaches k).0 c).1)))
+  -- nothing hangs in the storage, and the children of the others stand as they stood
+  pub now-balanced : StayBalanced old o new after
+  now-balanced k r ns was = elim (cases_eq k top) [
+    | inl e ↦ nothing-hangs new k (ap (λ (j : ℕ). (entry_at new j).child) e ∙ did.none)
+    | inr kt ↦
+        let out = apart-now k (counted k (0 ∷ numbers after) r) in
+        let e : entry_at new k ≡ entry_at old k = did.others_kept k kt (outside k (numbers x) out) in
+        let kind : (entry_at old k).obj_type ≢ Stream = λ s. ns (ap (λ (z : Entry). z.obj_type) e ∙ s) in
+        let (y, sn) = stands-at cases old o is k kind (counted k (0 ∷ numbers o) (was-reached k r)) in
+        let held = (at-held cases old o is k y sn).0 in
+        let (black, balanced) = was (was-reached k r) kind in
+        let list = ap in_order (HangsAt-unique old (entry_at old k).child balanced.tree held.tree balanced.hangs held.hangs) ∙ sym held.is_in_order in (
+          black,
+          subst (λ (t : ℕ). Balanced new t black) (sym (ap (λ (z : Entry). z.child) e))
+              (balance-kept old new (omega (arith, did.longer)) (entry_at old k).child black balanced
+              (λ i m. paint i (child-apart k i y kt out sn (subst (λ (l : List ℕ). 1 ≤ times_in i l) list m)))),
+        )
+  ]

@@ -13,16 +13,16 @@ use Rattle.cfb_rules.specs.CallChanges.{tree_changed_at}
 use Rattle.cfb_siblings.specs.Paths.{number_from}
 use Rattle.cfb_siblings.proofs.Tallies.{counted, present, uncounted}
 use Rattle.cfb_tables.proofs.Members.{Contains-or}
-use Rattle.cfb_trees.specs.Colors.{AreColored}
 use Rattle.cfb_trees.specs.Reached.{IsReached}
 use Rattle.cfb_trees.proofs.Members.{of-stream-kind, streams-are-by-kind}
 use Rattle.cfb_trees.proofs.Streams.{below-is-reached}
+use Rattle.cfb_trees.specs.Balance.{StayBalanced}
 use Rattle.cfb_mini_sectors.specs.State.{MiniState, cases_of, content_of, entries_of}
 use Rattle.cfb_objects.proofs.Same.{tree-stays}
 use Rattle.cfb_entry_changes.specs.Standing.{StreamsStand, WritesEntries}
 use Rattle.cfb_entry_changes.specs.Clearing.{ClearsStorage, WritesClearing}
-use Rattle.cfb_entry_changes.specs.Laws.{ClearedEmptiesTree, ClearedHasOutline, ClearedIsAllUsed, ClearedIsChangeable, ClearedIsColored, ClearedIsFound, ClearedIsSnug, ClearedKeepsRoot}
-use Rattle.cfb_entry_changes.proofs.Cleared.{after, now-colored, now-found, now-is, now-reaches, now-tree, kind-same, root-apart}
+use Rattle.cfb_entry_changes.specs.Laws.{ClearedEmptiesTree, ClearedHasOutline, ClearedIsAllUsed, ClearedIsBalanced, ClearedIsChangeable, ClearedIsFound, ClearedIsSnug, ClearedKeepsRoot}
+use Rattle.cfb_entry_changes.proofs.Cleared.{after, now-balanced, now-found, now-is, now-reaches, now-tree, kind-same, root-apart}
 use Rattle.cfb_entry_changes.proofs.Standing.{all-used-now, changeable-now, reads-as-before, snug-now}
 use Rattle.cfb_entry_changes.proofs.Trees.{entries-become}
 
@@ -89,12 +89,10 @@ cleared-keeps-root old new top t = elim (cases_eq 0 top) [
       t.storage.kind t.has_inside t.cleared))
 ]
 
-pub cleared-is-colored : ClearedIsColored
-cleared-is-colored old new top t was p p_is =
-    let o = t.storage.outline in
-    let is = t.storage.is in
-    subst (λ (q : Outline). AreColored (entries_of new) q) (IsOutline-unique (cases_of new) (entries_of new) (left old new top t o is) p (new_is old new top t o is) p_is)
-    (now-colored (cases_of old) (entries_of old) (entries_of new) o top t.inside is (reached old new top t o is) t.storage.kind t.has_inside t.cleared (was o is))
+pub cleared-is-balanced : ClearedIsBalanced
+cleared-is-balanced old new top t o p is p_is =
+    subst (λ (q : Outline). StayBalanced (entries_of old) o (entries_of new) q) (IsOutline-unique (cases_of new) (entries_of new) (left old new top t o is) p (new_is old new top t o is) p_is)
+    (now-balanced (cases_of old) (entries_of old) (entries_of new) o top t.inside is (reached old new top t o is) t.storage.kind t.has_inside t.cleared)
 
 -- ---- in the file
 

@@ -2,6 +2,7 @@ pub mod Dropped
 pub mod Standing
 pub mod Trees
 pub mod Taken
+pub mod TakenBalance
 pub mod Cleared
 pub mod Emptied
 pub mod Marked

@@ -14,9 +14,7 @@ use Rattle.cfb_rules.specs.CallChanges.{fields_changed_at}
 use Rattle.cfb_siblings.specs.Laws.{SameObject}
 use Rattle.cfb_siblings.specs.Paths.{number_from}
 use Rattle.cfb_trees.specs.Changes.{ButFields}
-use Rattle.cfb_trees.specs.Colors.{AreColored}
 use Rattle.cfb_trees.specs.Reached.{IsReached}
-use Rattle.cfb_trees.proofs.Colored.{fields-keep-colors}
 use Rattle.cfb_trees.proofs.Members.{root-is-no-stream, streams-are-by-kind}
 use Rattle.cfb_trees.proofs.PathNames.{same-from}
 use Rattle.cfb_trees.proofs.PathReached.{found-is-reached}
@@ -29,10 +27,10 @@ use Rattle.cfb_objects.specs.Changes.{ChangesFields}
 use Rattle.cfb_objects.proofs.Fields.{fields-change-in-place}
 use Rattle.cfb_mini_sectors.specs.State.{MiniState, cases_of, content_of, entries_of}
 use Rattle.cfb_content.specs.Contents.{len_of}
-use Rattle.cfb_insertion.proofs.Balance.{fields-keep-balance}
+use Rattle.cfb_objects.proofs.Balance.{fields-keep-balance}
 use Rattle.cfb_entry_changes.specs.Standing.{SameContent, StreamsStand, WritesEntries}
 use Rattle.cfb_entry_changes.specs.Marking.{GivesFields, MarksEntry, WritesFields}
-use Rattle.cfb_entry_changes.specs.Laws.{MarkedChangesTree, MarkedHasOutline, MarkedIsAllUsed, MarkedIsBalanced, MarkedIsChangeable, MarkedIsColored, MarkedIsFound, MarkedIsSnug, MarkedKeepsRoot}
+use Rattle.cfb_entry_changes.specs.Laws.{MarkedChangesTree, MarkedHasOutline, MarkedIsAllUsed, MarkedIsBalanced, MarkedIsChangeable, MarkedIsFound, MarkedIsSnug, MarkedKeepsRoot}
 use Rattle.cfb_entry_changes.proofs.Standing.{all-used-now, changeable-now, reads-as-before, snug-now}
 use Rattle.cfb_entry_changes.proofs.Trees.{entries-become}
 
@@ -83,11 +81,6 @@ module _ (old new : MiniState) (i : ℕ) (fields : Fields) (t : MarksEntry old n
 
 pub marked-has-outline : MarkedHasOutline
 marked-has-outline old new i fields t o is = new_is old new i fields t o is
-
-pub marked-is-colored : MarkedIsColored
-marked-is-colored old new i fields t was o is =
-    subst (λ es. AreColored es o) (sym t.entries)
-    (fields-keep-colors (cases_of old) (entries_of old) i (entry_with_fields (entry_at (entries_of old) i) fields) o is (but old new i fields t) (was o is))
 
 pub marked-keeps-root : MarkedKeepsRoot
 marked-keeps-root old new i fields t = (same-at old new i fields t 0).len

@@ -9,15 +9,13 @@ use Rattle.cfb_format.specs.Siblings.{entry_at}
 use Rattle.cfb_format.specs.Tree.{is_same_name}
 use Rattle.cfb_format.proofs.Unique.{Below-unique, IsOutline-unique}
 use Rattle.cfb_rules.specs.CallChanges.{removed_at}
-use Rattle.cfb_siblings.specs.Children.{ButLinks, HasChildren}
+use Rattle.cfb_siblings.specs.Children.{ButLinks}
 use Rattle.cfb_siblings.specs.Paths.{number_from}
 use Rattle.cfb_trees.specs.Changes.{HasLess, StaysAt}
-use Rattle.cfb_trees.specs.Colors.{AreColored, KeepsRedApart}
 use Rattle.cfb_trees.specs.Paths.{number_after}
 use Rattle.cfb_trees.specs.Reached.{IsReached}
 use Rattle.cfb_trees.proofs.Members.{object-is-no-root, streams-are-by-kind}
 use Rattle.cfb_trees.proofs.PathRemoved.{removal-takes-a-name}
-use Rattle.cfb_trees.proofs.Recolored.{removal-keeps-colors}
 use Rattle.cfb_trees.proofs.Standing.{reached-is-parent}
 use Rattle.cfb_trees.proofs.Streams.{removal-keeps-streams}
 use Rattle.cfb_trees.proofs.Taken.{removal-keeps-outline, taken-numbers}
@@ -26,7 +24,7 @@ use Rattle.cfb_mini_sectors.specs.State.{MiniState, bytes_of, cases_of, content_
 use Rattle.cfb_content.specs.Contents.{len_of}
 use Rattle.cfb_entry_changes.specs.Standing.{SameContent, StreamsStand, WritesEntries}
 use Rattle.cfb_entry_changes.specs.Taking.{TakesObject, WritesRemoval}
-use Rattle.cfb_entry_changes.specs.Laws.{TakenHasOutline, TakenIsAllUsed, TakenIsChangeable, TakenIsColored, TakenIsNotFound, TakenIsSnug, TakenKeepsRoot, TakenLeavesTree, TakenStandsAt}
+use Rattle.cfb_entry_changes.specs.Laws.{TakenHasOutline, TakenIsAllUsed, TakenIsChangeable, TakenIsNotFound, TakenIsSnug, TakenKeepsRoot, TakenLeavesTree, TakenStandsAt}
 use Rattle.cfb_entry_changes.proofs.Dropped.{object-is-removed}
 use Rattle.cfb_entry_changes.proofs.Standing.{all-used-now, changeable-now, reads-as-before, snug-now}
 use Rattle.cfb_entry_changes.proofs.Trees.{entries-become}
@@ -47,7 +45,7 @@ module _ (old new : MiniState) (parent : ℕ) (name : List ℕ) (t : TakesObject
   stood_at k = if k == n then freed else k
 
   module _ (o : Outline) (is : IsOutline (cases_of old) (entries_of old) o) where
-    reached : IsReached o parent
+    pub reached : IsReached o parent
     reached = subst (λ (p : Outline). IsReached p parent) (IsOutline-unique (cases_of old) (entries_of old) t.storage.outline o t.storage.is is) t.storage.reached
 
     pub has-less : HasLess (cases_of old) (entries_of new) o freed
@@ -62,7 +60,7 @@ module _ (old new : MiniState) (parent : ℕ) (name : List ℕ) (t : TakesObject
         object-is-no-root (entry_at (entries_of old) 0) (below 0 (subst (λ (l : List ℕ). Contains l 0) (sym same) m)).1 is.root
 
     module _ (after : Outline) (new_is : IsOutline (cases_of new) (entries_of new) after) where
-      now : IsOutline (cases_of old) (entries_of new) after
+      pub now : IsOutline (cases_of old) (entries_of new) after
       now = subst (λ c. IsOutline c (entries_of new) after) t.kept.limits.cases new_is
 
       pub names : (path : List (List ℕ)) → number_from (cases_of old) (entries_of new) 0 after path
@@ -119,17 +117,6 @@ module _ (old new : MiniState) (parent : ℕ) (name : List ℕ) (t : TakesObject
         ];
       }
 
-      -- ---- colours
-
-      keeps : KeepsRedApart (cases_of old) (entries_of old) (entries_of new) parent
-      keeps list children apart =
-          let r = t.red_apart list children apart in
-          (r.0, subst (λ c. HasChildren c (entries_of new) parent r.0) t.kept.limits.cases r.1, r.2)
-
-      pub colored : AreColored (entries_of old) o → AreColored (entries_of new) after
-      colored was = removal-keeps-colors (cases_of old) (entries_of old) (entries_of new) o after parent n freed t.entry.before t.entry.behind t.entry.after is now reached t.storage.kind
-          t.entry.childless t.entry.removed keeps was
-
 -- ---- in memory
 
 pub taken-has-outline : TakenHasOutline
@@ -154,11 +141,6 @@ taken-keeps-root old new parent name t = elim (cases_eq 0 parent) [
       ∙ ap (λ (i : ℕ). (entry_at (entries_of old) i).stream_len) (sym e)
   | inr ne ↦ ap (λ (x : Entry). x.stream_len) (t.entry.removed.others_kept 0 ne (root-apart old new parent name t t.storage.outline t.storage.is))
 ]
-
-pub taken-is-colored : TakenIsColored
-taken-is-colored old new parent name t was o is =
-    let p = t.storage.outline in
-    colored old new parent name t p t.storage.is o is (was p t.storage.is)
 
 -- ---- in the file
 

@@ -1,9 +1,12 @@
 -- What stays where the entries of a directory change: what names lead to, and the balance of sibling trees (MS-CFB 2.6.4).
-use Rattle.std.specs.Prelude.{ℕ, ◌≡◌, List, Some, option_and_then}
+use Rattle.std.specs.Prelude.{ℕ, ◌≡◌, ◌≢◌, List, Some, option_and_then}
+use Rattle.cfb_format.specs.declared.objtype.ObjType.TheVariants.{Stream}
 use Rattle.cfb_format.specs.Reading.{IsOutline, Outline}
+use Rattle.cfb_format.specs.Siblings.{entry_at}
 use Rattle.cfb_siblings.specs.Paths.{number_from}
 use Rattle.cfb_trees.specs.Paths.{number_after}
-use Rattle.cfb_insertion.specs.Balance.{StayBalanced}
+use Rattle.cfb_trees.specs.Reached.{IsReached}
+use Rattle.cfb_trees.specs.Balance.{IsBalanced, StayBalanced}
 use Rattle.cfb_mini_sectors.specs.State.{MiniState, cases_of, entries_of}
 
 -- names that led to an entry lead to it still
@@ -26,3 +29,10 @@ FindsAllBut old new n = (freed : ℕ) × ((before after : Outline) → IsOutline
 abbrev pub AllStayBalanced : MiniState → MiniState → Type 0
 AllStayBalanced old new = (before after : Outline) → IsOutline (cases_of old) (entries_of old) before → IsOutline (cases_of new) (entries_of new) after
     → StayBalanced (entries_of old) before (entries_of new) after
+
+-- so it is where the entry n is taken, though one of the others may stand in its slot now
+abbrev pub AllStayBalancedBut : MiniState → MiniState → ℕ → Type 0
+AllStayBalancedBut old new n = (freed : ℕ) × ((before after : Outline) → IsOutline (cases_of old) (entries_of old) before → IsOutline (cases_of new) (entries_of new) after
+    → (k : ℕ) → IsReached after k → (entry_at (entries_of new) k).obj_type ≢ Stream
+    → ((j : ℕ) → IsReached before j → (entry_at (entries_of old) j).obj_type ≢ Stream → number_after n freed j ≡ Some k → IsBalanced (entries_of old) j)
+    → IsBalanced (entries_of new) k)

@@ -14,7 +14,6 @@ use Rattle.cfb_siblings.specs.Children.{ButLinks, HasRemoved}
 use Rattle.cfb_siblings.specs.Laws.{IgnoresLinks}
 use Rattle.cfb_siblings.specs.Paths.{number_from}
 use Rattle.cfb_trees.specs.Changes.{HasLess}
-use Rattle.cfb_trees.specs.Colors.{AreColored}
 use Rattle.cfb_entries.specs.declared.fields.Fields.{Fields}
 use Rattle.cfb_mini_sectors.specs.State.{IsChangeable, MiniState, bytes_of, cases_of, entries_of, root_len_of, version_of}
 use Rattle.cfb_objects.specs.Changes.{ContentsStay}
@@ -22,7 +21,7 @@ use Rattle.cfb_objects.specs.Laws.{BecomesTree}
 use Rattle.cfb_objects.specs.Objects.{tree_from}
 use Rattle.cfb_content.specs.Contents.{AreAllUsed, AreSnug, KeepsContent, MovesContent}
 use Rattle.cfb_entry_changes.specs.Standing.{StandStill, StreamsStand, WritesEntries}
-use Rattle.cfb_entry_changes.specs.Kept.{AllStayBalanced, FindsAllBut, FindsTheSame}
+use Rattle.cfb_entry_changes.specs.Kept.{AllStayBalanced, AllStayBalancedBut, FindsAllBut, FindsTheSame}
 use Rattle.cfb_entry_changes.specs.Taking.{TakesObject, WritesRemoval}
 use Rattle.cfb_entry_changes.specs.Clearing.{ClearsStorage, WritesClearing}
 use Rattle.cfb_entry_changes.specs.Marking.{GivesFields, MarksEntry, WritesFields}
@@ -86,11 +85,9 @@ TakenStandsAt = (old new : MiniState) (parent : ℕ) (name : List ℕ) (taken : 
 abbrev pub TakenKeepsRoot : Type 0
 TakenKeepsRoot = (old new : MiniState) (parent : ℕ) (name : List ℕ) → TakesObject old new parent name → root_len_of new ≡ root_len_of old
 
--- and so do the colours of all sibling trees
-abbrev pub TakenIsColored : Type 0
-TakenIsColored = (old new : MiniState) (parent : ℕ) (name : List ℕ) → TakesObject old new parent name
-    → ((o : Outline) → IsOutline (cases_of old) (entries_of old) o → AreColored (entries_of old) o)
-    → (o : Outline) → IsOutline (cases_of new) (entries_of new) o → AreColored (entries_of new) o
+-- and each other storage that was in balance is so still
+abbrev pub TakenIsBalanced : Type 0
+TakenIsBalanced = (old new : MiniState) (parent : ℕ) (name : List ℕ) (taken : TakesObject old new parent name) → AllStayBalancedBut old new taken.entry.number
 
 -- ---- in the file
 
@@ -125,14 +122,12 @@ ClearedIsFound = (old new : MiniState) (top : ℕ) (clears : ClearsStorage old n
     → IsOutline (cases_of new) (entries_of new) after → (path : List (List ℕ)) (k : ℕ) → number_from (cases_of old) (entries_of old) 0 o path ≡ Some k
     → (Contains (numbers clears.inside) k → ⊥) → number_from (cases_of new) (entries_of new) 0 after path ≡ Some k
 
--- the root's length stays, and so do the colours of all sibling trees
+-- the root's length stays, and so does the balance of all sibling trees
 abbrev pub ClearedKeepsRoot : Type 0
 ClearedKeepsRoot = (old new : MiniState) (top : ℕ) → ClearsStorage old new top → root_len_of new ≡ root_len_of old
 
-abbrev pub ClearedIsColored : Type 0
-ClearedIsColored = (old new : MiniState) (top : ℕ) → ClearsStorage old new top
-    → ((o : Outline) → IsOutline (cases_of old) (entries_of old) o → AreColored (entries_of old) o)
-    → (o : Outline) → IsOutline (cases_of new) (entries_of new) o → AreColored (entries_of new) o
+abbrev pub ClearedIsBalanced : Type 0
+ClearedIsBalanced = (old new : MiniState) (top : ℕ) → ClearsStorage old new top → AllStayBalanced old new
 
 -- the file can be changed again, and nothing is loose, if nothing was
 abbrev pub ClearedIsChangeable : Type 0
@@ -152,15 +147,10 @@ ClearedEmptiesTree = (validation : Validation) (old new : MiniState) (top : ℕ)
 
 -- ---- an entry has other fields
 
--- the outline stays, and so do the colours and the root's length
+-- the outline stays, and so does the root's length
 abbrev pub MarkedHasOutline : Type 0
 MarkedHasOutline = (old new : MiniState) (i : ℕ) (fields : Fields) → MarksEntry old new i fields → (o : Outline) → IsOutline (cases_of old) (entries_of old) o
     → IsOutline (cases_of new) (entries_of new) o
-
-abbrev pub MarkedIsColored : Type 0
-MarkedIsColored = (old new : MiniState) (i : ℕ) (fields : Fields) → MarksEntry old new i fields
-    → ((o : Outline) → IsOutline (cases_of old) (entries_of old) o → AreColored (entries_of old) o)
-    → (o : Outline) → IsOutline (cases_of old) (entries_of old) o → AreColored (entries_of new) o
 
 abbrev pub MarkedKeepsRoot : Type 0
 MarkedKeepsRoot = (old new : MiniState) (i : ℕ) (fields : Fields) → MarksEntry old new i fields → root_len_of new ≡ root_len_of old

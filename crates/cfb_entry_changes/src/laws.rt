@@ -1,6 +1,6 @@
 //! What changes of entries make of a file. None of these functions does anything: each has a law as
 //! its contract.
-ghost use Rattle.cfb_entry_changes.specs.Laws.{ClearedEmptiesTree, ClearedHasOutline, ClearedIsAllUsed, ClearedIsChangeable, ClearedIsColored, ClearedIsFound, ClearedIsSnug, ClearedKeepsRoot, EntriesKeepStreams, MarkedChangesTree, MarkedHasOutline, MarkedIsAllUsed, MarkedIsBalanced, MarkedIsChangeable, MarkedIsColored, MarkedIsFound, MarkedIsSnug, MarkedKeepsRoot, MovedIsFound, ObjectIsRemoved, StandingIsAllUsed, StandingIsChangeable, StandingIsSnug, StreamsAreKeptInTurn, TakenHasOutline, TakenIsAllUsed, TakenIsChangeable, TakenIsColored, TakenIsNotFound, TakenIsSnug, TakenKeepsRoot, TakenLeavesTree, TakenStandsAt};
+ghost use Rattle.cfb_entry_changes.specs.Laws.{ClearedEmptiesTree, ClearedHasOutline, ClearedIsAllUsed, ClearedIsBalanced, ClearedIsChangeable, ClearedIsFound, ClearedIsSnug, ClearedKeepsRoot, EntriesKeepStreams, MarkedChangesTree, MarkedHasOutline, MarkedIsAllUsed, MarkedIsBalanced, MarkedIsChangeable, MarkedIsFound, MarkedIsSnug, MarkedKeepsRoot, MovedIsFound, ObjectIsRemoved, StandingIsAllUsed, StandingIsChangeable, StandingIsSnug, StreamsAreKeptInTurn, TakenHasOutline, TakenIsAllUsed, TakenIsBalanced, TakenIsChangeable, TakenIsNotFound, TakenIsSnug, TakenKeepsRoot, TakenLeavesTree, TakenStandsAt};
 
 /// The contents of all streams stay where entries alone are written. Where each stream stands at an
 /// entry of its own again, a sound file is sound again, nothing is loose in it, if nothing was, and
@@ -20,13 +20,13 @@ pub fn removal_is_removal()
 {}
 
 /// The taken object is found no more, and all else is, in the slots where it stands now; the mini
-/// stream keeps its length, and the children of all storages their colours.
+/// stream keeps its length, and the children of all storages their balance.
 pub fn taken_objects_are_gone()
     ensures outline { TakenHasOutline }
     ensures names { TakenIsNotFound }
     ensures streams { TakenStandsAt }
     ensures root { TakenKeepsRoot }
-    ensures colors { TakenIsColored }
+    ensures balance { TakenIsBalanced }
 {}
 
 /// A sound file is sound again, nothing is loose in it and its chains are as long as they need to
@@ -40,13 +40,12 @@ pub fn removals_leave_the_meant_tree()
 {}
 
 /// Where all that was in a storage is taken at once, what was not in it is found as before; the
-/// mini
-/// stream keeps its length, and the children of all storages their colours.
+/// mini stream keeps its length, and the children of all storages their balance.
 pub fn cleared_storages_are_empty()
     ensures outline { ClearedHasOutline }
     ensures names { ClearedIsFound }
     ensures root { ClearedKeepsRoot }
-    ensures colors { ClearedIsColored }
+    ensures balance { ClearedIsBalanced }
 {}
 
 /// A sound file is sound again, nothing is loose in it and its chains are as long as they need to
@@ -59,12 +58,10 @@ pub fn clearings_empty_the_meant_storage()
     ensures tree { ClearedEmptiesTree }
 {}
 
-/// Other fields of an entry change nothing of what is found, of the colours, of the balance and of
-/// the
-/// mini stream's length; nor is anything found elsewhere where the content of a stream changes.
+/// Other fields of an entry change nothing of what is found, of the balance and of the mini stream's
+/// length; nor is anything found elsewhere where the content of a stream changes.
 pub fn fields_keep_the_outline()
     ensures outline { MarkedHasOutline }
-    ensures colors { MarkedIsColored }
     ensures root { MarkedKeepsRoot }
     ensures balance { MarkedIsBalanced }
     ensures names { MarkedIsFound }

@@ -133,6 +133,10 @@ fn overwrite<A: Allocator>(bytes: &mut Vec<u8, A>, at: u64, from: &[u8]) -> Resu
 {
     let start = at as usize;
     let end = start.checked_add(from.len()).ok_or(AllocError)?;
+    if start == bytes.as_slice().len() {
+        bytes.extend_from_slice(from)?;
+        return Ok(());
+    }
     if end > bytes.len() {
         bytes.resize(end, 0)?;
     }

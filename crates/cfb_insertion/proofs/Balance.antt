@@ -1,106 +1,23 @@
--- The balance of sibling trees whose nodes keep their places and colours.
-use Rattle.std.proofs.Common.{◌≡◌, ◌≢◌, ◌⊎◌, inl, inr, ℕ, ◌+◌, ◌≤◌, List, ◌∷◌, ◌++◌, refl, ap, sym, ◌∙◌, subst, arith, length, map}
-use Rattle.std.specs.Prelude.{if◌then◌else◌}
-use Rattle.std.specs.List.{AllByRecursion}
+-- An insertion leaves the balance of all sibling trees but one.
+use Rattle.std.proofs.Common.{◌≡◌, ◌≢◌, ◌⊎◌, inl, inr, ℕ, ◌≤◌, List, ◌∷◌, ◌++◌, ap, sym, ◌∙◌, subst, arith}
 use Rattle.std.proofs.lemmas.Bool.{cases_eq, cases_lt}
 use Rattle.cfb_format.specs.declared.objtype.ObjType.TheVariants.{Stream}
-use Rattle.cfb_format.specs.Bytes.{no_stream}
 use Rattle.cfb_format.specs.DirectoryEntry.{Entry}
 use Rattle.cfb_format.specs.Reading.{numbers, siblings}
-use Rattle.cfb_format.specs.Siblings.{Balanced, HangsAt, SiblingTree, black_counts, entry_at, in_order, is_red_apart, is_red_at, is_red_color, leaf, node}
+use Rattle.cfb_format.specs.Siblings.{Balanced, HangsAt, SiblingTree, entry_at, in_order}
 use Rattle.cfb_format.proofs.Unique.{Below-unique, HangsAt-unique}
-use Rattle.cfb_siblings.specs.Painted.{hit, times_in}
-use Rattle.cfb_siblings.proofs.Tallies.{counted, hit-cases, hit-same, present, tally-append}
+use Rattle.cfb_siblings.specs.Painted.{times_in}
+use Rattle.cfb_siblings.proofs.Tallies.{counted, present}
 use Rattle.cfb_siblings.proofs.Outlines.{siblings-numbers}
 use Rattle.cfb_trees.specs.Reached.{IsReached}
-use Rattle.cfb_trees.proofs.Colored.{SamePaint, all-true, apart-kept, none-is-red, red-at-kept, true-all}
+use Rattle.cfb_trees.proofs.Colored.{SamePaint}
 use Rattle.cfb_trees.proofs.Joined.{joined-numbers, kinds-stay}
 use Rattle.cfb_trees.proofs.Members.{below-once, reached-is-used}
 use Rattle.cfb_trees.proofs.Parents.{links-child}
 use Rattle.cfb_trees.proofs.Recolored.{below-reached, root-is-reached, root-or-below}
 use Rattle.cfb_trees.proofs.Standing.{at-apart, at-held, at-within, stands-at}
-use Rattle.cfb_insertion.specs.Balance.{FieldsKeepBalance, InsertionKeepsBalance, IsBalanced}
-
--- ---- one sibling tree
-
-module _ (old new : List Entry) (longer : length old ≤ length new) where
-  abbrev ArePainted : SiblingTree → Type 0
-  ArePainted t = (k : ℕ) → 1 ≤ times_in k (in_order t) → SamePaint old new k
-
-  -- the number stands at the top, to the left or to the right
-  around : (l r : SiblingTree) (i k : ℕ) → times_in k (in_order l ++ i ∷ in_order r) ≡ times_in k (in_order l) + (hit k i + times_in k (in_order r))
-  unfolding times_in
-  around l r i k = tally-append k (in_order l) (i ∷ in_order r)
-
-  on-top : (l r : SiblingTree) (i : ℕ) → ArePainted (node l i r) → SamePaint old new i
-  on-top l r i paint = paint i (omega (arith, around l r i i, hit-same i))
-
-  to-the-left : (l r : SiblingTree) (i : ℕ) → ArePainted (node l i r) → ArePainted l
-  to-the-left l r i paint k m = paint k (omega (arith, around l r i k, m))
-
-  to-the-right : (l r : SiblingTree) (i : ℕ) → ArePainted (node l i r) → ArePainted r
-  to-the-right l r i paint k m = paint k (omega (arith, around l r i k, m))
-
-  hangs-kept : (top : ℕ) (t : SiblingTree) → ArePainted t → HangsAt old top t → HangsAt new top t
-  hangs-kept top leaf paint h = h
-  hangs-kept top (node l i r) paint h =
-      let here = on-top l r i paint in (
-        h.0,
-        h.1,
-        omega (arith, h.2, longer),
-        subst (λ (j : ℕ). HangsAt new j l) (sym here.left) (hangs-kept (entry_at old i).left_sibling l (to-the-left l r i paint) h.3),
-        subst (λ (j : ℕ). HangsAt new j r) (sym here.right) (hangs-kept (entry_at old i).right_sibling r (to-the-right l r i paint) h.4),
-      )
-
-  counts-kept : (t : SiblingTree) → ArePainted t → black_counts new t ≡ black_counts old t
-  counts-kept leaf paint = refl
-  counts-kept (node l i r) paint =
-      let here = (on-top l r i paint).color in
-      let left = counts-kept l (to-the-left l r i paint) in
-      let right = counts-kept r (to-the-right l r i paint) in
-      λ j. map (λ (n : ℕ). if is_red_color (here j) then n else n + 1) (left j ++ right j)
-
-  top-kept : (top : ℕ) (t : SiblingTree) → ArePainted t → HangsAt old top t → is_red_at new top ≡ is_red_at old top
-  top-kept top leaf paint h = none-is-red new top h ∙ sym (none-is-red old top h)
-  top-kept top (node l i r) paint h = ap (is_red_at new) h.0 ∙ red-at-kept old new i (on-top l r i paint).color ∙ ap (is_red_at old) (sym h.0)
-
-  apart-in : (top : ℕ) (t : SiblingTree) → ArePainted t → HangsAt old top t → (k : ℕ) → 1 ≤ times_in k (in_order t) → is_red_apart new k ≡ is_red_apart old k
-  unfolding times_in
-  apart-in top leaf paint h k m = absurd (omega (arith, m))
-  apart-in top (node l i r) paint h k m = elim (hit-cases k i) [
-    | inl e ↦ subst (λ (j : ℕ). is_red_apart new j ≡ is_red_apart old j) (sym e)
-        (apart-kept old new i (on-top l r i paint)
-        (top-kept (entry_at old i).left_sibling l (to-the-left l r i paint) h.3)
-        (top-kept (entry_at old i).right_sibling r (to-the-right l r i paint) h.4))
-    | inr z ↦ elim (cases_lt 0 (times_in k (in_order l))) [
-      | inl some ↦ apart-in (entry_at old i).left_sibling l (to-the-left l r i paint) h.3 k (omega (arith, some))
-      | inr none ↦ apart-in (entry_at old i).right_sibling r (to-the-right l r i paint) h.4 k (omega (arith, m, around l r i k, z, none))
-    ]
-  ]
-
-  pub balance-kept : (top black : ℕ) (was : Balanced old top black) → ArePainted was.tree → Balanced new top black
-  balance-kept top black was paint = record {
-    tree = was.tree;
-    hangs = hangs-kept top was.tree paint was.hangs;
-    black_top = top-kept top was.tree paint was.hangs ∙ was.black_top;
-    red_apart = true-all (is_red_apart new) (in_order was.tree)
-        (λ k m. apart-in top was.tree paint was.hangs k m ∙ all-true (is_red_apart old) (in_order was.tree) k was.red_apart m);
-    counts = subst (λ (l : List ℕ). AllByRecursion (λ n. n ≡ black) l) (sym (counts-kept was.tree paint)) was.counts;
-  }
-
-pub fields-keep-balance : FieldsKeepBalance
-fields-keep-balance old new k longer same was = (
-  was.0,
-  subst (λ (top : ℕ). Balanced new top was.0) (sym (same k).child)
-      (balance-kept old new longer (entry_at old k).child was.0 was.1
-      (λ j m. record { color = (same j).color; left = (same j).left_sibling; right = (same j).right_sibling })),
-)
-
--- ---- all sibling trees
-
--- a storage with nothing in it
-nothing-hangs : (es : List Entry) (k : ℕ) → (entry_at es k).child ≡ no_stream → IsBalanced es k
-nothing-hangs es k none = (0, record { tree = leaf; hangs = none; black_top = none-is-red es (entry_at es k).child none; red_apart = refl; counts = (refl, tt) })
+use Rattle.cfb_objects.proofs.Balance.{balance-kept, nothing-hangs}
+use Rattle.cfb_insertion.specs.Balance.{InsertionKeepsBalance}
 
 pub insertion-keeps-balance : InsertionKeepsBalance
 insertion-keeps-balance cases old new o after parent n entry xs ys is new_is reached ne free object childless ins k kp r ns was = elim (cases_eq k n) [

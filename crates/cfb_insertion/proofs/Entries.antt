@@ -12,21 +12,16 @@ use Rattle.cfb_codecs.specs.EntryModel.{new_entry}
 use Rattle.cfb_rules.specs.Finding.{last_name, parent_names}
 use Rattle.cfb_rules.proofs.CreatedFound.{same_itself}
 use Rattle.std.proofs.lemmas.Bool.{cases_eq}
-use Rattle.cfb_siblings.specs.Children.{ButLinks, HasChildren, KeepsBalance}
+use Rattle.cfb_siblings.specs.Children.{ButLinks}
 use Rattle.cfb_siblings.specs.Way.{unlinked}
 use Rattle.cfb_siblings.specs.Paths.{number_from}
-use Rattle.cfb_siblings.proofs.Grown.{children-back, red-apart-same}
 use Rattle.cfb_tables.specs.Tables.{AreExactTables}
 use Rattle.cfb_tables.proofs.Members.{Contains-or, Contains-there}
 use Rattle.cfb_trees.specs.Changes.{HasMore}
-use Rattle.cfb_trees.specs.Colors.{AreColored, KeepsRedApart}
 use Rattle.cfb_trees.specs.Reached.{IsReached}
-use Rattle.cfb_trees.proofs.Colored.{growth-keeps-colors}
 use Rattle.cfb_trees.proofs.Joined.{insertion-keeps-outline}
 use Rattle.cfb_trees.proofs.Members.{streams-are-by-kind}
-use Rattle.cfb_trees.proofs.Recolored.{insertion-keeps-colors}
 use Rattle.cfb_trees.proofs.Same.{growth-keeps-outline, same-fields}
-use Rattle.cfb_trees.proofs.Standing.{reached-is-parent}
 use Rattle.cfb_trees.proofs.Streams.{insertion-keeps-streams}
 use Rattle.cfb_entries.specs.EntryList.{has_free}
 use Rattle.cfb_directory.specs.State.{with_room}
@@ -35,10 +30,11 @@ use Rattle.cfb_directory.proofs.NamesFound.{inserted-is-found}
 use Rattle.cfb_mini.proofs.RootStays.{inserted-root}
 use Rattle.cfb_mini_sectors.specs.State.{MiniState, cases_of, entries_of, version_of}
 use Rattle.cfb_content.specs.Contents.{len_of}
-use Rattle.cfb_insertion.specs.Balance.{IsBalanced, StayBalanced}
+use Rattle.cfb_trees.specs.Balance.{IsBalanced, StayBalanced}
 use Rattle.cfb_insertion.specs.Putting.{PutsObject}
-use Rattle.cfb_insertion.proofs.Balance.{fields-keep-balance, insertion-keeps-balance}
-use Rattle.cfb_insertion.specs.Laws.{PutHasOutline, PutIsBalanced, PutIsColored, PutIsExact, PutObjectIsFound, PutIsNew, PutKeepsRoot, PutLeavesNoneFree}
+use Rattle.cfb_objects.proofs.Balance.{fields-keep-balance}
+use Rattle.cfb_insertion.proofs.Balance.{insertion-keeps-balance}
+use Rattle.cfb_insertion.specs.Laws.{PutHasOutline, PutIsBalanced, PutIsExact, PutObjectIsFound, PutIsNew, PutKeepsRoot, PutLeavesNoneFree}
 
 -- the names before the last, and the last, are all
 all-names : (first : List ℕ) (names : List (List ℕ)) → parent_names (first ∷ names) ++ last_name (first ∷ names) ∷ [] ≡ first ∷ names
@@ -113,30 +109,14 @@ module _ (old new : MiniState) (parent n : ℕ) (name : List ℕ) (kind : ObjTyp
       streams = insertion-keeps-streams (cases_of old) room (entries_of new) o after parent n entry put.entry.before put.entry.behind roomy now reached no-stream put.entry.was_free
           put.kinds refl put.entry.inserted
 
-      -- ---- colours
-
-      keeps : KeepsRedApart (cases_of old) room (entries_of new) parent
-      keeps list children apart =
-          let parents = reached-is-parent (cases_of old) (entries_of old) o parent is reached put.storage.kind in
-          let was : HasChildren (cases_of old) (entries_of old) parent list =
-          children-back (entries_of old) room same (roomy-longer old.directory room refl) (cases_of old) parent list (parents.0, parents.1) children in
-          let r = put.red_apart list was (red-apart-same room (entries_of old) (λ k. sym (same k)) parent list apart) in
-          (r.0, subst (λ c. HasChildren c (entries_of new) parent r.0) put.limits.cases r.1, r.2)
-
-      pub colored : AreColored (entries_of old) o → AreColored (entries_of new) after
-      colored was = insertion-keeps-colors (cases_of old) room (entries_of new) o after parent n entry put.entry.before put.entry.behind roomy now reached no-stream put.entry.was_free
-          put.kinds refl put.entry.inserted keeps
-          (has-room (λ es. AreColored es o) (has_free (entries_of old)) (entries_of old) (entries_per_sector (version_of old)) was
-          (growth-keeps-colors (cases_of old) (entries_of old) (entries_per_sector (version_of old)) o is was))
-
       -- ---- balance
 
-      pub balanced : KeepsBalance (entries_of old) (entries_of new) parent → StayBalanced (entries_of old) o (entries_of new) after
-      balanced keeps_own k there ns was = elim (cases_eq k parent) [
+      pub balanced : StayBalanced (entries_of old) o (entries_of new) after
+      balanced k there ns was = elim (cases_eq k parent) [
         | inl e ↦
             let own : IsBalanced (entries_of old) parent = subst (λ (j : ℕ). IsBalanced (entries_of old) j) e
             (was (subst (λ (j : ℕ). IsReached o j) (sym e) reached) (λ s. put.storage.kind (ap (λ (j : ℕ). (entry_at (entries_of old) j).obj_type) (sym e) ∙ s))) in
-            subst (λ (j : ℕ). IsBalanced (entries_of new) j) (sym e) (keeps_own own.0 own.1)
+            subst (λ (j : ℕ). IsBalanced (entries_of new) j) (sym e) (put.balanced own.0 own.1)
         | inr ne ↦ insertion-keeps-balance (cases_of old) room (entries_of new) o after parent n entry put.entry.before put.entry.behind roomy now reached no-stream put.entry.was_free
             put.kinds refl put.entry.inserted k ne there ns
             (λ r kind. fields-keep-balance (entries_of old) room k (roomy-longer old.directory room refl) (λ j. same-fields (entry_at (entries_of old) j) (entry_at room j) (same j))
@@ -186,10 +166,5 @@ put-is-exact old new parent n name kind moment put exact = either (has_free (ent
     (λ free. subst (λ t. AreExactTables t) (sym (put.kept free).1) exact)
     (λ none. (put.lengthened none).taken.exact exact)
 
-pub put-is-colored : PutIsColored
-put-is-colored old new parent n name kind moment put was o is =
-    let p = put.storage.outline in
-    colored old new parent n name kind moment put p put.storage.is o is (was p put.storage.is)
-
 pub put-is-balanced : PutIsBalanced
-put-is-balanced old new parent n name kind moment put keeps before after is new_is = balanced old new parent n name kind moment put before is after new_is keeps
+put-is-balanced old new parent n name kind moment put before after is new_is = balanced old new parent n name kind moment put before is after new_is

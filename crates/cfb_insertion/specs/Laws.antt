@@ -8,18 +8,16 @@ use Rattle.cfb_format.specs.Reading.{IsOutline, Outline, stream_numbers}
 use Rattle.cfb_format.specs.Siblings.{entry_at}
 use Rattle.cfb_rules.specs.CallChanges.{storage_added_at, stream_added_at}
 use Rattle.cfb_rules.specs.Finding.{last_name, parent_names}
-use Rattle.cfb_siblings.specs.Children.{KeepsBalance}
 use Rattle.cfb_siblings.specs.Paths.{number_from}
 use Rattle.cfb_tables.specs.Changes.{NoneFree}
 use Rattle.cfb_tables.specs.Tables.{AreExactTables}
-use Rattle.cfb_trees.specs.Colors.{AreColored}
 use Rattle.cfb_alloc.specs.Frame.{Spares}
 use Rattle.cfb_directory.specs.State.{IsFullForEntry}
 use Rattle.cfb_mini_sectors.specs.State.{IsChangeable, MiniState, bytes_of, cases_of, entries_of, parts_of, root_len_of, table_of, tables_in}
 use Rattle.cfb_mini_sectors.specs.Steps.{KeepsMini}
 use Rattle.cfb_objects.specs.Laws.{BecomesTree}
 use Rattle.cfb_content.specs.Contents.{AreAllUsed, KeepsContent, AreSnug}
-use Rattle.cfb_insertion.specs.Balance.{StayBalanced}
+use Rattle.cfb_trees.specs.Balance.{StayBalanced}
 use Rattle.cfb_insertion.specs.Putting.{IsNewObject, PutsObject, WritesObject}
 
 -- ---- in memory
@@ -57,17 +55,11 @@ abbrev pub PutIsExact : Type 0
 PutIsExact = (old new : MiniState) (parent n : ℕ) (name : List ℕ) (kind : ObjType) (moment : ℕ) → PutsObject old new parent n name kind moment
     → AreExactTables (tables_in old) → AreExactTables (tables_in new)
 
--- and so do the colours of all sibling trees
-abbrev pub PutIsColored : Type 0
-PutIsColored = (old new : MiniState) (parent n : ℕ) (name : List ℕ) (kind : ObjType) (moment : ℕ) → PutsObject old new parent n name kind moment
-    → ((o : Outline) → IsOutline (cases_of old) (entries_of old) o → AreColored (entries_of old) o)
-    → (o : Outline) → IsOutline (cases_of new) (entries_of new) o → AreColored (entries_of new) o
-
--- where the storage that it came into is in balance if it was, so is each storage, and the new one
+-- each storage that was in balance is so still, and so is the new one
 abbrev pub PutIsBalanced : Type 0
 PutIsBalanced = (old new : MiniState) (parent n : ℕ) (name : List ℕ) (kind : ObjType) (moment : ℕ) → PutsObject old new parent n name kind moment
-    → KeepsBalance (entries_of old) (entries_of new) parent → (before after : Outline) → IsOutline (cases_of old) (entries_of old) before
-    → IsOutline (cases_of new) (entries_of new) after → StayBalanced (entries_of old) before (entries_of new) after
+    → (before after : Outline) → IsOutline (cases_of old) (entries_of old) before → IsOutline (cases_of new) (entries_of new) after
+    → StayBalanced (entries_of old) before (entries_of new) after
 
 -- one more entry can't be had only where sectors or entries are at their limit
 abbrev pub FullForEntryIsFull : Type 0

@@ -7,23 +7,24 @@ use Rattle.cfb_codecs.specs.EntryModel.{new_entry}
 use Rattle.cfb_format.specs.Reading.{IsOutline, Outline}
 use Rattle.cfb_format.specs.Siblings.{entry_at}
 use Rattle.cfb_outline.specs.Outlines.{IsReachedStorage}
+use Rattle.cfb_siblings.specs.Children.{KeepsBalance}
 use Rattle.cfb_alloc.specs.Frame.{Spares}
 use Rattle.cfb_alloc.specs.ListedChain.{Lengthens}
 use Rattle.cfb_entries.specs.EntryList.{InsertsEntry, has_free}
 use Rattle.cfb_directory.specs.State.{with_room}
-use Rattle.cfb_directory.specs.Steps.{StaysRedApart}
 use Rattle.cfb_mini_sectors.specs.State.{HoldsMini, IsChangeable, MiniState, cases_of, entries_of, table_of, tables_in}
 use Rattle.cfb_mini_sectors.specs.Steps.{KeepsLimits, KeepsMini}
 use Rattle.cfb_trees.specs.Reached.{IsReached}
 use Rattle.cfb_content.specs.Contents.{len_of}
 
--- in memory an empty object of that name and kind was put into the free slot n, and among the children of the storage `parent`. Where no
--- slot was free the directory got one sector more, and else it has the sectors that it had; the mini sectors and the limits stay
+-- in memory an empty object of that name and kind was put into the free slot n, and among the children of the storage `parent`, which are in
+-- balance still if they were. Where no slot was free the directory got one sector more, and else it has the sectors that it had; the mini
+-- sectors and the limits stay
 pub record PutsObject (old new : MiniState) (parent n : ℕ) (name : List ℕ) (kind : ObjType) (moment : ℕ) : Type 0 where
   pub storage : IsReachedStorage (cases_of old) (entries_of old) parent
   pub kinds : (kind ≡ Storage) ⊎ (kind ≡ Stream)
   pub entry : InsertsEntry (cases_of old) (with_room old.directory) (entries_of new) parent n (new_entry name kind moment)
-  pub red_apart : StaysRedApart old.directory new.directory parent
+  pub balanced : KeepsBalance (entries_of old) (entries_of new) parent
   pub kept : has_free (entries_of old) ≡ true → (new.directory.sectors ≡ old.directory.sectors) × (tables_in new ≡ tables_in old)
   pub lengthened : has_free (entries_of old) ≡ false → Lengthens 1 old.directory.sectors new.directory.sectors (tables_in old) (tables_in new)
   pub mini : KeepsMini old new

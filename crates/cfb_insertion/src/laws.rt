@@ -1,6 +1,6 @@
 //! What a new object in the directory makes of a file. None of these functions does anything: each has a law as its contract.
-ghost use Rattle.cfb_insertion.specs.Balance.{FieldsKeepBalance, InsertionKeepsBalance};
-ghost use Rattle.cfb_insertion.specs.Laws.{PutHasOutline, PutIsAllUsed, PutIsBalanced, PutIsChangeable, PutIsColored, PutIsExact, PutObjectIsFound, PutIsNew, PutKeepsRoot, PutKeepsStreams, PutLeavesNoneFree, PutStorageJoinsTree, PutStreamJoinsTree, FullForEntryIsFull, PutIsSnug};
+ghost use Rattle.cfb_insertion.specs.Balance.{InsertionKeepsBalance};
+ghost use Rattle.cfb_insertion.specs.Laws.{PutHasOutline, PutIsAllUsed, PutIsBalanced, PutIsChangeable, PutIsExact, PutObjectIsFound, PutIsNew, PutKeepsRoot, PutKeepsStreams, PutLeavesNoneFree, PutStorageJoinsTree, PutStreamJoinsTree, FullForEntryIsFull, PutIsSnug};
 
 /// The new object is one of the tree, empty and of its kind, and stands at its names; the mini stream keeps its length (MS-CFB 2.6).
 pub fn new_objects_are_in_the_tree()
@@ -25,14 +25,8 @@ pub fn insertions_keep_files_sound()
     ensures grows { PutLeavesNoneFree }
 {}
 
-/// A black top, and no red child under a red one, stay with the children of all storages.
-pub fn insertions_keep_colors()
-    ensures { PutIsColored }
-{}
-
-/// So does the balance of all storages: an insertion changes that of none but its own.
+/// The children of all storages stay in balance: an insertion changes that of none but its own.
 pub fn insertions_keep_balance()
-    ensures fields { FieldsKeepBalance }
     ensures others { InsertionKeepsBalance }
     ensures all { PutIsBalanced }
 {}

@@ -20,8 +20,9 @@ use uuid::Uuid;
 /// What is told of one object, a storage or a stream, as it was when it was asked for.
 #[derive(Drop)]
 pub struct Entry<A: Allocator = Global> {
-    name: String<A>,
-    path: String<A>,
+    /// The path, and then the name.
+    text: String<A>,
+    path_len: usize,
     obj_type: ObjType,
     len: u64,
     clsid: Uuid,
@@ -31,14 +32,15 @@ pub struct Entry<A: Allocator = Global> {
 }
 
 impl<A: Allocator> Model for Entry<A> {
-    ghost use Rattle.std.specs.Prelude.{chars, string_bytes};
+    ghost use Rattle.std.specs.Prelude.{chars, string_bytes, take, drop};
+    ghost use Rattle.std.specs.Str.{IsCharBoundary};
     ghost use Rattle.cfb_rules.specs.Calls.{EntryInfo};
 
     ghost Value = { EntryInfo };
 
     ghost view = { λ entry. record {
-      name = chars (string_bytes entry.name);
-      path = chars (string_bytes entry.path);
+      name = chars (drop entry.path_len (string_bytes entry.text));
+      path = chars (take entry.path_len (string_bytes entry.text));
       obj_type = entry.obj_type;
       len = entry.len;
       clsid = entry.clsid;
@@ -46,6 +48,8 @@ impl<A: Allocator> Model for Entry<A> {
       created = entry.created;
       modified = entry.modified;
     } };
+
+    ghost invariant = { λ entry. IsCharBoundary (string_bytes entry.text) entry.path_len };
 }
 
 impl<A: Allocator> Entry<A> {
@@ -53,14 +57,14 @@ impl<A: Allocator> Entry<A> {
     pub fn name(&self) -> &str
         ensures { chars result.now ≡ self.now.name }
     {
-        &self.name
+        &self.text.as_str()[self.path_len..]
     }
 
     /// The path that leads to the object. The root's is `/`.
     pub fn path(&self) -> &str
         ensures { chars result.now ≡ self.now.path }
     {
-        &self.path
+        &self.text.as_str()[..self.path_len]
     }
 
     /// Whether the object is a stream.
@@ -137,7 +141,6 @@ impl<A: Allocator> fmt::Debug for Entry<A> {
 /// What is told of the entry of this number, with this path: what an object of its kind has
 /// (MS-CFB 2.6.1 to 2.6.3). `Memory` where its name gets none, and no other error.
 pub fn entry_of<A: Allocator>(
-    alloc: A,
     entries: &[DirEntry<A>],
     number: u32,
     path: String<A>,
@@ -148,10 +151,12 @@ pub fn entry_of<A: Allocator>(
     ensures refused { IfErr result IsMemory }
 {
     let entry = &entries[number as usize];
-    let name = String::from_str(alloc, name_of(entry))?;
+    let path_len = path.as_str().len();
+    let mut text = path;
+    text.push_str(name_of(entry))?;
     Ok(Entry {
-        name,
-        path,
+        text,
+        path_len,
         obj_type: entry.obj_type,
         len: len_of(entry),
         clsid: clsid_of(entry),

@@ -17,7 +17,7 @@ use crate::entry::{Entry, entry_of};
 use crate::links::is_stream;
 use cfb_codecs::direntry::DirEntry;
 use cfb_codecs::links::{child_link, left_link, right_link};
-use cfb_format::consts::NO_STREAM;
+use cfb_format::consts::{NO_STREAM, ROOT_STREAM_ID};
 use cfb_format::error::Error;
 use cfb_outline::links::is_storage;
 use cfb_trees::laws::reached_entries_are_in_use;
@@ -101,8 +101,15 @@ pub fn path_below<A: Allocator>(alloc: A, parent: &str, name: &str) -> Result<St
         ≡ child_path (chars parent.now) (chars name.now)) }
     ensures refused { IfErr result IsMemory }
 {
-    let mut path = String::from_str(alloc, parent)?;
-    path.push_str(separator(parent))?;
+    let separator = separator(parent);
+    let len = parent
+        .len()
+        .saturating_add(separator.len())
+        .saturating_add(name.len())
+        .saturating_add(name.len());
+    let mut path = String::with_capacity(alloc, len)?;
+    path.push_str(parent)?;
+    path.push_str(separator)?;
     path.push_str(name)?;
     Ok(path)
 }
@@ -121,7 +128,7 @@ fn entry_below<A: Allocator + Clone>(
     ensures refused { IfErr result IsMemory }
 {
     let path = path_below(alloc.clone()?, parent, &entries[number as usize].name)?;
-    entry_of(alloc, entries, number, path)
+    entry_of(entries, number, path)
 }
 
 /// Whether what is in the entry is listed after it.
@@ -204,6 +211,15 @@ pub fn list_children<A: Allocator + Clone>(
     list_inside(alloc, entries, EntriesOrder::Nonrecursive, path, number)
 }
 
+/// How many objects a walk from here is given room for at once.
+fn most_from<A: Allocator>(entries: &[DirEntry<A>], number: u32) -> usize {
+    if number == ROOT_STREAM_ID {
+        entries.len()
+    } else {
+        1
+    }
+}
+
 /// The object of this number, which has this path, and all that is in it: each storage before what
 /// is in it, and siblings in name order.
 ///
@@ -222,8 +238,8 @@ pub fn walk_from<A: Allocator + Clone>(
 {
     reached_entries_are_in_use();
     let own_path = String::from_str(alloc.clone()?, path)?;
-    let first = entry_of(alloc.clone()?, entries, number, own_path)?;
-    let mut list = Vec::new(alloc.clone()?);
+    let first = entry_of(entries, number, own_path)?;
+    let mut list = Vec::with_capacity(alloc.clone()?, most_from(entries, number))?;
     list.push(first)?;
     if is_stream(entries, number) {
         return Ok(list);

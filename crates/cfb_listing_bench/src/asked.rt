@@ -53,7 +53,7 @@ pub fn told_at<A: Allocator + Clone>(
         return Err(Error::NotFound(Detail::text("no entry has this number")));
     }
     let path = String::from_str(alloc.clone()?, path)?;
-    entry_of(alloc, entries, number, path)
+    entry_of(entries, number, path)
 }
 
 /// How many entries an iterator over a list gives: all of them.

@@ -1,5 +1,6 @@
 pub mod MiniKnown
 pub mod MiniWritten
+pub mod MiniStretches
 pub mod MiniSettled
 pub mod MiniTaken
 pub mod MiniRoot

@@ -1,3 +1,4 @@
 pub mod MiniSectors
+pub mod MiniRuns
 pub mod Changing
 pub mod Lending

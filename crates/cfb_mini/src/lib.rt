@@ -3,4 +3,5 @@
 
 mod changing;
 pub mod mini_allocator;
+pub mod mini_runs;
 mod opening;

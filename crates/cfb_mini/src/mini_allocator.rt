@@ -47,6 +47,7 @@ ghost use Rattle.cfb_mini.specs.Changing.{AreMinifatSectors, root_len_in};
 ghost use Rattle.cfb_mini.specs.MiniSectors.{ChangesFileOnly, HasMiniByte, HasMiniSector, IsStill, KeepsMiniBytesBut};
 
 mod clearing;
+mod runs;
 
 use crate::changing::{cut_listed, extend_listed};
 use crate::opening::{above_all, mini_stream_sectors, minifat_sectors_from};
@@ -849,6 +850,8 @@ impl<F: Medium, A: Heap + Clone> MiniAllocator<F, A> {
             (chars name.now) list n × ((entry_at self.old.directory.entries n).child ≡ no_stream) }
         ensures removed { OnOk result (RemovesEntry self.old.directory.cases
             self.old.directory.entries self.new.directory.entries parent (chars name.now)) }
+        ensures balanced { OnOk result
+            (KeepsBalance self.old.directory.entries self.new.directory.entries parent) }
         ensures red_apart { OnOk result
             (StaysRedApart self.old.directory self.new.directory parent) }
         ensures kept { (self.new.directory.sectors ≡ self.old.directory.sectors)
@@ -1052,6 +1055,13 @@ fn no_mini_stream() -> Error
     ensures { IsInvalidData result }
 {
     Error::InvalidData(Detail::text("mini stream with no chain"))
+}
+
+/// A refusal of a mini sector that the mini stream does not have in the file.
+fn no_mini_sector(mini: u32) -> Error
+    ensures { IsInvalidData result }
+{
+    Error::InvalidData(Detail::number("mini sector beyond the mini stream", mini as u64))
 }
 
 /// A refusal of a mini chain with no mini sector.

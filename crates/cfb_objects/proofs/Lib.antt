@@ -7,3 +7,4 @@ pub mod Fields
 pub mod Added
 pub mod Becoming
 pub mod Leading
+pub mod Balance

@@ -1,3 +1,4 @@
 pub mod Objects
 pub mod Changes
 pub mod Laws
+pub mod Balance

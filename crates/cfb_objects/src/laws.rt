@@ -1,5 +1,6 @@
 //! What names find in the tree is told by the entries, and changes of the entries are changes of the
 //! tree. None of these functions does anything: each has a law as its contract.
+ghost use Rattle.cfb_objects.specs.Balance.{BalancedIsRedApart, BalancedStoragesAreLow, FieldsKeepBalance};
 ghost use Rattle.cfb_objects.specs.Laws.{ObjectIsAtItsEntry, FoundIsAtItsEntry, ObjectIsAtItsPath, LastNameLeadsOn, FoundHasParent, StreamIsByKind, StorageIsByKind, InsideIsBelow, EmptyIsByChild, FieldsChangeInPlace, ContentChangesInPlace, RootHasItsName, StreamsAreChildless, ReadableIgnoresLinks, GrowthKeepsTree, StorageIsAdded, StreamIsAdded, TreeBecomes};
 
 /// Names find in the tree the object of the entry that they lead to. Its kind, its fields and
@@ -44,4 +45,12 @@ pub fn insertion_is_addition()
 /// What becomes of the parts becomes of the tree that the bytes mean.
 pub fn bytes_mean_the_changed_tree()
     ensures { TreeBecomes }
+{}
+
+/// The balance of siblings does not hang on other fields of entries. Where a storage is in balance
+/// its tree of siblings is low, and where all are no red sibling hangs under a red one (MS-CFB 2.6.4).
+pub fn balanced_storages_are_low()
+    ensures fields { FieldsKeepBalance }
+    ensures colors { BalancedIsRedApart }
+    ensures low { BalancedStoragesAreLow }
 {}

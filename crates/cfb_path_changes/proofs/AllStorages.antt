@@ -246,7 +246,7 @@ module _ (old : FileState) (path : List ℕ) (moment : ℕ) (names : List (List 
             ∙ sym (ap (λ (found : Option (List (List ℕ))). option_map_or (λ ns. all_added_at (cases_of old.base) moment ns t) found t) way.named))
             (becomes (take passed names) held.outline held.reads.outline (way.leads.leads held.outline held.reads.outline) t means_was_so));
         order = record { setting = setting; header = header; made = λ _. made; grows = λ _. grows };
-        balanced = λ _ _. balanced;
+        balanced = λ _. balanced;
         spares = none_changed old new call keeps;
         room = λ tree means creates. enough (all_there tree means (creating_missing tree creates));
         calm = same_count;

@@ -21,7 +21,7 @@ use Rattle.cfb_trees.specs.Reached.{IsReached}
 use Rattle.cfb_objects.specs.Laws.{BecomesTree}
 use Rattle.cfb_mini_sectors.specs.State.{bytes_of, cases_of, entries_of}
 use Rattle.cfb_content.specs.Contents.{IsStreamOf, IsTooLongFor, KeepsFixedHeader, MovesContent, len_of}
-use Rattle.cfb_insertion.specs.Balance.{StayBalanced}
+use Rattle.cfb_entry_changes.specs.Kept.{AllStayBalanced}
 use Rattle.cfb_agreement.specs.Changes.{ChangesOneContent, KeepsStreams, StaysOrFails, object_added_at}
 use Rattle.cfb_agreement.specs.Files.{FileState, Holds, IsAsMade, IsFullFile, LeavesNoneFree, SameSetting, failures_of, is_failed}
 use Rattle.cfb_volume.specs.Answers.{content_at}
@@ -118,8 +118,7 @@ module _ (what : Creation) (moment : ℕ) (old new : FileState) (place : Place) 
   BecomesSo kind names = BecomesTree (cases_of old.base) (bytes_of old.base) (bytes_of new.base) (object_added_at (cases_of old.base) kind moment names)
 
   pub missing_done : (kind : ObjType) → kind ≡ kind_made what → Holds old → SameSetting old new → is_failed new ≡ false → (IsAsMade old.base → IsAsMade new.base)
-      → ((before after : Outline) → IsOutline (cases_of old.base) (entries_of old.base) before → IsOutline (cases_of new.base) (entries_of new.base) after
-      → StayBalanced (entries_of old.base) before (entries_of new.base) after)
+      → AllStayBalanced old.base new.base
       → LeavesNoneFree old.base new.base → len_of new.base 0 ≡ len_of old.base 0 → KeepsStreams old.base new.base → KeepsFixedHeader old.base new.base
       → (IsFullForEntry old.base.directory → ⊥) → failures_of new ≡ failures_of old
       → ((names : List (List ℕ)) (o : Outline) → IsOutline (cases_of old.base) (entries_of old.base) o

@@ -159,7 +159,7 @@ module _ (old new : FileState) (what : Creation) (moment : ℕ) (path : List ℕ
         (content-becomes-tree old new k held.outline names held now setting sound changes.entries changes.others at.stream held.reads.outline (at.found held.outline held.reads.outline) tree_was means_was))
         (inl (emptied_kind k at tree_was (λ _. means_was)));
     order = record { setting = setting; header = changes.header; made = changes.made; grows = changes.grows };
-    balanced = λ _ _. moved_balanced old new k setting changes.entries at.stream;
+    balanced = λ _. moved_balanced old new k setting changes.entries at.stream;
     spares = one_spared_not old new (creation what moment path) k changes (there_may_be_lost old what moment path names k named at);
     room = λ tree means creates.
         absurd (let clash : emptying ≡ creating = sym (emptied_kind k at tree means) ∙ creates in cc);
@@ -180,7 +180,7 @@ module _ (old new : FileState) (what : Creation) (moment : ℕ) (path : List ℕ
         (becomes names held.outline held.reads.outline (at.above held.outline held.reads.outline) at.last tree_was means_was)
         (inr root_len);
     order = record { setting = setting; header = header; made = λ _. made; grows = λ _. grows };
-    balanced = λ _ _. balanced;
+    balanced = λ _. balanced;
     spares = none_changed old new (creation what moment path) keeps;
     room = λ tree means creates. enough;
     calm = same_count;

@@ -29,9 +29,11 @@ use Rattle.cfb_volume.specs.Clearing.{KeepsStreamsBeside, StandsAs}
 use Rattle.cfb_objects.specs.Laws.{BecomesTree}
 use Rattle.cfb_mini_sectors.specs.State.{bytes_of, cases_of, entries_of, root_len_of}
 use Rattle.cfb_content.specs.Contents.{KeepsFixedHeader, KeepsOthers}
+use Rattle.cfb_entry_changes.specs.Kept.{AllStayBalancedBut}
 use Rattle.cfb_agreement.specs.Changes.{StaysOrFails}
 use Rattle.cfb_agreement.specs.Files.{FileState, Holds, IsAsMade, LeavesNoneFree, SameSetting, failures_of, is_failed}
-use Rattle.cfb_path_changes.specs.Answers.{IsDoneBy, IsRefusedBy, may_unbalance}
+use Rattle.cfb_path_changes.proofs.Balanced.{taken_balanced}
+use Rattle.cfb_path_changes.specs.Answers.{IsDoneBy, IsRefusedBy}
 use Rattle.cfb_path_changes.specs.Calls.{CallAnswers}
 use Rattle.cfb_path_changes.specs.declared.finding.Wanted.{Wanted}
 use Rattle.cfb_path_changes.specs.declared.finding.Wanted.TheVariants.{AnyObject, AnyStorage, AnyStream, EmptyStorage}
@@ -84,12 +86,6 @@ module _ (cases : Cases) (tree : Tree) (wanted : Wanted) (path : List ℕ) where
       by_wanted AnyStorage e = let c : emptying ≡ creating = e in cc
       by_wanted AnyStream e = let c : emptying ≡ creating = e in cc
       by_wanted EmptyStorage e = let c : changing ≡ creating = e in cc
-
-pub unbalances : (wanted : Wanted) (path : List ℕ) {X : Type 0} → may_unbalance (removal wanted path) ≡ false → X
-unbalances AnyObject path e = absurd (let c : true ≡ false = e in cc)
-unbalances AnyStorage path e = absurd (let c : true ≡ false = e in cc)
-unbalances AnyStream path e = absurd (let c : true ≡ false = e in cc)
-unbalances EmptyStorage path e = absurd (let c : true ≡ false = e in cc)
 
 -- ---- what is wanted has nothing in it
 
@@ -150,14 +146,14 @@ module _ (old : FileState) (wanted : Wanted) (path : List ℕ) (names : List (Li
   keeps_root EmptyStorage is_one is tree same = inr (same (λ stream.
       let clash : Storage ≡ Stream = sym (inner_is (entry_at (entries_of old.base) k).obj_type (both _ _ is).0) ∙ stream in cc))
 
-  pub removed_done : (parent : ℕ) (name : List ℕ) → StandsIn old names k parent name → is_failed new ≡ false → (IsAsMade old.base → IsAsMade new.base) → LeavesNoneFree old.base new.base
+  pub removed_done : (parent : ℕ) (name : List ℕ) → StandsIn old names k parent name → is_failed new ≡ false → AllStayBalancedBut old.base new.base k → (IsAsMade old.base → IsAsMade new.base) → LeavesNoneFree old.base new.base
       → ((entry_at (entries_of old.base) k).obj_type ≢ Stream → root_len_of new.base ≡ root_len_of old.base) → failures_of new ≡ failures_of old
       → ((first : List ℕ) (rest : List (List ℕ)) (o : Outline) → IsOutline (cases_of old.base) (entries_of old.base) o
       → number_from (cases_of old.base) (entries_of old.base) 0 o (parent_names (first ∷ rest)) ≡ Some parent
       → number_from (cases_of old.base) (entries_of old.base) 0 o (first ∷ rest) ≡ Some k → last_name (first ∷ rest) ≡ name
       → BecomesTree (cases_of old.base) (bytes_of old.base) (bytes_of new.base) (removed_at (cases_of old.base) (first ∷ rest)))
       → IsDoneBy old call done new
-  removed_done parent name at ended made grows root_len same_count becomes =
+  removed_done parent name at ended balanced made grows root_len same_count becomes =
       let was = tree_was (wanted_refusal wanted) path call asks old new there.unfailed there.sound held setting ended names there.named allowed in
       let means = means_was (wanted_refusal wanted) path call asks old new there.unfailed there.sound held setting ended names there.named allowed in
       let o = held.outline in
@@ -172,7 +168,7 @@ module _ (old : FileState) (wanted : Wanted) (path : List ℕ) (names : List (Li
             (subst (λ (ns : List (List ℕ)). number_from (cases_of old.base) (entries_of old.base) 0 o ns ≡ Some k) at.some (there.leads o is))
             (ap last_name (sym at.some) ∙ at.last) was means));
         order = record { setting = setting; header = header; made = λ _. made; grows = λ _. grows };
-        balanced = λ may. unbalances wanted path may;
+        balanced = λ _. taken_balanced old new k o is balanced;
         spares = spared;
         room = λ tree means_so creates. absurd (never_creates (cases_of old.base) tree wanted path creates);
         calm = same_count;
@@ -183,15 +179,15 @@ module _ (old : FileState) (wanted : Wanted) (path : List ℕ) (names : List (Li
 
   -- so the call answers
   pub removed_answers : {T : Type 0} (can_give : MediumFault → Bool) (r : Result T Error) (parent : ℕ) (name : List ℕ) → StandsIn old names k parent name
-      → OnOk r (is_failed new ≡ false) → (IsAsMade old.base → OnOk r (IsAsMade new.base)) → OnOk r (LeavesNoneFree old.base new.base)
+      → OnOk r (is_failed new ≡ false) → OnOk r (AllStayBalancedBut old.base new.base k) → (IsAsMade old.base → OnOk r (IsAsMade new.base)) → OnOk r (LeavesNoneFree old.base new.base)
       → ((entry_at (entries_of old.base) k).obj_type ≢ Stream → OnOk r (root_len_of new.base ≡ root_len_of old.base))
       → OnOk r ((first : List ℕ) (rest : List (List ℕ)) (o : Outline) → IsOutline (cases_of old.base) (entries_of old.base) o
       → number_from (cases_of old.base) (entries_of old.base) 0 o (parent_names (first ∷ rest)) ≡ Some parent
       → number_from (cases_of old.base) (entries_of old.base) 0 o (first ∷ rest) ≡ Some k → last_name (first ∷ rest) ≡ name
       → BecomesTree (cases_of old.base) (bytes_of old.base) (bytes_of new.base) (removed_at (cases_of old.base) (first ∷ rest)))
       → OnErr r (StaysOrFails old new) → IfErr r (IsBreak ⊥) → CountsFailure can_give r (failures_of old) (failures_of new) → CallAnswers can_give old call r new
-  removed_answers can_give (Ok x) parent name at ended made grows root_len becomes stays why counts = removed_done parent name at ended made grows root_len counts becomes
-  removed_answers can_give (Err e) parent name at ended made grows root_len becomes stays why counts = removed_not can_give e stays why counts
+  removed_answers can_give (Ok x) parent name at ended balanced made grows root_len becomes stays why counts = removed_done parent name at ended balanced made grows root_len counts becomes
+  removed_answers can_give (Err e) parent name at ended balanced made grows root_len becomes stays why counts = removed_not can_give e stays why counts
 
 -- ---- all that is at a path
 
@@ -216,15 +212,15 @@ module _ (old : FileState) (path : List ℕ) (names : List (List ℕ)) (k : ℕ)
     allowed_all : RuleSays old (wanted_refusal AnyObject) names None
     allowed_all = wanted_allowed old held names k there.leads there.reached AnyObject there.suits
 
-    pub all_removed : is_failed new ≡ false → (IsAsMade old.base → IsAsMade new.base) → LeavesNoneFree old.base new.base → failures_of new ≡ failures_of old
+    pub all_removed : is_failed new ≡ false → AllStayBalancedBut old.base new.base k → (IsAsMade old.base → IsAsMade new.base) → LeavesNoneFree old.base new.base → failures_of new ≡ failures_of old
         → BecomesTree (cases_of old.base) (bytes_of old.base) (bytes_of new.base) (removed_at (cases_of old.base) names) → IsDoneBy old call_all done new
-    all_removed ended made grows same_count becomes =
+    all_removed ended balanced made grows same_count becomes =
         let was = tree_was (wanted_refusal AnyObject) path call_all (all_asks path) old new there.unfailed there.sound held setting ended names there.named allowed_all in
         let means = means_was (wanted_refusal AnyObject) path call_all (all_asks path) old new there.unfailed there.sound held setting ended names there.named allowed_all in record {
           runs = runs_done (wanted_refusal AnyObject) path call_all (all_asks path) old new there.unfailed there.sound held setting ended names there.named allowed_all refl (inl refl)
               (subst (λ (t : Tree). Means (cases_of old.base) (bytes_of new.base) t) (after_removal (cases_of old.base) was AnyObject path names there.named) (becomes was means));
           order = record { setting = setting; header = header; made = λ _. made; grows = λ _. grows };
-          balanced = λ may. unbalances AnyObject path may;
+          balanced = λ _. taken_balanced old new k held.outline held.reads.outline balanced;
           spares = spared_beside;
           room = λ tree means_so creates. absurd (never_creates (cases_of old.base) tree AnyObject path creates);
           calm = same_count;
@@ -246,11 +242,11 @@ module _ (old : FileState) (path : List ℕ) (names : List (List ℕ)) (k : ℕ)
 
     pub all_removed_answers : {T : Type 0} (can_give : MediumFault → Bool) (r : Result T Error) (parent : Option (ℕ × Bor (List ℕ)))
         → IfSome parent (λ p. StandsIn old names k p.0 (chars p.1.now)) → IfNone parent (names ≡ [])
-        → OnOk r (is_failed new ≡ false) → (IsAsMade old.base → OnOk r (IsAsMade new.base)) → OnOk r (LeavesNoneFree old.base new.base)
+        → OnOk r (is_failed new ≡ false) → OnOk r (AllStayBalancedBut old.base new.base k) → (IsAsMade old.base → OnOk r (IsAsMade new.base)) → OnOk r (LeavesNoneFree old.base new.base)
         → OnOk r (IfSome parent (λ p. (ns : List (List ℕ)) (o : Outline) → IsOutline (cases_of old.base) (entries_of old.base) o → StandsAs old.base o p.0 k (chars p.1.now) ns
         → BecomesTree (cases_of old.base) (bytes_of old.base) (bytes_of new.base) (removed_at (cases_of old.base) ns)))
         → OnOk r (IfNone parent (BecomesTree (cases_of old.base) (bytes_of old.base) (bytes_of new.base) (removed_at (cases_of old.base) [])))
         → OnErr r (StaysOrFails old new) → IfErr r (IsBreak ⊥) → CountsFailure can_give r (failures_of old) (failures_of new) → CallAnswers can_give old call_all r new
-    all_removed_answers can_give (Ok x) parent some none ended made grows tree root stays why counts = all_removed ended made grows counts (becomes_without parent some none tree root)
-    all_removed_answers can_give (Err e) parent some none ended made grows tree root stays why counts =
+    all_removed_answers can_give (Ok x) parent some none ended balanced made grows tree root stays why counts = all_removed ended balanced made grows counts (becomes_without parent some none tree root)
+    all_removed_answers can_give (Err e) parent some none ended balanced made grows tree root stays why counts =
         refused_by_break can_give call_all (all_asks path).changes old new there.unfailed setting stays spared_beside header (new ≡ old) ⊥ absurd e why counts

@@ -27,7 +27,7 @@ use Rattle.cfb_directory.proofs.ChangedFields.{changed_beside, changed_here, cha
 use Rattle.cfb_objects.specs.Objects.{tree_from}
 use Rattle.cfb_objects.proofs.Fields.{fields-change-in-place}
 use Rattle.cfb_mini_sectors.specs.State.{bytes_of, cases_of, entries_of, root_len_of, tables_in}
-use Rattle.cfb_insertion.proofs.Balance.{fields-keep-balance}
+use Rattle.cfb_objects.proofs.Balance.{fields-keep-balance}
 use Rattle.cfb_agreement.specs.Files.{FileState, Holds, SameSetting, is_failed}
 use Rattle.cfb_entry_changes.specs.Marking.{GivesFields}
 use Rattle.cfb_path_changes.specs.Answers.{IsBalancedFile}
@@ -265,7 +265,7 @@ module _ (old : FileState) (field : NewField) (path : List ℕ) (names : List (L
           made = λ _. made;
           grows = λ _ longer. absurd (omega (arith, longer, ap (λ (t : _). length t.fat) tables));
         };
-        balanced = λ _ _. field_balanced old new k field inside same setting held.outline held.reads.outline;
+        balanced = λ _. field_balanced old new k field inside same setting held.outline held.reads.outline;
         spares = none_changed old new call keeps;
         room = λ tree means creates. absurd (never_creates tree creates);
         calm = same_count;
@@ -308,7 +308,7 @@ module _ (old : FileState) (field : NewField) (path : List ℕ) (names : List (L
             (setting_is_done (cases_of old.base) (root_len_of old.base) was field path) (inr refl)
             (subst (λ (t : Tree). Means (cases_of old.base) (bytes_of old.base) t) (sym (same_tree lacks was refl)) means);
         order = stays_in_order old;
-        balanced = λ _ _ all. all;
+        balanced = λ _ all. all;
         spares = spares_all old call;
         room = λ tree means creates. absurd (never_creates tree creates);
         calm = refl;

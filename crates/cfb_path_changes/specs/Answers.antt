@@ -1,5 +1,5 @@
 -- What calls on a file answer, by the rules of calls.
-use Rattle.std.specs.Prelude.{◌≡◌, Bool, true, false}
+use Rattle.std.specs.Prelude.{◌≡◌, Bool, false}
 use Rattle.cfb_format.specs.declared.error.Error.{Error}
 use Rattle.cfb_format.specs.declared.medium.MediumFault.{MediumFault}
 use Rattle.cfb_format.specs.Bytes.{max_stream_len}
@@ -7,14 +7,14 @@ use Rattle.cfb_format.specs.Meaning.{Means}
 use Rattle.cfb_format.specs.Medium.{Rises}
 use Rattle.cfb_format.specs.Refused.{CountsError, HasReason, at_every_error}
 use Rattle.cfb_format.specs.Tree.{Tree}
-use Rattle.cfb_rules.specs.Calls.{Call, Reply, refused, remove_storage, remove_storage_all, remove_stream}
+use Rattle.cfb_rules.specs.Calls.{Call, Reply, refused}
 use Rattle.cfb_rules.specs.Refusal.{IsRefusal, Refusal}
 use Rattle.cfb_rules.specs.Runs.{CallRuns, Causes, Setting, TreeState}
 use Rattle.cfb_rules.specs.Steps.{creating, kind_on}
 use Rattle.cfb_directory.specs.State.{IsFullForEntry}
 use Rattle.cfb_mini_sectors.specs.State.{bytes_of, cases_of, entries_of, root_len_of, version_of}
 use Rattle.cfb_content.specs.Contents.{KeepsFixedHeader}
-use Rattle.cfb_insertion.specs.Balance.{AreAllBalanced}
+use Rattle.cfb_trees.specs.Balance.{AreAllBalanced}
 use Rattle.cfb_agreement.specs.Changes.{StaysOrFails}
 use Rattle.cfb_agreement.specs.Files.{FileState, IsAsMade, IsFullFile, LeavesNoneFree, SameSetting, failures_of, is_failed}
 use Rattle.cfb_path_changes.specs.Sparing.{SparesStreams}
@@ -62,13 +62,6 @@ IsBalancedFile file = AreAllBalanced (cases_of file.base) (entries_of file.base)
 abbrev pub KeepsFileBalanced : FileState → FileState → Type 0
 KeepsFileBalanced old new = is_failed new ≡ false → IsBalancedFile old → IsBalancedFile new
 
--- only a call that takes an object away may leave a storage out of balance
-abbrev pub may_unbalance : Call → Bool
-may_unbalance (remove_storage path) = true
-may_unbalance (remove_storage_all path) = true
-may_unbalance (remove_stream path) = true
-may_unbalance call = false
-
 -- the bytes of the header that nobody reads stay; and unless the file failed: if it was made here it is in order still, and where a sector was
 -- appended none is free
 pub record StaysInOrder (old new : FileState) : Type 0 where
@@ -85,7 +78,7 @@ HasRoomFor file call = (tree : Tree) → MeansTree file tree → kind_on (cases_
 pub record IsDoneBy (old : FileState) (call : Call) (reply : Reply) (new : FileState) : Type 0 where
   pub runs : RunsOn (causes_of_call old new) old call reply new
   pub order : StaysInOrder old new
-  pub balanced : may_unbalance call ≡ false → KeepsFileBalanced old new
+  pub balanced : KeepsFileBalanced old new
   pub spares : SparesStreams old call new
   pub room : HasRoomFor old call
   pub calm : failures_of new ≡ failures_of old

@@ -19,7 +19,7 @@ pub struct Plan {
     pub is_memory: bool,
     /// How many bytes the medium serves a call.
     pub piece: usize,
-    /// Where writes are counted.
+    /// Where reads and writes are counted.
     pub start: u64,
     pub end: u64,
 }

@@ -96,11 +96,12 @@ pub fn fits(forms: &[Form], line: &Line<'_>) -> bool {
 
 /// Lines between sessions.
 #[rattlefmt::skip]
-pub const BETWEEN: [Form; 34] = [
+pub const BETWEEN: [Form; 35] = [
     Form { call: "create", parts: &[Part::Either("3", "4")] },
     Form { call: "keep", parts: &[] },
     Form { call: "back", parts: &[] },
     Form { call: "same", parts: &[] },
+    Form { call: "reads", parts: &[] },
     Form { call: "writes", parts: &[] },
     Form { call: "flushes", parts: &[] },
     Form { call: "struck", parts: &[] },

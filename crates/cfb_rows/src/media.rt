@@ -111,31 +111,35 @@ pub fn with_faults<F: ReadMedium>(inner: F, plan: &Plan) -> Counting<Stuck<Faili
     Counting::within(stuck, plan.start, plan.end)
 }
 
-/// What a medium tells at last: how many of its calls went wrong, how often the range was written, how often it was flushed, and its bytes.
+/// What a medium tells at last: how many of its calls went wrong, how often the range was read and how often it was written, how often it was
+/// flushed, and its bytes.
 #[derive(Drop)]
 pub struct Told<'h> {
     pub failures: u64,
+    pub reads: u64,
     pub writes: u64,
     pub flushes: u64,
     pub bytes: Vec<u8, Heap<'h>>,
 }
 
-/// How many calls went wrong, how often the range was written and how often it was flushed, and the medium under it all.
-fn undone<F: ReadMedium>(counting: Counting<Stuck<Failing<F>>>) -> (u64, u64, u64, F) {
+/// How many calls went wrong, how often the range was read, how often it was written and how often it was flushed, and the medium under it all.
+fn undone<F: ReadMedium>(counting: Counting<Stuck<Failing<F>>>) -> (u64, u64, u64, u64, F) {
+    let reads = counting.reads();
     let writes = counting.writes();
     let flushes = counting.flushes();
     let stuck = counting.into_inner();
     let sticks = stuck.failures();
     let failing = stuck.into_inner();
     let failures = sticks.saturating_add(failing.failures());
-    (failures, writes, flushes, failing.into_inner())
+    (failures, reads, writes, flushes, failing.into_inner())
 }
 
 /// The same of a medium that is done with.
 pub fn left_by<'h>(counting: RowMedium<'h>) -> Told<'h> {
-    let (failures, writes, flushes, pieces) = undone(counting);
+    let (failures, reads, writes, flushes, pieces) = undone(counting);
     Told {
         failures,
+        reads,
         writes,
         flushes,
         bytes: pieces.into_inner().into_bytes(),

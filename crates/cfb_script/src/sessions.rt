@@ -109,7 +109,8 @@ pub struct Outcome {
     /// How often the medium went wrong, and whether the file has failed.
     pub failures: u64,
     pub is_failed: bool,
-    /// How often the range that is counted was written, and how often the medium was flushed.
+    /// How often the range that is counted was read and written, and how often the medium was flushed.
+    pub reads: u64,
     pub writes: u64,
     pub flushes: u64,
     /// Whether the file was opened.
@@ -144,6 +145,7 @@ fn outcome_of(is_failed: bool, medium: RowMedium<'_>, after: &mut Vec<u8>) -> Ou
     Outcome {
         failures: left.failures,
         is_failed,
+        reads: left.reads,
         writes: left.writes,
         flushes: left.flushes,
         is_opened: true,
@@ -155,6 +157,7 @@ fn not_opened() -> Outcome {
     Outcome {
         failures: 0,
         is_failed: false,
+        reads: 0,
         writes: 0,
         flushes: 0,
         is_opened: false,

@@ -33,7 +33,8 @@ pub struct World<'h> {
     plan: Plan,
     /// Places that stay in each session with a fault, and how many bytes each.
     guards: [(usize, usize); GUARDS],
-    /// How often the last session wrote the range that is counted, and how often it flushed.
+    /// How often the last session read and wrote the range that is counted, and how often it flushed.
+    reads: u64,
     writes: u64,
     flushes: u64,
     /// How often the last session went wrong once its file was got, by the fault by which it did so least often.
@@ -53,6 +54,7 @@ impl<'h> World<'h> {
             settings: plain(),
             plan: Plan::calm(),
             guards: [(0, 0); GUARDS],
+            reads: 0,
             writes: 0,
             flushes: 0,
             struck: 0,
@@ -180,6 +182,7 @@ fn answered(world: &mut World<'_>, line: &Line<'_>) -> Answer {
         "keep" => copied(&world.bytes, &mut world.kept),
         "back" => copied(&world.kept, &mut world.bytes),
         "same" => Answer::Flag(world.bytes.as_slice() == world.kept.as_slice()),
+        "reads" => Answer::Count(world.reads),
         "writes" => Answer::Count(world.writes),
         "flushes" => Answer::Count(world.flushes),
         "struck" => Answer::Count(world.struck),
@@ -250,6 +253,7 @@ fn play_calm(
         &mut world.judge,
         whole,
     );
+    world.reads = outcome.reads;
     world.writes = outcome.writes;
     world.flushes = outcome.flushes;
     outcome.is_opened

@@ -4,6 +4,7 @@ ghost use Rattle.cfb_format.specs.Bytes.{sector_len, words_per_sector, sector_wo
 ghost use Rattle.cfb_format.specs.Medium.{part, written, ChangesOnlyBytes};
 ghost use Rattle.cfb_format.specs.DirectoryEntry.{entry_bytes, unallocated_entry};
 ghost use Rattle.cfb_format.specs.Refused.{IsInvalidData, CountsFailure};
+ghost use Rattle.cfb_sectors.specs.declared.sector.SectorInit.TheVariants.{Zero};
 ghost use Rattle.cfb_sectors.specs.Words.{Apart, with_word, OtherWordsStay};
 ghost use Rattle.cfb_sectors.specs.Sectors.{sectors_in_file, place_in_sector, sectors_end, init_bytes, copies, IsMediumError, OtherSectorsStay, SectorStays};
 
@@ -505,8 +506,29 @@ impl<F: Medium> Sectors<F> {
         }
         self.count_in(sector);
         let at = self.place(sector, 0);
-        let bytes = fresh_sector(self.version(), init);
-        self.write_at(at, &bytes[..self.sector_len()])
+        self.write_fresh(at, init)
+    }
+
+    /// Writes what a fresh sector holds at `at`.
+    fn write_fresh(&mut self, at: u64, init: SectorInit) -> Result<(), Error>
+        requires { at + sector_len self.old.version ≤ sectors_end self.old }
+        ensures ok { IsTrue F.tells → OnOk result (self.new ≡ record self.old {
+          bytes = written self.old.bytes at (init_bytes self.old.version init);
+          len = max self.old.len (at + sector_len self.old.version);
+          begun = true;
+        }) }
+        ensures kept { self.new ≡ record self.old { len = self.new.len; bytes = self.new.bytes; failures = self.new.failures; begun = true } }
+        ensures len { MatchResult result (λ _. self.new.len ≡ max self.old.len (at + sector_len self.old.version)) (λ e. IsMediumError e × (self.new.len ≡ self.old.len)) }
+        ensures others { IsTrue F.tells → ChangesOnlyBytes at (sector_len self.old.version) self.old.bytes self.new.bytes }
+        ensures counts { IsTrue F.tells → CountsFailure F.write_faults result self.old.failures self.new.failures }
+    {
+        match init {
+            SectorInit::Zero => self.write_at(at, zero_sector(self.version())),
+            _ => {
+                let bytes = fresh_sector(self.version(), init);
+                self.write_at(at, &bytes[..self.sector_len()])
+            }
+        }
     }
 
     /// Has the medium hand on what was written. `Medium` where it fails.
@@ -561,6 +583,17 @@ fn fresh_sector(version: Version, init: SectorInit) -> [u8; 4096]
         _ => fill(&mut bytes[..version.sector_len()], version, init),
     }
     bytes
+}
+
+/// As many zeros as the longest sector has bytes, which no call has to make anew.
+static ZEROS: [u8; 4096] = [0; 4096];
+
+/// The bytes of a sector of zeros.
+fn zero_sector(version: Version) -> &'static [u8]
+    ensures zeros { result.now ≡ init_bytes version Zero }
+    ensures len { length result.now ≡ sector_len version }
+{
+    &ZEROS[..version.sector_len()]
 }
 
 /// As many zeros as the longest sector has bytes.

@@ -6,9 +6,8 @@ ghost use Rattle.cfb_format.specs.Siblings.{entry_at, is_red_color};
 ghost use Rattle.cfb_siblings.specs.Painted.{color_if_red};
 ghost use Rattle.cfb_codecs.specs.EntryModel.{entries_of};
 ghost use Rattle.cfb_siblings.specs.Taking.{vacated};
-ghost use Rattle.cfb_siblings.specs.Calm.{above_red};
 ghost use Rattle.cfb_siblings.specs.Way.{Frame, above, way};
-ghost use Rattle.cfb_siblings.specs.Writes.{set_node, set_red, relinked, link_red, far_link};
+ghost use Rattle.cfb_siblings.specs.Writes.{set_node, set_red, relinked, link_red, far_link, near_below, far_below};
 
 use cfb_codecs::direntry::DirEntry;
 use cfb_codecs::timestamp::Timestamp;
@@ -87,14 +86,21 @@ pub(crate) fn only_part<A: Allocator>(entries: &[DirEntry<A>], n: u32) -> u32
     if right == NO_STREAM { left } else { right }
 }
 
-/// Whether a red entry may not hang below the step, nor at the top.
-pub(crate) fn is_red_above<A: Allocator>(entries: &[DirEntry<A>], above: Option<PathStep>) -> bool
-    ensures { result ≡ above_red (entries_of entries.now) above }
+/// The links to the children of `s`, which stands beside where the step `p` leads: the one nearer
+/// to that, and the farther one.
+pub(crate) fn children_beside<A: Allocator>(
+    entries: &[DirEntry<A>],
+    p: PathStep,
+    s: u32,
+) -> (u32, u32)
+    requires { s < length entries.now }
+    ensures { result ≡ (
+      near_below (entries_of entries.now) p s,
+      far_below (entries_of entries.now) p s,
+    ) }
 {
-    match above {
-        None => true,
-        Some(step) => is_red(entries, step.number),
-    }
+    let (left, right) = links(entries, s);
+    if p.left { (left, right) } else { (right, left) }
 }
 
 /// Gives the entry another colour.

@@ -2,19 +2,16 @@
 //! is replaced by that, and in place of one with two its predecessor goes, whose entry then moves
 //! into the freed slot.
 ghost use Rattle.std.specs.Prelude.{◌≡◌, ℕ, ◌+◌, ◌*◌, ◌<◌, ◌≤◌, length, chars, IfOk, OnErr, OnOk, List, [], vec_len, vec_capacity, true};
-ghost use Rattle.cfb_siblings.specs.Children.{HasChildren, HasRedApart, IsAbsent, IsParent, Removes};
+ghost use Rattle.cfb_siblings.specs.Children.{HasChildren, HasRedApart, IsAbsent, IsParent, KeepsBalance, Removes};
 ghost use Rattle.cfb_siblings.specs.Order.{Dir, HasDir};
-ghost use Rattle.cfb_siblings.specs.Painted.{Painted, tree_numbers, occurs};
+ghost use Rattle.cfb_siblings.specs.Painted.{Painted, bare, tree_numbers, occurs};
 ghost use Rattle.cfb_codecs.specs.EntryModel.{entries_of};
-ghost use Rattle.cfb_siblings.specs.Taking.{HasSpot, Spot};
-ghost use Rattle.cfb_siblings.specs.Taking.{Soothed, SpareAt, StandsInTree, TakenOut};
-ghost use Rattle.cfb_siblings.specs.Touched.{IsNear, Tells, Touches, TouchesOnly};
-ghost use Rattle.cfb_siblings.specs.Way.{Frame, KeptOutside, plug};
+ghost use Rattle.cfb_format.specs.Siblings.{depth};
+ghost use Rattle.cfb_siblings.specs.Taking.{SpareAt, StandsInTree, TakenOut};
+ghost use Rattle.cfb_siblings.specs.Touched.{IsNear, Tells, Touches, TouchesFew, TouchesOnly};
 
-use crate::links::{
-    PathStep, is_red, is_red_above, is_red_entry, last_step, links, only_part, paint, relink,
-    vacate,
-};
+use crate::balance::restore;
+use crate::links::{PathStep, is_red_entry, last_step, links, only_part, relink, vacate};
 use crate::touched::{link_slot, make_room, note};
 use crate::way::way_to;
 use cfb_codecs::direntry::DirEntry;
@@ -92,6 +89,9 @@ fn take_out<A: Allocator>(
     ensures told { OnOk result ((t : Painted)
         → Dir cases.now (entries_of entries.old) parent t → Tells
         (IsNear parent t) (entries_of entries.old) (entries_of entries.new) [] touched.new.items) }
+    ensures few { IfOk result (λ gap. (t : Painted)
+        → Dir cases.now (entries_of entries.old) parent t
+        → vec_len touched.new + vec_len gap.path ≤ depth (bare t) + 2) }
     ensures room { IfOk result (λ gap. vec_len touched.new + (8 * vec_len gap.path + 8)
         ≤ vec_capacity touched.new) }
     ensures refused { OnErr result (entries.new ≡ entries.old) }
@@ -115,42 +115,13 @@ fn take_out<A: Allocator>(
     })
 }
 
-/// Makes a red node black that came to stand under a red one, or at the top.
-fn soothe<A: Allocator>(
-    entries: &mut [DirEntry<A>],
-    parent: u32,
-    path: &[PathStep],
-    x: u32,
-    touched: &mut Vec<u32, A>,
-)
-    requires few { length (entries_of entries.old) ≤ NO_STREAM }
-    requires stands { HasSpot (entries_of entries.old) parent path.now x }
-    requires room { vec_len touched.old < vec_capacity touched.old }
-    ensures soothed { (fs : List Frame) (t : Painted)
-        → Spot (entries_of entries.old) parent path.now x fs t
-        → KeptOutside (entries_of entries.old) (entries_of entries.new) parent (plug fs t)
-        × Soothed (entries_of entries.new) parent fs t }
-    ensures told { (fs : List Frame) (t : Painted)
-        → Spot (entries_of entries.old) parent path.now x fs t → Tells (IsNear parent (plug fs t))
-        (entries_of entries.old) (entries_of entries.new) touched.old.items touched.new.items }
-{
-    if !is_red(entries, x) {
-        return;
-    }
-    let above = last_step(path);
-    if is_red_above(entries, above) {
-        paint(entries, x, false);
-        note(touched, x);
-    }
-}
-
 /// Takes the child of that name, which is there, out of the storage `parent` (MS-CFB 2.6.4), and
 /// answers the slot that is free now: the child's own, or that of its predecessor, whose entry then
 /// stands in the child's. `touched` becomes the list of the slots whose entries changed, each of
-/// them once.
+/// them once: at most eight more than the children's tree has levels.
 ///
-/// No red child comes to stand under a red one. The black ones on the ways down may differ in
-/// number afterwards.
+/// Children in balance stay so; also where they were not, no red child comes to stand under a red
+/// one.
 ///
 /// It answers `AllocError` where memory for the way down or for `touched` is refused, and no entry
 /// has changed then.
@@ -171,6 +142,8 @@ pub fn remove<A: Allocator>(
         → HasChildren cases.now (entries_of entries.old) parent list
         → (after : List ℕ) × Removes cases.now (entries_of entries.old)
         (entries_of entries.new) parent (chars name.now) freed list after) }
+    ensures balanced { OnOk result
+        (KeepsBalance (entries_of entries.old) (entries_of entries.new) parent) }
     ensures red_apart { OnOk result ((list : List ℕ)
         → HasChildren cases.now (entries_of entries.old) parent list
         → HasRedApart (entries_of entries.old) parent list
@@ -181,15 +154,17 @@ pub fn remove<A: Allocator>(
     ensures touches_only { OnOk result ((list : List ℕ)
         → HasChildren cases.now (entries_of entries.old) parent list
         → TouchesOnly parent list touched.new.items) }
+    ensures touches_few { OnOk result
+        (TouchesFew (entries_of entries.old) parent touched.new.items) }
     ensures refused { OnErr result (entries.new ≡ entries.old) }
 {
-    let gap = take_out(alloc, cases, entries, parent, name, touched)?;
+    let mut gap = take_out(alloc, cases, entries, parent, name, touched)?;
     let freed = gap.freed;
+    let link = gap.link;
     if gap.red {
         return Ok(freed);
     }
-    // The ways down through `gap.link` are short of a black entry: what makes up for it along
-    // `gap.path` takes the place of this.
-    soothe(entries, parent, &gap.path, gap.link, touched);
+    // The ways down through the link are short of a black entry.
+    restore(entries, parent, &mut gap.path, link, touched);
     Ok(freed)
 }

@@ -7,3 +7,4 @@ pub mod Clean
 pub mod Room
 pub mod Listed
 pub mod ReadWords
+pub mod Consecutive

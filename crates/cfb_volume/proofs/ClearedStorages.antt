@@ -16,6 +16,7 @@ use Rattle.cfb_alloc.specs.Frame.{Spares}
 use Rattle.cfb_entries.specs.Clearing.{HasCleared}
 use Rattle.cfb_directory.specs.Steps.{IsDirectoryNotHeld}
 use Rattle.cfb_objects.specs.Laws.{BecomesTree}
+use Rattle.cfb_objects.proofs.Balance.{all-stay-balanced}
 use Rattle.cfb_mini_sectors.specs.State.{HoldsMini, IsChangeable, MiniState, bytes_of, cases_of, entries_of, table_of, tables_in}
 use Rattle.cfb_mini_sectors.specs.Steps.{KeepsLimits, KeepsMini}
 use Rattle.cfb_content.specs.Contents.{len_of}
@@ -23,7 +24,7 @@ use Rattle.cfb_agreement.specs.Files.{FileState, Holds, IsAsMade}
 use Rattle.cfb_agreement.proofs.Flags.{flags-not-read, made-flagged}
 use Rattle.cfb_agreement.proofs.HeldBytes.{changeable-is-held}
 use Rattle.cfb_entry_changes.specs.Clearing.{ClearsStorage, WritesClearing}
-use Rattle.cfb_entry_changes.proofs.Emptied.{cleared-empties-tree, cleared-has-outline, cleared-is-all-used, cleared-is-changeable, cleared-is-colored, cleared-is-snug}
+use Rattle.cfb_entry_changes.proofs.Emptied.{cleared-empties-tree, cleared-has-outline, cleared-is-all-used, cleared-is-balanced, cleared-is-changeable, cleared-is-snug}
 use Rattle.cfb_volume.specs.Clearing.{emptied_at}
 use Rattle.cfb_volume.proofs.InsertedObjects.{ended, file_with}
 
@@ -85,7 +86,8 @@ module _ (old : FileState) (mid : MiniState) (top : ℕ) (t : ClearsStorage old.
         used = cleared-is-all-used Strict old.base mid top all made.used;
         exact = subst (λ u. AreExactTables u) (sym t.kept.tables) made.exact;
         snug = cleared-is-snug Strict old.base mid top all made.snug;
-        colored = cleared-is-colored old.base mid top t made.colored;
+        balanced = all-stay-balanced (cases_of old.base) (cases_of mid) (entries_of old.base) (entries_of mid) t.storage.outline t.storage.is
+            (cleared-is-balanced old.base mid top t) made.balanced;
       })
 
   pub clear-tree : old.is_sound ≡ true → Holds old → HoldsMini Permissive mid → (names : List (List ℕ)) (o : Outline) → IsOutline (cases_of old.base) (entries_of old.base) o

@@ -23,9 +23,10 @@ use Rattle.cfb_content.proofs.Outlines.{no-root-stream}
 use Rattle.cfb_agreement.specs.Changes.{KeepsStreams}
 use Rattle.cfb_agreement.specs.Files.{Agrees, FileState, Holds, IsAsMade, SameSetting, failures_of, is_failed}
 use Rattle.cfb_entry_changes.specs.Clearing.{ClearsStorage}
-use Rattle.cfb_entry_changes.proofs.Emptied.{cleared-has-outline, cleared-is-found}
+use Rattle.cfb_entry_changes.proofs.Emptied.{cleared-has-outline, cleared-is-balanced, cleared-is-found}
 use Rattle.cfb_volume.specs.Clearing.{EmptiesStorage, EmptiesStreams, KeepsStreamsBeside, KeepsStreamsBut, emptied_at}
 use Rattle.cfb_volume.proofs.AddedStorages.{setting-then}
+use Rattle.cfb_objects.proofs.Balance.{content-keeps-balance}
 use Rattle.cfb_volume.proofs.InsideNames.{inside-stands}
 use Rattle.cfb_volume.proofs.Insides.{inside-stays, inside-stream, inside-unique, storage-stays}
 
@@ -122,6 +123,9 @@ module _ (tells : Bool) (top : ℕ) (start mid : FileState) (inside : Outline) (
           same-from (cases_of start.base) (entries_of start.base) (entries_of mid.base) (λ j. ap (λ (x : Entry). x.name) (i.entries j)) path 0 o ∙ at in
           cleared-is-found mid.base new.base top t o after (i.outline o is) now path k
           (subst (λ (cs : Cases). number_from cs (entries_of mid.base) 0 o path ≡ Some k) (sym cases) there) (not-there k out);
+      balanced = λ o after is now k there ns was.
+          cleared-is-balanced mid.base new.base top t o after (i.outline o is) now k there ns
+          (λ reached kind. content-keeps-balance (entries_of start.base) (entries_of mid.base) k i.longer i.entries (was reached (λ s. kind (ap (λ (x : Entry). x.obj_type) (i.entries k) ∙ s))));
       same_length = ap (λ (u : TableState). length u.fat) tables ∙ i.same_length;
       holds = λ told holds. agrees told (i.holds told holds) calm;
       made = λ told holds made'. made told (i.holds told holds) (i.made told holds made');

@@ -13,21 +13,23 @@ use Rattle.cfb_format.specs.Refused.{AfterMedium, IsBreak}
 use Rattle.cfb_codecs.specs.EntryModel.{new_entry}
 use Rattle.cfb_outline.specs.Outlines.{IsReachedStorage}
 use Rattle.cfb_rules.specs.Finding.{last_name, parent_names}
+use Rattle.cfb_siblings.specs.Children.{KeepsBalance}
 use Rattle.cfb_siblings.specs.Paths.{number_from}
 use Rattle.cfb_tables.specs.Refused.{ChangeRefused}
 use Rattle.cfb_alloc.specs.Frame.{Spares}
 use Rattle.cfb_alloc.specs.ListedChain.{Lengthens}
 use Rattle.cfb_entries.specs.EntryList.{InsertsEntry, has_free}
 use Rattle.cfb_directory.specs.State.{IsFullForEntry, with_room}
-use Rattle.cfb_directory.specs.Steps.{IsDirectoryNotHeld, StaysRedApart}
+use Rattle.cfb_directory.specs.Steps.{IsDirectoryNotHeld}
 use Rattle.cfb_objects.specs.Laws.{BecomesTree}
+use Rattle.cfb_objects.proofs.Balance.{all-stay-balanced}
 use Rattle.cfb_mini_sectors.specs.Held.{with_table}
 use Rattle.cfb_mini_sectors.specs.State.{HoldsMini, IsChangeable, MiniState, bytes_of, cases_of, entries_of, parts_of, table_of, tables_in}
 use Rattle.cfb_mini_sectors.specs.Steps.{KeepsLimits, KeepsMini, StopsShort}
 use Rattle.cfb_content.specs.Contents.{KeepsFixedHeader}
 use Rattle.cfb_content.proofs.Refusals.{refused-as}
 use Rattle.cfb_insertion.specs.Putting.{PutsObject, WritesObject}
-use Rattle.cfb_insertion.proofs.Entries.{put-has-outline, put-is-colored, put-is-exact}
+use Rattle.cfb_insertion.proofs.Entries.{put-has-outline, put-is-balanced, put-is-exact}
 use Rattle.cfb_insertion.proofs.Fullness.{full-for-entry-is-full}
 use Rattle.cfb_insertion.proofs.Joined.{put-storage-joins-tree, put-stream-joins-tree}
 use Rattle.cfb_insertion.proofs.Sound.{put-is-all-used, put-is-changeable, put-is-snug}
@@ -56,16 +58,16 @@ same-file start mid now sound limit file view e i = record { base = sym e i; is_
 pub puts-object : (start s mid : MiniState) (parent n : ℕ) (name : List ℕ) (kind : ObjType) (moment : ℕ) → start ≡ s
     → IsReachedStorage (cases_of s) (entries_of s) parent → (kind ≡ Storage) ⊎ (kind ≡ Stream)
     → InsertsEntry (cases_of start) (with_room start.directory) (entries_of mid) parent n (new_entry name kind moment)
-    → StaysRedApart start.directory mid.directory parent
+    → KeepsBalance (entries_of start) (entries_of mid) parent
     → (has_free (entries_of start) ≡ true → (mid.directory.sectors ≡ start.directory.sectors) × (tables_in mid ≡ tables_in start))
     → (has_free (entries_of start) ≡ false → Lengthens 1 start.directory.sectors mid.directory.sectors (tables_in start) (tables_in mid))
     → KeepsMini start mid → KeepsLimits start mid → PutsObject s mid parent n name kind moment
-puts-object start s mid parent n name kind moment e storage kinds entry red_apart kept lengthened mini limits =
+puts-object start s mid parent n name kind moment e storage kinds entry balanced kept lengthened mini limits =
     subst (λ (x : MiniState). PutsObject x mid parent n name kind moment) e (record {
       storage = subst (λ (x : MiniState). IsReachedStorage (cases_of x) (entries_of x) parent) (sym e) storage;
       kinds = kinds;
       entry = entry;
-      red_apart = red_apart;
+      balanced = balanced;
       kept = kept;
       lengthened = lengthened;
       mini = mini;
@@ -107,7 +109,8 @@ module _ (old : FileState) (mid : MiniState) (parent n : ℕ) (name : List ℕ) 
         used = put-is-all-used Strict old.base mid parent n name kind moment all made.used;
         exact = put-is-exact old.base mid parent n name kind moment put made.exact;
         snug = put-is-snug Strict old.base mid parent n name kind moment all made.snug;
-        colored = put-is-colored old.base mid parent n name kind moment put made.colored;
+        balanced = all-stay-balanced (cases_of old.base) (cases_of mid) (entries_of old.base) (entries_of mid) put.storage.outline put.storage.is
+            (put-is-balanced old.base mid parent n name kind moment put) made.balanced;
       })
 
   pub insert-tree : old.is_sound ≡ true → Holds old → HoldsMini Permissive mid → (names : List (List ℕ)) (o : Outline)

@@ -8,6 +8,7 @@ pub mod InsideNames
 pub mod Forgotten
 pub mod EmptiedStreams
 pub mod Steps
+pub mod Balances
 pub mod ClearedStorages
 pub mod EmptiedStorages
 pub mod RemovedStorages

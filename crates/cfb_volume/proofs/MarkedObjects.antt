@@ -10,7 +10,6 @@ use Rattle.cfb_format.specs.Reading.{IsOutline, Outline}
 use Rattle.cfb_format.specs.Refused.{IsMediumAnd}
 use Rattle.cfb_format.specs.Siblings.{entry_at}
 use Rattle.cfb_format.specs.Tree.{StorageInfo, StreamInfo}
-use Rattle.cfb_format.proofs.Unique.{IsOutline-unique}
 use Rattle.cfb_entries.specs.declared.fields.Fields.{Fields}
 use Rattle.cfb_rules.specs.CallChanges.{fields_changed_at}
 use Rattle.cfb_siblings.specs.Paths.{number_from}
@@ -18,10 +17,10 @@ use Rattle.cfb_tables.specs.Refused.{ChangeRefused}
 use Rattle.cfb_tables.specs.Tables.{AreExactTables}
 use Rattle.cfb_alloc.specs.Frame.{Spares}
 use Rattle.cfb_directory.specs.State.{HoldsDirectory}
-use Rattle.cfb_trees.specs.Colors.{AreColored}
 use Rattle.cfb_trees.specs.Reached.{IsReached}
 use Rattle.cfb_trees.proofs.Members.{reached-is-used, reached-is-within}
 use Rattle.cfb_objects.specs.Laws.{BecomesTree}
+use Rattle.cfb_objects.proofs.Balance.{all-stay-balanced}
 use Rattle.cfb_mini_sectors.specs.State.{HoldsMini, IsChangeable, MiniState, bytes_of, cases_of, entries_of, table_of, version_of}
 use Rattle.cfb_mini_sectors.specs.Steps.{StopsShort}
 use Rattle.cfb_agreement.specs.Files.{FileState, Holds, IsAsMade}
@@ -30,7 +29,7 @@ use Rattle.cfb_agreement.proofs.HeldBytes.{changeable-is-held}
 use Rattle.cfb_content.specs.Contents.{len_of}
 use Rattle.cfb_entry_changes.specs.Kept.{AllStayBalanced, FindsTheSame}
 use Rattle.cfb_entry_changes.specs.Marking.{GivesFields, MarksEntry, WritesFields}
-use Rattle.cfb_entry_changes.proofs.Marked.{marked-changes-tree, marked-has-outline, marked-is-all-used, marked-is-balanced, marked-is-changeable, marked-is-colored, marked-is-found, marked-is-snug, marked-keeps-root}
+use Rattle.cfb_entry_changes.proofs.Marked.{marked-changes-tree, marked-has-outline, marked-is-all-used, marked-is-balanced, marked-is-changeable, marked-is-found, marked-is-snug, marked-keeps-root}
 use Rattle.cfb_volume.proofs.InsertedObjects.{ended, file_with}
 
 -- the entry of a reached object can be read back
@@ -76,9 +75,8 @@ module _ {tells : Bool} {old : FileState} {mid : MiniState} {i : ℕ} {Are : Fie
           used = marked-is-all-used Strict old.base mid i m.fields m.outline m.is all made.used;
           exact = subst (λ u. AreExactTables u) (sym m.marks.kept.tables) made.exact;
           snug = marked-is-snug Strict old.base mid i m.fields m.outline m.is all made.snug;
-          colored = λ p p_is.
-              let same : m.outline ≡ p = IsOutline-unique (cases_of mid) (entries_of mid) m.outline p (marked-has-outline old.base mid i m.fields m.marks m.outline m.is) p_is in
-              subst (λ (q : Outline). AreColored (entries_of mid) q) same (marked-is-colored old.base mid i m.fields m.marks made.colored m.outline m.is);
+          balanced = all-stay-balanced (cases_of old.base) (cases_of mid) (entries_of old.base) (entries_of mid) m.outline m.is
+              (marked-is-balanced old.base mid i m.fields m.marks) made.balanced;
         })
 
     pub mark-tree : old.is_sound ≡ true → Holds old → (f : StorageInfo → StorageInfo) (g : StreamInfo → StreamInfo) (names : List (List ℕ)) (p : Outline)

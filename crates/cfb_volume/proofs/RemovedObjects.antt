@@ -15,9 +15,8 @@ use Rattle.cfb_format.specs.Siblings.{Below, RisesByName, entry_at}
 use Rattle.cfb_format.specs.Meaning.{Means}
 use Rattle.cfb_format.specs.Tree.{Tree, is_same_name}
 use Rattle.cfb_format.proofs.TreeMap.{alike}
-use Rattle.cfb_format.proofs.Unique.{IsOutline-unique}
 use Rattle.cfb_outline.specs.Outlines.{IsReachedStorage}
-use Rattle.cfb_siblings.specs.Children.{HasChildren, IsChildNamed}
+use Rattle.cfb_siblings.specs.Children.{HasChildren, IsChildNamed, KeepsBalance}
 use Rattle.cfb_rules.specs.CallChanges.{content_changed_at, removed_at}
 use Rattle.cfb_rules.specs.Finding.{last_name, parent_names}
 use Rattle.cfb_sequences.proofs.Removals.{removed-own}
@@ -31,12 +30,9 @@ use Rattle.cfb_alloc.specs.Frame.{Spares}
 use Rattle.cfb_tables.specs.Refused.{ChangeRefused}
 use Rattle.cfb_tables.specs.Tables.{AreExactTables}
 use Rattle.cfb_trees.specs.Paths.{number_after}
-use Rattle.cfb_trees.specs.Colors.{AreColored}
-use Rattle.cfb_trees.proofs.Colored.{colors-same}
 use Rattle.cfb_trees.proofs.Members.{streams-are-by-kind}
 use Rattle.cfb_trees.proofs.PathDown.{is-stream}
 use Rattle.cfb_entries.specs.EntryList.{RemovesEntry}
-use Rattle.cfb_directory.specs.Steps.{StaysRedApart}
 use Rattle.cfb_objects.specs.Laws.{BecomesTree}
 use Rattle.cfb_mini_sectors.specs.State.{HoldsMini, IsChangeable, MiniState, bytes_of, cases_of, content_of, entries_of, table_of, tables_in}
 use Rattle.cfb_mini_sectors.specs.Steps.{KeepsLimits, KeepsMini, StopsShort}
@@ -49,13 +45,16 @@ use Rattle.cfb_agreement.specs.Files.{Agrees, FileState, Holds, IsAsBefore, IsAs
 use Rattle.cfb_agreement.proofs.ContentChanges.{content-becomes-tree}
 use Rattle.cfb_agreement.proofs.Flags.{as-before-same, flags-not-read, made-flagged}
 use Rattle.cfb_agreement.proofs.HeldBytes.{changeable-is-held}
+use Rattle.cfb_objects.proofs.Balance.{fields-keep-balance}
 use Rattle.cfb_insertion.proofs.Spared.{put-keeps-streams}
-use Rattle.cfb_entry_changes.specs.Kept.{FindsAllBut}
+use Rattle.cfb_entry_changes.specs.Kept.{AllStayBalancedBut, FindsAllBut}
 use Rattle.cfb_entry_changes.specs.Taking.{TakesObject, WritesRemoval}
 use Rattle.cfb_entry_changes.proofs.Moved.{moved-fields, moved-is-found}
-use Rattle.cfb_entry_changes.proofs.Taken.{taken-has-outline, taken-is-all-used, taken-is-changeable, taken-is-colored, taken-is-not-found, taken-is-snug, taken-keeps-root, taken-leaves-tree}
+use Rattle.cfb_entry_changes.proofs.Taken.{taken-has-outline, taken-is-all-used, taken-is-changeable, taken-is-not-found, taken-is-snug, taken-keeps-root, taken-leaves-tree}
+use Rattle.cfb_entry_changes.proofs.TakenBalance.{taken-is-balanced}
 use Rattle.cfb_format.specs.Refused.{IsBreak}
 use Rattle.cfb_volume.specs.Removing.{WasEmptied}
+use Rattle.cfb_volume.proofs.Balances.{all-but-balanced}
 use Rattle.cfb_volume.proofs.InsertedObjects.{ended, file_with, refused-stays}
 
 -- ---- emptied
@@ -149,10 +148,6 @@ module _ (old new : MiniState) (i : ℕ) (limits : KeepsLimits old new) (moves :
       → (n : ℕ) × IsChildNamed (cases_of new) (entries_of new) name list n × ((entry_at (entries_of new) n).child ≡ no_stream)
   child-stays parent child name there none list h = (child, child-still parent child name there list h, (moved-fields old new i moves child).child ∙ none)
 
-  pub colors-stay : ((o : Outline) → IsOutline (cases_of old) (entries_of old) o → AreColored (entries_of old) o) → (o : Outline) → IsOutline (cases_of new) (entries_of new) o
-      → IsOutline (cases_of old) (entries_of old) o → AreColored (entries_of new) o
-  colors-stay was o is before = colors-same (entries_of old) (entries_of new) o (moved-fields old new i moves) (was o before)
-
 -- ---- the object is taken
 
 -- what the layers below say of the removal, where the object was emptied before
@@ -179,11 +174,11 @@ taken-number old mid new parent child name limits moves there removed =
 pub was-removed : (old : FileState) (mid new : MiniState) (parent child : ℕ) (name : List ℕ) → WasEmptied old.base mid child
     → ((entry_at (entries_of old.base) child).obj_type ≢ Stream → mid ≡ old.base) → IsReachedStorage (cases_of old.base) (entries_of old.base) parent
     → ((list : List ℕ) → HasChildren (cases_of old.base) (entries_of old.base) parent list → IsChildNamed (cases_of old.base) (entries_of old.base) name list child)
-    → RemovesEntry (cases_of mid) (entries_of mid) (entries_of new) parent name → StaysRedApart mid.directory new.directory parent
+    → RemovesEntry (cases_of mid) (entries_of mid) (entries_of new) parent name → KeepsBalance (entries_of mid) (entries_of new) parent
     → (new.directory.sectors ≡ mid.directory.sectors) × (tables_in new ≡ tables_in mid) → KeepsMini mid new → KeepsLimits mid new
     → Spares mid.directory.sectors (table_of mid) (table_of new) → ((v : Validation) → HoldsMini v mid → HoldsMini v new)
     → WasRemoved old mid new parent child name
-was-removed old mid new parent child name emptied none storage there removed red_apart kept mini limits spares holds =
+was-removed old mid new parent child name emptied none storage there removed balanced kept mini limits spares holds =
     let same = taken-number old.base mid new parent child name emptied.limits emptied.entries there removed in
     record {
       emptied = emptied;
@@ -193,7 +188,7 @@ was-removed old mid new parent child name emptied none storage there removed red
         entry = removed;
         empty = λ e. ap (len_of mid) same
             ∙ emptied.empty (sym (moved-fields old.base mid child emptied.entries child).obj_type ∙ ap (λ (k : ℕ). (entry_at (entries_of mid) k).obj_type) (sym same) ∙ e);
-        red_apart = red_apart;
+        balanced = balanced;
         kept = record { sectors = kept.0; tables = kept.1; mini = mini; limits = limits };
       };
       number = same;
@@ -238,19 +233,26 @@ module _ {old : FileState} {mid new : MiniState} {parent child : ℕ} {name : Li
       let left = taken-has-outline mid new parent name r.taken o is in
       flags-not-read (file_with old new) (table_of new).file.failures false (changeable-is-held (file_with old new) left.0 sound change left.1)
 
+  pub remove-balanced : AllStayBalancedBut old.base (ended new) child
+  remove-balanced =
+      let f = taken-is-balanced mid new parent name r.taken in
+      let fields = moved-fields old.base mid child r.emptied.entries in
+      subst (λ (k : ℕ). AllStayBalancedBut old.base (ended new) k) r.number (
+        f.0,
+        λ before after was now k there ns keep. f.1 before after (still-is before was) now k there ns
+            (λ j reached kind stands. fields-keep-balance (entries_of old.base) (entries_of mid) j (omega (arith, r.emptied.entries.same_length)) fields
+            (keep j reached (λ s. kind ((fields j).obj_type ∙ s)) stands)),
+      )
+
   pub remove-made : (p : Outline) → IsOutline (cases_of old.base) (entries_of old.base) p → IsAsMade old.base → IsAsMade (ended new)
   remove-made p p_is made =
       let all = writes Strict made.changeable in
-      let p-now = still-is p p_is in
-      let colored : (q : Outline) → IsOutline (cases_of mid) (entries_of mid) q → AreColored (entries_of mid) q = λ q q_is.
-      subst (λ (x : Outline). AreColored (entries_of mid) x) (IsOutline-unique (cases_of mid) (entries_of mid) p q p-now q_is)
-      (colors-stay old.base mid child r.emptied.limits r.emptied.entries made.colored p p-now p_is) in
       made-flagged new (table_of new).file.failures false (record {
         changeable = taken-is-changeable Strict mid new parent name all;
         used = taken-is-all-used Strict mid new parent name all (r.emptied.owned Strict made.changeable made.used);
         exact = subst (λ u. AreExactTables u) (sym r.taken.kept.tables) (r.emptied.exact made.exact);
         snug = taken-is-snug Strict mid new parent name all (r.emptied.snug Strict made.changeable made.snug);
-        colored = taken-is-colored mid new parent name r.taken colored;
+        balanced = all-but-balanced old.base (ended new) child p p_is remove-balanced made.balanced;
       })
 
   pub remove-finds : FindsAllBut old.base (ended new) child

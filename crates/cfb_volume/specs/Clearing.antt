@@ -17,6 +17,7 @@ use Rattle.cfb_siblings.specs.Paths.{number_from}
 use Rattle.cfb_objects.specs.Laws.{BecomesTree}
 use Rattle.cfb_mini_sectors.specs.State.{MiniState, bytes_of, cases_of, entries_of, tables_in}
 use Rattle.cfb_content.specs.Contents.{KeepsContent, KeepsFixedHeader, len_of}
+use Rattle.cfb_entry_changes.specs.Kept.{AllStayBalanced, AllStayBalancedBut}
 use Rattle.cfb_agreement.specs.Changes.{StaysOrFails}
 use Rattle.cfb_agreement.specs.Files.{Agrees, FileState, Holds, IsAsMade, SameSetting, failures_of, is_failed}
 
@@ -96,6 +97,7 @@ pub record EmptiesStorage (tells : Bool) (top : ℕ) (start now : FileState) : T
   pub kept : (k : ℕ) → k ≢ 0 → k ≢ top → (Contains (numbers inside) k → ⊥) → entry_at (entries_of now.base) k ≡ entry_at (entries_of start.base) k
   pub reached : ReachesAllBut (numbers inside) start.base now.base
   pub found : FindsAllOutside (numbers inside) start.base now.base
+  pub balanced : AllStayBalanced start.base now.base
   pub same_length : length (tables_in now.base).fat ≡ length (tables_in start.base).fat
   pub holds : IsTrue tells → Holds start → Holds now
   pub made : IsTrue tells → Holds start → IsAsMade start.base → IsAsMade now.base
@@ -116,6 +118,7 @@ pub record StandsAs (s : MiniState) (o : Outline) (parent top : ℕ) (name : Lis
 pub record RemovesWithAll (tells : Bool) (parent top : ℕ) (name : List ℕ) (start now : FileState) : Type 0 where
   pub setting : SameSetting start now
   pub unfailed : is_failed now ≡ false
+  pub balanced : IsTrue tells → AllStayBalancedBut start.base now.base top
   pub holds : IsTrue tells → Holds start → Holds now
   pub made : IsTrue tells → Holds start → IsAsMade start.base → IsAsMade now.base
   pub same_length : length (tables_in now.base).fat ≡ length (tables_in start.base).fat

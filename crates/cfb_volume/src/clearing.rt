@@ -17,6 +17,7 @@ ghost use Rattle.cfb_agreement.specs.Changes.{KeepsStreams, StaysOrFails};
 ghost use Rattle.cfb_agreement.specs.Files.{Agrees, Holds, IsAsMade, LeavesNoneFree, SameSetting, failures_of, is_failed};
 ghost use Rattle.cfb_agreement.specs.Laws.{with_flags};
 ghost use Rattle.cfb_entry_changes.specs.Clearing.{ClearsStorage};
+ghost use Rattle.cfb_entry_changes.specs.Kept.{AllStayBalancedBut};
 ghost use Rattle.cfb_volume.specs.Clearing.{BreaksOff, EmptiesStorage, EmptiesStreams, KeepsStreamsBut, KeepsStreamsBeside, RemovesWithAll, StandsAs, emptied_at};
 
 use crate::volume::Volume;
@@ -256,6 +257,8 @@ impl<F: Medium, A: Heap + Clone> Volume<F, A> {
         ensures root_tree { IsTrue F.tells → Holds self.old → OnOk result (IfNone parent.entry
             (BecomesTree (cases_of self.old.base) (bytes_of self.old.base)
             (bytes_of self.new.base) (removed_at (cases_of self.old.base) []))) }
+        ensures balanced { IsTrue F.tells
+            → OnOk result (AllStayBalancedBut self.old.base self.new.base top) }
         ensures made { IsTrue F.tells
             → Holds self.old → IsAsMade self.old.base → OnOk result (IsAsMade self.new.base) }
         ensures takes_none { OnOk result (length (tables_in self.new.base).fat

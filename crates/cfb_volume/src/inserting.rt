@@ -17,8 +17,7 @@ ghost use Rattle.cfb_objects.specs.Laws.{BecomesTree};
 ghost use Rattle.cfb_directory.specs.State.{IsFullForEntry};
 ghost use Rattle.cfb_mini_sectors.specs.State.{bytes_of, cases_of, entries_of, tables_in};
 ghost use Rattle.cfb_content.specs.Contents.{KeepsFixedHeader, len_of};
-ghost use Rattle.cfb_insertion.specs.Balance.{StayBalanced};
-ghost use Rattle.cfb_entry_changes.specs.Kept.{KeepsFound};
+ghost use Rattle.cfb_entry_changes.specs.Kept.{AllStayBalanced, KeepsFound};
 ghost use Rattle.cfb_entry_changes.specs.Standing.{StandStill};
 ghost use Rattle.cfb_agreement.specs.Changes.{KeepsStreams, StaysOrFails, object_added_at};
 ghost use Rattle.cfb_agreement.specs.Files.{Agrees, Holds, IsAsMade, IsFullFile, LeavesNoneFree, SameSetting, failures_of, is_failed};
@@ -87,10 +86,7 @@ impl<F: Medium, A: Heap + Clone> Volume<F, A> {
             ≤ length (tables_in self.new.base).fat) }
         ensures stays_full { NoneFree (tables_in self.old.base).fat
             → OnOk result (NoneFree (tables_in self.new.base).fat) }
-        ensures balanced { OnOk result ((before after : Outline)
-            → IsOutline (cases_of self.old.base) (entries_of self.old.base) before
-            → IsOutline (cases_of self.new.base) (entries_of self.new.base) after
-            → StayBalanced (entries_of self.old.base) before (entries_of self.new.base) after) }
+        ensures balanced { OnOk result (AllStayBalanced self.old.base self.new.base) }
         ensures root_len { OnOk result (len_of self.new.base 0 ≡ len_of self.old.base 0) }
         ensures agrees { IsTrue F.tells → Holds self.old → Agrees self.new }
         ensures ended { OnOk result (is_failed self.new ≡ false) }

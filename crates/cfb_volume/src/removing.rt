@@ -17,7 +17,7 @@ ghost use Rattle.cfb_mini_sectors.specs.Steps.{KeepsLimits};
 ghost use Rattle.cfb_mini.specs.MiniSectors.{IsStill};
 ghost use Rattle.cfb_content.specs.Contents.{KeepsFixedHeader, KeepsOthers, MovesContent, len_of};
 ghost use Rattle.cfb_content.specs.KeptChain.{IsKeptChain};
-ghost use Rattle.cfb_entry_changes.specs.Kept.{FindsAllBut};
+ghost use Rattle.cfb_entry_changes.specs.Kept.{AllStayBalancedBut, FindsAllBut};
 ghost use Rattle.cfb_agreement.specs.Changes.{StaysOrFails};
 ghost use Rattle.cfb_agreement.specs.Files.{Agrees, Holds, IsAsMade, LeavesNoneFree, SameSetting, failures_of, is_failed};
 ghost use Rattle.cfb_volume.specs.Removing.{WasEmptied};
@@ -103,6 +103,8 @@ impl<F: Medium, A: Heap + Clone> Volume<F, A> {
             (removed_at (cases_of self.old.base) (first ∷ names))) }
         ensures finds { IsTrue F.tells
             → OnOk result (FindsAllBut self.old.base self.new.base child) }
+        ensures balanced { IsTrue F.tells
+            → OnOk result (AllStayBalancedBut self.old.base self.new.base child) }
         ensures others { IsTrue F.tells → Holds self.old
             → KeepsOthers child self.old.base self.new.base }
         ensures header { IsTrue F.tells → KeepsFixedHeader self.old.base self.new.base }

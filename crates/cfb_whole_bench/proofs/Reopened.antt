@@ -12,6 +12,7 @@ use Rattle.cfb_format.specs.Reading.{IsStrictFile, Reading, Reads}
 use Rattle.cfb_format.specs.Soundness.{IsOwnedFile, IsSoundFile}
 use Rattle.cfb_format.specs.Tree.{Tree}
 use Rattle.cfb_format.proofs.Unique.{Reads-unique}
+use Rattle.cfb_objects.specs.Balance.{IsLowFile}
 use Rattle.cfb_mini_sectors.specs.State.{bytes_of, cases_of, reading_of}
 use Rattle.cfb_agreement.specs.Files.{Agrees, FileState, Holds}
 use Rattle.cfb_agreement.specs.Laws.{AsMadeIsInOrder, IsInOrder, SoundIsExact}
@@ -54,7 +55,12 @@ module _ (version : Version) (tree : Tree) (file : FileState) (is : IsMadeWith v
           unfailed = opened.opened.unfailed;
           letters = opened.opened.letters;
           means = subst (λ (b : List ℕ). Means default_cases b tree) (sym bytes_is) is.means;
-          in_order = record { strict = of_new IsStrictFile order.strict; owned = of_new IsOwnedFile order.owned; exact = of_new HasExactTablesFile order.exact };
+          in_order = record {
+            strict = of_new IsStrictFile order.strict;
+            owned = of_new IsOwnedFile order.owned;
+            exact = of_new HasExactTablesFile order.exact;
+            low = of_new IsLowFile order.low;
+          };
         }
 
   -- such bytes are acceptable, so that nothing but memory can be refused

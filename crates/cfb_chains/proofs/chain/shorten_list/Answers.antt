@@ -1,4 +1,4 @@
-use Rattle.std.proofs.Common.{◌≡◌, ◌∙◌, ℕ, List, inl, inr, ap, sym, subst, take, arith}
+use Rattle.std.proofs.Common.{◌∙◌, inl, inr, ap, subst}
 use Rattle.cfb_alloc.specs.Alloc.{AllocatorState}
 use Rattle.cfb_alloc.specs.ListedChain.{Shortens}
 use Rattle.cfb_alloc.proofs.Answering.{on_ok}

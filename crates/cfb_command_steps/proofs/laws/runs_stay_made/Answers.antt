@@ -1,5 +1,8 @@
 use Rattle.cfb_command_steps.proofs.Made as lemmas
 use Rattle.cfb_command_steps.proofs.laws.runs_stay_made.Goals as goal
 
-pub returns : goal.returns
-returns c = lemmas.runs_stay_made
+pub returns-clause-made : goal.returns-clause-made
+returns-clause-made c = lemmas.runs_stay_made
+
+pub returns-clause-low : goal.returns-clause-low
+returns-clause-low c = lemmas.runs_stay_low

@@ -14,7 +14,7 @@ use Rattle.cfb_content.proofs.in_minis.put_in_minis.Given as goal
 abbrev pub invariant-loop-done : goal.invariant-loop-done
 invariant-loop-done g l = record {
   few : l.done ≤ length l.bytes;
-  place : l.done < length l.bytes → l.index * 64 + l.offset ≡ l.at + l.done;
+  place : l.index * 64 + l.offset ≡ l.at + l.done;
   short : l.offset < 64;
   kept : ChangesFileOnly l.fn.mini l.mini;
   put : IsTrue g.F.ReadMedium.tells → (validation : Validation) → HoldsMini validation l.fn.mini → IsDistinct nat_eq l.ids

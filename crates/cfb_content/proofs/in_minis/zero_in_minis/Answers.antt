@@ -1,6 +1,6 @@
-use Rattle.std.proofs.Common.{◌≡◌, ◌-◌, ℕ, List, refl, ap, ◌∙◌, subst, arith, length, take, replicate}
+use Rattle.std.proofs.Common.{◌≡◌, ◌-◌, ℕ, List, refl, ap, ◌∙◌, subst, arith, length, replicate}
 use Rattle.std.specs.Prelude.{IsTrue}
-use Rattle.std.proofs.lemmas.List.{length-replicate, take-replicate}
+use Rattle.std.proofs.lemmas.List.{length-replicate}
 use Rattle.cfb_alloc.proofs.Spared.{spares_refl}
 use Rattle.cfb_mini_sectors.specs.State.{bytes_of, mini_stream_of, table_of}
 use Rattle.cfb_mini.proofs.MiniWritten.{spares-mini-refl}
@@ -54,8 +54,8 @@ loop-at-preserved g c =
     let count = c.min-count.ensures in
     let behind = inv.behind in
     let place = mini_place_along s ids in
-    let zeros : List ℕ = take n (replicate 64 0) in
-    let is : zeros ≡ replicate n 0 = take-replicate n 64 0 (omega (arith, count)) in
+    let zeros : List ℕ = c.zeros.result.now in
+    let is : zeros ≡ replicate n 0 = c.zeros.ensures in
     let size : length {A = ℕ} zeros ≡ n = ap (λ (xs : List ℕ). length xs) is ∙ length-replicate {A = ℕ} n 0 in
     let same = same-along s b inv.kept ids in
     let change : IsTrue g.F.ReadMedium.tells → ChangesOnlyPlaces place at n (bytes_of b) (bytes_of new) =

@@ -62,7 +62,12 @@ pub returns-in-Ok-clause-made : goal.returns-in-Ok-clause-made
 returns-in-Ok-clause-made g c tells =
     let m = c.in_ok-target.ensures.made tells in
     let w = c.in-Ok.ensures.grows in
-    record { holds = w.holds tells m.holds; made = w.made tells m.holds m.made; balanced = w.balanced m.balanced; calm = w.calm tells ∙ m.calm }
+    record {
+      holds = w.holds tells m.holds;
+      made = w.made tells m.holds m.made;
+      none_free = w.none_free tells m.holds m.none_free;
+      calm = w.calm tells ∙ m.calm;
+    }
 
 pub returns-in-Ok-clause-tree : goal.returns-in-Ok-clause-tree
 returns-in-Ok-clause-tree g c told tells agrees =

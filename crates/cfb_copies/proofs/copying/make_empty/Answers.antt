@@ -1,18 +1,17 @@
 use Rattle.std.proofs.Common.{true, sym, subst}
 use Rattle.cfb_agreement.specs.Files.{FileState}
 use Rattle.cfb_copies.specs.Copies.{HasNoObjects, IsMadeCopy}
-use Rattle.cfb_copies.proofs.Emptied.{created_none, nothing_balanced}
+use Rattle.cfb_copies.proofs.Emptied.{created_full, created_none}
 use Rattle.cfb_copies.proofs.copying.make_empty.Goals as goal
 
 pub returns-clause-made : goal.returns-clause-made
 returns-clause-made g c told =
     let m = c.in_ok-mini.ensures in
     let file : FileState = record { base = c.in_ok-mini.mini; is_sound = true; buffer_limit = c.args.buffer_limit } in
-    let held = m.holds told c.args.buffer_limit in
     subst (λ (f : FileState). IsMadeCopy (g.W.ReadMedium.failures c.args.dest) f) (sym c.new.ensures) (record {
-      holds = held;
+      holds = m.holds told c.args.buffer_limit;
       made = m.made told;
-      balanced = nothing_balanced file held (created_none file _ c.created_file_is_right.ensures.means (m.bytes told));
+      none_free = created_full file _ (m.holds told c.args.buffer_limit) (m.bytes told);
       calm = m.calm told;
     })
 

@@ -16,7 +16,7 @@ use Rattle.cfb_entry_changes.specs.Marking.{GivesFields}
 use Rattle.cfb_copies.specs.Steps.{IsLikeIn, TakesName, fields_like, like_added}
 use Rattle.cfb_copies.proofs.Adding.{like_joins, set_like}
 use Rattle.cfb_copies.proofs.Faults.{break_at_all, counted_gives, medium_breaks}
-use Rattle.cfb_copies.proofs.Growing.{grows_by, grows_then, leads_still, ordered, reached_still}
+use Rattle.cfb_copies.proofs.Growing.{grows_by, grows_then, leads_still, ordered, reached_still, same_tables}
 use Rattle.cfb_copies.proofs.Likes.{like_len, like_start, like_valid}
 use Rattle.cfb_copies.proofs.parts.insert_like.Goals as goal
 
@@ -38,10 +38,10 @@ returns-clause-grows g c =
     let w = c.in_ok-number.ensures in
     let s = c.in_ok-set_fields.ensures in
     grows_then tells old mid new
-    (grows_by tells old mid w.setting w.ended (ordered old c.entries-before.ensures.in_order) (ordered mid c.entries-between.ensures.in_order) w.stays w.balanced (λ told holds. w.agrees told holds)
-    (λ told holds made. w.made told holds made) (λ told. w.counts told))
+    (grows_by tells old mid w.setting w.ended (ordered old c.entries-before.ensures.in_order) (ordered mid c.entries-between.ensures.in_order) w.stays (λ told holds. w.agrees told holds)
+    (λ told holds made. w.made told holds made) w.stays_full (λ told. w.counts told))
     (grows_by tells mid new s.setting s.ended (ordered mid c.entries-between.ensures.in_order) (ordered new c.entries-behind.ensures.in_order)
-    (λ before after was is names k at. s.finds before after was is names ∙ at) s.balanced (λ told holds. s.agrees told holds) (λ told holds made. s.made told holds made) (λ told. s.counts told))
+    (λ before after was is names k at. s.finds before after was is names ∙ at) (λ told holds. s.agrees told holds) (λ told holds made. s.made told holds made) (same_tables mid new s.tables) (λ told. s.counts told))
 
 pub returns-then-not-takes_name-clause-err : goal.returns-then-not-takes_name-clause-err
 returns-then-not-takes_name-clause-err g c told holds takes =

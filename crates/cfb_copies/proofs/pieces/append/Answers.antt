@@ -55,7 +55,8 @@ loop-done-preserved g c =
     record {
       within = grind arith;
       fills = fills_then tells c.args.to old mid new i.fills
-          (fills_written tells c.args.to mid new w.setting w.ended w.stream w.entries (λ told holds. w.agrees told holds) (λ told holds. w.changes told holds) (λ told. w.counts told));
+          (fills_written tells c.args.to mid new w.setting w.ended w.stream w.entries (λ told holds. w.agrees told holds) (λ told holds. w.changes told holds)
+          (λ told holds. w.stays_full told holds) (λ told. w.counts told));
       len = omega (arith, w.len, i.len);
       untouched = λ told none. absurd (omega (arith, none, some));
       put = λ told holds _. w.content told (i.fills.holds told holds)

@@ -74,6 +74,9 @@ write_entries-requires-clause-places g c =
 pub returns-clause-removed : goal.returns-clause-removed
 returns-clause-removed g c = all_ok c.write_entries.result c.in_ok-touched.ensures.removed
 
+pub returns-clause-balanced : goal.returns-clause-balanced
+returns-clause-balanced g c = all_ok c.write_entries.result c.in_ok-touched.ensures.balanced
+
 pub returns-clause-red_apart : goal.returns-clause-red_apart
 returns-clause-red_apart g c = all_ok c.write_entries.result c.in_ok-touched.ensures.red_apart
 

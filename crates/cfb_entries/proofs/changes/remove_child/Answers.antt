@@ -23,6 +23,12 @@ returns-clause-removed g c =
     (ap entries_of (written-back c.args.list.now.len new (drop (length new) c.args.list.now.items) (c.remove.auto.entries ∙ c.deref_mut.ensures.len)))
     c.requires.there c.in_ok-freed.ensures.removed c.push_reserved.ensures.items c.reserve.ensures.items
 
+pub returns-clause-balanced : goal.returns-clause-balanced
+returns-clause-balanced g c =
+    let new = c.remove.new.entries in
+    let back : take c.args.list.now.len (new ++ drop (length new) c.args.list.now.items) ≡ new = written-back c.args.list.now.len new (drop (length new) c.args.list.now.items) (c.remove.auto.entries ∙ c.deref_mut.ensures.len) in
+    rw back (rw c.deref_mut.ensures.value at c.in_ok-freed.ensures.balanced)
+
 pub returns-clause-red_apart : goal.returns-clause-red_apart
 returns-clause-red_apart g c =
     let new = c.remove.new.entries in
@@ -37,3 +43,6 @@ returns-clause-touches g c =
 
 pub returns-clause-touches_only : goal.returns-clause-touches_only
 returns-clause-touches_only g c = rw c.deref_mut.ensures.value at c.in_ok-freed.ensures.touches_only
+
+pub returns-clause-touches_few : goal.returns-clause-touches_few
+returns-clause-touches_few g c = rw c.deref_mut.ensures.value at c.in_ok-freed.ensures.touches_few

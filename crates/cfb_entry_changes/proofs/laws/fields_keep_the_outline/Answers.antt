@@ -1,12 +1,9 @@
-use Rattle.cfb_entry_changes.proofs.Marked.{marked-has-outline, marked-is-balanced, marked-is-colored, marked-is-found, marked-keeps-root}
+use Rattle.cfb_entry_changes.proofs.Marked.{marked-has-outline, marked-is-balanced, marked-is-found, marked-keeps-root}
 use Rattle.cfb_entry_changes.proofs.Moved.{moved-is-found}
 use Rattle.cfb_entry_changes.proofs.laws.fields_keep_the_outline.Goals as goal
 
 pub returns-clause-outline : goal.returns-clause-outline
 returns-clause-outline c = marked-has-outline
-
-pub returns-clause-colors : goal.returns-clause-colors
-returns-clause-colors c = marked-is-colored
 
 pub returns-clause-root : goal.returns-clause-root
 returns-clause-root c = marked-keeps-root

@@ -1,9 +1,6 @@
-use Rattle.cfb_insertion.proofs.Balance.{fields-keep-balance, insertion-keeps-balance}
+use Rattle.cfb_insertion.proofs.Balance.{insertion-keeps-balance}
 use Rattle.cfb_insertion.proofs.Entries.{put-is-balanced}
 use Rattle.cfb_insertion.proofs.laws.insertions_keep_balance.Goals as goal
-
-pub returns-clause-fields : goal.returns-clause-fields
-returns-clause-fields c = fields-keep-balance
 
 pub returns-clause-others : goal.returns-clause-others
 returns-clause-others c = insertion-keeps-balance

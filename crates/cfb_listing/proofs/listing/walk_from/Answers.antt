@@ -25,7 +25,7 @@ is_stream-requires g c =
 -- the object itself stands first
 first : (g : _) (c : In_ok-push g) → c.push.new.self.items ≡ entry_info (chars c.args.path.now) (entry_at (entries_of c.args.entries.now) c.args.number) ∷ []
 first g c =
-    c.in_ok-push.ensures.items ∙ ap (λ list. list ++ c.in_ok-first.first ∷ []) c.new-list.ensures.items
+    c.in_ok-push.ensures.items ∙ ap (λ list. list ++ c.in_ok-first.first ∷ []) c.in_ok-list.ensures.items
     ∙ ap (λ x. x ∷ []) (c.in_ok-first.ensures.ok ∙ ap (λ (path : List ℕ). entry_info (chars path) (entry_at (entries_of c.args.entries.now) c.args.number)) c.in_ok-own_path.ensures.ok)
 
 pub returns-then-is_stream-clause-ok : goal.returns-then-is_stream-clause-ok

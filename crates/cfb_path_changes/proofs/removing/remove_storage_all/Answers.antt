@@ -52,4 +52,4 @@ returns-clause-does g c =
     λ told.
     let held = c.requires.agrees told there.unfailed in
     all_removed_answers c.args.volume.now (chars c.args.path.now) (names_of c.in_ok-names.names.items) c.in_ok-names.number there held c.remove_all.new.self w.setting (w.others told held) (w.header told held)
-    _ c.remove_all.result c.storage_of-storage.result some nothing w.ended (λ made. w.made told held made) w.grows (w.tree told held) (w.root_tree told held) (w.refused told held) (w.err told held) (w.counts told)
+    _ c.remove_all.result c.storage_of-storage.result some nothing w.ended (w.balanced told) (λ made. w.made told held made) w.grows (w.tree told held) (w.root_tree told held) (w.refused told held) (w.err told held) (w.counts told)

@@ -1,63 +1,156 @@
-use Rattle.std.proofs.Common.{◌≤◌, ◌+◌, ◌%◌, refl, ap, sym, take, length, length-take, arith}
+use Rattle.std.proofs.Common.{◌≡◌, ◌≤◌, ◌<◌, ◌+◌, ◌*◌, ◌/◌, ◌∙◌, ℕ, List, ap, arith, length, length-take, max, refl, subst, sym, take}
+use Rattle.std.specs.Prelude.{slice_index, true}
+use Rattle.std.proofs.lemmas.List.Elements.{Contains-get_or}
 use Rattle.cfb_format.specs.Bytes.{sector_len}
+use Rattle.cfb_format.specs.Medium.{written}
 use Rattle.cfb_sectors.specs.Sectors.{SectorFile}
+use Rattle.cfb_tables.specs.Changes.{AreDisjoint}
 use Rattle.cfb_tables.specs.Tables.{TableState}
+use Rattle.cfb_tables.proofs.ChainLemmas.{members-busy}
+use Rattle.cfb_alloc.specs.Frame.{Spares, table_sectors}
 use Rattle.cfb_alloc.proofs.ChainView.{found_chain}
-use Rattle.cfb_sectors.proofs.SectorLemmas.{SectorStays_refl}
-use Rattle.cfb_chains.specs.LentChain.{allocator_of, ids_of, position_of, version_of}
-use Rattle.cfb_chains.proofs.ChainBytes.{step_inside}
-use Rattle.cfb_chains.proofs.PlacedChains.{only_wanted, wrote_here}
 use Rattle.cfb_alloc.proofs.Spared.{spares_refl}
+use Rattle.cfb_sectors.proofs.SectorLemmas.{SectorStays_refl}
+use Rattle.cfb_runs.specs.Along.{ChangesOnlyRun}
+use Rattle.cfb_runs.specs.Runs.{IsLongestRun, IsRun, place_along}
+use Rattle.cfb_chains.specs.LentChain.{allocator_of, ids_of, position_of, start_sector_of, version_of}
+use Rattle.cfb_chains.proofs.ChainRuns.{content_put, listed_inside, run_fits, run_sectors, run_wanted, wrote_run}
+use Rattle.cfb_chains.proofs.LentContent.{no_table_sector}
 use Rattle.cfb_chains.proofs.chain.Chain+F+A.write_within.Goals as goal
 
 pub returns-then-room-eq0-clause-sectors : goal.returns-then-room-eq0-clause-sectors
 returns-then-room-eq0-clause-sectors g c told i other = SectorStays_refl _ i _
 
-pub returns-clause-holds : goal.returns-clause-holds
-returns-clause-holds g c told validation h = c.in_ok-write_here.ensures.holds told validation h
+pub returns-then-room-eq0-clause-spares : goal.returns-then-room-eq0-clause-spares
+returns-then-room-eq0-clause-spares g c told = spares_refl (ids_of c.args.self.now) (allocator_of c.args.self.now).now
 
-pub returns-in_err-write_here-clause-others : goal.returns-in_err-write_here-clause-others
-returns-in_err-write_here-clause-others g c told =
+pub write_run-requires-clause-listed : goal.write_run-requires-clause-listed
+write_run-requires-clause-listed g c =
     let now = c.args.self.now in
-    let room = c.min-room.ensures in
-    let some = c.if-room-eq0.false in
-    let inside = c.room_here.ensures.inside (omega (arith, room, some)) in
-    let within = c.room_here.ensures.within (omega (arith, room, some)) in
-    let count = length-take c.min-room.result c.args.from.now in
-    let short : position_of now % sector_len (version_of now) + length (take c.min-room.result c.args.from.now) ≤ sector_len (version_of now) = omega (arith, room, within, count) in
-    only_wanted now c.write_here.new.self (length c.args.from.now) (length (take c.min-room.result c.args.from.now)) (c.write_here.ensures.others told)
-    (omega (arith, count)) (step_inside (version_of now) (version_of now) (position_of now) (length (ids_of now)) _ refl inside short) short
+    let inside = c.left.ensures.within (omega (arith, c.min-room.ensures, c.if-room-eq0.false)) in
+    subst (λ (xs : List ℕ). position_of now / sector_len (version_of now) < length xs) (sym c.numbers.ensures)
+    (listed_inside (version_of now) (position_of now) (length (ids_of now)) inside)
 
-pub returns-clause-others : goal.returns-clause-others
-returns-clause-others g c told =
+pub write_run-requires-clause-known : goal.write_run-requires-clause-known
+write_run-requires-clause-known g c =
     let now = c.args.self.now in
-    let room = c.min-room.ensures in
-    let some = c.if-room-eq0.false in
-    let inside = c.room_here.ensures.inside (omega (arith, room, some)) in
-    let within = c.room_here.ensures.within (omega (arith, room, some)) in
-    let count = length-take c.min-room.result c.args.from.now in
-    let short : position_of now % sector_len (version_of now) + length (take c.min-room.result c.args.from.now) ≤ sector_len (version_of now) = omega (arith, room, within, count) in
-    only_wanted now c.write_here.new.self (length c.args.from.now) (length (take c.min-room.result c.args.from.now)) (c.write_here.ensures.others told)
-    (omega (arith, count)) (step_inside (version_of now) (version_of now) (position_of now) (length (ids_of now)) _ refl inside short) short
+    let fat = (allocator_of now).now.tables.fat in
+    let ids = ids_of now in
+    let v = version_of now in
+    let p = position_of now in
+    subst (λ (xs : List ℕ). (k : ℕ) → k < length c.args.from.now → (p + k) / sector_len v < length xs → slice_index xs ((p + k) / sector_len v) < length fat) (sym c.numbers.ensures)
+    (λ k low listed. (members-busy fat (start_sector_of now) ids (found_chain fat (start_sector_of now) ids now.chained) (slice_index ids ((p + k) / sector_len v))
+    (Contains-get_or ids ((p + k) / sector_len v) 0 listed)).1)
 
-pub returns-clause-sectors : goal.returns-clause-sectors
-returns-clause-sectors g c told i other =
-    let room = c.min-room.ensures in
-    let some = c.if-room-eq0.false in
-    let inside = c.room_here.ensures.inside (omega (arith, room, some)) in
-    c.write_here.ensures.sectors told i
-    (λ is. other (record { byte = position_of c.args.self.now; behind = omega arith; wanted = omega (arith, room, some); there = inside; here = sym is }))
+pub invariant_of-self-2-clause-within : goal.invariant_of-self-2-clause-within
+invariant_of-self-2-clause-within g c =
+    let now = c.args.self.now in
+    let v = version_of now in
+    let ids = ids_of now in
+    let e = c.in_ok-written.ensures in
+    let n = c.in_ok-written.written in
+    let longest = subst (λ (xs : List ℕ). IsLongestRun v xs (position_of now) (length c.args.from.now) n) c.numbers.ensures e.count in
+    subst (λ (t : TableState). position_of now + n ≤ length ids * sector_len t.version) (sym e.kept.tables) (run_fits v ids (position_of now) n e.some.0 longest.run)
+
+pub returns-clause-count : goal.returns-clause-count
+returns-clause-count g c =
+    let now = c.args.self.now in
+    let v = version_of now in
+    let ids = ids_of now in
+    let e = c.in_ok-written.ensures in
+    let n = c.in_ok-written.written in
+    let longest = subst (λ (xs : List ℕ). IsLongestRun v xs (position_of now) (length c.args.from.now) n) c.numbers.ensures e.count in
+    let fits = run_fits v ids (position_of now) n e.some.0 longest.run in
+    let few = e.some.1 in
+    omega (arith, fits, few)
+
+pub returns-clause-ok : goal.returns-clause-ok
+returns-clause-ok g c told some =
+    let now = c.args.self.now in
+    let file = (allocator_of now).now.file in
+    let n = c.in_ok-written.written in
+    subst (λ (xs : List ℕ). c.write_run.new.allocator.file ≡ record file {
+      bytes = written file.bytes (place_along (version_of now) xs (position_of now)) (take n c.args.from.now);
+      len = max file.len (place_along (version_of now) xs (position_of now) + n);
+      begun = true;
+    }) c.numbers.ensures (c.in_ok-written.ensures.ok told)
 
 pub returns-clause-places : goal.returns-clause-places
 returns-clause-places g c told =
     let now = c.args.self.now in
-    let e = c.in_ok-write_here.ensures in
-    let room = c.min-room.ensures in
-    let some = c.if-room-eq0.false in
-    let inside = c.room_here.ensures.inside (omega (arith, room, some)) in
-    let within = c.room_here.ensures.within (omega (arith, room, some)) in
-    wrote_here now c.write_here.new.self c.min-room.result c.args.from.now (ap (λ (t : TableState). t.version) e.tables) e.chain.0
-    (found_chain _ _ _ now.chained).distinct (ap (λ (f : SectorFile). f.bytes) (e.ok told)) inside (omega (arith, room, within)) (omega (arith, room))
+    let v = version_of now in
+    let ids = ids_of now in
+    let file = (allocator_of now).now.file in
+    let e = c.in_ok-written.ensures in
+    let n = c.in_ok-written.written in
+    let longest = subst (λ (xs : List ℕ). IsLongestRun v xs (position_of now) (length c.args.from.now) n) c.numbers.ensures e.count in
+    let put = ap (λ (f : SectorFile). f.bytes) (e.ok told)
+    ∙ ap (λ (xs : List ℕ). written file.bytes (place_along v xs (position_of now)) (take n c.args.from.now)) c.numbers.ensures in
+    wrote_run now _ n c.args.from.now (ap (λ (t : TableState). t.version) e.kept.tables) refl (found_chain _ _ _ now.chained).distinct put longest.run e.some.1
 
-pub returns-then-room-eq0-clause-spares : goal.returns-then-room-eq0-clause-spares
-returns-then-room-eq0-clause-spares g c told = spares_refl (ids_of c.args.self.now) (allocator_of c.args.self.now).now
+pub returns-clause-holds : goal.returns-clause-holds
+returns-clause-holds g c told validation h =
+    let now = c.args.self.now in
+    let a = (allocator_of now).now in
+    c.in_ok-written.ensures.holds told validation h
+    (subst (λ (xs : List ℕ). AreDisjoint xs (table_sectors a.tables)) (sym c.numbers.ensures)
+    (λ i m t. no_table_sector validation a (start_sector_of now) (ids_of now) now.chained h i m t))
+
+pub returns-clause-content : goal.returns-clause-content
+returns-clause-content g c told whole some =
+    let now = c.args.self.now in
+    let v = version_of now in
+    let ids = ids_of now in
+    let file = (allocator_of now).now.file in
+    let e = c.in_ok-written.ensures in
+    let n = c.in_ok-written.written in
+    let from = c.args.from.now in
+    let size = length-take n from in
+    let full : length (take n from) ≡ n = omega (arith, size, e.some.1) in
+    let longest = subst (λ (xs : List ℕ). IsLongestRun v xs (position_of now) (length from) n) c.numbers.ensures e.count in
+    let put = ap (λ (f : SectorFile). f.bytes) (e.ok told) ∙ ap (λ (xs : List ℕ). written file.bytes (place_along v xs (position_of now)) (take n from)) c.numbers.ensures in
+    content_put v (c.write_run.new.allocator).tables.version file.bytes (c.write_run.new.allocator).file.bytes ids ids (position_of now) (take n from)
+    (ap (λ (t : TableState). t.version) e.kept.tables) refl (found_chain _ _ _ now.chained).distinct whole (omega (arith, full, some))
+    (subst (λ m. IsRun v ids (position_of now) m) (sym full) longest.run) put
+
+pub returns-in_err-written-clause-sectors : goal.returns-in_err-written-clause-sectors
+returns-in_err-written-clause-sectors g c told =
+    let now = c.args.self.now in
+    let bytes = (allocator_of now).now.file.bytes in
+    let new = (c.write_run.new.allocator).file.bytes in
+    run_sectors now new (length c.args.from.now)
+    (subst (λ (xs : List ℕ). ChangesOnlyRun (version_of now) xs (position_of now) (length c.args.from.now) bytes new) c.numbers.ensures (c.write_run.ensures.others told))
+
+pub returns-clause-sectors : goal.returns-clause-sectors
+returns-clause-sectors g c told =
+    let now = c.args.self.now in
+    let bytes = (allocator_of now).now.file.bytes in
+    let new = (c.write_run.new.allocator).file.bytes in
+    run_sectors now new (length c.args.from.now)
+    (subst (λ (xs : List ℕ). ChangesOnlyRun (version_of now) xs (position_of now) (length c.args.from.now) bytes new) c.numbers.ensures (c.write_run.ensures.others told))
+
+pub returns-in_err-written-clause-others : goal.returns-in_err-written-clause-others
+returns-in_err-written-clause-others g c told =
+    let now = c.args.self.now in
+    let bytes = (allocator_of now).now.file.bytes in
+    let new = (c.write_run.new.allocator).file.bytes in
+    run_wanted now _ (length c.args.from.now)
+    (subst (λ (xs : List ℕ). ChangesOnlyRun (version_of now) xs (position_of now) (length c.args.from.now) bytes new) c.numbers.ensures (c.write_run.ensures.others told))
+
+pub returns-clause-others : goal.returns-clause-others
+returns-clause-others g c told =
+    let now = c.args.self.now in
+    let bytes = (allocator_of now).now.file.bytes in
+    let new = (c.write_run.new.allocator).file.bytes in
+    run_wanted now _ (length c.args.from.now)
+    (subst (λ (xs : List ℕ). ChangesOnlyRun (version_of now) xs (position_of now) (length c.args.from.now) bytes new) c.numbers.ensures (c.write_run.ensures.others told))
+
+pub returns-in_err-written-clause-spares : goal.returns-in_err-written-clause-spares
+returns-in_err-written-clause-spares g c told =
+    let now = c.args.self.now in
+    subst (λ (xs : List ℕ). Spares xs (allocator_of now).now c.write_run.new.allocator) c.numbers.ensures (c.write_run.ensures.spares told)
+
+pub returns-clause-spares : goal.returns-clause-spares
+returns-clause-spares g c told =
+    let now = c.args.self.now in
+    subst (λ (xs : List ℕ). Spares xs (allocator_of now).now c.write_run.new.allocator) c.numbers.ensures (c.write_run.ensures.spares told)

@@ -1,64 +1,185 @@
-use Rattle.std.proofs.Common.{◌≡◌, ◌+◌, ◌/◌, ◌%◌, ◌-◌, ◌∙◌, ℕ, refl, ap, length, replicate, arith}
-use Rattle.std.specs.Prelude.{slice_index}
+use Rattle.std.proofs.Common.{◌≡◌, ◌<◌, ◌+◌, ◌*◌, ◌/◌, ◌%◌, ◌-◌, ◌∙◌, ℕ, List, refl, ap, length, max, replicate, subst, sym, arith}
+use Rattle.std.specs.Prelude.{slice_index, true}
 use Rattle.std.proofs.lemmas.List.{length-replicate}
-use Rattle.cfb_format.specs.Bytes.{sector_len, sector_start}
-use Rattle.cfb_format.specs.Medium.{written}
+use Rattle.std.proofs.lemmas.List.Elements.{Contains-get_or}
+use Rattle.cfb_format.specs.declared.version.Version.{Version}
+use Rattle.cfb_format.specs.Bytes.{sector_len}
+use Rattle.cfb_format.specs.Medium.{ChangesOnlyBytes, written}
 use Rattle.cfb_sectors.specs.Sectors.{SectorFile}
+use Rattle.cfb_sectors.proofs.SectorLemmas.{SectorStays_refl, other_sector}
+use Rattle.cfb_tables.specs.Changes.{AreDisjoint}
 use Rattle.cfb_tables.specs.Tables.{TableState}
-use Rattle.cfb_chains.specs.LentChain.{allocator_of, start_sector_of, ids_of, version_of}
-use Rattle.cfb_alloc.proofs.Answering.{on_ok}
-use Rattle.cfb_chains.proofs.ChainHeld.{held_zeroed}
+use Rattle.cfb_tables.proofs.ChainLemmas.{members-busy}
+use Rattle.cfb_alloc.specs.Agreement.{HasSectors}
+use Rattle.cfb_alloc.specs.Frame.{Spares, table_sectors}
 use Rattle.cfb_alloc.proofs.ChainView.{found_chain}
-use Rattle.cfb_chains.proofs.ChainWrites.{not_end, rest_fits}
-use Rattle.cfb_chains.proofs.LentContent.{content_written}
-use Rattle.cfb_sectors.proofs.SectorLemmas.{SectorStays_refl}
 use Rattle.cfb_alloc.proofs.Spared.{spares_refl}
-use Rattle.cfb_chains.proofs.Sparing.{member_spared}
+use Rattle.cfb_runs.specs.Along.{ChangesOnlyRun}
+use Rattle.cfb_runs.specs.Runs.{IsLongestRun, IsRun, place_along}
+use Rattle.cfb_runs.proofs.Runs.{rest_short}
+use Rattle.cfb_chains.specs.LentChain.{allocator_of, start_sector_of, ids_of, version_of}
+use Rattle.cfb_chains.proofs.ChainRuns.{all_of_run, content_put, listed_inside, sector_run, tail_few}
+use Rattle.cfb_chains.proofs.ChainContent.{sectors_stay}
+use Rattle.cfb_chains.proofs.ChainWrites.{not_end, rest_fits}
+use Rattle.cfb_chains.proofs.LentContent.{no_table_sector}
 use Rattle.cfb_chains.proofs.chain.Chain+F+A.zero_tail.Goals as goal
 
 pub returns-then-rest-eq0-clause-sectors : goal.returns-then-rest-eq0-clause-sectors
 returns-then-rest-eq0-clause-sectors g c told i other = SectorStays_refl _ i _
 
+pub returns-then-rest-eq0-clause-spares : goal.returns-then-rest-eq0-clause-spares
+returns-then-rest-eq0-clause-spares g c told = spares_refl (ids_of c.args.self.now) (allocator_of c.args.self.now).now
+
+-- there are some, and all of them are written at once
+some_left : (v : Version) (k l : ℕ) → l ≡ sector_len v → 0 < l - k % l
+some_left v k l is = let short = rest_short v k l is in omega (arith, short, is)
+
+whole_tail : (v : Version) (ids xs : List ℕ) → xs ≡ ids → (p l : ℕ) → l ≡ sector_len v → (n : ℕ) → p < length ids * sector_len v → IsLongestRun v xs p (l - p % l) n
+    → n ≡ sector_len v - p % sector_len v
+whole_tail v ids xs same p l is n inside longest =
+    let tail = sector_len v - p % sector_len v in
+    let count : l - p % l ≡ tail = λ j. is j - p % is j in
+    all_of_run v ids p tail n (sector_run v ids p tail inside (rest_fits v p (sector_len v) refl))
+    (subst (λ m. IsLongestRun v ids p m n) count (subst (λ (zs : List ℕ). IsLongestRun v zs p (l - p % l) n) same longest))
+
+-- so only they change
+tail_only : (v : Version) (ids xs : List ℕ) → xs ≡ ids → (p l : ℕ) → l ≡ sector_len v → p < length ids * sector_len v → (a b : List ℕ) → ChangesOnlyRun v xs p (l - p % l) a b
+    → ChangesOnlyBytes (place_along v ids p) (sector_len v - p % sector_len v) a b
+tail_only v ids xs same p l is inside a b touched =
+    subst (λ m. ChangesOnlyBytes (place_along v ids p) m a b) (whole_tail v ids xs same p l is touched.run inside touched.longest)
+    (subst (λ (zs : List ℕ). ChangesOnlyBytes (place_along v zs p) touched.run a b) same touched.change)
+
+pub zero_run-requires-clause-some : goal.zero_run-requires-clause-some
+zero_run-requires-clause-some g c =
+    let l = c.sector_len-sector_len.result in
+    let fits = some_left (version_of c.args.self.now) c.args.offset l c.sector_len-sector_len.ensures in
+    omega (arith, fits)
+
+pub zero_run-requires-clause-few : goal.zero_run-requires-clause-few
+zero_run-requires-clause-few g c = tail_few (version_of c.args.self.now) c.args.offset c.sector_len-sector_len.result c.sector_len-sector_len.ensures
+
+pub zero_run-requires-clause-listed : goal.zero_run-requires-clause-listed
+zero_run-requires-clause-listed g c =
+    let now = c.args.self.now in
+    let v = version_of now in
+    let inside = not_end v c.args.offset (length (ids_of now)) c.requires (λ zero. c.if-rest-eq0.false (ap (λ (k : ℕ). c.args.offset % k) c.sector_len-sector_len.ensures ∙ zero)) in
+    subst (λ (xs : List ℕ). c.args.offset / sector_len v < length xs) (sym c.numbers.ensures) (listed_inside v c.args.offset (length (ids_of now)) inside)
+
+pub zero_run-requires-clause-known : goal.zero_run-requires-clause-known
+zero_run-requires-clause-known g c =
+    let now = c.args.self.now in
+    let fat = (allocator_of now).now.tables.fat in
+    let ids = ids_of now in
+    let v = version_of now in
+    let p = c.args.offset in
+    let l = c.sector_len-sector_len.result in
+    subst (λ (xs : List ℕ). (k : ℕ) → k < l - p % l → (p + k) / sector_len v < length xs → slice_index xs ((p + k) / sector_len v) < length fat) (sym c.numbers.ensures)
+    (λ k low listed. (members-busy fat (start_sector_of now) ids (found_chain fat (start_sector_of now) ids now.chained) (slice_index ids ((p + k) / sector_len v))
+    (Contains-get_or ids ((p + k) / sector_len v) 0 listed)).1)
+
+pub returns-clause-ok : goal.returns-clause-ok
+returns-clause-ok g c told some =
+    let now = c.args.self.now in
+    let v = version_of now in
+    let ids = ids_of now in
+    let p = c.args.offset in
+    let file = (allocator_of now).now.file in
+    let inside = not_end v p (length ids) c.requires (λ none. omega (arith, some, none)) in
+    let e = c.in_ok-_zeroed.ensures in
+    let n = c.in_ok-_zeroed._zeroed in
+    let is = whole_tail v ids c.numbers.result.now c.numbers.ensures p c.sector_len-sector_len.result c.sector_len-sector_len.ensures n inside e.count in
+    subst (λ (m : ℕ). c.zero_run.new.allocator.file ≡ record file { bytes = written file.bytes (place_along v ids p) (replicate m 0); len = max file.len (place_along v ids p + m); begun = true }) is
+    (subst (λ (xs : List ℕ). c.zero_run.new.allocator.file
+    ≡ record file { bytes = written file.bytes (place_along v xs p) (replicate n 0); len = max file.len (place_along v xs p + n); begun = true }) c.numbers.ensures (e.ok told))
+
 pub returns-clause-holds : goal.returns-clause-holds
 returns-clause-holds g c told validation h =
     let now = c.args.self.now in
-    let v = version_of now in
-    let l = c.sector_len.result in
-    let rest = c.args.offset % l in
-    let member = c.sector_at-sector.ensures.member
-    (not_end v c.args.offset (length (ids_of now)) c.requires (λ zero. c.if-rest-eq0.false (ap (λ (k : ℕ). c.args.offset % k) c.sector_len.ensures ∙ zero))) in
-    on_ok _ _ c.zero_behind.result
-    (λ f. held_zeroed validation (allocator_of now).now (start_sector_of now) c.sector_at-sector.result rest (sector_len v - rest) (ids_of now) now.chained member
-    (rest_fits v c.args.offset l c.sector_len.ensures) h c.zero_behind.new.allocator c.zero_behind.ensures.tables f)
-    (c.zero_behind.ensures.ok told)
+    let a = (allocator_of now).now in
+    c.in_ok-_zeroed.ensures.holds told validation h
+    (subst (λ (xs : List ℕ). AreDisjoint xs (table_sectors a.tables)) (sym c.numbers.ensures)
+    (λ i m t. no_table_sector validation a (start_sector_of now) (ids_of now) now.chained h i m t))
 
 pub returns-clause-content : goal.returns-clause-content
 returns-clause-content g c told whole some =
     let now = c.args.self.now in
     let v = version_of now in
-    let l = sector_len v in
-    let at = c.sector_at-sector in
-    let zeros = replicate (l - c.args.offset % l) 0 in
-    let count : length zeros ≡ l - c.args.offset % l = length-replicate {A = ℕ} (l - c.args.offset % l) 0 in
-    let inside = not_end v c.args.offset (length (ids_of now)) c.requires (λ none. omega (arith, some, none)) in
-    let fits = rest_fits v c.args.offset l refl in
-    let place : sector_start v at.result + c.args.offset % c.sector_len.result ≡ sector_start v (slice_index (ids_of now) (c.args.offset / l)) + c.args.offset % l =
-    λ j. sector_start v (at.ensures.sector j) + c.args.offset % c.sector_len.ensures j in
-    let same : c.args.offset % c.sector_len.result ≡ c.args.offset % l = ap (λ (k : ℕ). c.args.offset % k) c.sector_len.ensures in
-    on_ok _ _ c.zero_behind.result
-    (λ f. (content_written v (c.zero_behind.new.allocator).tables.version (allocator_of now).now.file.bytes (c.zero_behind.new.allocator).file.bytes (ids_of now) (ids_of now)
-    c.args.offset (sector_start v at.result + c.args.offset % c.sector_len.result) zeros (ap (λ (t : TableState). t.version) c.zero_behind.ensures.tables) refl
-    (found_chain (allocator_of now).now.tables.fat (start_sector_of now) (ids_of now) now.chained).distinct whole inside (omega (arith, fits, count)) place
-    (ap (λ (x : SectorFile). x.bytes) f
-    ∙ ap (λ n. written (allocator_of now).now.file.bytes (sector_start v at.result + c.args.offset % c.sector_len.result) (replicate (l - n) 0)) same)).1)
-    (c.zero_behind.ensures.ok told)
+    let ids = ids_of now in
+    let p = c.args.offset in
+    let tail = sector_len v - p % sector_len v in
+    let file = (allocator_of now).now.file in
+    let inside = not_end v p (length ids) c.requires (λ none. omega (arith, some, none)) in
+    let e = c.in_ok-_zeroed.ensures in
+    let n = c.in_ok-_zeroed._zeroed in
+    let is = whole_tail v ids c.numbers.result.now c.numbers.ensures p c.sector_len-sector_len.result c.sector_len-sector_len.ensures n inside e.count in
+    let size = length-replicate {A = ℕ} tail 0 in
+    let left = some_left v p (sector_len v) refl in
+    let put = ap (λ (f : SectorFile). f.bytes) (e.ok told) ∙ (λ j. written file.bytes (place_along v (c.numbers.ensures j) p) (replicate (is j) 0)) in
+    (content_put v (c.zero_run.new.allocator).tables.version file.bytes (c.zero_run.new.allocator).file.bytes ids ids p (replicate tail 0)
+    (ap (λ (t : TableState). t.version) e.kept.tables) refl (found_chain _ _ _ now.chained).distinct whole (omega (arith, size, left))
+    (subst (λ m. IsRun v ids p m) (sym size) (sector_run v ids p tail inside (rest_fits v p (sector_len v) refl))) put).1
 
-pub returns-then-rest-eq0-clause-spares : goal.returns-then-rest-eq0-clause-spares
-returns-then-rest-eq0-clause-spares g c told = spares_refl (ids_of c.args.self.now) (allocator_of c.args.self.now).now
+pub returns-clause-whole : goal.returns-clause-whole
+returns-clause-whole g c told whole =
+    let now = c.args.self.now in
+    let v = version_of now in
+    let ids = ids_of now in
+    let p = c.args.offset in
+    let a = (allocator_of now).now in
+    let b = c.zero_run.new.allocator in
+    let inside = not_end v p (length ids) c.requires (λ zero. c.if-rest-eq0.false (ap (λ (k : ℕ). p % k) c.sector_len-sector_len.ensures ∙ zero)) in
+    let only = tail_only v ids c.numbers.result.now c.numbers.ensures p c.sector_len-sector_len.result c.sector_len-sector_len.ensures inside a.file.bytes b.file.bytes
+    (c.zero_run.ensures.others told) in
+    subst (λ (t : TableState). HasSectors t.version b.file.bytes ids) (sym c.zero_run.ensures.kept.tables) (sectors_stay v a.file.bytes b.file.bytes ids whole only.no_shorter)
+
+pub returns-in_err-_zeroed-clause-others : goal.returns-in_err-_zeroed-clause-others
+returns-in_err-_zeroed-clause-others g c told =
+    let now = c.args.self.now in
+    let v = version_of now in
+    let ids = ids_of now in
+    let p = c.args.offset in
+    let inside = not_end v p (length ids) c.requires (λ zero. c.if-rest-eq0.false (ap (λ (k : ℕ). p % k) c.sector_len-sector_len.ensures ∙ zero)) in
+    tail_only v ids c.numbers.result.now c.numbers.ensures p c.sector_len-sector_len.result c.sector_len-sector_len.ensures inside (allocator_of now).now.file.bytes
+    (c.zero_run.new.allocator).file.bytes (c.zero_run.ensures.others told)
+
+pub returns-clause-others : goal.returns-clause-others
+returns-clause-others g c told =
+    let now = c.args.self.now in
+    let v = version_of now in
+    let ids = ids_of now in
+    let p = c.args.offset in
+    let inside = not_end v p (length ids) c.requires (λ zero. c.if-rest-eq0.false (ap (λ (k : ℕ). p % k) c.sector_len-sector_len.ensures ∙ zero)) in
+    tail_only v ids c.numbers.result.now c.numbers.ensures p c.sector_len-sector_len.result c.sector_len-sector_len.ensures inside (allocator_of now).now.file.bytes
+    (c.zero_run.new.allocator).file.bytes (c.zero_run.ensures.others told)
+
+pub returns-in_err-_zeroed-clause-sectors : goal.returns-in_err-_zeroed-clause-sectors
+returns-in_err-_zeroed-clause-sectors g c told i other =
+    let now = c.args.self.now in
+    let v = version_of now in
+    let ids = ids_of now in
+    let p = c.args.offset in
+    let inside = not_end v p (length ids) c.requires (λ zero. c.if-rest-eq0.false (ap (λ (k : ℕ). p % k) c.sector_len-sector_len.ensures ∙ zero)) in
+    let only = tail_only v ids c.numbers.result.now c.numbers.ensures p c.sector_len-sector_len.result c.sector_len-sector_len.ensures inside (allocator_of now).now.file.bytes
+    (c.zero_run.new.allocator).file.bytes (c.zero_run.ensures.others told) in
+    other_sector v (slice_index ids (p / sector_len v)) i (p % sector_len v) _ _ _ _ refl only (rest_fits v p (sector_len v) refl) other
+
+pub returns-clause-sectors : goal.returns-clause-sectors
+returns-clause-sectors g c told i other =
+    let now = c.args.self.now in
+    let v = version_of now in
+    let ids = ids_of now in
+    let p = c.args.offset in
+    let inside = not_end v p (length ids) c.requires (λ zero. c.if-rest-eq0.false (ap (λ (k : ℕ). p % k) c.sector_len-sector_len.ensures ∙ zero)) in
+    let only = tail_only v ids c.numbers.result.now c.numbers.ensures p c.sector_len-sector_len.result c.sector_len-sector_len.ensures inside (allocator_of now).now.file.bytes
+    (c.zero_run.new.allocator).file.bytes (c.zero_run.ensures.others told) in
+    other_sector v (slice_index ids (p / sector_len v)) i (p % sector_len v) _ _ _ _ refl only (rest_fits v p (sector_len v) refl) other
+
+pub returns-in_err-_zeroed-clause-spares : goal.returns-in_err-_zeroed-clause-spares
+returns-in_err-_zeroed-clause-spares g c told =
+    let now = c.args.self.now in
+    subst (λ (xs : List ℕ). Spares xs (allocator_of now).now c.zero_run.new.allocator) c.numbers.ensures (c.zero_run.ensures.spares told)
 
 pub returns-clause-spares : goal.returns-clause-spares
 returns-clause-spares g c told =
     let now = c.args.self.now in
-    let member = c.sector_at-sector.ensures.member
-    (not_end (version_of now) c.args.offset (length (ids_of now)) c.requires (λ zero. c.if-rest-eq0.false (ap (λ (k : ℕ). c.args.offset % k) c.sector_len.ensures ∙ zero))) in
-    member_spared (ids_of now) c.sector_at-sector.result (allocator_of now).now c.zero_behind.new.allocator member (c.zero_behind.ensures.spares told)
+    subst (λ (xs : List ℕ). Spares xs (allocator_of now).now c.zero_run.new.allocator) c.numbers.ensures (c.zero_run.ensures.spares told)

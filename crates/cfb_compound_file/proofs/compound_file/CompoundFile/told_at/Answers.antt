@@ -15,9 +15,6 @@ returns-in_err-clone-clause-agrees g c = rw (← c.self.view_is) (λ told. c.sel
 pub returns-in_err-path-clause-agrees : goal.returns-in_err-path-clause-agrees
 returns-in_err-path-clause-agrees g c = rw (← c.self.view_is) (λ told. c.self.invariant told)
 
-pub returns-in_err-clone-2-clause-agrees : goal.returns-in_err-clone-2-clause-agrees
-returns-in_err-clone-2-clause-agrees g c = rw (← c.self.view_is) (λ told. c.self.invariant told)
-
 pub returns-clause-ok : goal.returns-clause-ok
 returns-clause-ok g c = rw (← c.self.view_is)
     (told-by _ _ _ _ c.args.number c.entry_of.result c.entries-entries.ensures.entries c.in_ok-path.ensures.ok c.entry_of.ensures.ok)

@@ -2,7 +2,7 @@ use Rattle.std.proofs.Common.{◌≡◌, ℕ, List, sym, subst}
 use Rattle.std.specs.Prelude.{OnOk, chars}
 use Rattle.cfb_format.specs.Bytes.{no_stream}
 use Rattle.cfb_format.specs.Siblings.{entry_at}
-use Rattle.cfb_siblings.specs.Children.{HasChildren, IsChildNamed}
+use Rattle.cfb_siblings.specs.Children.{HasChildren, IsChildNamed, KeepsBalance}
 use Rattle.cfb_entries.specs.EntryList.{RemovesEntry}
 use Rattle.cfb_directory.specs.State.{DirectoryState, HoldsDirectory, directory_of}
 use Rattle.cfb_directory.specs.Steps.{KeepsOtherSlots}
@@ -32,6 +32,9 @@ returns-clause-slots g c told validation h =
 
 pub returns-clause-removed : goal.returns-clause-removed
 returns-clause-removed g c = subst (λ (d : DirectoryState). OnOk c.remove_entry.result (RemovesEntry d.cases d.entries c.remove_entry.new.entries.entries c.args.parent (chars c.args.name.now))) c.self.view_is c.remove_entry.ensures.removed
+
+pub returns-clause-balanced : goal.returns-clause-balanced
+returns-clause-balanced g c = subst (λ (d : DirectoryState). OnOk c.remove_entry.result (KeepsBalance d.entries c.remove_entry.new.entries.entries c.args.parent)) c.self.view_is c.remove_entry.ensures.balanced
 
 pub remove_entry-requires-clause-above : goal.remove_entry-requires-clause-above
 remove_entry-requires-clause-above g c = least-kept c.self.inside.sectors.items c.deref.result.now c.self.inside.above c.deref.ensures.value c.self.invariant

@@ -26,6 +26,11 @@ returns-clause-removed g c =
     let entries : entries_of c.self.inside.list.items ≡ c.args.self.now.entries = ap (λ (e : EntryList). e.entries) c.self.view_is in
     on-ok c.remove_child.result (λ (r, listed). r) (rw (cases, entries) at c.remove_child.ensures.removed)
 
+pub returns-clause-balanced : goal.returns-clause-balanced
+returns-clause-balanced g c =
+    let entries : entries_of c.self.inside.list.items ≡ c.args.self.now.entries = ap (λ (e : EntryList). e.entries) c.self.view_is in
+    rw entries at c.remove_child.ensures.balanced
+
 pub returns-clause-red_apart : goal.returns-clause-red_apart
 returns-clause-red_apart g c =
     let entries : entries_of c.self.inside.list.items ≡ c.args.self.now.entries = ap (λ (e : EntryList). e.entries) c.self.view_is in
@@ -37,3 +42,8 @@ returns-clause-touches_only g c =
     let cases : c.self.inside.letters ≡ c.args.self.now.cases = ap (λ (e : EntryList). e.cases) c.self.view_is in
     let entries : entries_of c.self.inside.list.items ≡ c.args.self.now.entries = ap (λ (e : EntryList). e.entries) c.self.view_is in
     rw (cases, entries) at c.remove_child.ensures.touches_only
+
+pub returns-clause-touches_few : goal.returns-clause-touches_few
+returns-clause-touches_few g c =
+    let entries : entries_of c.self.inside.list.items ≡ c.args.self.now.entries = ap (λ (e : EntryList). e.entries) c.self.view_is in
+    rw entries at c.remove_child.ensures.touches_few

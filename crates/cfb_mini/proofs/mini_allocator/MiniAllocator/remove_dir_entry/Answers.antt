@@ -3,7 +3,7 @@ use Rattle.std.specs.Prelude.{OnOk, chars}
 use Rattle.cfb_format.specs.Bytes.{no_stream}
 use Rattle.cfb_format.specs.Siblings.{entry_at}
 use Rattle.cfb_outline.specs.Outlines.{IsReachedStorage}
-use Rattle.cfb_siblings.specs.Children.{HasChildren, IsChildNamed}
+use Rattle.cfb_siblings.specs.Children.{HasChildren, IsChildNamed, KeepsBalance}
 use Rattle.cfb_entries.specs.EntryList.{RemovesEntry}
 use Rattle.cfb_directory.specs.State.{HoldsDirectory}
 use Rattle.cfb_directory.specs.Steps.{KeepsOtherSlots}
@@ -17,6 +17,10 @@ remove_dir_entry-requires-clause-there g c = subst (λ (s : MiniState). (list : 
 
 pub returns-clause-removed : goal.returns-clause-removed
 returns-clause-removed g c = subst (λ (s : MiniState). OnOk c.remove_dir_entry.result (RemovesEntry s.directory.cases s.directory.entries c.remove_dir_entry.new.self.entries c.args.parent (chars c.args.name.now))) c.self.view_is c.remove_dir_entry.ensures.removed
+
+pub returns-clause-balanced : goal.returns-clause-balanced
+returns-clause-balanced g c = subst (λ (s : MiniState). OnOk c.remove_dir_entry.result (KeepsBalance s.directory.entries c.remove_dir_entry.new.self.entries c.args.parent)) c.self.view_is
+    c.remove_dir_entry.ensures.balanced
 
 pub returns-clause-holds : goal.returns-clause-holds
 returns-clause-holds g c told validation h =

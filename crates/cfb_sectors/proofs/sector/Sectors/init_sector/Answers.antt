@@ -1,4 +1,4 @@
-use Rattle.std.proofs.Common.{arith, ap, ◌∙◌, length-take}
+use Rattle.std.proofs.Common.{arith, ap, ◌∙◌}
 use Rattle.cfb_format.specs.Bytes.{sector_len}
 use Rattle.cfb_sectors.specs.Sectors.{SectorFile, place_in_sector}
 use Rattle.cfb_sectors.proofs.WordLemmas.{word_apart}
@@ -11,13 +11,13 @@ returns-then-sector-num_sectors-clause-sectors g c told i other = SectorStays_re
 pub returns-clause-sectors : goal.returns-clause-sectors
 returns-clause-sectors g c told i other =
     let there = c.place-at.ensures.place ∙ ap (λ (f : SectorFile). place_in_sector f c.args.sector 0) c.count_in.ensures in
-    let len = c.sector_len.ensures ∙ ap (λ (f : SectorFile). sector_len f.version) c.count_in.ensures in
-    let change = ChangesOnly_from _ _ _ _ _ (ap (λ (f : SectorFile). f.bytes) c.count_in.ensures) (c.write_at.ensures.others told) in
-    other_sector c.args.self.now.version c.args.sector i 0 _ _ _ _ there change (omega (arith, len, length-take c.sector_len.result c.fresh_sector-bytes.result)) other
+    let len = ap (λ (f : SectorFile). sector_len f.version) c.count_in.ensures in
+    let change = ChangesOnly_from _ _ _ _ _ (ap (λ (f : SectorFile). f.bytes) c.count_in.ensures) (c.write_fresh.ensures.others told) in
+    other_sector c.args.self.now.version c.args.sector i 0 _ _ _ _ there change (omega (arith, len)) other
 
 pub returns-clause-words : goal.returns-clause-words
 returns-clause-words g c told p within apart =
     let there = c.place-at.ensures.place ∙ ap (λ (f : SectorFile). place_in_sector f c.args.sector 0) c.count_in.ensures in
-    let len = c.sector_len.ensures ∙ ap (λ (f : SectorFile). sector_len f.version) c.count_in.ensures in
-    let change = ChangesOnly_from _ _ _ _ _ (ap (λ (f : SectorFile). f.bytes) c.count_in.ensures) (c.write_at.ensures.others told) in
-    word_apart _ _ p _ _ change within (λ low. let behind = apart (omega (arith, there)) in omega (arith, behind, there, len, length-take c.sector_len.result c.fresh_sector-bytes.result))
+    let len = ap (λ (f : SectorFile). sector_len f.version) c.count_in.ensures in
+    let change = ChangesOnly_from _ _ _ _ _ (ap (λ (f : SectorFile). f.bytes) c.count_in.ensures) (c.write_fresh.ensures.others told) in
+    word_apart _ _ p _ _ change within (λ low. let behind = apart (omega (arith, there)) in omega (arith, behind, there, len))

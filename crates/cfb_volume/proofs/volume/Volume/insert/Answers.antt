@@ -6,7 +6,6 @@ use Rattle.cfb_format.specs.Bytes.{no_stream}
 use Rattle.cfb_format.specs.Reading.{IsOutline, Outline}
 use Rattle.cfb_format.specs.Siblings.{entry_at}
 use Rattle.cfb_rules.specs.Finding.{last_name, parent_names}
-use Rattle.cfb_siblings.specs.Children.{KeepsBalance}
 use Rattle.cfb_siblings.specs.Paths.{number_from}
 use Rattle.cfb_trees.specs.Reached.{IsReached}
 use Rattle.cfb_tables.specs.Changes.{NoneFree}
@@ -19,12 +18,11 @@ use Rattle.cfb_mini_sectors.specs.State.{HoldsMini, MiniState, bytes_of, cases_o
 use Rattle.cfb_mini_sectors.specs.Steps.{KeepsMini, StopsShort}
 use Rattle.cfb_content.specs.Contents.{KeepsFixedHeader, len_of}
 use Rattle.cfb_content.proofs.FixedHeader.{spared-keeps-header}
-use Rattle.cfb_insertion.specs.Balance.{StayBalanced}
 use Rattle.cfb_insertion.proofs.Entries.{put-is-balanced, put-is-found, put-is-new, put-keeps-root, put-leaves-none-free}
 use Rattle.cfb_agreement.specs.Changes.{KeepsStreams, object_added_at}
 use Rattle.cfb_agreement.specs.Files.{Agrees, FileState, Holds, IsAsMade, IsFullFile, LeavesNoneFree}
 use Rattle.cfb_format.specs.Refused.{IsBreak}
-use Rattle.cfb_entry_changes.specs.Kept.{KeepsFound}
+use Rattle.cfb_entry_changes.specs.Kept.{AllStayBalanced, KeepsFound}
 use Rattle.cfb_entry_changes.specs.Standing.{StandStill}
 use Rattle.cfb_volume.proofs.PutObjects.{put-is-childless, put-keeps-found, put-no-shorter, put-stands-still, put-stays-full}
 use Rattle.cfb_volume.proofs.InsertedObjects.{ended, header-ended, insert-holds, insert-keeps-streams, insert-made, insert-tree, puts-object, refused-agrees, refused-full, refused-reason, same-file, streams-ended}
@@ -79,7 +77,7 @@ returns-clause-named g c =
     let w = c.in_ok-number.ensures in
     let mid = c.insert_dir_entry.new.self in
     let put = puts-object c.self.inside.mini c.args.self.now.base mid c.args.parent c.in_ok-number.number (chars c.args.name.now) c.args.kind c.args.moment
-    (ap (λ (f : FileState). f.base) c.self.view_is) c.requires.parent c.requires.kind w.inserted w.red_apart w.kept w.lengthened w.mini w.limits in
+    (ap (λ (f : FileState). f.base) c.self.view_is) c.requires.parent c.requires.kind w.inserted w.balanced w.kept w.lengthened w.mini w.limits in
     subst (λ (s : MiniState). (o : Outline) → IsOutline (cases_of s) (entries_of s) o → IsReached o c.in_ok-number.number) (sym c.end_change.ensures)
     (put-is-new c.args.self.now.base mid c.args.parent c.in_ok-number.number (chars c.args.name.now) c.args.kind c.args.moment put).reached
 
@@ -90,7 +88,7 @@ returns-clause-tree g c told holds =
     let old = c.args.self.now in
     let e = ap (λ (f : FileState). f.base) c.self.view_is in
     let put = puts-object c.self.inside.mini c.args.self.now.base mid c.args.parent c.in_ok-number.number (chars c.args.name.now) c.args.kind c.args.moment
-    e c.requires.parent c.requires.kind w.inserted w.red_apart w.kept w.lengthened w.mini w.limits in
+    e c.requires.parent c.requires.kind w.inserted w.balanced w.kept w.lengthened w.mini w.limits in
     subst (λ (s : MiniState). (names : List (List ℕ)) (o : Outline) → IsOutline (cases_of old.base) (entries_of old.base) o
     → number_from (cases_of old.base) (entries_of old.base) 0 o (parent_names names) ≡ Some c.args.parent → last_name names ≡ chars c.args.name.now
     → BecomesTree (cases_of old.base) (bytes_of old.base) (bytes_of s) (object_added_at (cases_of old.base) c.args.kind c.args.moment names)) (sym c.end_change.ensures)
@@ -104,7 +102,7 @@ returns-clause-found g c =
     let mid = c.insert_dir_entry.new.self in
     let old = c.args.self.now in
     let put = puts-object c.self.inside.mini c.args.self.now.base mid c.args.parent c.in_ok-number.number (chars c.args.name.now) c.args.kind c.args.moment
-    (ap (λ (f : FileState). f.base) c.self.view_is) c.requires.parent c.requires.kind w.inserted w.red_apart w.kept w.lengthened w.mini w.limits in
+    (ap (λ (f : FileState). f.base) c.self.view_is) c.requires.parent c.requires.kind w.inserted w.balanced w.kept w.lengthened w.mini w.limits in
     subst (λ (s : MiniState). (first : List ℕ) (names : List (List ℕ)) (before after : Outline) → IsOutline (cases_of old.base) (entries_of old.base) before
     → IsOutline (cases_of s) (entries_of s) after
     → number_from (cases_of old.base) (entries_of old.base) 0 before (parent_names (first ∷ names)) ≡ Some c.args.parent → last_name (first ∷ names) ≡ chars c.args.name.now
@@ -133,7 +131,7 @@ returns-clause-made g c told holds made =
     let old = c.args.self.now in
     let e = ap (λ (f : FileState). f.base) c.self.view_is in
     let put = puts-object c.self.inside.mini c.args.self.now.base mid c.args.parent c.in_ok-number.number (chars c.args.name.now) c.args.kind c.args.moment
-    e c.requires.parent c.requires.kind w.inserted w.red_apart w.kept w.lengthened w.mini w.limits in
+    e c.requires.parent c.requires.kind w.inserted w.balanced w.kept w.lengthened w.mini w.limits in
     subst (λ (s : MiniState). IsAsMade s) (sym c.end_change.ensures)
     (insert-made old mid c.args.parent c.in_ok-number.number (chars c.args.name.now) c.args.kind c.args.moment put
     (subst (λ (s : MiniState). Spares s.directory.sectors (table_of s) (table_of mid)) e (w.spares told)) made
@@ -144,7 +142,7 @@ returns-clause-grows g c =
     let w = c.in_ok-number.ensures in
     let mid = c.insert_dir_entry.new.self in
     let put = puts-object c.self.inside.mini c.args.self.now.base mid c.args.parent c.in_ok-number.number (chars c.args.name.now) c.args.kind c.args.moment
-    (ap (λ (f : FileState). f.base) c.self.view_is) c.requires.parent c.requires.kind w.inserted w.red_apart w.kept w.lengthened w.mini w.limits in
+    (ap (λ (f : FileState). f.base) c.self.view_is) c.requires.parent c.requires.kind w.inserted w.balanced w.kept w.lengthened w.mini w.limits in
     subst (λ (s : MiniState). LeavesNoneFree c.args.self.now.base s) (sym c.end_change.ensures)
     (put-leaves-none-free c.args.self.now.base mid c.args.parent c.in_ok-number.number (chars c.args.name.now) c.args.kind c.args.moment put)
 
@@ -152,20 +150,17 @@ pub returns-clause-balanced : goal.returns-clause-balanced
 returns-clause-balanced g c =
     let w = c.in_ok-number.ensures in
     let mid = c.insert_dir_entry.new.self in
-    let old = c.args.self.now in
     let put = puts-object c.self.inside.mini c.args.self.now.base mid c.args.parent c.in_ok-number.number (chars c.args.name.now) c.args.kind c.args.moment
-    (ap (λ (f : FileState). f.base) c.self.view_is) c.requires.parent c.requires.kind w.inserted w.red_apart w.kept w.lengthened w.mini w.limits in
-    subst (λ (s : MiniState). (before after : Outline) → IsOutline (cases_of old.base) (entries_of old.base) before → IsOutline (cases_of s) (entries_of s) after
-    → StayBalanced (entries_of old.base) before (entries_of s) after) (sym c.end_change.ensures)
-    (put-is-balanced c.args.self.now.base mid c.args.parent c.in_ok-number.number (chars c.args.name.now) c.args.kind c.args.moment put
-    (subst (λ (f : FileState). KeepsBalance (entries_of f.base) (entries_of mid) c.args.parent) c.self.view_is w.balanced))
+    (ap (λ (f : FileState). f.base) c.self.view_is) c.requires.parent c.requires.kind w.inserted w.balanced w.kept w.lengthened w.mini w.limits in
+    subst (λ (s : MiniState). AllStayBalanced c.args.self.now.base s) (sym c.end_change.ensures)
+    (put-is-balanced c.args.self.now.base mid c.args.parent c.in_ok-number.number (chars c.args.name.now) c.args.kind c.args.moment put)
 
 pub returns-clause-root_len : goal.returns-clause-root_len
 returns-clause-root_len g c =
     let w = c.in_ok-number.ensures in
     let mid = c.insert_dir_entry.new.self in
     let put = puts-object c.self.inside.mini c.args.self.now.base mid c.args.parent c.in_ok-number.number (chars c.args.name.now) c.args.kind c.args.moment
-    (ap (λ (f : FileState). f.base) c.self.view_is) c.requires.parent c.requires.kind w.inserted w.red_apart w.kept w.lengthened w.mini w.limits in
+    (ap (λ (f : FileState). f.base) c.self.view_is) c.requires.parent c.requires.kind w.inserted w.balanced w.kept w.lengthened w.mini w.limits in
     subst (λ (s : MiniState). len_of s 0 ≡ len_of c.args.self.now.base 0) (sym c.end_change.ensures)
     (put-keeps-root c.args.self.now.base mid c.args.parent c.in_ok-number.number (chars c.args.name.now) c.args.kind c.args.moment put)
 
@@ -176,7 +171,7 @@ returns-clause-agrees g c told holds unfailed =
     let old = c.args.self.now in
     let e = ap (λ (f : FileState). f.base) c.self.view_is in
     let put = puts-object c.self.inside.mini c.args.self.now.base mid c.args.parent c.in_ok-number.number (chars c.args.name.now) c.args.kind c.args.moment
-    e c.requires.parent c.requires.kind w.inserted w.red_apart w.kept w.lengthened w.mini w.limits in
+    e c.requires.parent c.requires.kind w.inserted w.balanced w.kept w.lengthened w.mini w.limits in
     subst (λ (f : FileState). Holds f)
     (same-file c.self.inside.mini (ended mid) c.end_change.new.self c.self.inside.is_sound c.self.inside.buffer_limit c.args.self.now c.self.view_is c.end_change.ensures)
     (insert-holds old mid c.args.parent c.in_ok-number.number (chars c.args.name.now) c.args.kind c.args.moment put
@@ -188,7 +183,7 @@ returns-clause-childless g c =
     let w = c.in_ok-number.ensures in
     let mid = c.insert_dir_entry.new.self in
     let put = puts-object c.self.inside.mini c.args.self.now.base mid c.args.parent c.in_ok-number.number (chars c.args.name.now) c.args.kind c.args.moment
-    (ap (λ (f : FileState). f.base) c.self.view_is) c.requires.parent c.requires.kind w.inserted w.red_apart w.kept w.lengthened w.mini w.limits in
+    (ap (λ (f : FileState). f.base) c.self.view_is) c.requires.parent c.requires.kind w.inserted w.balanced w.kept w.lengthened w.mini w.limits in
     subst (λ (s : MiniState). (entry_at (entries_of s) c.in_ok-number.number).child ≡ no_stream) (sym c.end_change.ensures)
     (put-is-childless c.args.self.now.base mid c.args.parent c.in_ok-number.number (chars c.args.name.now) c.args.kind c.args.moment put)
 
@@ -197,7 +192,7 @@ returns-clause-stays g c =
     let w = c.in_ok-number.ensures in
     let mid = c.insert_dir_entry.new.self in
     let put = puts-object c.self.inside.mini c.args.self.now.base mid c.args.parent c.in_ok-number.number (chars c.args.name.now) c.args.kind c.args.moment
-    (ap (λ (f : FileState). f.base) c.self.view_is) c.requires.parent c.requires.kind w.inserted w.red_apart w.kept w.lengthened w.mini w.limits in
+    (ap (λ (f : FileState). f.base) c.self.view_is) c.requires.parent c.requires.kind w.inserted w.balanced w.kept w.lengthened w.mini w.limits in
     subst (λ (s : MiniState). KeepsFound c.args.self.now.base s) (sym c.end_change.ensures)
     (put-keeps-found c.args.self.now.base mid c.args.parent c.in_ok-number.number (chars c.args.name.now) c.args.kind c.args.moment put)
 
@@ -206,7 +201,7 @@ returns-clause-still g c =
     let w = c.in_ok-number.ensures in
     let mid = c.insert_dir_entry.new.self in
     let put = puts-object c.self.inside.mini c.args.self.now.base mid c.args.parent c.in_ok-number.number (chars c.args.name.now) c.args.kind c.args.moment
-    (ap (λ (f : FileState). f.base) c.self.view_is) c.requires.parent c.requires.kind w.inserted w.red_apart w.kept w.lengthened w.mini w.limits in
+    (ap (λ (f : FileState). f.base) c.self.view_is) c.requires.parent c.requires.kind w.inserted w.balanced w.kept w.lengthened w.mini w.limits in
     subst (λ (s : MiniState). StandStill c.args.self.now.base s) (sym c.end_change.ensures)
     (put-stands-still c.args.self.now.base mid c.args.parent c.in_ok-number.number (chars c.args.name.now) c.args.kind c.args.moment put)
 
@@ -215,7 +210,7 @@ returns-clause-no_shorter g c =
     let w = c.in_ok-number.ensures in
     let mid = c.insert_dir_entry.new.self in
     let put = puts-object c.self.inside.mini c.args.self.now.base mid c.args.parent c.in_ok-number.number (chars c.args.name.now) c.args.kind c.args.moment
-    (ap (λ (f : FileState). f.base) c.self.view_is) c.requires.parent c.requires.kind w.inserted w.red_apart w.kept w.lengthened w.mini w.limits in
+    (ap (λ (f : FileState). f.base) c.self.view_is) c.requires.parent c.requires.kind w.inserted w.balanced w.kept w.lengthened w.mini w.limits in
     subst (λ (s : MiniState). length (tables_in c.args.self.now.base).fat ≤ length (tables_in s).fat) (sym c.end_change.ensures)
     (put-no-shorter c.args.self.now.base mid c.args.parent c.in_ok-number.number (chars c.args.name.now) c.args.kind c.args.moment put)
 
@@ -224,6 +219,6 @@ returns-clause-stays_full g c none =
     let w = c.in_ok-number.ensures in
     let mid = c.insert_dir_entry.new.self in
     let put = puts-object c.self.inside.mini c.args.self.now.base mid c.args.parent c.in_ok-number.number (chars c.args.name.now) c.args.kind c.args.moment
-    (ap (λ (f : FileState). f.base) c.self.view_is) c.requires.parent c.requires.kind w.inserted w.red_apart w.kept w.lengthened w.mini w.limits in
+    (ap (λ (f : FileState). f.base) c.self.view_is) c.requires.parent c.requires.kind w.inserted w.balanced w.kept w.lengthened w.mini w.limits in
     subst (λ (s : MiniState). NoneFree (tables_in s).fat) (sym c.end_change.ensures)
     (put-stays-full c.args.self.now.base mid c.args.parent c.in_ok-number.number (chars c.args.name.now) c.args.kind c.args.moment put none)

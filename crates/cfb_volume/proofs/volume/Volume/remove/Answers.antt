@@ -15,12 +15,12 @@ use Rattle.cfb_mini_sectors.specs.State.{IsChangeable, MiniState, bytes_of, case
 use Rattle.cfb_mini.specs.MiniSectors.{IsStill}
 use Rattle.cfb_content.specs.Contents.{KeepsFixedHeader, KeepsOthers, len_of}
 use Rattle.cfb_content.proofs.FixedHeader.{header-then, spared-keeps-header}
-use Rattle.cfb_entry_changes.specs.Kept.{FindsAllBut}
+use Rattle.cfb_entry_changes.specs.Kept.{AllStayBalancedBut, FindsAllBut}
 use Rattle.cfb_agreement.specs.Changes.{StaysOrFails}
 use Rattle.cfb_agreement.specs.Files.{Agrees, FileState, Holds, IsAsMade}
 use Rattle.cfb_volume.specs.Removing.{WasEmptied}
 use Rattle.cfb_volume.proofs.InsertedObjects.{ended, header-ended, same-file}
-use Rattle.cfb_volume.proofs.RemovedObjects.{WasRemoved, child-stays, empty-break, others-ended, others-then, remove-finds, remove-holds, remove-keeps-root, remove-made, remove-tree, stays-agrees, stays-by, stays-then, storage-stays, was-removed}
+use Rattle.cfb_volume.proofs.RemovedObjects.{WasRemoved, child-stays, empty-break, others-ended, others-then, remove-balanced, remove-finds, remove-holds, remove-keeps-root, remove-made, remove-tree, stays-agrees, stays-by, stays-then, storage-stays, was-removed}
 use Rattle.cfb_volume.proofs.volume.Volume.remove.Goals as goal
 use Rattle.cfb_volume.proofs.volume.Volume.remove.Goals.{After-remove_dir_entry, In_ok-remove_dir_entry}
 
@@ -143,7 +143,7 @@ removed g c told =
     was-removed c.args.self.now mid c.remove_dir_entry.new.self c.args.parent c.args.child (chars c.args.name.now)
     (subst (λ (m : MiniState). WasEmptied m mid c.args.child) e (c.in_ok-empty_object.ensures.emptied told))
     (subst (λ (m : MiniState). (entry_at (entries_of m) c.args.child).obj_type ≢ Stream → mid ≡ m) e c.empty_object.ensures.none)
-    c.requires.parent c.requires.named w.removed w.red_apart w.kept w.mini w.limits (w.spares told) (λ v held. w.holds told v held)
+    c.requires.parent c.requires.named w.removed w.balanced w.kept w.mini w.limits (w.spares told) (λ v held. w.holds told v held)
 
 pub returns-clause-tree : goal.returns-clause-tree
 returns-clause-tree g c told holds first names o is above at last =
@@ -155,6 +155,11 @@ pub returns-clause-finds : goal.returns-clause-finds
 returns-clause-finds g c told =
     subst (λ (m : MiniState). FindsAllBut c.args.self.now.base m c.args.child) (sym c.end_change.ensures)
     (remove-finds (removed g (goal.at.returns-clause-finds g c).In_ok-remove_dir_entry told))
+
+pub returns-clause-balanced : goal.returns-clause-balanced
+returns-clause-balanced g c told =
+    subst (λ (m : MiniState). AllStayBalancedBut c.args.self.now.base m c.args.child) (sym c.end_change.ensures)
+    (remove-balanced (removed g (goal.at.returns-clause-balanced g c).In_ok-remove_dir_entry told))
 
 pub returns-clause-others : goal.returns-clause-others
 returns-clause-others g c told holds =

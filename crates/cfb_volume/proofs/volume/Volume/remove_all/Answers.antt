@@ -4,6 +4,7 @@ use Rattle.cfb_format.specs.Refused.{IsBreak}
 use Rattle.cfb_directory.proofs.DirectoryRefusals.{err_map}
 use Rattle.cfb_entries.proofs.Changed.{on-ok}
 use Rattle.cfb_volume.specs.Clearing.{BreaksOff}
+use Rattle.cfb_volume.proofs.Balances.{balanced-but}
 use Rattle.cfb_volume.proofs.RemovedStorages.{same-grows}
 use Rattle.cfb_volume.proofs.Steps.{after-both, at-none, at-some, counts-both, none-at-some, none-of, on-refused, some-at-none, some-of}
 use Rattle.cfb_agreement.specs.Files.{failures_of}
@@ -28,6 +29,9 @@ returns-in-Some-clause-ended g c = on-ok c.remove_with_all.result (λ w. w.unfai
 
 pub returns-in-Some-clause-counts : goal.returns-in-Some-clause-counts
 returns-in-Some-clause-counts g c told = counts-both (BreaksOff g.F.ReadMedium.tells (λ f. g.F.ReadMedium.read_faults f || g.F.Medium.write_faults f) c.args.self.now c.remove_with_all.new.self) (λ f. g.F.ReadMedium.read_faults f || g.F.Medium.write_faults f) (failures_of c.args.self.now) (failures_of c.remove_with_all.new.self) c.remove_with_all.result c.remove_with_all.ensures.removed c.remove_with_all.ensures.refused (λ w. w.counted told) (λ e b. b.counts told)
+
+pub returns-in-Some-clause-balanced : goal.returns-in-Some-clause-balanced
+returns-in-Some-clause-balanced g c told = on-ok c.remove_with_all.result (λ w. w.balanced told) c.remove_with_all.ensures.removed
 
 pub returns-in-Some-clause-made : goal.returns-in-Some-clause-made
 returns-in-Some-clause-made g c told holds made = on-ok c.remove_with_all.result (λ w. w.made told holds made) c.remove_with_all.ensures.removed
@@ -60,6 +64,9 @@ returns-in-None-clause-root_tree g c told holds =
     let zero = none-of c.args.parent c.in-None.is c.requires.root in
     let order = c.entries-entries.ensures.in_order in
     on-ok c.empty_storage.result (λ w. at-none c.args.parent c.in-None.is (w.tree told holds [] order.outline order.is (ap (λ (k : ℕ). Some k) (sym zero)))) c.empty_storage.ensures.emptied
+
+pub returns-in-None-clause-balanced : goal.returns-in-None-clause-balanced
+returns-in-None-clause-balanced g c told = on-ok c.empty_storage.result (λ w. balanced-but c.args.self.now.base c.empty_storage.new.self.base c.args.top w.childless w.balanced) c.empty_storage.ensures.emptied
 
 pub returns-in-None-clause-made : goal.returns-in-None-clause-made
 returns-in-None-clause-made g c told holds made = on-ok c.empty_storage.result (λ w. w.made told holds made) c.empty_storage.ensures.emptied

@@ -10,6 +10,7 @@ use Rattle.cfb_agreement.specs.Files.{FileState, failures_of}
 use Rattle.cfb_content.proofs.FixedHeader.{header-then}
 use Rattle.cfb_volume.specs.Clearing.{BreaksOff, KeepsStreamsBeside, RemovesWithAll}
 use Rattle.cfb_volume.proofs.AddedStorages.{setting-then}
+use Rattle.cfb_volume.proofs.Balances.{balanced-then-but}
 use Rattle.cfb_volume.proofs.RemovedStorages.{all-removed, below-still, named-still, others-now, parent-still}
 use Rattle.cfb_volume.proofs.Steps.{broke-off, flags-keep, hand-err, hand-ok, step-err, step-err-counts, step-ok, step-ok-counts, step-on-err}
 use Rattle.cfb_volume.proofs.volume.Volume.remove_storage.Goals as goal
@@ -111,6 +112,7 @@ returns-clause-removed g c =
     subst (λ (f : FileState). RemovesWithAll g.F.ReadMedium.tells c.args.parent c.args.top (chars c.args.name.now) start f) (sym same) (record {
       setting = setting-then start mid step i.setting w.setting;
       unfailed = calm;
+      balanced = λ told. balanced-then-but start.base mid.base step.base c.args.top (λ o o_is. let left = i.reached o o_is in (left.0, left.1)) i.balanced (step-ok c.remove-removed.result _ is (w.balanced told));
       holds = λ told holds. w.agrees told (i.holds told holds) calm;
       made = λ told holds made. step-ok c.remove-removed.result _ is (w.made told (i.holds told holds) (i.made told holds made));
       same_length = w.takes_none ∙ i.same_length;

@@ -48,6 +48,7 @@ returns-then-dir_entry-clause-removed g c =
     record {
       setting = w.setting;
       unfailed = ok.ended;
+      balanced = λ told. ok.balanced told;
       holds = λ told holds. w.agrees told holds ok.ended;
       made = λ told holds made. ok.made told holds made;
       same_length = w.takes_none;

@@ -1,0 +1,29 @@
+use Rattle.std.proofs.Common.{◌/◌, ◌%◌, ◌++◌, ◌∙◌, arith, drop, length-take}
+use Rattle.std.proofs.lemmas.List.{take-append-le}
+use Rattle.cfb_content.proofs.MinisAlong.{shorter-run, stretch-read, stretch-there}
+use Rattle.cfb_content.proofs.in_minis.read_in_minis.Goals as goal
+
+pub returns-clause-within : goal.returns-clause-within
+returns-clause-within g c j low =
+    let ids = c.args.ids.now in
+    let at = c.args.at in
+    let run = c.mini_run-run.result in
+    let e = c.in_ok-count.ensures in
+    let whole = length-take run c.args.into.now in
+    let mine = shorter-run ids (at / 64) (at % 64) run c.in_ok-count.count (omega (arith, e.some, whole)) c.mini_run-run.ensures.run in
+    stretch-there c.args.mini.now ids at (at / 64) (at % 64) c.in_ok-count.count (omega arith) mine e.stretch e.reached j low
+
+pub returns-clause-ok : goal.returns-clause-ok
+returns-clause-ok g c told j low =
+    let ids = c.args.ids.now in
+    let at = c.args.at in
+    let run = c.mini_run-run.result in
+    let n = c.in_ok-count.count in
+    let e = c.in_ok-count.ensures in
+    let into = c.args.into.now in
+    let new = c.read_mini_run.new.into in
+    let size = c.read_mini_run.auto.into in
+    let whole = length-take run into in
+    let mine = shorter-run ids (at / 64) (at % 64) run n (omega (arith, e.some, whole)) c.mini_run-run.ensures.run in
+    stretch-read c.args.mini.now ids at (at / 64) (at % 64) n (omega arith) mine e.stretch (new ++ drop run into)
+    (take-append-le n new (drop run into) (omega (arith, e.some, size)) ∙ e.ok told) j low
