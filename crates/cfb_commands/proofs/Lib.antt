@@ -8,3 +8,4 @@ pub mod Runs
 pub mod Quiet
 pub mod Asking
 pub mod Calls
+pub mod Fitting

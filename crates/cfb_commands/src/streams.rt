@@ -9,6 +9,7 @@ ghost use Rattle.cfb_rules.specs.Calls.{refused};
 ghost use Rattle.cfb_rules.specs.Lists.{on_stream, opening_call};
 ghost use Rattle.cfb_rules.specs.StreamCalls.{got, read, read_to_end};
 ghost use Rattle.cfb_commands.specs.Commands.{opening_of, refusal_of, stream_answer, stream_call_of, stream_reply_of, streamed_reply};
+ghost use Rattle.cfb_commands.specs.Kinds.{kind_of_answer, kind_of_op};
 ghost use Rattle.cfb_commands.specs.Working.{Answers, IsOpenedBy, LendsNothing, Works};
 
 use crate::command::{Opening, StreamOp, StreamReply};
@@ -66,6 +67,7 @@ fn work<F: Medium, A: Heap + Clone>(
     op: &StreamOp<A>,
 ) -> StreamReply<A>
     ensures same_file { (file_of stream.new).ghost_name ≡ (file_of stream.old).ghost_name }
+    ensures of_kind { kind_of_answer result ≡ kind_of_op op.now }
     ensures works { IsTrue F.tells → LendsNothing (open_of stream.old)
         → IsWorkedOn (open_of stream.old) (stream_call_of op.now) (stream_reply_of result)
         (open_of stream.new) }
@@ -92,6 +94,7 @@ fn work_all<F: Medium, A: Heap + Clone>(
     requires none { replies.old.items ≡ [] }
     requires room { length ops.now ≤ vec_capacity replies.old }
     ensures same_file { (file_of stream.new).ghost_name ≡ (file_of stream.old).ghost_name }
+    ensures of_kinds { map kind_of_answer replies.new.items ≡ map kind_of_op ops.now }
     ensures works { IsTrue F.tells → (first opened : FileState) (path : List ℕ) (tree : Tree)
         → SameSetting first opened → IsOpenSince opened path (open_of stream.old)
         → LendsNothing (open_of stream.old) → Works (λ f. F.read_faults f || F.write_faults f)
@@ -137,7 +140,9 @@ pub(crate) fn run_on_stream<F: Medium, A: Heap + Clone>(
     path: &str,
     ops: &[StreamOp<A>],
 ) -> Result<(Vec<StreamReply<A>, A>, Result<(), Error>), Error>
-    ensures { IsTrue F.tells → Answers (λ f. F.read_faults f || F.write_faults f) file.old
+    ensures of_kinds { IfOk result (λ works.
+        map kind_of_answer works.0.items ≡ map kind_of_op ops.now) }
+    ensures answers { IsTrue F.tells → Answers (λ f. F.read_faults f || F.write_faults f) file.old
         (on_stream (opening_of how) (chars path.now) (map stream_call_of ops.now))
         (streamed_reply result) file.new }
 {

@@ -4,6 +4,8 @@ use Rattle.std.specs.Prelude.{◌||◌}
 use Rattle.cfb_commands.specs.declared.command.Command.{Command as TheCommand}
 use Rattle.cfb_commands.specs.Commands.{command_of, reply_of}
 use Rattle.cfb_commands.specs.Working.{RunsLegally}
+use Rattle.cfb_commands.specs.Kinds.{AreOfKinds, kind_of_command}
+use Rattle.cfb_commands.proofs.Fitting.{none_replied, replied_more}
 use Rattle.cfb_commands.proofs.Runs.{runs_more, stays_made}
 use Rattle.cfb_commands.proofs.run.run.Goals as goal
 
@@ -17,9 +19,11 @@ loop-command-preserved g c =
       count = omega (arith, longer, i.count);
       room = c.push_reserved.ensures.capacity ∙ i.room;
       kept = ap (take first) c.push_reserved.ensures.items ∙ take-append-le first c.loop-command.replies.items (c.run_one-reply.result ∷ []) least ∙ i.kept;
+      of_kinds = replied_more c.args.commands.now c.loop-command.command-index c.command-item.result first c.loop-command.replies.items c.push_reserved.new.self.items
+          c.run_one-reply.result c.loop-command-test.true c.command-item.is c.push_reserved.ensures.items least i.of_kinds c.run_one-reply.ensures.of_kind;
       runs = λ told. runs_more _ c.args.file.now c.loop-command.file c.run_one-reply.new.file c.args.commands.now c.loop-command.command-index c.command-item.result first
           c.loop-command.replies.items c.push_reserved.new.self.items c.run_one-reply.result c.loop-command-test.true c.command-item.is c.push_reserved.ensures.items least (i.runs told)
-          (c.run_one-reply.ensures told);
+          (c.run_one-reply.ensures.answers told);
     }
 
 pub returns-clause-order : goal.returns-clause-order
@@ -30,3 +34,8 @@ returns-clause-runs g c = λ told.
     subst (λ (commands : List (TheCommand g.row.A.Denot)). RunsLegally (λ f. g.F.ReadMedium.read_faults f || g.F.Medium.write_faults f) c.args.file.now (map command_of commands)
     (map reply_of (drop (length c.args.replies.now.items) c.loop-command.replies.items)) c.loop-command.file) (take_all c.loop-command.command-index c.args.commands.now c.loop-command-test.false)
     (c.loop-command.invariant.runs told)
+
+pub returns-clause-of_kinds : goal.returns-clause-of_kinds
+returns-clause-of_kinds g c =
+    subst (λ (commands : List (TheCommand g.row.A.Denot)). AreOfKinds (map kind_of_command commands) (drop (length c.args.replies.now.items) c.loop-command.replies.items))
+    (take_all c.loop-command.command-index c.args.commands.now c.loop-command-test.false) c.loop-command.invariant.of_kinds

@@ -1,5 +1,5 @@
-use Rattle.std.proofs.Common.{Bool, List, ℕ, chars, map, refl, subst}
-use Rattle.std.specs.Prelude.{◌||◌, string_bytes}
+use Rattle.std.proofs.Common.{◌≡◌, Bool, List, ℕ, chars, map, refl, subst}
+use Rattle.std.specs.Prelude.{◌||◌, IfOk, string_bytes}
 use Rattle.cfb_format.specs.declared.medium.MediumFault.{MediumFault}
 use Rattle.cfb_rules.specs.Calls.{create_storage, create_storage_all, done, entries, entry, exists, flag, flush, is_storage, is_stream, one_entry, read_storage, remove_storage, remove_storage_all, remove_stream, set_created_time, set_modified_time, set_state_bits, set_storage_clsid, touch, walk_storage}
 use Rattle.cfb_rules.specs.Lists.{on_stream}
@@ -7,14 +7,15 @@ use Rattle.cfb_path_changes.specs.Answers as path
 use Rattle.cfb_path_changes.specs.Calls.{CallAnswers, CallAnswersInTurn}
 use Rattle.cfb_commands.specs.declared.command.StreamOp.{StreamOp}
 use Rattle.cfb_commands.specs.Commands.{call_answer, opening_of, stream_call_of, streamed_reply}
+use Rattle.cfb_commands.specs.Kinds.{kind_of_answer, kind_of_op}
 use Rattle.cfb_commands.specs.Working.{Answers}
 use Rattle.cfb_commands.proofs.Asking.{asked}
 use Rattle.cfb_commands.proofs.Calls.{changed, changed_in_turn, flush_keeps, or_so}
 use Rattle.cfb_commands.proofs.Runs.{by_call}
 use Rattle.cfb_commands.proofs.run.run_one.Goals as goal
 
-pub returns-in-CreateStorage : goal.returns-in-CreateStorage
-returns-in-CreateStorage g c =
+pub returns-in-CreateStorage-clause-answers : goal.returns-in-CreateStorage-clause-answers
+returns-in-CreateStorage-clause-answers g c =
     let can_give : MediumFault → Bool = λ f. g.F.ReadMedium.read_faults f || g.F.Medium.write_faults f in
     let file = c.args.file.now in
     let new = c.create_storage.new.self in
@@ -23,8 +24,8 @@ returns-in-CreateStorage g c =
     (changed can_give file call new c.create_storage.result
     (subst (λ (text : List ℕ). CallAnswers can_give file (create_storage (chars text) c.in-CreateStorage.moment) c.create_storage.result new) c.deref.ensures (c.create_storage.ensures told)) (λ e why. why)))
 
-pub returns-in-RemoveStorage : goal.returns-in-RemoveStorage
-returns-in-RemoveStorage g c =
+pub returns-in-RemoveStorage-clause-answers : goal.returns-in-RemoveStorage-clause-answers
+returns-in-RemoveStorage-clause-answers g c =
     let can_give : MediumFault → Bool = λ f. g.F.ReadMedium.read_faults f || g.F.Medium.write_faults f in
     let file = c.args.file.now in
     let new = c.remove_storage.new.self in
@@ -33,8 +34,8 @@ returns-in-RemoveStorage g c =
     (changed can_give file call new c.remove_storage.result
     (subst (λ (text : List ℕ). CallAnswers can_give file (remove_storage (chars text)) c.remove_storage.result new) c.deref-in-RemoveStorage.ensures (c.remove_storage.ensures told)) (λ e why. why)))
 
-pub returns-in-RemoveStorageAll : goal.returns-in-RemoveStorageAll
-returns-in-RemoveStorageAll g c =
+pub returns-in-RemoveStorageAll-clause-answers : goal.returns-in-RemoveStorageAll-clause-answers
+returns-in-RemoveStorageAll-clause-answers g c =
     let can_give : MediumFault → Bool = λ f. g.F.ReadMedium.read_faults f || g.F.Medium.write_faults f in
     let file = c.args.file.now in
     let new = c.remove_storage_all.new.self in
@@ -43,8 +44,8 @@ returns-in-RemoveStorageAll g c =
     (changed can_give file call new c.remove_storage_all.result
     (subst (λ (text : List ℕ). CallAnswers can_give file (remove_storage_all (chars text)) c.remove_storage_all.result new) c.deref-in-RemoveStorageAll.ensures (c.remove_storage_all.ensures told)) (λ e why. why)))
 
-pub returns-in-RemoveStream : goal.returns-in-RemoveStream
-returns-in-RemoveStream g c =
+pub returns-in-RemoveStream-clause-answers : goal.returns-in-RemoveStream-clause-answers
+returns-in-RemoveStream-clause-answers g c =
     let can_give : MediumFault → Bool = λ f. g.F.ReadMedium.read_faults f || g.F.Medium.write_faults f in
     let file = c.args.file.now in
     let new = c.remove_stream.new.self in
@@ -53,8 +54,8 @@ returns-in-RemoveStream g c =
     (changed can_give file call new c.remove_stream.result
     (subst (λ (text : List ℕ). CallAnswers can_give file (remove_stream (chars text)) c.remove_stream.result new) c.deref-in-RemoveStream.ensures (c.remove_stream.ensures told)) (λ e why. why)))
 
-pub returns-in-SetStorageClsid : goal.returns-in-SetStorageClsid
-returns-in-SetStorageClsid g c =
+pub returns-in-SetStorageClsid-clause-answers : goal.returns-in-SetStorageClsid-clause-answers
+returns-in-SetStorageClsid-clause-answers g c =
     let can_give : MediumFault → Bool = λ f. g.F.ReadMedium.read_faults f || g.F.Medium.write_faults f in
     let file = c.args.file.now in
     let new = c.set_storage_clsid.new.self in
@@ -63,8 +64,8 @@ returns-in-SetStorageClsid g c =
     (changed can_give file call new c.set_storage_clsid.result
     (subst (λ (text : List ℕ). CallAnswers can_give file (set_storage_clsid (chars text) c.in-SetStorageClsid.clsid) c.set_storage_clsid.result new) c.deref-in-SetStorageClsid.ensures (c.set_storage_clsid.ensures told)) (λ e why. why)))
 
-pub returns-in-SetStateBits : goal.returns-in-SetStateBits
-returns-in-SetStateBits g c =
+pub returns-in-SetStateBits-clause-answers : goal.returns-in-SetStateBits-clause-answers
+returns-in-SetStateBits-clause-answers g c =
     let can_give : MediumFault → Bool = λ f. g.F.ReadMedium.read_faults f || g.F.Medium.write_faults f in
     let file = c.args.file.now in
     let new = c.set_state_bits.new.self in
@@ -73,8 +74,8 @@ returns-in-SetStateBits g c =
     (changed can_give file call new c.set_state_bits.result
     (subst (λ (text : List ℕ). CallAnswers can_give file (set_state_bits (chars text) c.in-SetStateBits.bits) c.set_state_bits.result new) c.deref-in-SetStateBits.ensures (c.set_state_bits.ensures told)) (λ e why. why)))
 
-pub returns-in-SetCreatedTime : goal.returns-in-SetCreatedTime
-returns-in-SetCreatedTime g c =
+pub returns-in-SetCreatedTime-clause-answers : goal.returns-in-SetCreatedTime-clause-answers
+returns-in-SetCreatedTime-clause-answers g c =
     let can_give : MediumFault → Bool = λ f. g.F.ReadMedium.read_faults f || g.F.Medium.write_faults f in
     let file = c.args.file.now in
     let new = c.set_created_time.new.self in
@@ -83,8 +84,8 @@ returns-in-SetCreatedTime g c =
     (changed can_give file call new c.set_created_time.result
     (subst (λ (text : List ℕ). CallAnswers can_give file (set_created_time (chars text) c.in-SetCreatedTime.moment) c.set_created_time.result new) c.deref-in-SetCreatedTime.ensures (c.set_created_time.ensures told)) (λ e why. why)))
 
-pub returns-in-SetModifiedTime : goal.returns-in-SetModifiedTime
-returns-in-SetModifiedTime g c =
+pub returns-in-SetModifiedTime-clause-answers : goal.returns-in-SetModifiedTime-clause-answers
+returns-in-SetModifiedTime-clause-answers g c =
     let can_give : MediumFault → Bool = λ f. g.F.ReadMedium.read_faults f || g.F.Medium.write_faults f in
     let file = c.args.file.now in
     let new = c.set_modified_time.new.self in
@@ -93,8 +94,8 @@ returns-in-SetModifiedTime g c =
     (changed can_give file call new c.set_modified_time.result
     (subst (λ (text : List ℕ). CallAnswers can_give file (set_modified_time (chars text) c.in-SetModifiedTime.moment) c.set_modified_time.result new) c.deref-in-SetModifiedTime.ensures (c.set_modified_time.ensures told)) (λ e why. why)))
 
-pub returns-in-Touch : goal.returns-in-Touch
-returns-in-Touch g c =
+pub returns-in-Touch-clause-answers : goal.returns-in-Touch-clause-answers
+returns-in-Touch-clause-answers g c =
     let can_give : MediumFault → Bool = λ f. g.F.ReadMedium.read_faults f || g.F.Medium.write_faults f in
     let file = c.args.file.now in
     let new = c.touch.new.self in
@@ -103,8 +104,8 @@ returns-in-Touch g c =
     (changed can_give file call new c.touch.result
     (subst (λ (text : List ℕ). CallAnswers can_give file (touch (chars text) c.in-Touch.moment) c.touch.result new) c.deref-in-Touch.ensures (c.touch.ensures told)) (λ e why. why)))
 
-pub returns-in-CreateStorageAll : goal.returns-in-CreateStorageAll
-returns-in-CreateStorageAll g c =
+pub returns-in-CreateStorageAll-clause-answers : goal.returns-in-CreateStorageAll-clause-answers
+returns-in-CreateStorageAll-clause-answers g c =
     let can_give : MediumFault → Bool = λ f. g.F.ReadMedium.read_faults f || g.F.Medium.write_faults f in
     let file = c.args.file.now in
     let new = c.create_storage_all.new.self in
@@ -113,8 +114,8 @@ returns-in-CreateStorageAll g c =
     (changed_in_turn can_give file path c.in-CreateStorageAll.moment new c.create_storage_all.result
     (subst (λ (text : List ℕ). CallAnswersInTurn can_give file (create_storage_all (chars text) c.in-CreateStorageAll.moment) c.create_storage_all.result new) c.deref-in-CreateStorageAll.ensures (c.create_storage_all.ensures told))))
 
-pub returns-in-Flush : goal.returns-in-Flush
-returns-in-Flush g c =
+pub returns-in-Flush-clause-answers : goal.returns-in-Flush-clause-answers
+returns-in-Flush-clause-answers g c =
     let can_give : MediumFault → Bool = λ f. g.F.ReadMedium.read_faults f || g.F.Medium.write_faults f in
     let file = c.args.file.now in
     let new = c.flush.new.self in
@@ -122,44 +123,44 @@ returns-in-Flush g c =
     (flush_keeps g.F.Medium.write_faults can_give file new c.flush.result (λ f. or_so (g.F.ReadMedium.read_faults f) (g.F.Medium.write_faults f))
     (c.flush.ensures.ok told) (c.flush.ensures.same told) (c.flush.ensures.refused told)))
 
-pub returns-in-Exists : goal.returns-in-Exists
-returns-in-Exists g c =
+pub returns-in-Exists-clause-answers : goal.returns-in-Exists-clause-answers
+returns-in-Exists-clause-answers g c =
     let file = c.args.file.now in
     rw c.in-Exists.is (λ told. by_call (λ f. g.F.ReadMedium.read_faults f || g.F.Medium.write_faults f) file file (exists (chars (string_bytes c.in-Exists.path))) (flag c.exists.result)
     (record { same = refl; answers = subst (λ (text : List ℕ). path.Answers file (exists (chars text)) (flag c.exists.result)) c.deref-in-Exists.ensures (c.exists.ensures.asks told) }))
 
-pub returns-in-IsStream : goal.returns-in-IsStream
-returns-in-IsStream g c =
+pub returns-in-IsStream-clause-answers : goal.returns-in-IsStream-clause-answers
+returns-in-IsStream-clause-answers g c =
     let file = c.args.file.now in
     rw c.in-IsStream.is (λ told. by_call (λ f. g.F.ReadMedium.read_faults f || g.F.Medium.write_faults f) file file (is_stream (chars (string_bytes c.in-IsStream.path))) (flag c.is_stream.result)
     (record { same = refl; answers = subst (λ (text : List ℕ). path.Answers file (is_stream (chars text)) (flag c.is_stream.result)) c.deref-in-IsStream.ensures (c.is_stream.ensures.asks told) }))
 
-pub returns-in-IsStorage : goal.returns-in-IsStorage
-returns-in-IsStorage g c =
+pub returns-in-IsStorage-clause-answers : goal.returns-in-IsStorage-clause-answers
+returns-in-IsStorage-clause-answers g c =
     let file = c.args.file.now in
     rw c.in-IsStorage.is (λ told. by_call (λ f. g.F.ReadMedium.read_faults f || g.F.Medium.write_faults f) file file (is_storage (chars (string_bytes c.in-IsStorage.path))) (flag c.is_storage.result)
     (record { same = refl; answers = subst (λ (text : List ℕ). path.Answers file (is_storage (chars text)) (flag c.is_storage.result)) c.deref-in-IsStorage.ensures (c.is_storage.ensures.asks told) }))
 
-pub returns-in-Entry : goal.returns-in-Entry
-returns-in-Entry g c =
+pub returns-in-Entry-clause-answers : goal.returns-in-Entry-clause-answers
+returns-in-Entry-clause-answers g c =
     let file = c.args.file.now in
     rw c.in-Entry.is (λ told. by_call (λ f. g.F.ReadMedium.read_faults f || g.F.Medium.write_faults f) file file (entry (chars (string_bytes c.in-Entry.path))) (call_answer one_entry c.entry.result)
     (record { same = refl; answers = subst (λ (text : List ℕ). path.Answers file (entry (chars text)) (call_answer one_entry c.entry.result)) c.deref-in-Entry.ensures (asked file (entry (chars c.deref-in-Entry.result.now)) one_entry c.entry.result (c.entry.ensures.ok told) (c.entry.ensures.refused told)) }))
 
-pub returns-in-ReadStorage : goal.returns-in-ReadStorage
-returns-in-ReadStorage g c =
+pub returns-in-ReadStorage-clause-answers : goal.returns-in-ReadStorage-clause-answers
+returns-in-ReadStorage-clause-answers g c =
     let file = c.args.file.now in
     rw c.in-ReadStorage.is (λ told. by_call (λ f. g.F.ReadMedium.read_faults f || g.F.Medium.write_faults f) file file (read_storage (chars (string_bytes c.in-ReadStorage.path))) (call_answer (λ list. entries list.items) c.read_list.result)
     (record { same = refl; answers = subst (λ (text : List ℕ). path.Answers file (read_storage (chars text)) (call_answer (λ list. entries list.items) c.read_list.result)) c.deref-in-ReadStorage.ensures (c.read_list.ensures told) }))
 
-pub returns-in-WalkStorage : goal.returns-in-WalkStorage
-returns-in-WalkStorage g c =
+pub returns-in-WalkStorage-clause-answers : goal.returns-in-WalkStorage-clause-answers
+returns-in-WalkStorage-clause-answers g c =
     let file = c.args.file.now in
     rw c.in-WalkStorage.is (λ told. by_call (λ f. g.F.ReadMedium.read_faults f || g.F.Medium.write_faults f) file file (walk_storage (chars (string_bytes c.in-WalkStorage.path))) (call_answer (λ list. entries list.items) c.walk_list.result)
     (record { same = refl; answers = subst (λ (text : List ℕ). path.Answers file (walk_storage (chars text)) (call_answer (λ list. entries list.items) c.walk_list.result)) c.deref-in-WalkStorage.ensures (c.walk_list.ensures told) }))
 
-pub returns-in-Stream : goal.returns-in-Stream
-returns-in-Stream g c =
+pub returns-in-Stream-clause-answers : goal.returns-in-Stream-clause-answers
+returns-in-Stream-clause-answers g c =
     let can_give : MediumFault → Bool = λ f. g.F.ReadMedium.read_faults f || g.F.Medium.write_faults f in
     let file = c.args.file.now in
     let new = c.run_on_stream.new.file in
@@ -167,4 +168,13 @@ returns-in-Stream g c =
     subst (λ (text : List ℕ). Answers can_give file (on_stream (opening_of c.in-Stream.how) (chars text) (map stream_call_of c.in-Stream.ops.items)) (streamed_reply c.run_on_stream.result) new)
     c.deref-in-Stream.ensures
     (subst (λ (ops : List (StreamOp g.row.A.Denot)). Answers can_give file (on_stream (opening_of c.in-Stream.how) (chars c.deref-in-Stream.result.now) (map stream_call_of ops))
-    (streamed_reply c.run_on_stream.result) new) c.deref-in-Stream-2.ensures.value (c.run_on_stream.ensures told)))
+    (streamed_reply c.run_on_stream.result) new) c.deref-in-Stream-2.ensures.value (c.run_on_stream.ensures.answers told)))
+
+pub returns-in-Stream-clause-of_kind : goal.returns-in-Stream-clause-of_kind
+returns-in-Stream-clause-of_kind g c =
+    rw c.in-Stream.is (
+      map kind_of_op c.in-Stream.ops.items,
+      refl,
+      subst (λ (ops : List (StreamOp g.row.A.Denot)).
+          IfOk c.run_on_stream.result (λ works. map kind_of_answer works.0.items ≡ map kind_of_op ops)) c.deref-in-Stream-2.ensures.value c.run_on_stream.ensures.of_kinds,
+    )

@@ -11,35 +11,35 @@ use Rattle.cfb_commands.proofs.Openings.{at_error, done_so, failed_not, memory_n
 use Rattle.cfb_commands.proofs.Working.{closed_of}
 use Rattle.cfb_commands.proofs.streams.run_on_stream.Goals as goal
 
-pub returns-then-is_failed : goal.returns-then-is_failed
-returns-then-is_failed g c = λ told.
+pub returns-then-is_failed-clause-answers : goal.returns-then-is_failed-clause-answers
+returns-then-is_failed-clause-answers g c = λ told.
     let file = c.args.file.now in
     refused_so _ file file (opening_of c.args.how) (chars c.args.path.now) (map stream_call_of c.args.ops.now) failed_earlier
     (failed_not _ file (chars c.args.path.now) (c.is_failed.ensures.agrees told) (opening_of c.args.how) (sym c.is_failed.ensures.value ∙ c.if-is_failed.true))
 
-pub returns-in_err-clone : goal.returns-in_err-clone
-returns-in_err-clone g c =
+pub returns-in_err-clone-clause-answers : goal.returns-in_err-clone-clause-answers
+returns-in_err-clone-clause-answers g c =
     let p = err_from_is_err_and c.from_residual.result c.from_residual.ensures.1 in
     let file = c.args.file.now in
     rw (p.1, p.2) (λ told. refused_so _ file file (opening_of c.args.how) (chars c.args.path.now) (map stream_call_of c.args.ops.now) out_of_memory
     (memory_not _ file (chars c.args.path.now) (c.is_failed.ensures.agrees told) (opening_of c.args.how) (sym c.is_failed.ensures.value ∙ c.if-is_failed.false)))
 
-pub returns-in_err-replies : goal.returns-in_err-replies
-returns-in_err-replies g c =
+pub returns-in_err-replies-clause-answers : goal.returns-in_err-replies-clause-answers
+returns-in_err-replies-clause-answers g c =
     let p = err_from_is_err_and c.from_residual-in_err-replies.result c.from_residual-in_err-replies.ensures.1 in
     let file = c.args.file.now in
     rw (p.1, p.2) (λ told. refused_so _ file file (opening_of c.args.how) (chars c.args.path.now) (map stream_call_of c.args.ops.now) out_of_memory
     (memory_not _ file (chars c.args.path.now) (c.is_failed.ensures.agrees told) (opening_of c.args.how) (sym c.is_failed.ensures.value ∙ c.if-is_failed.false)))
 
-pub returns-in_err-stream : goal.returns-in_err-stream
-returns-in_err-stream g c =
+pub returns-in_err-stream-clause-answers : goal.returns-in_err-stream-clause-answers
+returns-in_err-stream-clause-answers g c =
     let p = err_from_is_err_and c.from_residual-in_err-stream.result c.from_residual-in_err-stream.ensures.1 in
     rw (p.1, p.2) (λ told. refused_so _ c.args.file.now c.opened.follows.lender-at-none (opening_of c.args.how) (chars c.args.path.now) (map stream_call_of c.args.ops.now) (refusal_of c.in_err-stream.field-0.0)
     (at_error _ c.opened.result c.in_err-stream.field-0.0 c.in_err-stream.was c.opened.follows.holds-at-none told))
 
 -- the file ends as closing leaves it: the stream held it all the while
-pub returns : goal.returns
-returns g c =
+pub returns-clause-answers : goal.returns-clause-answers
+returns-clause-answers g c =
     same_file
     (λ (file : FileState). IsTrue g.F.ReadMedium.tells → Answers (λ f. g.F.ReadMedium.read_faults f || g.F.Medium.write_faults f) c.args.file.now (on_stream (opening_of c.args.how) (chars c.args.path.now) (map stream_call_of c.args.ops.now))
     (streamed_reply (Ok (c.work_all.new.replies, c.close-closed.result))) file)

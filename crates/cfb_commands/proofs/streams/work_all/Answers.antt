@@ -3,8 +3,10 @@ use Rattle.std.specs.Prelude.{◌||◌}
 use Rattle.std.proofs.lemmas.List.{take_all}
 use Rattle.cfb_commands.specs.declared.command.StreamOp.{StreamOp}
 use Rattle.cfb_commands.specs.Commands.{stream_call_of, stream_reply_of}
+use Rattle.cfb_commands.specs.Kinds.{kind_of_answer, kind_of_op}
 use Rattle.cfb_commands.specs.Working.{Works}
 use Rattle.cfb_compound_file.specs.Streams.{open_of}
+use Rattle.cfb_commands.proofs.Growing.{kinds_more}
 use Rattle.cfb_commands.proofs.Working.{works_more}
 use Rattle.cfb_commands.proofs.streams.work_all.Goals as goal
 
@@ -16,6 +18,8 @@ loop-op-preserved g c =
       same_file = c.work-reply.ensures.same_file ∙ i.same_file;
       count = omega (arith, longer, i.count);
       room = c.push_reserved.ensures.capacity ∙ i.room;
+      of_kinds = kinds_more kind_of_op kind_of_answer c.args.ops.now c.loop-op.op-index c.op-item.result c.loop-op.replies.items c.push_reserved.new.self.items c.work-reply.result
+          c.loop-op-test.true c.op-item.is c.push_reserved.ensures.items i.of_kinds c.work-reply.ensures.of_kind;
       works = λ told first opened path tree same since nothing.
           let w = i.works told first opened path tree same since nothing in
           works_more _ first opened path tree same (open_of c.args.stream.now) (open_of c.loop-op.stream) (open_of c.work-reply.new.stream) c.args.ops.now c.loop-op.op-index
@@ -28,3 +32,6 @@ returns-clause-works g c = λ told first opened path tree same since nothing.
     subst (λ (ops : List (StreamOp g.row.A.Denot)). Works (λ f. g.F.ReadMedium.read_faults f || g.F.Medium.write_faults f) first opened path tree (open_of c.args.stream.now)
     (map stream_call_of ops) (map stream_reply_of c.loop-op.replies.items) (open_of c.loop-op.stream)) (take_all c.loop-op.op-index c.args.ops.now c.loop-op-test.false)
     (c.loop-op.invariant.works told first opened path tree same since nothing)
+
+pub returns-clause-of_kinds : goal.returns-clause-of_kinds
+returns-clause-of_kinds g c = c.loop-op.invariant.of_kinds ∙ ap (map kind_of_op) (take_all c.loop-op.op-index c.args.ops.now c.loop-op-test.false)

@@ -5,6 +5,7 @@ use Rattle.cfb_command_steps.specs.Promised.{IsOpenSince}
 use Rattle.cfb_compound_file.specs.Streams.{file_of, open_of}
 use Rattle.cfb_format.specs.Tree.{Tree}
 use Rattle.cfb_commands.specs.Commands.{stream_call_of, stream_reply_of}
+use Rattle.cfb_commands.specs.Kinds.{kind_of_answer, kind_of_op}
 use Rattle.cfb_commands.specs.Working.{LendsNothing, Works}
 use Rattle.cfb_commands.proofs.streams.work_all.Given as goal
 
@@ -13,6 +14,7 @@ invariant-loop-op g l = record {
   same_file : (file_of l.stream).ghost_name ≡ (file_of l.fn.stream).ghost_name;
   count : length l.replies.items ≡ l.op-index;
   room : vec_capacity l.replies ≡ vec_capacity l.fn.replies;
+  of_kinds : map kind_of_answer l.replies.items ≡ map kind_of_op (take l.op-index l.ops);
   works : IsTrue g.F.ReadMedium.tells → (first opened : FileState) (path : List ℕ) (tree : Tree) → SameSetting first opened → IsOpenSince opened path (open_of l.fn.stream)
       → LendsNothing (open_of l.fn.stream)
       → Works (λ f. g.F.ReadMedium.read_faults f || g.F.Medium.write_faults f) first opened path tree (open_of l.fn.stream)
