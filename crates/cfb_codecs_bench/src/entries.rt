@@ -6,10 +6,13 @@ use cfb_codecs::path;
 use cfb_codecs::timestamp::Timestamp;
 use cfb_format::color::Color::{self, Black, Red};
 use cfb_format::consts::{DIR_ENTRY_LEN, END_OF_CHAIN, NO_STREAM as NONE};
+use cfb_format::error::Error;
 use cfb_format::objtype::ObjType::{self, Root, Storage, Stream, Unallocated};
 use cfb_format::validate::Validation::{self, Permissive, Strict};
 use cfb_format::version::Version::{self, V3, V4};
 use cfb_media::refusing::Refusing;
+use std::alloc::{Allocator, Global};
+use std::process::Abort;
 use std::test::Fail;
 use uuid::Uuid;
 
@@ -36,9 +39,11 @@ const LONGEST: Parts = &[
 
 const UNALLOCATED: Parts = &[(0, &[0; 68]), (68, &[0xff; 12])];
 
-/// New entries: name, type and class, and what is written of them over zeros.
+/// A new entry: name, type and class, and what is written of it over zeros.
+type New = (&'static str, ObjType, u128, Parts);
+
 #[rattlefmt::skip]
-const NEW: [(&str, ObjType, u128, Parts); 3] = [
+const NEW: [New; 3] = [
     (
         "Foo", Stream, 0,
         &[(0, b"F\0o\0o\0"), (64, &[8, 0, 2, 1]), (68, &[0xff; 12]), (116, &[0xfe, 0xff, 0xff, 0xff])],
@@ -53,41 +58,62 @@ const NEW: [(&str, ObjType, u128, Parts); 3] = [
     (LONGEST_NAME, Stream, 0, LONGEST),
 ];
 
-#[test]
-fn new_entries_are_written(rt: HostRuntime) -> Result<(), Fail> {
-    let mut slot = [0xaa; DIR_ENTRY_LEN];
-    for (name, kind, id, parts) in &NEW {
-        assert!(rt; path::validate_name(rt.alloc(), name)?.len() < 32);
-        let mut entry = DirEntry::new(
-            String::from_str(rt.alloc(), name)?,
-            *kind,
-            Timestamp::zero(),
-        );
-        entry.clsid = Uuid::from_u128(*id);
-        entry.write_to(&mut slot);
-        assert!(rt; slot == with([0; DIR_ENTRY_LEN], parts), "{name}");
+fn is_written(alloc: Global, (name, kind, id, parts): &New) -> Result<bool, Error> {
+    if path::validate_name(alloc, name)?.len() > 31 {
+        return Ok(false);
     }
-    DirEntry::empty_root_entry(rt.alloc())?.write_to(&mut slot);
-    assert_eq!(rt; slot, with([0; DIR_ENTRY_LEN], ROOT));
-    // An empty name takes no memory.
-    let heap = Refusing::new(rt.alloc());
-    heap.refuse_all();
-    DirEntry::unallocated(&heap).write_to(&mut slot);
-    assert_eq!(rt; slot, with([0; DIR_ENTRY_LEN], UNALLOCATED));
-    assert_eq!(rt; heap.asked(), 0);
+    let mut slot = [0xaa; DIR_ENTRY_LEN];
+    let mut entry = DirEntry::new(String::from_str(alloc, name)?, *kind, Timestamp::zero());
+    entry.clsid = Uuid::from_u128(*id);
+    entry.write_to(&mut slot);
+    Ok(slot == with([0; DIR_ENTRY_LEN], parts))
+}
+
+fn is_root_written(alloc: Global) -> Result<bool, Error> {
+    let mut slot = [0xaa; DIR_ENTRY_LEN];
+    DirEntry::empty_root_entry(alloc)?.write_to(&mut slot);
+    Ok(slot == with([0; DIR_ENTRY_LEN], ROOT))
+}
+
+fn is_unallocated_written<A: Allocator>(alloc: A) -> bool {
+    let mut slot = [0xaa; DIR_ENTRY_LEN];
+    DirEntry::unallocated(alloc).write_to(&mut slot);
+    slot == with([0; DIR_ENTRY_LEN], UNALLOCATED)
+}
+
+fn are_written(rt: &impl Abort, alloc: Global, rows: &[New]) -> Result<(), Error> {
+    for new in rows {
+        assert!(rt; is_written(alloc, new)?, "{}", new.0);
+    }
     Ok(())
 }
 
+#[test]
+fn new_entries_are_written(rt: HostRuntime) -> Result<(), Fail> {
+    are_written(&rt, rt.alloc(), &NEW)?;
+    assert!(rt; is_root_written(rt.alloc())?);
+    Ok(())
+}
+
+/// An empty name takes no memory.
+#[test]
+fn unallocated_entries_are_written(rt: HostRuntime) {
+    let heap = Refusing::new(rt.alloc());
+    heap.refuse_all();
+    assert!(rt; is_unallocated_written(&heap) && heap.asked() == 0);
+}
+
+const FOOBAR_PARTS: Parts = &[
+    (0, b"F\0o\0o\0b\0a\0r\0"),
+    (64, &[14, 0, 0, 1, 12, 0, 0, 0, 34, 0, 0, 0]),
+    (76, &[0xff; 4]),
+];
+
 /// The slot of a black object `Foobar` with siblings and no child.
 fn foobar(kind: u8) -> Slot {
-    with(
-        [0; DIR_ENTRY_LEN],
-        &[
-            (0, b"F\0o\0o\0b\0a\0r\0"),
-            (64, &[14, 0, kind, 1, 12, 0, 0, 0, 34, 0, 0, 0]),
-            (76, &[0xff; 4]),
-        ],
-    )
+    let mut slot = with([0; DIR_ENTRY_LEN], FOOBAR_PARTS);
+    slot[66] = kind;
+    slot
 }
 
 type What = (&'static str, ObjType, Color);
@@ -97,8 +123,10 @@ type Fields = (What, [u32; 3], (u128, u32), [u64; 2], (u32, u64));
 
 /// Type and bytes that are put into `foobar`'s slot, version and mode; what is read then, and what is
 /// written in other bytes again.
+type Row = (u8, Parts, Version, Validation, Fields, Parts);
+
 #[rattlefmt::skip]
-const READ: [(u8, Parts, Version, Validation, Fields, Parts); 9] = [
+const READ: [Row; 9] = [
     (
         1,
         &[
@@ -144,26 +172,41 @@ const READ: [(u8, Parts, Version, Validation, Fields, Parts); 9] = [
     ),
 ];
 
+fn has_fields(entry: &DirEntry, (what, links, class, moments, content): &Fields) -> bool {
+    (entry.name.as_str(), entry.obj_type, entry.color) == *what
+        && [entry.left_sibling, entry.right_sibling, entry.child] == *links
+        && (entry.clsid.as_u128(), entry.state_bits) == *class
+        && [entry.creation_time.value(), entry.modified_time.value()] == *moments
+        && (entry.start_sector, entry.stream_len) == *content
+}
+
+fn is_read(alloc: Global, row: &Row) -> Result<bool, Error> {
+    let (kind, parts, version, mode, fields, others) = row;
+    let slot = with(foobar(*kind), parts);
+    let entry = DirEntry::read_from(alloc, &slot, *version, *mode)?;
+    let mut written = [0xaa; DIR_ENTRY_LEN];
+    entry.write_to(&mut written);
+    Ok(has_fields(&entry, fields) && written == with(slot, others))
+}
+
+fn are_read(rt: &impl Abort, alloc: Global, rows: &[Row]) -> Result<(), Error> {
+    for (i, row) in rows.iter().enumerate() {
+        assert!(rt; is_read(alloc, row)?, "row {i}");
+    }
+    Ok(())
+}
+
 #[test]
 fn slots_are_read_and_written_again(rt: HostRuntime) -> Result<(), Fail> {
-    for (kind, parts, version, mode, (what, links, class, moments, content), others) in &READ {
-        let slot = with(foobar(*kind), parts);
-        let e = DirEntry::read_from(rt.alloc(), &slot, *version, *mode)?;
-        assert_eq!(rt; (e.name.as_str(), e.obj_type, e.color), *what);
-        assert_eq!(rt; [e.left_sibling, e.right_sibling, e.child], *links);
-        assert_eq!(rt; (e.clsid.as_u128(), e.state_bits), *class);
-        assert_eq!(rt;
-            [e.creation_time.value(), e.modified_time.value()],
-            *moments
-        );
-        assert_eq!(rt; (e.start_sector, e.stream_len), *content);
-        let mut written = [0xaa; DIR_ENTRY_LEN];
-        e.write_to(&mut written);
-        assert_eq!(rt; written, with(slot, others));
-    }
-    let text = format!(in rt.alloc(); "{:?}", DirEntry::unallocated(rt.alloc()))?;
+    are_read(&rt, rt.alloc(), &READ)?;
+    Ok(())
+}
+
+#[test]
+fn entries_are_printed(rt: HostRuntime) -> Result<(), Fail> {
     let start =
         "DirEntry { name: \"\", obj_type: Unallocated, color: Red, left_sibling: 4294967295";
+    let text = format!(in rt.alloc(); "{:?}", DirEntry::unallocated(rt.alloc()))?;
     assert!(rt; text.starts_with(start));
     Ok(())
 }
@@ -193,17 +236,22 @@ const MODES: [(u8, u8, usize, &[u8], u8, u8); 37] = [
     (4, 1, 124, b"\x01", 0, 4), // storage's high length
 ];
 
+/// The number of the error, or 0.
+fn refusal(alloc: Global, slot: &Slot, version: Version, mode: Validation) -> u8 {
+    match DirEntry::read_from(alloc, slot, version, mode) {
+        Ok(_) => 0,
+        Err(e) => e.number(),
+    }
+}
+
 #[test]
 fn each_mode_takes_its_slots(rt: HostRuntime) {
     for (version, kind, at, bytes, permissive, strict) in &MODES {
         let slot = with(foobar(*kind), &[(*at, *bytes)]);
         let version = if *version == 3 { V3 } else { V4 };
-        for (mode, want) in [(Permissive, permissive), (Strict, strict)] {
-            let found = match DirEntry::read_from(rt.alloc(), &slot, version, mode) {
-                Ok(_) => 0,
-                Err(e) => e.number(),
-            };
-            assert!(rt; found == *want, "{kind} with {bytes:?} at {at}");
-        }
+        let found = refusal(rt.alloc(), &slot, version, Permissive);
+        assert!(rt; found == *permissive, "{kind} with {bytes:?} at {at}");
+        let found = refusal(rt.alloc(), &slot, version, Strict);
+        assert!(rt; found == *strict, "{kind} with {bytes:?} at {at}, strictly");
     }
 }

@@ -7,9 +7,10 @@ use cfb_format::error::Error;
 use cfb_format::validate::Validation;
 use cfb_format::version::Version;
 use cfb_media::refusing::Refusing;
-use std::alloc::Allocator;
+use std::alloc::{Allocator, Global};
 use std::cmp::Ordering;
 use std::collections::HashMap;
+use std::process::Abort;
 use std::test::Fail;
 
 /// The calls that take memory, each with how many requests it makes at least.
@@ -26,104 +27,143 @@ fn is_right<A: Allocator + Clone>(
     call: &str,
 ) -> Result<bool, Error> {
     match call {
-        "default letters" => {
-            let cases = CaseMapper::new(alloc)?;
-            Ok(path::compare_names(&cases, "gr\u{fc}n", "GR\u{dc}N") == Ordering::Equal)
-        }
-        "given letters" => {
-            let cases = CaseMapper::from_pairs(alloc, &[('\u{e9}', 'X')])?;
-            Ok(path::compare_names(&cases, "caf\u{e9}", "CAFX") == Ordering::Equal)
-        }
-        "cloned letters" => {
-            let copy = cases.clone()?;
-            Ok(path::compare_names(&copy, "\u{ff}", "\u{178}") == Ordering::Equal)
-        }
-        "key" => {
-            let key = path::name_key(alloc, cases, "Gr\u{fc}n \u{1f600}")?;
-            let letters = ['G', 'R', '\u{dc}', 'N', ' ', '\u{1f600}'];
-            Ok(key.units == 7 && key.letters.as_slice() == letters.as_slice())
-        }
-        "units" => {
-            let units = path::validate_name(alloc, "a\u{1f600}")?;
-            Ok(units.as_slice() == [0x61u16, 0xd83d, 0xde00].as_slice())
-        }
-        "names" => {
-            let names = path::name_chain_from_path(alloc, "/a/b/../c//d/e/f")?;
-            Ok(names.as_slice() == ["a", "c", "d", "e", "f"].as_slice())
-        }
-        "path" => {
-            let path = path::path_from_name_chain(alloc, &["a", "storage of streams", "stream"])?;
-            Ok(path.as_str() == "/a/storage of streams/stream")
-        }
-        _ => is_right_entry(alloc, call),
+        "default letters" => are_default_letters(alloc),
+        "given letters" => are_given_letters(alloc),
+        "cloned letters" => are_cloned_letters(cases),
+        "key" => is_key(alloc, cases),
+        "units" => are_units(alloc),
+        "names" => are_names(alloc),
+        "path" => is_path(alloc),
+        "empty root" => is_empty_root(alloc),
+        "entry" => is_entry(alloc),
+        "root of other name" => is_root_of_other_name(alloc),
+        "runs" => are_runs(alloc),
+        _ => Ok(is_list(alloc.clone()?)? && is_map(alloc)?),
     }
 }
 
-/// The bytes of a storage with a name that has more bytes than units, over zeros.
+fn are_default_letters<A: Allocator>(alloc: A) -> Result<bool, Error> {
+    let cases = CaseMapper::new(alloc)?;
+    Ok(path::compare_names(&cases, "gr\u{fc}n", "GR\u{dc}N") == Ordering::Equal)
+}
+
+fn are_given_letters<A: Allocator>(alloc: A) -> Result<bool, Error> {
+    let cases = CaseMapper::from_pairs(alloc, &[('\u{e9}', 'X')])?;
+    Ok(path::compare_names(&cases, "caf\u{e9}", "CAFX") == Ordering::Equal)
+}
+
+fn are_cloned_letters<A: Allocator + Clone>(cases: &CaseMapper<A>) -> Result<bool, Error> {
+    let copy = cases.clone()?;
+    Ok(path::compare_names(&copy, "\u{ff}", "\u{178}") == Ordering::Equal)
+}
+
+const LETTERS: &[char] = &['G', 'R', '\u{dc}', 'N', ' ', '\u{1f600}'];
+
+fn is_key<A: Allocator>(alloc: A, cases: &CaseMapper<A>) -> Result<bool, Error> {
+    let key = path::name_key(alloc, cases, "Gr\u{fc}n \u{1f600}")?;
+    Ok(key.units == 7 && key.letters.as_slice() == LETTERS)
+}
+
+const UNITS: &[u16] = &[0x61, 0xd83d, 0xde00];
+
+fn are_units<A: Allocator>(alloc: A) -> Result<bool, Error> {
+    Ok(path::validate_name(alloc, "a\u{1f600}")?.as_slice() == UNITS)
+}
+
+const NAMES: &[&str] = &["a", "c", "d", "e", "f"];
+
+fn are_names<A: Allocator>(alloc: A) -> Result<bool, Error> {
+    Ok(path::name_chain_from_path(alloc, "/a/b/../c//d/e/f")?.as_slice() == NAMES)
+}
+
+const CHAIN: &[&str] = &["a", "storage of streams", "stream"];
+
+fn is_path<A: Allocator>(alloc: A) -> Result<bool, Error> {
+    let path = path::path_from_name_chain(alloc, CHAIN)?;
+    Ok(path.as_str() == "/a/storage of streams/stream")
+}
+
+/// The bytes of an object with a name that has more bytes than units, over zeros.
 #[rattlefmt::skip]
-const GREEN: Parts = &[(0, b"G\0r\0\xfc\0n\0"), (64, &[10, 0, 1, 1]), (68, &[0xff; 12])];
+const GREEN: Parts = &[(0, b"G\0r\0\xfc\0n\0"), (64, &[10, 0, 0, 1]), (68, &[0xff; 12])];
+
+fn is_empty_root<A: Allocator>(alloc: A) -> Result<bool, Error> {
+    Ok(DirEntry::empty_root_entry(alloc)?.name.as_str() == "Root Entry")
+}
+
+/// The slot of an object of this type with that name.
+fn green_slot(kind: u8) -> [u8; DIR_ENTRY_LEN] {
+    let mut slot = with([0; DIR_ENTRY_LEN], GREEN);
+    slot[66] = kind;
+    slot
+}
+
+fn is_entry<A: Allocator>(alloc: A) -> Result<bool, Error> {
+    let entry = DirEntry::read_from(alloc, &green_slot(1), Version::V4, Validation::Strict)?;
+    Ok(entry.name.as_str() == "Gr\u{fc}n")
+}
+
+/// The name that stands there is read first, and then the root has its own.
+fn is_root_of_other_name<A: Allocator>(alloc: A) -> Result<bool, Error> {
+    let root = DirEntry::read_from(alloc, &green_slot(5), Version::V3, Validation::Permissive)?;
+    Ok(root.name.as_str() == "Root Entry")
+}
 
 #[rattlefmt::skip]
-const RUNS: [Run; 5] = [Run::End, Run::Numbers(1, 1), Run::Numbers(7, 0), Run::Numbers(9, 0), Run::Numbers(11, 0)];
+const RUNS: &[Run] = &[Run::End, Run::Numbers(1, 1), Run::Numbers(7, 0), Run::Numbers(9, 0), Run::Numbers(11, 0)];
 
-fn is_right_entry<A: Allocator + Clone>(alloc: A, call: &str) -> Result<bool, Error> {
-    match call {
-        "empty root" => {
-            let root = DirEntry::empty_root_entry(alloc)?;
-            Ok(root.name.as_str() == "Root Entry")
-        }
-        "entry" => {
-            let slot = with([0; DIR_ENTRY_LEN], GREEN);
-            let entry = DirEntry::read_from(alloc, &slot, Version::V4, Validation::Strict)?;
-            Ok(entry.name.as_str() == "Gr\u{fc}n")
-        }
-        // The name that stands there is read first, and then the root has its own.
-        "root of other name" => {
-            let slot = with(with([0; DIR_ENTRY_LEN], GREEN), &[(66, &[5])]);
-            let root = DirEntry::read_from(alloc, &slot, Version::V3, Validation::Permissive)?;
-            Ok(root.name.as_str() == "Root Entry")
-        }
-        "runs" => {
-            let runs = prettify(alloc, &[END_OF_CHAIN, 1, 2, 7, 9, 11])?;
-            Ok(runs.as_slice() == RUNS.as_slice())
-        }
-        _ => {
-            let mut list = Vec::new(alloc.clone()?);
-            let mut map = HashMap::new(alloc);
-            for i in 0..40u32 {
-                list.push(i)?;
-                map.insert(i, i)?;
-            }
-            Ok(list.len() + map.len() == 80)
-        }
+fn are_runs<A: Allocator>(alloc: A) -> Result<bool, Error> {
+    Ok(prettify(alloc, &[END_OF_CHAIN, 1, 2, 7, 9, 11])?.as_slice() == RUNS)
+}
+
+/// A list that grows.
+fn is_list<A: Allocator>(alloc: A) -> Result<bool, Error> {
+    let mut list = Vec::new(alloc);
+    for i in 0..40u32 {
+        list.push(i)?;
     }
+    Ok(list.len() == 40)
+}
+
+/// A map that grows.
+fn is_map<A: Allocator + Clone>(alloc: A) -> Result<bool, Error> {
+    let mut map = HashMap::new(alloc);
+    for i in 0..40u32 {
+        map.insert(i, i)?;
+    }
+    Ok(map.len() == 40)
+}
+
+/// Where each request of a call is refused in turn, it is refused itself, and passes again.
+fn is_refused_in_turn<'a>(
+    rt: &impl Abort,
+    heap: &'a Refusing<Global>,
+    cases: &CaseMapper<&'a Refusing<Global>>,
+    (call, least): &(&str, u64),
+) {
+    heap.refuse_none();
+    let start = heap.asked();
+    assert!(rt; is_right(heap, cases, call) == Ok(true), "{call}");
+    let all = heap.asked().saturating_sub(start);
+    assert!(rt; all >= *least, "{call}");
+    for before in 0..all {
+        heap.refuse_after(before);
+        let refused = is_right(heap, cases, call) == Err(Error::Memory);
+        let then = is_right(heap, cases, call) == Ok(true);
+        assert!(rt; refused && then, "{call} at {before}");
+    }
+    heap.refuse_after(all);
+    assert!(rt; is_right(heap, cases, call) == Ok(true), "{call}");
+    heap.refuse_all();
+    assert!(rt; is_right(heap, cases, call) == Err(Error::Memory), "{call}");
 }
 
 #[test]
 fn requests_are_refused_in_turn(rt: HostRuntime) -> Result<(), Fail> {
     let heap = Refusing::new(rt.alloc());
     let cases = CaseMapper::new(&heap)?;
-    for (call, least) in &CALLS {
-        heap.refuse_none();
-        let start = heap.asked();
-        assert!(rt; is_right(&heap, &cases, call) == Ok(true), "{call}");
-        let all = heap.asked().saturating_sub(start);
-        assert!(rt; all >= *least, "{call}");
-        for before in 0..all {
-            heap.refuse_after(before);
-            let found = (is_right(&heap, &cases, call), is_right(&heap, &cases, call));
-            assert!(rt;
-                found == (Err(Error::Memory), Ok(true)),
-                "{call} at {before}"
-            );
-        }
-        heap.refuse_after(all);
-        assert!(rt; is_right(&heap, &cases, call) == Ok(true), "{call}");
-        heap.refuse_all();
-        assert!(rt;
-            is_right(&heap, &cases, call) == Err(Error::Memory),
-            "{call}"
-        );
+    for call in &CALLS {
+        is_refused_in_turn(&rt, &heap, &cases, call);
     }
     Ok(())
 }

@@ -7,6 +7,9 @@ use cfb_format::error::{Detail, Error};
 use cfb_format::header::Header;
 use cfb_format::medium::MediumFault;
 use cfb_format::validate::Validation;
+use std::alloc::{AllocError, Global};
+use std::fmt::Debug;
+use std::process::Abort;
 use std::test::Fail;
 
 const END: u32 = END_OF_CHAIN;
@@ -17,8 +20,11 @@ const FAT: u32 = FAT_SECTOR;
 
 const DIFAT: u32 = DIFAT_SECTOR;
 
+/// Words of a table, and how they are printed.
+type Words = (&'static [u32], &'static str);
+
 #[rattlefmt::skip]
-const WORDS: [(&[u32], &str); 4] = [
+const WORDS: [Words; 4] = [
     (
         &[END, 0, 1, 2, 3, 4, 5, 6, 7, END, 23, 25, 18, FREE, FREE, 27, FREE],
         "[EOC, 0..=7, EOC, 23, 25, 18, 2 FREE, 27, FREE]",
@@ -66,29 +72,52 @@ const HEADER_TEXT: &str = "Header { version: V3, num_dir_sectors: 0, num_fat_sec
      first_dir_sector: 1, first_minifat_sector: EOC, num_minifat_sectors: 0, \
      first_difat_sector: EOC, num_difat_sectors: 0, initial_difat_entries: [0] }";
 
-#[test]
-fn texts_are_printed(rt: HostRuntime) -> Result<(), Fail> {
-    for (words, text) in &WORDS {
-        let runs = prettify(rt.alloc(), words)?;
-        assert_eq!(rt; format!(in rt.alloc(); "{runs:?}")?.as_str(), *text);
-        assert_eq!(rt;
-            format!(in rt.alloc(); "{:?}", Runs(words))?.as_str(),
-            *text
-        );
+/// Whether the value is printed so.
+fn is_printed<T: Debug>(alloc: Global, value: &T, text: &str) -> bool {
+    let Ok(found) = format!(in alloc; "{value:?}") else {
+        return false;
+    };
+    found.as_str() == text
+}
+
+fn are_words_printed(alloc: Global, words: &[u32], text: &str) -> Result<bool, Error> {
+    let runs = prettify(alloc, words)?;
+    Ok(is_printed(alloc, &runs, text) && is_printed(alloc, &Runs(words), text))
+}
+
+/// Whether the error is told so.
+fn is_told(alloc: Global, error: &Error, text: &str) -> Result<bool, AllocError> {
+    Ok(format!(in alloc; "{error}")?.as_str() == text)
+}
+
+fn are_all_printed(rt: &impl Abort, alloc: Global, rows: &[Words]) -> Result<(), Error> {
+    for (words, text) in rows {
+        assert!(rt; are_words_printed(alloc, words, text)?, "{text}");
     }
+    Ok(())
+}
+
+#[test]
+fn words_are_printed(rt: HostRuntime) -> Result<(), Fail> {
+    are_all_printed(&rt, rt.alloc(), &WORDS)?;
+    Ok(())
+}
+
+#[test]
+fn errors_are_told(rt: HostRuntime) -> Result<(), Fail> {
     for (error, number, text) in &errors() {
-        assert_eq!(rt; error.number(), *number);
-        assert_eq!(rt; format!(in rt.alloc(); "{error}")?.as_str(), *text);
+        assert!(rt; error.number() == *number, "{text}");
+        assert!(rt; is_told(rt.alloc(), error, text)?, "{text}");
     }
     let fault = Error::Medium(MediumFault::Open);
-    assert_eq!(rt;
-        format!(in rt.alloc(); "{fault:?}")?.as_str(),
-        "Medium(Open)"
-    );
-    let header = Header::read_from(
-        &with([0xff; HEADER_LEN], &[(0, HEADER)]),
-        Validation::Strict,
-    )?;
-    assert_eq!(rt; format!(in rt.alloc(); "{header:?}")?.as_str(), HEADER_TEXT);
+    assert!(rt; is_printed(rt.alloc(), &fault, "Medium(Open)"));
+    Ok(())
+}
+
+#[test]
+fn headers_are_printed(rt: HostRuntime) -> Result<(), Fail> {
+    let bytes = with([0xff; HEADER_LEN], &[(0, HEADER)]);
+    let header = Header::read_from(&bytes, Validation::Strict)?;
+    assert!(rt; is_printed(rt.alloc(), &header, HEADER_TEXT));
     Ok(())
 }

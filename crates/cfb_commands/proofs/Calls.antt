@@ -15,7 +15,7 @@ use Rattle.cfb_commands.proofs.Errors.{refusal_is}
 
 -- ---- a medium that can give more faults
 
-counts_wider : (few all : MediumFault → Bool) (old new : ℕ) (e : Error) → ((f : MediumFault) → IsTrue (few f) → IsTrue (all f)) → CountsError few old new e → CountsError all old new e
+pub counts_wider : (few all : MediumFault → Bool) (old new : ℕ) (e : Error) → ((f : MediumFault) → IsTrue (few f) → IsTrue (all f)) → CountsError few old new e → CountsError all old new e
 counts_wider few all old new (Medium f) wider counts = record { can = wider f counts.can; rises = counts.rises }
 counts_wider few all old new (NotFound d) wider counts = counts
 counts_wider few all old new (AlreadyExists d) wider counts = counts

@@ -9,3 +9,4 @@ pub mod Quiet
 pub mod Asking
 pub mod Calls
 pub mod Fitting
+pub mod Faults

@@ -1,3 +1,4 @@
 pub mod Commands
 pub mod Working
 pub mod Kinds
+pub mod Faults

@@ -1,5 +1,6 @@
 //! What is listed of a storage, taken into a list of its own.
-ghost use Rattle.std.specs.Prelude.{IsTrue, chars};
+ghost use Rattle.std.specs.Prelude.{IfErr, IsTrue, chars};
+ghost use Rattle.cfb_compound_file.specs.Asking.{IsOfAsking};
 ghost use Rattle.cfb_path_changes.specs.Answers.{Answers};
 ghost use Rattle.cfb_rules.specs.Calls.{entries, read_storage, walk_storage};
 ghost use Rattle.cfb_commands.specs.Commands.{call_answer};
@@ -16,8 +17,9 @@ pub(crate) fn read_list<F: ReadMedium, A: Heap + Clone>(
     file: &CompoundFile<F, A>,
     path: &str,
 ) -> Result<Vec<Entry<A>, A>, Error>
-    ensures { IsTrue F.tells → Answers file.now (read_storage (chars path.now)) (call_answer
+    ensures answers { IsTrue F.tells → Answers file.now (read_storage (chars path.now)) (call_answer
         (λ list. entries list.items) result) }
+    ensures kinds { IfErr result IsOfAsking }
 {
     let list = file.read_storage(path)?;
     Ok(list.collect(alloc.clone()?)?)
@@ -29,8 +31,9 @@ pub(crate) fn walk_list<F: ReadMedium, A: Heap + Clone>(
     file: &CompoundFile<F, A>,
     path: &str,
 ) -> Result<Vec<Entry<A>, A>, Error>
-    ensures { IsTrue F.tells → Answers file.now (walk_storage (chars path.now)) (call_answer
+    ensures answers { IsTrue F.tells → Answers file.now (walk_storage (chars path.now)) (call_answer
         (λ list. entries list.items) result) }
+    ensures kinds { IfErr result IsOfAsking }
 {
     let list = file.walk_storage(path)?;
     Ok(list.collect(alloc.clone()?)?)

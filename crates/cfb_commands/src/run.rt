@@ -1,6 +1,7 @@
 //! Commands are done one after the other.
-ghost use Rattle.std.specs.Prelude.{◌≡◌, ◌≤◌, ◌+◌, ◌||◌, IsTrue, drop, length, map, take, vec_capacity};
+ghost use Rattle.std.specs.Prelude.{◌≡◌, ◌≤◌, ◌+◌, ◌||◌, All, IsTrue, drop, length, map, take, vec_capacity};
 ghost use Rattle.cfb_commands.specs.Commands.{command_of, reply_of};
+ghost use Rattle.cfb_commands.specs.Faults.{IsGiven};
 ghost use Rattle.cfb_commands.specs.Kinds.{AreOfKinds, IsOfKind, kind_of_command};
 ghost use Rattle.cfb_command_steps.specs.Made.{StaysMade};
 ghost use Rattle.cfb_commands.specs.Working.{Answers, RunsLegally};
@@ -19,6 +20,7 @@ fn run_one<F: Medium, A: Heap + Clone>(
     command: &Command<A>,
 ) -> Reply<A>
     ensures of_kind { IsOfKind (kind_of_command command.now) result }
+    ensures given { IsTrue F.tells → IsGiven (λ f. F.read_faults f || F.write_faults f) result }
     ensures answers { IsTrue F.tells → Answers (λ f. F.read_faults f || F.write_faults f) file.old
         (command_of command.now) (reply_of result) file.new }
 {
@@ -55,7 +57,7 @@ fn run_one<F: Medium, A: Heap + Clone>(
 }
 
 /// Does these commands in their order, whether or not one is refused, and appends one reply a command, of the command's kind; `replies` has
-/// room for them.
+/// room for them. A fault that a reply tells is one that the medium can give.
 ///
 /// Each command is answered as its call is. A stream command on a failed file is answered by `Failed`; else room is had for its replies
 /// (`Memory`), the stream is opened, its operations are done in their order, whether or not one is refused, and it is closed. `Read` has
@@ -70,6 +72,8 @@ pub fn run<F: Medium, A: Heap + Clone>(
     ensures one_each { length replies.new.items
         ≡ length replies.old.items + length commands.now }
     ensures of_kinds { AreOfKinds (map kind_of_command commands.now)
+        (drop (length replies.old.items) replies.new.items) }
+    ensures given { IsTrue F.tells → All (IsGiven (λ f. F.read_faults f || F.write_faults f))
         (drop (length replies.old.items) replies.new.items) }
     ensures runs { IsTrue F.tells → RunsLegally (λ f. F.read_faults f || F.write_faults f) file.old
         (map command_of commands.now) (map reply_of (drop (length replies.old.items)

@@ -1,5 +1,5 @@
 //! What is done with one stream, from its opening to its closing.
-ghost use Rattle.std.specs.Prelude.{◌≡◌, ◌≤◌, ◌||◌, ℕ, List, [], IfErr, IfOk, IsTrue, length, map, chars, vec_capacity};
+ghost use Rattle.std.specs.Prelude.{◌≡◌, ◌≤◌, ◌||◌, ℕ, All, List, [], IfErr, IfOk, IsTrue, length, map, chars, vec_capacity};
 ghost use Rattle.std.specs.Borrow.{sem};
 ghost use Rattle.cfb_agreement.specs.Files.{FileState, SameSetting};
 ghost use Rattle.cfb_command_steps.specs.Promised.{CallKeeps, IsOpenSince, IsWorkedOn};
@@ -9,6 +9,7 @@ ghost use Rattle.cfb_rules.specs.Calls.{refused};
 ghost use Rattle.cfb_rules.specs.Lists.{on_stream, opening_call};
 ghost use Rattle.cfb_rules.specs.StreamCalls.{got, read, read_to_end};
 ghost use Rattle.cfb_commands.specs.Commands.{opening_of, refusal_of, stream_answer, stream_call_of, stream_reply_of, streamed_reply};
+ghost use Rattle.cfb_commands.specs.Faults.{CanBeGiven, IsAnswerGiven, IsWorkGiven};
 ghost use Rattle.cfb_commands.specs.Kinds.{kind_of_answer, kind_of_op};
 ghost use Rattle.cfb_commands.specs.Working.{Answers, IsOpenedBy, LendsNothing, Works};
 
@@ -27,6 +28,8 @@ fn read_some<F: Medium, A: Heap + Clone>(
     wanted: usize,
 ) -> Result<Vec<u8, A>, Error>
     ensures same_file { (file_of stream.new).ghost_name ≡ (file_of stream.old).ghost_name }
+    ensures given { IsTrue F.tells
+        → IfErr result (CanBeGiven (λ f. F.read_faults f || F.write_faults f)) }
     ensures works { IsTrue F.tells → LendsNothing (open_of stream.old)
         → IsWorkedOn (open_of stream.old) (read wanted) (stream_answer (λ bytes.
         got bytes.items) result) (open_of stream.new) }
@@ -48,6 +51,8 @@ fn read_rest<F: Medium, A: Heap + Clone>(
     stream: &mut Stream<'_, F, A>,
 ) -> Result<Vec<u8, A>, Error>
     ensures same_file { (file_of stream.new).ghost_name ≡ (file_of stream.old).ghost_name }
+    ensures given { IsTrue F.tells
+        → IfErr result (CanBeGiven (λ f. F.read_faults f || F.write_faults f)) }
     ensures works { IsTrue F.tells → LendsNothing (open_of stream.old)
         → IsWorkedOn (open_of stream.old) read_to_end (stream_answer (λ bytes.
         got bytes.items) result) (open_of stream.new) }
@@ -68,6 +73,8 @@ fn work<F: Medium, A: Heap + Clone>(
 ) -> StreamReply<A>
     ensures same_file { (file_of stream.new).ghost_name ≡ (file_of stream.old).ghost_name }
     ensures of_kind { kind_of_answer result ≡ kind_of_op op.now }
+    ensures given { IsTrue F.tells
+        → IsAnswerGiven (λ f. F.read_faults f || F.write_faults f) result }
     ensures works { IsTrue F.tells → LendsNothing (open_of stream.old)
         → IsWorkedOn (open_of stream.old) (stream_call_of op.now) (stream_reply_of result)
         (open_of stream.new) }
@@ -95,6 +102,8 @@ fn work_all<F: Medium, A: Heap + Clone>(
     requires room { length ops.now ≤ vec_capacity replies.old }
     ensures same_file { (file_of stream.new).ghost_name ≡ (file_of stream.old).ghost_name }
     ensures of_kinds { map kind_of_answer replies.new.items ≡ map kind_of_op ops.now }
+    ensures given { IsTrue F.tells
+        → All (IsAnswerGiven (λ f. F.read_faults f || F.write_faults f)) replies.new.items }
     ensures works { IsTrue F.tells → (first opened : FileState) (path : List ℕ) (tree : Tree)
         → SameSetting first opened → IsOpenSince opened path (open_of stream.old)
         → LendsNothing (open_of stream.old) → Works (λ f. F.read_faults f || F.write_faults f)
@@ -117,6 +126,8 @@ fn opened<'f, F: Medium, A: Heap + Clone>(
     ensures opened { IsTrue F.tells → IfOk result (λ s. IsOpenedBy (λ f. F.read_faults f
         || F.write_faults f) (opening_call (opening_of how) (chars path.now)) file.old
         (chars path.now) (open_of s)) }
+    ensures given { IsTrue F.tells
+        → IfErr result (CanBeGiven (λ f. F.read_faults f || F.write_faults f)) }
     ensures* refused { sem 𝓛 (file_rests F.row A.row F.ReadMedium F.Medium.own A.Allocator
         (λ old last e. IsTrue F.tells → CallKeeps (λ f. F.read_faults f || F.write_faults f) old
         (opening_call (opening_of how) (chars path.now)) (refused (refusal_of e)) last) file.entry
@@ -142,6 +153,8 @@ pub(crate) fn run_on_stream<F: Medium, A: Heap + Clone>(
 ) -> Result<(Vec<StreamReply<A>, A>, Result<(), Error>), Error>
     ensures of_kinds { IfOk result (λ works.
         map kind_of_answer works.0.items ≡ map kind_of_op ops.now) }
+    ensures given { IsTrue F.tells
+        → IsWorkGiven (λ f. F.read_faults f || F.write_faults f) result }
     ensures answers { IsTrue F.tells → Answers (λ f. F.read_faults f || F.write_faults f) file.old
         (on_stream (opening_of how) (chars path.now) (map stream_call_of ops.now))
         (streamed_reply result) file.new }

@@ -12,3 +12,4 @@ pub mod WritesOut
 pub mod MadeFiles
 pub mod Reopening
 pub mod Beginning
+pub mod RefusedKinds

@@ -19,11 +19,13 @@ module _ {T : Type 0} (tells : Bool) (old new : OpenStream) (result : Result T E
   abbrev pub WritesOutAtMost : Type 0
   WritesOutAtMost = OnOk result (IsSettled (stored_in old) old.window (stored_in new))
 
-  -- Reading a piece: the file is left alone where a byte is held at the position, at the end, and where the buffer did not get the room that
-  -- it wants, which is that for what is left.
-  pub record BuffersRead : Type 0 where
+  -- Reading so many bytes: the file is left alone where a byte is held at the position, and at the end. From 65536 on what is not held goes
+  -- straight to the caller, and the buffer takes no room for it; for fewer, and for a lent piece, which asks for none, the file is left alone
+  -- too where the buffer did not get the room that it wants, which is that for what is left.
+  pub record BuffersRead (wanted : ℕ) : Type 0 where
     pub held : StandsInside old.window → new.file ≡ old.file
-    pub grown : new.window.room < min (left_of old.window) old.window.bound → new.file ≡ old.file
+    pub grown : wanted < 65536 → new.window.room < min (left_of old.window) old.window.bound → new.file ≡ old.file
+    pub straight : 65536 ≤ wanted → new.window.room ≡ old.window.room
     pub lean : new.window.room ≤ max old.window.room (min (left_of old.window) old.window.bound)
     pub settles : IsTrue tells → WritesOutAtMost
 

@@ -10,3 +10,5 @@ pub mod StdLending
 pub mod OpenedStreams
 pub mod Adding
 pub mod Printed
+pub mod Asking
+pub mod Taken

@@ -49,7 +49,7 @@ module _ (F A : RattleType) (r : reading.Ghosts F.Denot) (h : heap.Ghosts A.Deno
     pub goes_on : GoesOn r.tells (open_of old) (open_of new)
     pub counts : IsTrue r.tells → CountsFailure r.read_faults result (failures_of (file_of old).now) (failures_of (file_of new).now)
     pub kept : IsTrue r.tells → kept_of (file_of new).now ≡ kept_of (file_of old).now
-    pub buffers : BuffersRead r.tells (open_of old) (open_of new) result
+    pub buffers : BuffersRead r.tells (open_of old) (open_of new) result 0
 
   abbrev pub stream_rests : MutBor (ReadStream F.Denot A.Denot Window r b) → Result (Bor (List ℕ)) Error → Fml
   stream_rests s result = Rests (stream.the_row (record { mir = named 1; lft = [] }) F A (window.the_row A h) r b h) s (λ new. IsFilled result s.now new)

@@ -51,7 +51,7 @@ module _ (F A : RattleType) (r : reading.Ghosts F.Denot) (g : writing.Ghosts F.D
     pub goes_on : GoesOn r.tells (open_of old) (open_of new)
     pub counts : IsTrue r.tells → CountsFailure (λ f. r.read_faults f || g.write_faults f) result (failures_of (file_of old).now) (failures_of (file_of new).now)
     pub calm : IsTrue r.tells → (window_of old).pending ≡ false → kept_of (file_of new).now ≡ kept_of (file_of old).now
-    pub buffers : BuffersRead r.tells (open_of old) (open_of new) result
+    pub buffers : BuffersRead r.tells (open_of old) (open_of new) result 0
 
   abbrev pub stream_rests : MutBor (Stream F.Denot A.Denot Window g r b) → Result (Bor (List ℕ)) Error → Fml
   stream_rests s result = Rests (stream.the_row (record { mir = named 1; lft = [] }) F A (window.the_row A h) g r b h) s (λ new. IsFilled result s.now new)

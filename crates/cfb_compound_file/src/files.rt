@@ -5,6 +5,7 @@ ghost use Rattle.cfb_format.specs.declared.version.Version.TheVariants.{V4};
 ghost use Rattle.cfb_mini_sectors.specs.State.{version_of};
 ghost use Rattle.cfb_opening.specs.Opened.{IsOfOpening};
 ghost use Rattle.cfb_compound_file.specs.Opening.{IsOfCreating};
+ghost use Rattle.cfb_compound_file.specs.Taken.{TakesOptions};
 
 use crate::compound_file::CompoundFile;
 use crate::options::OpenOptions;
@@ -56,6 +57,7 @@ impl<A: Heap + Clone> OpenOptions<A> {
         path: &str,
     ) -> Result<CompoundFile<FileMedium, A>, Error>
         ensures version { IfOk result (λ file. version_of file.base ≡ V4) }
+        ensures options { IfOk result (TakesOptions self) }
         ensures kinds { IfErr result IsOfCreating }
     {
         let medium = FileMedium::create(rt, path)?;

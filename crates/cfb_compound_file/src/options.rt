@@ -8,6 +8,7 @@ ghost use Rattle.cfb_format.specs.Refused.{IsMemory};
 ghost use Rattle.cfb_mini_sectors.specs.State.{version_of};
 ghost use Rattle.cfb_opening.specs.Opened.{IsOfOpening};
 ghost use Rattle.cfb_compound_file.specs.Opening.{CreatingRefused, IsCreatedWith, IsOfCreating, IsOpenedWith, OpeningWithRefused, permissive_options, strict_options};
+ghost use Rattle.cfb_compound_file.specs.Taken.{TakesOptions};
 
 use crate::compound_file::CompoundFile;
 use cfb_agreement::laws;
@@ -139,6 +140,7 @@ impl<A: Heap + Clone> OpenOptions<A> {
         ensures answers { IsTrue F.tells → MatchResult result
             (IsCreatedWith V4 self (F.failures medium)) (CreatingRefused F.write_faults) }
         ensures version { IfOk result (λ file. version_of file.base ≡ V4) }
+        ensures options { IfOk result (TakesOptions self) }
         ensures kinds { IfErr result IsOfCreating }
     {
         self.create_as(alloc, Version::V4, medium)
@@ -155,6 +157,7 @@ impl<A: Heap + Clone> OpenOptions<A> {
         ensures answers { IsTrue F.tells → MatchResult result
             (IsCreatedWith version self (F.failures medium)) (CreatingRefused F.write_faults) }
         ensures version { IfOk result (λ file. version_of file.base ≡ version) }
+        ensures options { IfOk result (TakesOptions self) }
         ensures kinds { IfErr result IsOfCreating }
     {
         let letters = letters_of(&alloc, self.letters)?;

@@ -15,6 +15,7 @@ ghost use Rattle.cfb_listing.specs.Left.{entries_left};
 ghost use Rattle.cfb_listing.specs.Listings.{ListsChildren, Walks};
 ghost use Rattle.cfb_mini_sectors.specs.State.{cases_of, entries_of};
 ghost use Rattle.cfb_path_changes.specs.Answers.{Answers, AnswersNot};
+ghost use Rattle.cfb_compound_file.specs.Asking.{IsOfAsking};
 ghost use Rattle.cfb_path_changes.specs.Finding.{FindingRefused, IsObjectOf, IsStorageOf, LeadTo, is_storage_or_root, kind_found};
 
 use crate::compound_file::CompoundFile;
@@ -190,6 +191,7 @@ impl<F: ReadMedium, A: Heap + Clone> CompoundFile<F, A> {
             → IfOk result (λ e. Answers self.now (entry (chars path.now)) (one_entry e)) }
         ensures refused { IsTrue F.tells
             → IfErr result (AnswersNot self.now (entry (chars path.now))) }
+        ensures kinds { IfErr result IsOfAsking }
     {
         let (names, number) = self.find(path)?;
         self.told_at(&names, number)
@@ -212,6 +214,7 @@ impl<F: ReadMedium, A: Heap + Clone> CompoundFile<F, A> {
             Answers self.now (read_storage (chars path.now)) (entries (entries_left list))) }
         ensures refused { IsTrue F.tells
             → IfErr result (AnswersNot self.now (read_storage (chars path.now))) }
+        ensures kinds { IfErr result IsOfAsking }
     {
         let (names, number) = self.find(path)?;
         if is_stream_entry(self.volume.entries(), number) {
@@ -237,6 +240,7 @@ impl<F: ReadMedium, A: Heap + Clone> CompoundFile<F, A> {
             Answers self.now (walk_storage (chars path.now)) (entries (entries_left list))) }
         ensures refused { IsTrue F.tells
             → IfErr result (AnswersNot self.now (walk_storage (chars path.now))) }
+        ensures kinds { IfErr result IsOfAsking }
     {
         let (names, number) = self.find(path)?;
         let Some((_, before)) = names.split_last() else {

@@ -79,7 +79,8 @@ impl<'a, F: ReadMedium, A: Heap + Clone> ReadStream<'a, F, A> {
         ensures counts { IsTrue F.tells → CountsFailure F.read_faults result
             (failures_of (file_of self.old).now) (failures_of (file_of self.new).now) }
         ensures none { length into.old ≡ 0 → (file_of self.new).now ≡ (file_of self.old).now }
-        ensures buffers { BuffersRead F.tells (open_of self.old) (open_of self.new) result }
+        ensures buffers { BuffersRead F.tells (open_of self.old) (open_of self.new) result
+            (length into.old) }
     {
         self.window.read(self.file, self.entry, into)
     }

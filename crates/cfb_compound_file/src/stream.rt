@@ -89,7 +89,8 @@ impl<'a, F: Medium, A: Heap + Clone> Stream<'a, F, A> {
         ensures calm { IsTrue F.tells → (window_of self.old).pending ≡ false
             → kept_of (file_of self.new).now ≡ kept_of (file_of self.old).now }
         ensures none { length into.old ≡ 0 → (file_of self.new).now ≡ (file_of self.old).now }
-        ensures buffers { BuffersRead F.tells (open_of self.old) (open_of self.new) result }
+        ensures buffers { BuffersRead F.tells (open_of self.old) (open_of self.new) result
+            (length into.old) }
     {
         self.window.read(self.file, self.entry, into)
     }

@@ -1,49 +1,209 @@
 //! What a copy tells, and which files are not copied.
-use crate::files::{STREAMS, are_alike, filled, has_content, numbered, put, same_bytes};
-use cfb::{CompoundFile, Error, MemoryMedium, ReadMedium, Version};
-use cfb_media::media::{Failing, Kind};
+ghost use Rattle.std.specs.Prelude.{◌≡◌, [], IsTrue};
+
+use crate::files::{
+    SHORT_STREAMS, STREAMS, StreamRow, filled, has_content, numbered, put, tells, told,
+};
+use cfb::{CompoundFile, Error, Medium, MemoryMedium, ReadMedium, Timestamp, Version};
+use cfb_media::media::{Failing, Kind, Sip};
 use std::alloc::{Allocator, Global};
 use std::test::Fail;
 
-/// Whether a copy tells the same and is sound, and its bytes are accepted strictly and tell the same.
+/// Whether a copy tells this, has these streams, and is sound.
+fn is_right<A: Allocator + Clone>(
+    alloc: Global,
+    copy: &mut CompoundFile<MemoryMedium, A>,
+    wanted: &[u8],
+    streams: &[StreamRow],
+) -> Result<bool, Error> {
+    let is_alike = tells(alloc, copy, wanted)? && has_content(alloc, copy, streams)?;
+    Ok(is_alike && copy.is_sound() && !copy.is_failed())
+}
+
+/// Whether bytes are accepted strictly, and tell this.
+fn is_accepted(alloc: Global, bytes: Vec<u8>, wanted: &[u8]) -> Result<bool, Error> {
+    let mut opened = CompoundFile::open_strict(alloc, MemoryMedium::from_bytes(bytes))?;
+    tells(alloc, &mut opened, wanted)
+}
+
+/// Whether a copy is right, and its bytes are accepted and tell the same.
+fn is_copy<A: Allocator + Clone>(
+    alloc: Global,
+    mut copy: CompoundFile<MemoryMedium, A>,
+    wanted: &[u8],
+    streams: &[StreamRow],
+) -> Result<bool, Error> {
+    let is_right = is_right(alloc, &mut copy, wanted, streams);
+    let bytes = copy.into_inner().into_bytes();
+    Ok(is_right? && is_accepted(alloc, bytes, wanted)?)
+}
+
+/// Whether a file that tells this is copied, and still tells it then.
+fn is_copied_as_told<F: ReadMedium, A: Allocator + Clone>(
+    alloc: Global,
+    source: &mut CompoundFile<F, A>,
+    wanted: &[u8],
+    streams: &[StreamRow],
+) -> Result<bool, Error> {
+    let copy = source.copy_to(MemoryMedium::new(alloc))?;
+    Ok(is_copy(alloc, copy, wanted, streams)? && tells(alloc, source, wanted)?)
+}
+
+/// Whether a copy tells the same as the file, has these streams and is sound, and its bytes are accepted strictly and tell the same.
 fn is_copied<F: ReadMedium, A: Allocator + Clone>(
     alloc: Global,
     source: &mut CompoundFile<F, A>,
-) -> Result<bool, Fail> {
-    let mut copy = source.copy_to(MemoryMedium::new(alloc))?;
-    let is_alike = are_alike(alloc, source, &mut copy)? && has_content(alloc, &mut copy, &STREAMS)?;
-    let is_sound = copy.is_sound() && !copy.is_failed();
-    let medium = MemoryMedium::from_bytes(copy.into_inner().into_bytes());
-    let mut opened = CompoundFile::open_strict(alloc, medium)?;
-    Ok(is_alike && is_sound && are_alike(alloc, source, &mut opened)?)
+    streams: &[StreamRow],
+) -> Result<bool, Error> {
+    let wanted = told(alloc, source)?;
+    is_copied_as_told(alloc, source, &wanted, streams)
+}
+
+/// Whether a file with these bytes is copied, and stays as it was.
+fn is_copied_and_kept(alloc: Global, version: Version, bytes: &[u8]) -> Result<bool, Error> {
+    let medium = MemoryMedium::from_bytes(Vec::from_slice(alloc, bytes)?);
+    let mut source = CompoundFile::open_strict(alloc, medium)?;
+    let is_copied = is_copied(alloc, &mut source, &STREAMS);
+    let is_whole = source.version() == version && !source.is_failed();
+    let left = source.into_inner().into_bytes();
+    Ok(is_copied? && is_whole && left.as_slice() == bytes)
 }
 
 #[test]
 fn copies_tell_the_same(rt: HostRuntime) -> Result<(), Fail> {
     for version in [Version::V3, Version::V4] {
         let bytes = filled(rt.alloc(), version, &STREAMS)?;
-        let medium = MemoryMedium::from_bytes(same_bytes(rt.alloc(), &bytes)?);
-        let mut source = CompoundFile::open_strict(rt.alloc(), medium)?;
-        assert!(rt; is_copied(rt.alloc(), &mut source)?, "{version:?}");
-        assert!(rt; source.version() == version && !source.is_failed());
-        assert!(rt; source.into_inner().into_bytes() == bytes);
+        assert!(rt;
+            is_copied_and_kept(rt.alloc(), version, &bytes)?,
+            "{version:?}"
+        );
     }
     Ok(())
 }
 
-/// A file of version 3 with the stream `/a` of 5000 bytes, in the sectors 2 to 11; where it is not `whole`, its chain ends at the second.
-fn one_stream(alloc: Global, whole: bool) -> Result<CompoundFile<MemoryMedium>, Fail> {
-    let medium = MemoryMedium::new(alloc);
-    let mut file = CompoundFile::create_with_version(alloc, Version::V3, medium)?;
-    put(&mut file, "/a", &numbered(alloc, 5000)?)?;
-    let mut bytes = file.into_inner().into_bytes();
-    // The FAT is the first sector behind the header, and has 4 bytes for each sector.
-    if !whole && bytes.get(524..528) == Some([4u8, 0, 0, 0].as_slice()) {
-        for (byte, end) in bytes.iter_mut().skip(524).zip([0xfeu8, 0xff, 0xff, 0xff]) {
-            *byte = end;
+/// The other medium, once the file on the one is copied into it.
+fn copied<F: Medium>(alloc: Global, medium: F, dest: F) -> Result<F, Error>
+    requires empty_medium { IsTrue F.tells → F.bytes dest ≡ [] }
+{
+    let mut source = CompoundFile::open(alloc, medium)?;
+    match source.copy_to(dest) {
+        Ok(copy) => Ok(copy.into_inner()),
+        Err(e) => Err(e),
+    }
+}
+
+/// Whether media that serve a byte a call make the same of a file.
+fn is_same_in_sips(alloc: Global, bytes: Vec<u8>) -> Result<bool, Error> {
+    let medium = MemoryMedium::from_bytes(Vec::from_slice(alloc, &bytes)?);
+    let whole = copied(alloc, medium, MemoryMedium::new(alloc))?;
+    let sipping = Sip::new(MemoryMedium::from_bytes(bytes));
+    let sipped = copied(alloc, sipping, Sip::new(MemoryMedium::new(alloc)))?;
+    Ok(sipped.into_inner().into_bytes() == whole.into_bytes())
+}
+
+#[test]
+fn single_bytes_make_the_same(rt: HostRuntime) -> Result<(), Fail> {
+    for version in [Version::V3, Version::V4] {
+        let bytes = filled(rt.alloc(), version, &SHORT_STREAMS)?;
+        assert!(rt; is_same_in_sips(rt.alloc(), bytes)?, "{version:?}");
+    }
+    Ok(())
+}
+
+/// Puts a word in the place of another one, if that stands there.
+fn change(bytes: &mut [u8], at: usize, old: [u8; 4], new: [u8; 4]) {
+    if bytes.get(at..at.saturating_add(4)) == Some(old.as_slice()) {
+        for (byte, other) in bytes.iter_mut().skip(at).zip(new) {
+            *byte = other;
         }
     }
+}
+
+/// Makes the stream `/a` of 5000 bytes, in the sectors 2 to 11, and where there are to be two, `/b` of as many zeros behind it.
+fn put_streams(
+    alloc: Global,
+    file: &mut CompoundFile<MemoryMedium>,
+    two: bool,
+) -> Result<(), Fail> {
+    put(file, "/a", &numbered(alloc, 5000)?)?;
+    if two {
+        put(file, "/b", &vec![in alloc; 0u8; 5000]?)?;
+    }
+    Ok(())
+}
+
+/// The bytes of a file of version 3 with these streams.
+fn with_streams(alloc: Global, two: bool) -> Result<Vec<u8>, Fail> {
+    let medium = MemoryMedium::new(alloc);
+    let mut file = CompoundFile::create_with_version(alloc, Version::V3, medium)?;
+    put_streams(alloc, &mut file, two)?;
+    Ok(file.into_inner().into_bytes())
+}
+
+/// A file with the stream `/a`; where it is not `whole`, its chain ends at the second sector.
+fn one_stream(alloc: Global, whole: bool) -> Result<CompoundFile<MemoryMedium>, Fail> {
+    let mut bytes = with_streams(alloc, false)?;
+    if !whole {
+        // The FAT is the first sector behind the header, and has 4 bytes for each sector.
+        change(&mut bytes, 524, [4, 0, 0, 0], [0xfe, 0xff, 0xff, 0xff]);
+    }
     Ok(CompoundFile::open(alloc, MemoryMedium::from_bytes(bytes))?)
+}
+
+/// A file in which `/b` begins in the first sector of `/a`, too, so that it is not sound.
+fn two_on_one(alloc: Global) -> Result<CompoundFile<MemoryMedium>, Fail> {
+    let mut bytes = with_streams(alloc, true)?;
+    // The directory is the second sector behind the header, and has 128 bytes for each entry, of which the start is at 116.
+    change(&mut bytes, 1396, [12, 0, 0, 0], [2, 0, 0, 0]);
+    Ok(CompoundFile::open(alloc, MemoryMedium::from_bytes(bytes))?)
+}
+
+/// Whether a file is copied with both streams, which have the same bytes, and stays as unsound as it was.
+fn is_copied_unsound(alloc: Global, file: &mut CompoundFile<MemoryMedium>) -> Result<bool, Error> {
+    let is_copied = is_copied(alloc, file, &[("/a", 5000, 0), ("/b", 5000, 0)])?;
+    Ok(is_copied && !file.is_sound() && !file.is_failed())
+}
+
+fn are_two_copied(alloc: Global) -> Result<bool, Fail> {
+    let mut source = two_on_one(alloc)?;
+    Ok(is_copied_unsound(alloc, &mut source)?)
+}
+
+#[test]
+fn files_that_are_not_sound_are_copied(rt: HostRuntime) -> Result<(), Fail> {
+    assert!(rt; are_two_copied(rt.alloc())?);
+    Ok(())
+}
+
+/// The path of so many storages, each in the one before.
+fn deep_path(alloc: Global, count: usize) -> Result<String, Error> {
+    let mut path = String::new(alloc);
+    for _turn in 0..count {
+        path.push_str("d/")?;
+    }
+    Ok(path)
+}
+
+/// Whether a file in which the path is made is copied.
+fn is_copied_with(
+    alloc: Global,
+    file: &mut CompoundFile<MemoryMedium>,
+    path: &str,
+) -> Result<bool, Error> {
+    file.create_storage_all(path, Timestamp::zero())?;
+    is_copied(alloc, file, &[])
+}
+
+fn is_path_copied(alloc: Global, path: &str) -> Result<bool, Error> {
+    let mut file = CompoundFile::create(alloc, MemoryMedium::new(alloc))?;
+    is_copied_with(alloc, &mut file, path)
+}
+
+#[test]
+fn storages_in_storages_are_copied(rt: HostRuntime) -> Result<(), Fail> {
+    let path = deep_path(rt.alloc(), 2000)?;
+    assert!(rt; is_path_copied(rt.alloc(), &path)?);
+    Ok(())
 }
 
 /// How a copy is refused, if it is, by a medium that fails where a byte is written at all.
@@ -55,30 +215,60 @@ fn refusal<F: ReadMedium, A: Allocator + Clone>(
     source.copy_to(dest).err()
 }
 
+/// Whether a file is not copied because of its bytes, and is as before then, so that it is so again.
+fn is_refused_again(alloc: Global, file: &mut CompoundFile<MemoryMedium>) -> bool {
+    for _turn in 0..2 {
+        let refused = refusal(alloc, file);
+        if !matches!(refused, Some(Error::InvalidData(_))) || file.is_failed() {
+            return false;
+        }
+    }
+    true
+}
+
+/// Whether a file is not copied because of the medium alone.
+fn is_refused_by_medium(alloc: Global, file: &mut CompoundFile<MemoryMedium>) -> bool {
+    let refused = refusal(alloc, file);
+    let copied = file.copy_to(MemoryMedium::new(alloc));
+    matches!(refused, Some(Error::Medium(_))) && copied.is_ok()
+}
+
+fn is_refused(alloc: Global, whole: bool) -> Result<bool, Fail> {
+    let mut file = one_stream(alloc, whole)?;
+    Ok(if whole {
+        is_refused_by_medium(alloc, &mut file)
+    } else {
+        is_refused_again(alloc, &mut file)
+    })
+}
+
 #[test]
 fn streams_that_are_not_whole_are_refused_first(rt: HostRuntime) -> Result<(), Fail> {
-    let mut cut = one_stream(rt.alloc(), false)?;
-    for _turn in 0..2 {
-        let refused = refusal(rt.alloc(), &mut cut);
-        assert!(rt;
-            matches!(refused, Some(Error::InvalidData(_))),
-            "{refused:?}"
-        );
-        assert!(rt; !cut.is_failed());
+    for whole in [false, true] {
+        assert!(rt; is_refused(rt.alloc(), whole)?, "{whole}");
     }
-    let mut whole = one_stream(rt.alloc(), true)?;
-    let refused = refusal(rt.alloc(), &mut whole);
-    assert!(rt; matches!(refused, Some(Error::Medium(_))), "{refused:?}");
-    assert!(rt; whole.copy_to(MemoryMedium::new(rt.alloc())).is_ok());
     Ok(())
+}
+
+/// Whether a file is copied, and is not once it has failed at a flush.
+fn is_copied_until_it_fails<F: Medium, A: Allocator + Clone>(
+    alloc: Global,
+    file: &mut CompoundFile<F, A>,
+) -> bool {
+    let is_copied = file.copy_to(MemoryMedium::new(alloc)).is_ok();
+    let is_failed = file.flush().is_err() && file.is_failed();
+    is_copied && is_failed && refusal(alloc, file) == Some(Error::Failed)
+}
+
+/// The same of a file whose medium fails at its first flush.
+fn is_failed_refused(alloc: Global) -> Result<bool, Error> {
+    let medium = Failing::onwards(MemoryMedium::new(alloc), Kind::Flush, 1);
+    let mut file = CompoundFile::create(alloc, medium)?;
+    Ok(is_copied_until_it_fails(alloc, &mut file))
 }
 
 #[test]
 fn failed_files_are_not_copied(rt: HostRuntime) -> Result<(), Fail> {
-    let medium = Failing::onwards(MemoryMedium::new(rt.alloc()), Kind::Flush, 1);
-    let mut file = CompoundFile::create(rt.alloc(), medium)?;
-    assert!(rt; file.copy_to(MemoryMedium::new(rt.alloc())).is_ok());
-    assert!(rt; file.flush().is_err() && file.is_failed());
-    assert!(rt; refusal(rt.alloc(), &mut file) == Some(Error::Failed));
+    assert!(rt; is_failed_refused(rt.alloc())?);
     Ok(())
 }

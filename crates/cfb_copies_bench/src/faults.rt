@@ -1,7 +1,7 @@
 //! Copies of which each call of a medium and each request for memory goes wrong in turn.
 ghost use Rattle.std.specs.Prelude.{◌≡◌, [], IsTrue};
 
-use crate::files::{SHORT_STREAMS, are_alike, filled, same_bytes};
+use crate::files::{SHORT_STREAMS, are_alike, filled};
 use cfb::{CompoundFile, Error, Medium, MediumFault, MemoryMedium, ReadMedium, Version};
 use cfb_media::media::{Failing, Kind};
 use cfb_media::refusing::Refusing;
@@ -9,7 +9,7 @@ use std::alloc::{Allocator, Global};
 use std::test::Fail;
 
 /// What goes wrong: a read of the file, a write of the copy, a request of the call, or one of the copy's medium.
-#[derive(Clone, Copy, Debug, PartialEq, Eq)]
+#[derive(Clone, Copy)]
 enum Fault {
     Read,
     Write,
@@ -31,106 +31,109 @@ const TURNS: u64 = 5000;
 const COPIES: u64 = 8;
 
 /// What came of a copy of which something was to go wrong.
-#[derive(Clone, Copy, Debug, PartialEq, Eq)]
+#[derive(Drop)]
 enum Turn {
     /// It went wrong before, while the file was opened.
     Unopened,
     /// It was refused so; the file has not failed then, and the next copy tells the same.
     Refused(Error),
     /// It was refused, and the file has failed or the next copy tells something else.
-    Lost(Error),
+    Lost,
     Copied,
+}
+
+/// Whether a file has not failed, and a copy tells the same.
+fn is_kept<F: ReadMedium, A: Allocator + Clone>(
+    alloc: Global,
+    source: &mut CompoundFile<F, A>,
+) -> Result<bool, Error> {
+    if source.is_failed() {
+        return Ok(false);
+    }
+    let mut copy = source.copy_to(MemoryMedium::new(alloc))?;
+    are_alike(alloc, source, &mut copy)
 }
 
 fn turn_of<F: ReadMedium, A: Allocator + Clone, W: Medium>(
     alloc: Global,
     source: &mut CompoundFile<F, A>,
     dest: W,
-) -> Result<Turn, Fail>
+) -> Result<Turn, Error>
     requires empty_medium { IsTrue W.tells → W.bytes dest ≡ [] }
 {
     let Some(refused) = source.copy_to(dest).err() else {
         return Ok(Turn::Copied);
     };
-    let is_kept = !source.is_failed();
-    let mut copy = source.copy_to(MemoryMedium::new(alloc))?;
-    if is_kept && are_alike(alloc, source, &mut copy)? {
+    if is_kept(alloc, source)? {
         return Ok(Turn::Refused(refused));
     }
-    Ok(Turn::Lost(refused))
+    Ok(Turn::Lost)
 }
 
-fn with_failing_read(alloc: Global, bytes: Vec<u8>, nth: u64) -> Result<Turn, Fail> {
-    let medium = Failing::once(MemoryMedium::from_bytes(bytes), Kind::Read, nth);
-    let Ok(mut source) = CompoundFile::open(alloc, medium) else {
+/// The number of the call that fails at the file's medium, and at the copy's. 0: none.
+fn failing_calls(fault: Fault, before: u64) -> (u64, u64) {
+    let nth = before.saturating_add(1);
+    match fault {
+        Fault::Read => (nth, 0),
+        Fault::Write => (0, nth),
+        _ => (0, 0),
+    }
+}
+
+/// Copies a file with these bytes, over this memory for it and for the copy's medium, with a fault behind so many calls or requests.
+fn copied(
+    alloc: Global,
+    heap: &Refusing<Global>,
+    growth: &Refusing<Global>,
+    bytes: Vec<u8>,
+    (fault, before): (Fault, u64),
+) -> Result<Turn, Error> {
+    let (read, write) = failing_calls(fault, before);
+    let medium = Failing::once(MemoryMedium::from_bytes(bytes), Kind::Read, read);
+    let Ok(mut source) = CompoundFile::open(heap, medium) else {
         return Ok(Turn::Unopened);
     };
-    turn_of(alloc, &mut source, MemoryMedium::new(alloc))
-}
-
-fn with_failing_write(alloc: Global, bytes: Vec<u8>, nth: u64) -> Result<Turn, Fail> {
-    let mut source = CompoundFile::open(alloc, MemoryMedium::from_bytes(bytes))?;
-    let dest = Failing::once(MemoryMedium::new(alloc), Kind::Write, nth);
+    match fault {
+        Fault::Request => heap.refuse_after(before),
+        Fault::Growth => growth.refuse_after(before),
+        _ => {}
+    }
+    let dest = Failing::once(MemoryMedium::new(growth), Kind::Write, write);
     turn_of(alloc, &mut source, dest)
 }
 
-fn with_refused_request(alloc: Global, bytes: Vec<u8>, before: u64) -> Result<Turn, Fail> {
+fn played(alloc: Global, bytes: &[u8], fault: Fault, before: u64) -> Result<Turn, Error> {
+    let bytes = Vec::from_slice(alloc, bytes)?;
     let heap = Refusing::new(alloc);
-    let mut source = CompoundFile::open(&heap, MemoryMedium::from_bytes(bytes))?;
-    heap.refuse_after(before);
-    turn_of(alloc, &mut source, MemoryMedium::new(alloc))
+    let growth = Refusing::new(alloc);
+    copied(alloc, &heap, &growth, bytes, (fault, before))
 }
 
-fn with_refused_growth(alloc: Global, bytes: Vec<u8>, before: u64) -> Result<Turn, Fail> {
-    let heap = Refusing::new(alloc);
-    let mut source = CompoundFile::open(alloc, MemoryMedium::from_bytes(bytes))?;
-    heap.refuse_after(before);
-    turn_of(alloc, &mut source, MemoryMedium::new(&heap))
-}
-
-fn played(alloc: Global, bytes: &[u8], fault: Fault, before: u64) -> Result<Turn, Fail> {
-    let bytes = same_bytes(alloc, bytes)?;
-    match fault {
-        Fault::Read => with_failing_read(alloc, bytes, before.saturating_add(1)),
-        Fault::Write => with_failing_write(alloc, bytes, before.saturating_add(1)),
-        Fault::Request => with_refused_request(alloc, bytes, before),
-        Fault::Growth => with_refused_growth(alloc, bytes, before),
-    }
-}
-
-/// Plays a fault at each place in turn, up to some copies without one: how many were refused as they are to be, and the first turn
-/// that is wrong.
-fn refusals(
-    alloc: Global,
-    bytes: &[u8],
-    fault: Fault,
-    error: Error,
-) -> Result<(u64, Option<Turn>), Fail> {
+/// Plays a fault at each place in turn, up to some copies without one: how many were refused as they are to be, and whether no turn
+/// was wrong.
+fn refusals(alloc: Global, bytes: &[u8], fault: Fault, error: Error) -> Result<(u64, bool), Error> {
     let mut refusals = 0u64;
     let mut copies = 0u64;
     for before in 0..TURNS {
-        let turn = played(alloc, bytes, fault, before)?;
-        if turn == Turn::Copied {
-            copies = copies.saturating_add(1);
-        } else if turn == Turn::Refused(error) && copies == 0 {
-            refusals = refusals.saturating_add(1);
-        } else if turn != Turn::Unopened || refusals > 0 {
-            return Ok((refusals, Some(turn)));
+        match played(alloc, bytes, fault, before)? {
+            Turn::Copied => copies = copies.saturating_add(1),
+            Turn::Refused(e) if e == error && copies == 0 => refusals = refusals.saturating_add(1),
+            Turn::Unopened if refusals == 0 => {}
+            _ => return Ok((refusals, false)),
         }
         if copies == COPIES {
-            return Ok((refusals, None));
+            return Ok((refusals, true));
         }
     }
-    Ok((refusals, Some(Turn::Copied)))
+    Ok((refusals, false))
 }
 
 #[test]
 fn faults_are_told_and_leave_the_file(rt: HostRuntime) -> Result<(), Fail> {
     let bytes = filled(rt.alloc(), Version::V3, &SHORT_STREAMS)?;
-    for (fault, error, at_least) in FAULTS {
-        let (count, wrong) = refusals(rt.alloc(), &bytes, fault, error)?;
-        assert!(rt; wrong.is_none(), "{fault:?} {count} {wrong:?}");
-        assert!(rt; at_least <= count, "{fault:?} {count}");
+    for (fault, error, at_least) in &FAULTS {
+        let (count, is_right) = refusals(rt.alloc(), &bytes, *fault, *error)?;
+        assert!(rt; is_right && *at_least <= count, "{error:?} {count}");
     }
     Ok(())
 }

@@ -1,4 +1,4 @@
-//! Files with storages in each other, and whether two of them tell the same.
+//! Files with storages in each other, and all that is told of a file.
 use cfb::{CompoundFile, Entry, Error, Medium, MemoryMedium, ReadMedium, Timestamp, Version};
 use std::alloc::{Allocator, Global};
 use std::io::Write;
@@ -34,19 +34,12 @@ pub const SHORT_STREAMS: [StreamRow; 3] = [
 ];
 
 /// So many bytes that tell where they stand.
-pub fn numbered(alloc: Global, count: usize) -> Result<Vec<u8>, Fail> {
-    let mut bytes = Vec::new(alloc);
-    for place in 0..count {
-        bytes.push((place % 251 + 1) as u8)?;
+pub fn numbered(alloc: Global, count: usize) -> Result<Vec<u8>, Error> {
+    let mut bytes = vec![in alloc; 0u8; count]?;
+    for (place, byte) in bytes.iter_mut().enumerate() {
+        *byte = (place % 251 + 1) as u8;
     }
     Ok(bytes)
-}
-
-/// The same bytes once more.
-pub fn same_bytes(alloc: Global, bytes: &[u8]) -> Result<Vec<u8>, Fail> {
-    let mut same = Vec::new(alloc);
-    same.extend_from_slice(bytes)?;
-    Ok(same)
 }
 
 /// Makes a stream of these bytes.
@@ -62,22 +55,46 @@ pub fn put<F: Medium, A: Allocator + Clone>(
     Ok(())
 }
 
+fn put_row<F: Medium, A: Allocator + Clone>(
+    alloc: Global,
+    file: &mut CompoundFile<F, A>,
+    (path, len, bits): &StreamRow,
+) -> Result<(), Fail> {
+    put(file, path, &numbered(alloc, *len)?)?;
+    file.set_state_bits(path, *bits)?;
+    Ok(())
+}
+
+fn stamp<F: Medium, A: Allocator + Clone>(
+    file: &mut CompoundFile<F, A>,
+    path: &str,
+    moment: u64,
+) -> Result<(), Error> {
+    let later = moment.saturating_add(1);
+    file.set_created_time(path, Timestamp::read_from(&moment.to_le_bytes()))?;
+    file.set_modified_time(path, Timestamp::read_from(&later.to_le_bytes()))
+}
+
+fn put_storage<F: Medium, A: Allocator + Clone>(
+    file: &mut CompoundFile<F, A>,
+    (path, id, bits, moment): &Storage,
+) -> Result<(), Error> {
+    file.create_storage_all(path, Timestamp::zero())?;
+    file.set_storage_clsid(path, Uuid::from_u128(*id))?;
+    file.set_state_bits(path, *bits)?;
+    stamp(file, path, *moment)
+}
+
 fn fill<F: Medium, A: Allocator + Clone>(
     alloc: Global,
     file: &mut CompoundFile<F, A>,
     streams: &[StreamRow],
 ) -> Result<(), Fail> {
-    for (path, id, bits, moment) in &STORAGES {
-        file.create_storage_all(path, Timestamp::zero())?;
-        file.set_storage_clsid(path, Uuid::from_u128(*id))?;
-        file.set_state_bits(path, *bits)?;
-        file.set_created_time(path, Timestamp::read_from(&moment.to_le_bytes()))?;
-        let later = moment.saturating_add(1);
-        file.set_modified_time(path, Timestamp::read_from(&later.to_le_bytes()))?;
+    for storage in &STORAGES {
+        put_storage(file, storage)?;
     }
-    for (path, len, bits) in streams {
-        put(file, path, &numbered(alloc, *len)?)?;
-        file.set_state_bits(path, *bits)?;
+    for stream in streams {
+        put_row(alloc, file, stream)?;
     }
     Ok(())
 }
@@ -89,18 +106,28 @@ pub fn filled(alloc: Global, version: Version, streams: &[StreamRow]) -> Result<
     Ok(file.into_inner().into_bytes())
 }
 
-/// All bytes of a stream.
-fn stored<F: ReadMedium, A: Allocator + Clone>(
+/// Appends all bytes of a stream.
+fn read_all<F: ReadMedium, A: Allocator + Clone>(
+    file: &mut CompoundFile<F, A>,
+    path: &str,
+    into: &mut Vec<u8>,
+) -> Result<(), Error> {
+    let mut stream = file.open_read_stream(path)?;
+    let read = stream.read_to_end(into);
+    stream.close()?;
+    read?;
+    Ok(())
+}
+
+fn has_bytes<F: ReadMedium, A: Allocator + Clone>(
     alloc: Global,
     file: &mut CompoundFile<F, A>,
     path: &str,
-) -> Result<Vec<u8>, Error> {
-    let mut bytes = Vec::new(alloc);
-    let mut stream = file.open_read_stream(path)?;
-    let read = stream.read_to_end(&mut bytes);
-    stream.close()?;
-    read?;
-    Ok(bytes)
+    bytes: &[u8],
+) -> Result<bool, Error> {
+    let mut found = Vec::new(alloc);
+    read_all(file, path, &mut found)?;
+    Ok(found.as_slice() == bytes)
 }
 
 /// Whether these streams have their bytes.
@@ -108,43 +135,103 @@ pub fn has_content<F: ReadMedium, A: Allocator + Clone>(
     alloc: Global,
     file: &mut CompoundFile<F, A>,
     streams: &[StreamRow],
-) -> Result<bool, Fail> {
+) -> Result<bool, Error> {
     for (path, len, _) in streams {
-        if stored(alloc, file, path)? != numbered(alloc, *len)? {
+        if !has_bytes(alloc, file, path, &numbered(alloc, *len)?)? {
             return Ok(false);
         }
     }
     Ok(true)
 }
 
-fn tells_the_same<A: Allocator, B: Allocator>(one: &Entry<A>, other: &Entry<B>) -> bool {
-    let named = one.name() == other.name() && one.path() == other.path();
-    let kind = one.is_stream() == other.is_stream() && one.is_root() == other.is_root();
-    let fields = one.clsid() == other.clsid() && one.state_bits() == other.state_bits();
-    let moments = one.created() == other.created() && one.modified() == other.modified();
-    named && kind && fields && moments && (!one.is_stream() || one.len() == other.len())
+/// Appends a text behind its length.
+fn tell_text(text: &str, told: &mut Vec<u8>) -> Result<(), Error> {
+    told.extend_from_slice(&(text.len() as u64).to_le_bytes())?;
+    told.extend_from_slice(text.as_bytes())?;
+    Ok(())
 }
 
-/// Whether the two have the same tree: the same is told of each object, in the same order, and each stream has the same bytes.
+/// Appends what is told of each object.
+fn tell_fields<A: Allocator>(entry: &Entry<A>, told: &mut Vec<u8>) -> Result<(), Error> {
+    told.push(u8::from(entry.is_root()))?;
+    told.extend_from_slice(entry.clsid().as_bytes())?;
+    told.extend_from_slice(&entry.state_bits().to_le_bytes())?;
+    told.extend_from_slice(&entry.created().value().to_le_bytes())?;
+    told.extend_from_slice(&entry.modified().value().to_le_bytes())?;
+    Ok(())
+}
+
+/// Appends the length and the bytes of a stream.
+fn tell_stream<F: ReadMedium, A: Allocator + Clone>(
+    file: &mut CompoundFile<F, A>,
+    entry: &Entry<A>,
+    told: &mut Vec<u8>,
+) -> Result<(), Error> {
+    told.extend_from_slice(&entry.len().to_le_bytes())?;
+    read_all(file, entry.path(), told)
+}
+
+/// Appends what is told of an object, with its bytes if it is a stream.
+fn tell<F: ReadMedium, A: Allocator + Clone>(
+    file: &mut CompoundFile<F, A>,
+    entry: &Entry<A>,
+    told: &mut Vec<u8>,
+) -> Result<(), Error> {
+    tell_text(entry.name(), told)?;
+    tell_text(entry.path(), told)?;
+    tell_fields(entry, told)?;
+    told.push(u8::from(entry.is_stream()))?;
+    if entry.is_stream() {
+        return tell_stream(file, entry, told);
+    }
+    Ok(())
+}
+
+fn tell_each<F: ReadMedium, A: Allocator + Clone>(
+    file: &mut CompoundFile<F, A>,
+    list: &[Entry<A>],
+    told: &mut Vec<u8>,
+) -> Result<(), Error> {
+    for entry in list {
+        tell(file, entry, told)?;
+    }
+    Ok(())
+}
+
+fn tell_all<F: ReadMedium, A: Allocator + Clone>(
+    alloc: Global,
+    file: &mut CompoundFile<F, A>,
+    told: &mut Vec<u8>,
+) -> Result<(), Error> {
+    let list: Vec<Entry<A>> = file.walk()?.collect(alloc)?;
+    tell_each(file, &list, told)
+}
+
+/// All that is told of a file: its version, and each object in order with its bytes.
+pub fn told<F: ReadMedium, A: Allocator + Clone>(
+    alloc: Global,
+    file: &mut CompoundFile<F, A>,
+) -> Result<Vec<u8>, Error> {
+    let mut bytes = Vec::from_slice(alloc, &file.version().number().to_le_bytes())?;
+    tell_all(alloc, file, &mut bytes)?;
+    Ok(bytes)
+}
+
+/// Whether a file tells this.
+pub fn tells<F: ReadMedium, A: Allocator + Clone>(
+    alloc: Global,
+    file: &mut CompoundFile<F, A>,
+    wanted: &[u8],
+) -> Result<bool, Error> {
+    Ok(told(alloc, file)?.as_slice() == wanted)
+}
+
+/// Whether two files tell the same.
 pub fn are_alike<F: ReadMedium, G: ReadMedium, A: Allocator + Clone, B: Allocator + Clone>(
     alloc: Global,
     one: &mut CompoundFile<F, A>,
     other: &mut CompoundFile<G, B>,
-) -> Result<bool, Fail> {
-    let list: Vec<Entry<A>> = one.walk()?.collect(alloc)?;
-    let other_list: Vec<Entry<B>> = other.walk()?.collect(alloc)?;
-    if list.len() != other_list.len() {
-        return Ok(false);
-    }
-    for (entry, told) in list.iter().zip(other_list.iter()) {
-        if !tells_the_same(entry, told) {
-            return Ok(false);
-        }
-        if entry.is_stream()
-            && stored(alloc, one, entry.path())? != stored(alloc, other, entry.path())?
-        {
-            return Ok(false);
-        }
-    }
-    Ok(one.version() == other.version())
+) -> Result<bool, Error> {
+    let wanted = told(alloc, one)?;
+    tells(alloc, other, &wanted)
 }

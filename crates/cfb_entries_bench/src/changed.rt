@@ -5,14 +5,28 @@ ghost use Rattle.cfb_outline.specs.Outlines.{IsReachedStorage};
 ghost use Rattle.cfb_siblings.specs.Laws.{grown_by};
 
 use crate::directories::is_stream;
-use cfb_codecs::path::validate_name;
+use cfb_codecs::direntry::DirEntry;
+use cfb_codecs::path::{CaseMapper, validate_name};
 use cfb_codecs::timestamp::Timestamp;
 use cfb_entries::entries::Entries;
 use cfb_entries::fresh::fresh_entries;
 use cfb_format::consts::NO_STREAM as NONE;
 use cfb_format::error::{Detail, Error};
 use cfb_format::objtype::ObjType::Stream;
+use cfb_format::validate::Validation;
+use cfb_outline::outline::reached_entries;
 use std::alloc::Global;
+
+/// The entries of a directory, as they are opened.
+pub fn opened(alloc: Global, list: Vec<DirEntry>, mode: Validation) -> Result<Entries, Error> {
+    let letters = CaseMapper::new(alloc)?;
+    Entries::new(&alloc, letters, list, mode)
+}
+
+/// How many entries are reached.
+pub fn reached(alloc: Global, entries: &Entries, mode: Validation) -> Result<usize, Error> {
+    Ok(reached_entries(alloc, entries.letters(), entries.list(), mode)?.len())
+}
 
 /// The storage at these names. `NotFound` where there is none.
 fn storage_at(entries: &Entries, names: &[&str]) -> Result<u32, Error>

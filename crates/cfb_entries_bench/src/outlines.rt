@@ -1,5 +1,5 @@
 //! Which directories have an outline, in which mode, and what is listed of them.
-use crate::directories::{Given, directory, entry, listed};
+use crate::directories::{Given, chain, directory, is_stream, reached_at};
 use cfb_codecs::direntry::DirEntry;
 use cfb_codecs::path::CaseMapper;
 use cfb_format::color::Color::{Black, Red};
@@ -7,8 +7,10 @@ use cfb_format::consts::NO_STREAM as NONE;
 use cfb_format::error::Error;
 use cfb_format::objtype::ObjType::{Root, Storage, Stream, Unallocated};
 use cfb_format::validate::Validation::{self, Permissive, Strict};
+use cfb_outline::listing::contents;
 use cfb_outline::outline::reached_entries;
-use std::alloc::Global;
+use std::alloc::{Allocator, Global};
+use std::process::Abort;
 use std::test::Fail;
 
 /// What stands for a directory that is refused.
@@ -105,87 +107,112 @@ const ROWS: [Row; 24] = [
     ),
 ];
 
-/// The numbers that are reached in this mode, or what stands for a refusal.
-fn reached(alloc: Global, entries: &[DirEntry], mode: Validation) -> Result<Vec<u32>, Error> {
-    let cases = CaseMapper::new(alloc)?;
+/// Whether these numbers are reached in this mode, or what stands for a refusal is wanted and comes.
+fn reaches(alloc: Global, entries: &[DirEntry], mode: Validation, wanted: &[u32]) -> bool {
+    let Ok(cases) = CaseMapper::new(alloc) else {
+        return false;
+    };
     match reached_entries(alloc, &cases, entries, mode) {
-        Err(Error::InvalidData(_)) => {
-            let mut marks = Vec::new(alloc);
-            marks.extend_from_slice(REFUSED)?;
-            Ok(marks)
-        }
-        other => other,
+        Ok(order) => order.as_slice() == wanted,
+        Err(e) => matches!(e, Error::InvalidData(_)) && wanted == REFUSED,
     }
 }
 
-#[test]
-fn outlines_are_found_or_refused(rt: HostRuntime) -> Result<(), Fail> {
-    for (about, given, wanted, strict) in &ROWS {
-        let entries = directory(rt.alloc(), given)?;
-        let found = reached(rt.alloc(), &entries, Permissive)?;
-        assert!(rt; found.as_slice() == *wanted, "{about}");
-        let wanted = if *strict { *wanted } else { REFUSED };
-        let found = reached(rt.alloc(), &entries, Strict)?;
-        assert!(rt; found.as_slice() == wanted, "{about}, strictly");
+fn is_found_or_refused(rt: &impl Abort, alloc: Global, entries: &[DirEntry], row: &Row) {
+    let (about, _, wanted, strict) = row;
+    assert!(rt; reaches(alloc, entries, Permissive, wanted), "{about}");
+    let wanted = if *strict { *wanted } else { REFUSED };
+    assert!(rt;
+        reaches(alloc, entries, Strict, wanted),
+        "{about}, strictly"
+    );
+}
+
+fn are_found_or_refused(rt: &impl Abort, alloc: Global, rows: &[Row]) -> Result<(), Error> {
+    for row in rows {
+        let entries = directory(alloc, row.1)?;
+        is_found_or_refused(rt, alloc, &entries, row);
     }
     Ok(())
 }
 
+#[test]
+fn outlines_are_found_or_refused(rt: HostRuntime) -> Result<(), Fail> {
+    are_found_or_refused(&rt, rt.alloc(), &ROWS)?;
+    Ok(())
+}
+
+/// All that is in the root, or in the entry at this place in the order of what is reached, which for a stream is
+/// nothing.
+pub fn listed<A: Allocator + Clone>(
+    alloc: A,
+    entries: &[DirEntry<A>],
+    place: Option<usize>,
+) -> Result<Vec<u32, A>, Error> {
+    let number = reached_at(alloc.clone()?, entries, place)?;
+    if is_stream(entries, number) {
+        return Ok(Vec::new(alloc));
+    }
+    contents(alloc, entries, number)
+}
+
 /// A place in the order of what is reached in `NESTED`, and what is listed.
-const LISTED: [(Option<usize>, &[u32]); 3] = [
+const LISTINGS: [(Option<usize>, &[u32]); 3] = [
     (None, &[1, 5, 4, 2, 3]),
     (Some(0), &[5, 4]),
     (Some(3), &[]),
 ];
 
-#[test]
-fn contents_are_listed(rt: HostRuntime) -> Result<(), Fail> {
-    let entries = directory(rt.alloc(), NESTED)?;
-    for (place, wanted) in &LISTED {
-        let found = listed(rt.alloc(), &entries, *place)?;
-        assert_eq!(rt; found.as_slice(), *wanted);
+fn is_listed(
+    alloc: Global,
+    entries: &[DirEntry],
+    place: Option<usize>,
+    wanted: &[u32],
+) -> Result<bool, Error> {
+    Ok(listed(alloc, entries, place)?.as_slice() == wanted)
+}
+
+fn are_listed(rt: &impl Abort, alloc: Global, entries: &[DirEntry]) -> Result<(), Error> {
+    for (place, wanted) in &LISTINGS {
+        assert!(rt; is_listed(alloc, entries, *place, wanted)?, "at {place:?}");
     }
     Ok(())
 }
 
-/// A chain of `count` entries below the root: streams side by side, or storages one in the other.
-fn chain(alloc: Global, count: u32, deep: bool) -> Result<Vec<DirEntry>, Error> {
-    let mut entries = Vec::new(alloc);
-    entries.push(entry(alloc, &("Root Entry", Root, Black, [NONE, NONE, 1], 0))?)?;
-    for number in 1..count {
-        entries.push(link(alloc, number, number + 1, deep)?)?;
-    }
-    entries.push(link(alloc, count, NONE, deep)?)?;
-    Ok(entries)
-}
-
-/// The entry of this number in a chain.
-fn link(alloc: Global, number: u32, next: u32, deep: bool) -> Result<DirEntry, Error> {
-    let given = if deep {
-        ("a", Storage, Black, [NONE, NONE, next], 0)
-    } else {
-        ("a", Stream, Black, [NONE, next, NONE], 0)
-    };
-    let mut entry = entry(alloc, &given)?;
-    entry.name = format!(in alloc; "{number}")?;
-    Ok(entry)
+#[test]
+fn contents_are_listed(rt: HostRuntime) -> Result<(), Fail> {
+    let entries = directory(rt.alloc(), NESTED)?;
+    are_listed(&rt, rt.alloc(), &entries)?;
+    Ok(())
 }
 
 /// How many entries there are, whether one is in the other, a place, and how many are below it.
-const CHAINS: [(u32, bool, Option<usize>, usize); 3] = [
+type Chain = (u32, bool, Option<usize>, usize);
+
+const CHAINS: [Chain; 3] = [
     (20_000, false, None, 20_000),
     (2_000, true, None, 2_000),
     (2_000, true, Some(999), 1_000),
 ];
 
+/// How many entries are reached, and the last of them.
+fn end_of(alloc: Global, entries: &[DirEntry]) -> Result<(usize, Option<u32>), Error> {
+    let cases = CaseMapper::new(alloc)?;
+    let order = reached_entries(alloc, &cases, entries, Strict)?;
+    Ok((order.len(), order.last().copied()))
+}
+
+fn is_walked(alloc: Global, entries: &[DirEntry], row: &Chain) -> Result<bool, Error> {
+    let (count, _, place, below) = row;
+    let is_whole = end_of(alloc, entries)? == (*count as usize, Some(*count));
+    Ok(is_whole && listed(alloc, entries, *place)?.len() == *below)
+}
+
 #[test]
 fn long_chains_are_walked(rt: HostRuntime) -> Result<(), Fail> {
-    for (count, deep, place, below) in &CHAINS {
-        let entries = chain(rt.alloc(), *count, *deep)?;
-        let order = reached(rt.alloc(), &entries, Strict)?;
-        assert_eq!(rt; order.len(), *count as usize);
-        assert_eq!(rt; order.last().copied(), Some(*count));
-        assert_eq!(rt; listed(rt.alloc(), &entries, *place)?.len(), *below);
+    for row in &CHAINS {
+        let entries = chain(rt.alloc(), row.0, row.1)?;
+        assert!(rt; is_walked(rt.alloc(), &entries, row)?, "{}", row.0);
     }
     Ok(())
 }

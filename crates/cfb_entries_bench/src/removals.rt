@@ -1,16 +1,15 @@
 //! Which colours stand where after entries are taken out of sibling trees (MS-CFB 2.6.4).
-use crate::changed::{put, take};
-use crate::directories::{are_same_entries, entry};
+use crate::changed::{opened, put, reached, take};
+use crate::directories::entry;
 use cfb_codecs::direntry::DirEntry;
-use cfb_codecs::path::CaseMapper;
 use cfb_entries::entries::Entries;
 use cfb_format::color::Color::{self, Black, Red};
 use cfb_format::consts::NO_STREAM as NONE;
 use cfb_format::error::Error;
 use cfb_format::objtype::ObjType::{Root, Stream};
 use cfb_format::validate::Validation::{Permissive, Strict};
-use cfb_outline::outline::reached_entries;
-use std::alloc::{AllocError, Global};
+use std::alloc::{Allocator, Global};
+use std::process::Abort;
 use std::test::Fail;
 
 /// Name and colour, left and right sibling: of a stream, or of a slot that nothing uses, which has
@@ -20,18 +19,30 @@ type Node = (&'static str, Color, u32, u32);
 /// A slot that nothing uses.
 const FREE: Node = ("", Red, NONE, NONE);
 
+fn entry_of(alloc: Global, (name, color, left, right): &Node) -> Result<DirEntry, Error> {
+    if name.is_empty() {
+        return Ok(DirEntry::unallocated(alloc));
+    }
+    entry(alloc, &(*name, Stream, *color, [*left, *right, NONE], 0))
+}
+
+fn push_siblings(
+    alloc: Global,
+    list: &mut Vec<DirEntry>,
+    top: u32,
+    nodes: &[Node],
+) -> Result<(), Error> {
+    list.push(entry(alloc, &("Root Entry", Root, Black, [NONE, NONE, top], 0))?)?;
+    for node in nodes {
+        list.push(entry_of(alloc, node)?)?;
+    }
+    Ok(())
+}
+
 /// The root with this child, and the entries behind it.
 fn siblings(alloc: Global, top: u32, nodes: &[Node]) -> Result<Vec<DirEntry>, Error> {
     let mut list = Vec::new(alloc);
-    list.push(entry(alloc, &("Root Entry", Root, Black, [NONE, NONE, top], 0))?)?;
-    for (name, color, left, right) in nodes {
-        let node = if name.is_empty() {
-            DirEntry::unallocated(alloc)
-        } else {
-            entry(alloc, &(*name, Stream, *color, [*left, *right, NONE], 0))?
-        };
-        list.push(node)?;
-    }
+    push_siblings(alloc, &mut list, top, nodes)?;
     Ok(list)
 }
 
@@ -120,73 +131,110 @@ const ROWS: [Row; 14] = [
     ),
 ];
 
-#[test]
-fn each_rule_is_followed(rt: HostRuntime) -> Result<(), Fail> {
-    for (about, top, nodes, name, top_then, nodes_then) in ROWS {
-        let list = siblings(rt.alloc(), top, nodes)?;
-        let mut entries = Entries::new(
-            &rt.alloc(),
-            CaseMapper::new(rt.alloc())?,
-            list,
-            Permissive,
-        )?;
-        take(rt.alloc(), &mut entries, &[], name)?;
-        let wanted = siblings(rt.alloc(), top_then, nodes_then)?;
-        assert!(rt; are_same_entries(entries.list(), &wanted), "{about}");
+/// Whether two entries are the same.
+fn is_same_entry<A: Allocator, B: Allocator>(one: &DirEntry<A>, other: &DirEntry<B>) -> bool {
+    one.name.as_str() == other.name.as_str()
+        && one.obj_type == other.obj_type
+        && one.color == other.color
+        && one.left_sibling == other.left_sibling
+        && one.right_sibling == other.right_sibling
+        && one.child == other.child
+        && one.clsid == other.clsid
+        && one.state_bits == other.state_bits
+        && one.creation_time == other.creation_time
+        && one.modified_time == other.modified_time
+        && one.start_sector == other.start_sector
+        && one.stream_len == other.stream_len
+}
+
+/// Whether all entries are the same.
+fn are_same_entries<A: Allocator, B: Allocator>(
+    ours: &[DirEntry<A>],
+    theirs: &[DirEntry<B>],
+) -> bool {
+    if ours.len() != theirs.len() {
+        return false;
+    }
+    for number in 0..ours.len() {
+        if !is_same_entry(&ours[number], &theirs[number]) {
+            return false;
+        }
+    }
+    true
+}
+
+/// Whether the entries are so once the name is gone.
+fn follows(alloc: Global, entries: &mut Entries, row: &Row) -> Result<bool, Error> {
+    let (_, _, _, name, top, nodes) = row;
+    take(alloc, entries, &[], name)?;
+    let wanted = siblings(alloc, *top, nodes)?;
+    Ok(are_same_entries(entries.list(), &wanted))
+}
+
+fn is_followed(alloc: Global, row: &Row) -> Result<bool, Error> {
+    let list = siblings(alloc, row.1, row.2)?;
+    let mut entries = opened(alloc, list, Permissive)?;
+    follows(alloc, &mut entries, row)
+}
+
+fn are_followed(rt: &impl Abort, alloc: Global, rows: &[Row]) -> Result<(), Error> {
+    for row in rows {
+        assert!(rt; is_followed(alloc, row)?, "{}", row.0);
     }
     Ok(())
 }
 
-/// How many levels there are below the link, of at most so many.
-fn levels(
-    alloc: Global,
-    entries: &[DirEntry],
-    top: u32,
-    at_most: usize,
-) -> Result<usize, AllocError> {
-    let mut level = Vec::new(alloc);
-    level.push(top)?;
-    for count in 0..at_most {
-        let mut below = Vec::new(alloc);
-        for link in &level {
-            if (*link as usize) < entries.len() {
-                let entry = &entries[*link as usize];
-                below.push(entry.left_sibling)?;
-                below.push(entry.right_sibling)?;
-            }
-        }
-        if below.is_empty() {
-            return Ok(count);
-        }
-        level = below;
+#[test]
+fn each_rule_is_followed(rt: HostRuntime) -> Result<(), Fail> {
+    are_followed(&rt, rt.alloc(), &ROWS)?;
+    Ok(())
+}
+
+/// How many levels of siblings there are from this link on, of at most so many.
+fn levels(entries: &[DirEntry], link: u32, at_most: u32) -> u32 {
+    if at_most == 0 {
+        return 0;
     }
-    Ok(at_most)
+    if link as usize >= entries.len() {
+        return 0;
+    }
+    let entry = &entries[link as usize];
+    let left = levels(entries, entry.left_sibling, at_most - 1);
+    let right = levels(entries, entry.right_sibling, at_most - 1);
+    left.max(right).saturating_add(1)
+}
+
+fn put_numbered(alloc: Global, entries: &mut Entries, number: u32) -> Result<(), Error> {
+    let name = format!(in alloc; "n{number:04}")?;
+    put(alloc, entries, &[], &name)?;
+    Ok(())
+}
+
+fn take_numbered(alloc: Global, entries: &mut Entries, number: u32) -> Result<(), Error> {
+    let name = format!(in alloc; "n{number:04}")?;
+    take(alloc, entries, &[], &name)?;
+    Ok(())
+}
+
+fn take_half(rt: &impl Abort, alloc: Global, entries: &mut Entries) -> Result<(), Error> {
+    for number in 1..2_047u32 {
+        put_numbered(alloc, entries, number)?;
+    }
+    for number in 1..1_024u32 {
+        take_numbered(alloc, entries, number)?;
+    }
+    assert!(rt; reached(alloc, entries, Strict)? == 1_023);
+    let list = entries.list();
+    assert!(rt; !list.is_empty());
+    assert!(rt; levels(list, list[0].child, 21) <= 20);
+    Ok(())
 }
 
 /// As many streams, by names that rise, and then half of them gone again.
 #[test]
 fn half_of_two_thousand_are_taken(rt: HostRuntime) -> Result<(), Fail> {
     let list = siblings(rt.alloc(), NONE, &[])?;
-    let mut entries = Entries::new(&rt.alloc(), CaseMapper::new(rt.alloc())?, list, Strict)?;
-    for number in 1..2_047u32 {
-        put(
-            rt.alloc(),
-            &mut entries,
-            &[],
-            &format!(in rt.alloc(); "n{number:04}")?,
-        )?;
-    }
-    for number in 1..1_024u32 {
-        take(
-            rt.alloc(),
-            &mut entries,
-            &[],
-            &format!(in rt.alloc(); "n{number:04}")?,
-        )?;
-    }
-    let order = reached_entries(rt.alloc(), entries.letters(), entries.list(), Strict)?;
-    assert_eq!(rt; order.len(), 1_023);
-    let top = entries.list()[0].child;
-    assert!(rt; levels(rt.alloc(), entries.list(), top, 21)? <= 20);
+    let mut entries = opened(rt.alloc(), list, Strict)?;
+    take_half(&rt, rt.alloc(), &mut entries)?;
     Ok(())
 }

@@ -1,31 +1,24 @@
 //! The example of README.md: a file with one stream is made in memory and read back.
 #![tactic(auto)]
 
-use cfb::{CompoundFile, Error, MemoryMedium, Stream};
+use cfb::{CompoundFile, Error, MemoryMedium, std_error};
 use std::alloc::Global;
+use std::io::{self, Write};
 
 /// A file whose stream `/data` has all of these bytes.
-pub fn packed(alloc: Global, bytes: &[u8]) -> Result<MemoryMedium, Error> {
-    let mut file = CompoundFile::create(alloc, MemoryMedium::new(alloc))?;
+pub fn packed(alloc: Global, bytes: &[u8]) -> io::Result<MemoryMedium> {
+    let medium = MemoryMedium::new(alloc);
+    let mut file = CompoundFile::create(alloc, medium).map_err(std_error)?;
     put(&mut file, bytes)?;
     Ok(file.into_inner())
 }
 
-fn put(file: &mut CompoundFile<MemoryMedium>, bytes: &[u8]) -> Result<(), Error> {
-    let mut stream = file.create_stream("/data")?;
-    let written = write_all(&mut stream, bytes);
+fn put(file: &mut CompoundFile<MemoryMedium>, bytes: &[u8]) -> io::Result<()> {
+    let mut stream = file.create_stream("/data").map_err(std_error)?;
+    let written = stream.write_all(bytes);
     let closed = stream.close(); // an open stream cannot be dropped
-    written.and(closed)
-}
-
-/// A write takes a beginning, of at least one byte; writing none does nothing.
-fn write_all(stream: &mut Stream<'_, MemoryMedium>, bytes: &[u8]) -> Result<(), Error> {
-    let mut rest = bytes;
-    for _ in bytes {
-        let count = stream.write(rest)?;
-        rest = &rest[count..];
-    }
-    Ok(())
+    written?;
+    closed.map_err(std_error)
 }
 
 /// All bytes of the stream `/data`.

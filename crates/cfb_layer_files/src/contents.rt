@@ -119,8 +119,19 @@ fn content_of<F: Medium, A: Heap + Clone>(
     let entry = stream_named(mini, name)?;
     let len = readable_len(mini, entry)?.saturating_sub(from) as usize;
     let mut bytes = vec![in alloc; 0u8; len]?;
+    read_all(mini, name, from, &mut bytes)?;
+    Ok(bytes)
+}
+
+/// Fills a piece with the bytes of a stream from a place on.
+fn read_all<F: Medium, A: Heap + Clone>(
+    mini: &mut MiniAllocator<F, A>,
+    name: &str,
+    from: u64,
+    bytes: &mut [u8],
+) -> Result<(), Error> {
     let mut done = 0usize;
-    for _turn in 0..len {
+    for _turn in 0..bytes.len() {
         if done >= bytes.len() {
             break;
         }
@@ -128,7 +139,7 @@ fn content_of<F: Medium, A: Heap + Clone>(
         let count = read(mini, name, at, &mut bytes[done..])?;
         done = done.saturating_add(count);
     }
-    Ok(bytes)
+    Ok(())
 }
 
 /// Whether a stream is what a word says; behind `@` in its name stands from which place on.
@@ -141,8 +152,21 @@ fn differs<F: Medium, A: Heap + Clone>(
         .split_once("@")
         .unwrap_or((line.words[1], "0"));
     let from = number_or_0(from);
+    let wanted = laid(alloc, line.words[2], from)?;
     let bytes = content_of(alloc, mini, name, from)?;
-    Ok(difference(&bytes, &laid(alloc, line.words[2], from)?))
+    Ok(difference(&bytes, &wanted))
+}
+
+/// Makes a stream without content.
+fn make<F: Medium, A: Heap + Clone>(
+    alloc: Global,
+    mini: &mut MiniAllocator<F, A>,
+    name: &str,
+) -> Answer {
+    match put_path(alloc, mini, name, true) {
+        Ok(_) => Answer::Done,
+        Err(e) => Answer::Refused(e),
+    }
 }
 
 fn has<F: Medium, A: Heap + Clone>(
@@ -165,7 +189,7 @@ pub fn asked<F: Medium, A: Heap + Clone>(
 ) -> Answer {
     let name = line.words[1];
     match line.call() {
-        "make" => Answer::of(put_path(alloc, mini, name, true).map(|_number| ())),
+        "make" => make(alloc, mini, name),
         "resize" => Answer::of(resize(mini, name, line.number_at(2))),
         "grow" => Answer::counted(grow(mini, name, line.number_at(2))),
         "write" => Answer::of(write_word(alloc, mini, line)),

@@ -1,4 +1,4 @@
-//! Lines on the directory of a file. A path is names between slashes.
+//! Lines on the directory of a file. A path is a name in the root, or that of a storage there and a name in it, with a slash between.
 ghost use Rattle.std.specs.Prelude.{◌≡◌, ◌≢◌, ◌<◌, false, length, IsTrue, IfOk};
 ghost use Rattle.cfb_codecs.specs.EntryModel.{entries_of as entries_of_all};
 ghost use Rattle.cfb_format.specs.declared.objtype.ObjType.TheVariants.{Stream};
@@ -38,15 +38,9 @@ pub fn is_stream<A: Heap>(entries: &[DirEntry<A>], number: u32) -> bool
     }
 }
 
-/// The names of a path.
-fn names_of(alloc: Global, path: &str) -> Result<Vec<&str>, AllocError> {
-    let mut names = Vec::new(alloc);
-    for name in path.split("/") {
-        if !name.is_empty() {
-            names.push(name)?;
-        }
-    }
-    Ok(names)
+/// The names of a path: that of a storage in the root, empty where it names none, and that of what is in it.
+fn names_of(path: &str) -> (&str, &str) {
+    path.split_once("/").unwrap_or(("", path))
 }
 
 /// The storage at these names. `NotFound` where there is none.
@@ -120,34 +114,37 @@ pub fn put_path<F: Medium, A: Heap + Clone>(
     path: &str,
     wants_stream: bool,
 ) -> Result<u32, Error> {
-    let names = names_of(alloc, path)?;
-    match names.split_last() {
-        Some((name, parents)) => put(alloc, mini, parents, name, wants_stream),
-        None => Err(Error::InvalidInput(Detail::text("no name"))),
+    let (storage, name) = names_of(path);
+    if storage.is_empty() {
+        put(alloc, mini, &[], name, wants_stream)
+    } else {
+        put(alloc, mini, &[storage], name, wants_stream)
     }
 }
 
 /// Takes out what a path names.
 fn take_path<F: Medium, A: Heap + Clone>(
-    alloc: Global,
     mini: &mut MiniAllocator<F, A>,
     path: &str,
 ) -> Result<(), Error> {
-    let names = names_of(alloc, path)?;
-    match names.split_last() {
-        Some((name, parents)) => take(mini, parents, name),
-        None => Err(Error::InvalidInput(Detail::text("no name"))),
+    let (storage, name) = names_of(path);
+    if storage.is_empty() {
+        take(mini, &[], name)
+    } else {
+        take(mini, &[storage], name)
     }
 }
 
-/// The number of what a path names.
-fn found<F: ReadMedium, A: Heap>(
-    alloc: Global,
-    mini: &MiniAllocator<F, A>,
-    path: &str,
-) -> Result<Option<u32>, Error> {
-    let names = names_of(alloc, path)?;
-    Ok(mini.stream_id_for_name_chain(&names))
+/// The number of what a path names, if something stands there.
+fn found<F: ReadMedium, A: Heap>(mini: &MiniAllocator<F, A>, path: &str) -> Option<u32> {
+    let (storage, name) = names_of(path);
+    if name.is_empty() {
+        mini.stream_id_for_name_chain(&[])
+    } else if storage.is_empty() {
+        mini.stream_id_for_name_chain(&[name])
+    } else {
+        mini.stream_id_for_name_chain(&[storage, name])
+    }
 }
 
 /// Sets class id, bits and moments of an entry. `InvalidInput` where it is the root or there is none.
@@ -180,6 +177,14 @@ fn put_beside<F: Medium, A: Heap + Clone>(
     Ok(())
 }
 
+/// The number of an entry, as an answer.
+fn numbered(number: Result<u32, Error>) -> Answer {
+    match number {
+        Ok(number) => Answer::Count(u64::from(number)),
+        Err(e) => Answer::Refused(e),
+    }
+}
+
 /// The answer to a line that changes the directory.
 pub fn changed<F: Medium, A: Heap + Clone>(
     alloc: Global,
@@ -188,32 +193,26 @@ pub fn changed<F: Medium, A: Heap + Clone>(
 ) -> Answer {
     let path = line.words[1];
     match line.call() {
-        "take" => Answer::of(take_path(alloc, mini, path)),
+        "take" => Answer::of(take_path(mini, path)),
         "beside" => Answer::of(put_beside(mini, line.number_at(1) as usize)),
         "fields" => Answer::of(set_fields(mini, line.number_at(1).min(0xffff_ffff) as u32)),
-        _ => {
-            let number = put_path(alloc, mini, path, line.call() != "storage");
-            Answer::counted(number.map(u64::from))
-        }
+        _ => numbered(put_path(alloc, mini, path, line.call() != "storage")),
     }
 }
 
 /// The answer to a question on the directory.
 pub fn told<F: ReadMedium, A: Heap + Clone>(
-    alloc: Global,
     mini: &MiniAllocator<F, A>,
     line: &Line<'_>,
     text: &mut String,
 ) -> Answer {
     match line.call() {
-        "found" => match found(alloc, mini, line.words[1]) {
-            Ok(Some(number)) => Answer::Count(u64::from(number)),
-            Ok(None) => Answer::Flag(false),
-            Err(e) => Answer::Refused(e),
+        "found" => match found(mini, line.words[1]) {
+            Some(number) => Answer::Count(u64::from(number)),
+            None => Answer::Flag(false),
         },
         "entry" => tell_entry(mini.entries(), line.number_at(1) as usize, text),
-        "reached" if line.words[2].is_empty() => reached(mini),
-        "reached" => placed(alloc, mini, line),
+        "reached" => reached(mini, line),
         "slots" => Answer::Count(mini.entries().len() as u64),
         "directory" => Answer::Count(mini.directory().sectors().len() as u64),
         _ => Answer::Wrong("no such line"),
@@ -228,32 +227,20 @@ fn order_of<F: ReadMedium, A: Heap + Clone>(
     reached_entries(heap, mini.letters(), mini.entries(), Validation::Strict)
 }
 
-/// How many entries are reached from the root.
-fn reached<F: ReadMedium, A: Heap + Clone>(mini: &MiniAllocator<F, A>) -> Answer {
-    Answer::counted(order_of(mini).map(|order| order.len() as u64))
-}
-
-/// Whether the entry of a path is at a place of their order.
-fn is_at<F: ReadMedium, A: Heap + Clone>(
-    alloc: Global,
-    mini: &MiniAllocator<F, A>,
-    line: &Line<'_>,
-) -> Result<bool, Error> {
-    let order = order_of(mini)?;
-    let number = found(alloc, mini, line.words[2])?;
-    let place = order.get(line.number_at(1) as usize).copied();
-    Ok(number.is_some() && number == place)
-}
-
-fn placed<F: ReadMedium, A: Heap + Clone>(
-    alloc: Global,
-    mini: &MiniAllocator<F, A>,
-    line: &Line<'_>,
-) -> Answer {
-    match is_at(alloc, mini, line) {
-        Ok(is_at) => Answer::Flag(is_at),
+/// How many entries are reached from the root; or whether that of a path is at a place of their order, where the line names one.
+fn reached<F: ReadMedium, A: Heap + Clone>(mini: &MiniAllocator<F, A>, line: &Line<'_>) -> Answer {
+    match order_of(mini) {
+        Ok(order) => placed(found(mini, line.words[2]), line, &order),
         Err(e) => Answer::Refused(e),
     }
+}
+
+fn placed(number: Option<u32>, line: &Line<'_>, order: &[u32]) -> Answer {
+    if line.words[2].is_empty() {
+        return Answer::Count(order.len() as u64);
+    }
+    let place = order.get(line.number_at(1) as usize).copied();
+    Answer::Flag(number.is_some() && number == place)
 }
 
 /// Tells the name of an entry, where it has one, its colour, and its left sibling, its right sibling and its child.

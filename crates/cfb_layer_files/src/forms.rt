@@ -102,7 +102,12 @@ const FORMS: [Form; 83] = [
 ];
 
 fn are_digits(word: &str) -> bool {
-    word.len() % 2 == 0 && word.bytes().all(|byte| byte.is_ascii_hexdigit())
+    for byte in word.bytes() {
+        if !byte.is_ascii_hexdigit() {
+            return false;
+        }
+    }
+    word.len() % 2 == 0
 }
 
 fn is_run(run: &str) -> bool {

@@ -15,24 +15,23 @@ pub type Guard = (usize, usize);
 
 /// Where byte `at` of these sectors, one behind the other, stands.
 fn place_in(sectors: &[u32], sector_len: usize, at: usize) -> usize {
-    let index = at.checked_div(sector_len).unwrap_or(0);
-    let sector = sectors.get(index).copied().unwrap_or(0) as usize;
-    let offset = at.checked_rem(sector_len).unwrap_or(0);
+    let len = sector_len.max(1);
+    let sector = sectors.get(at / len).copied().unwrap_or(0) as usize;
     sector
         .saturating_add(1)
-        .saturating_mul(sector_len)
-        .saturating_add(offset)
+        .saturating_mul(len)
+        .saturating_add(at % len)
 }
 
-/// Guards the bytes and the words of the mini chain from here.
-fn guard_mini_chain<F: ReadMedium>(
+/// Guards the bytes and the words of these mini sectors.
+fn guard_mini_sectors<F: ReadMedium>(
     mini: &MiniAllocator<F>,
-    start: u32,
+    numbers: &[u32],
     guards: &mut Vec<Guard>,
 ) -> Result<(), Error> {
     let len = mini.sector_len();
     let stream = mini.mini_stream().unwrap_or(&[]);
-    for number in &mini.mini_chain(start)? {
+    for number in numbers {
         let number = *number as usize;
         guards.push((place_in(stream, len, number.saturating_mul(64)), 64))?;
         let word = place_in(mini.minifat_sectors(), len, number.saturating_mul(4));
@@ -41,20 +40,34 @@ fn guard_mini_chain<F: ReadMedium>(
     Ok(())
 }
 
-/// The same with a chain of sectors.
+/// The same with sectors.
+fn guard_sectors<F: ReadMedium>(
+    mini: &MiniAllocator<F>,
+    sectors: &[u32],
+    guards: &mut Vec<Guard>,
+) -> Result<(), Error> {
+    let len = mini.sector_len();
+    for sector in sectors {
+        guards.push((place_in(&[*sector], len, 0), len))?;
+        let word = (*sector as usize).saturating_mul(4);
+        guards.push((place_in(mini.allocator().fat_sectors(), len, word), 4))?;
+    }
+    Ok(())
+}
+
+/// Guards the bytes and the words of the chain of a stream, from here.
 fn guard_chain<F: ReadMedium>(
     mini: &MiniAllocator<F>,
     start: u32,
+    is_mini: bool,
     guards: &mut Vec<Guard>,
 ) -> Result<(), Error> {
-    let allocator = mini.allocator();
-    let len = mini.sector_len();
-    for sector in &allocator.chain(start)? {
-        guards.push((place_in(&[*sector], len, 0), len))?;
-        let word = (*sector as usize).saturating_mul(4);
-        guards.push((place_in(allocator.fat_sectors(), len, word), 4))?;
+    if is_mini {
+        let numbers = mini.mini_chain(start)?;
+        return guard_mini_sectors(mini, &numbers, guards);
     }
-    Ok(())
+    let sectors = mini.allocator().chain(start)?;
+    guard_sectors(mini, &sectors, guards)
 }
 
 /// Guards the bytes, the words and the slot of the stream of this name.
@@ -70,10 +83,7 @@ fn guard_stream<F: ReadMedium>(
         let slot = number.saturating_mul(128);
         let place = place_in(mini.directory().sectors(), mini.sector_len(), slot);
         guards.push((place, 128))?;
-        if entry.stream_len < 4096 {
-            return guard_mini_chain(mini, entry.start_sector, guards);
-        }
-        return guard_chain(mini, entry.start_sector, guards);
+        return guard_chain(mini, entry.start_sector, entry.stream_len < 4096, guards);
     }
     Err(Error::NotFound(Detail::text("no stream of that name")))
 }
@@ -120,7 +130,11 @@ fn guard_on<F: ReadMedium>(
     guards: &mut Vec<Guard>,
 ) -> Result<(), Error> {
     match opened(alloc, medium, Validation::Strict) {
-        Ok(opened) => guard_in(&opened.mini, line, guards),
+        Ok(opened) => {
+            let guarded = guard_in(&opened.mini, line, guards);
+            let _medium = opened.mini.into_inner();
+            guarded
+        }
         Err(e) => Err(e),
     }
 }
@@ -155,8 +169,11 @@ pub fn guarded(alloc: Global, bytes: &[u8], line: &Line<'_>, guards: &mut Vec<Gu
 
 /// Whether the guarded places have the same bytes before and after.
 pub fn are_kept(guards: &[Guard], before: &[u8], after: &[u8]) -> bool {
-    guards.iter().all(|(at, count)| {
-        let end = at.saturating_add(*count);
-        after.get(*at..end).is_some() && after.get(*at..end) == before.get(*at..end)
-    })
+    for (at, count) in guards {
+        let kept = after.get(*at..at.saturating_add(*count));
+        if kept.is_none() || kept != before.get(*at..at.saturating_add(*count)) {
+            return false;
+        }
+    }
+    true
 }

@@ -45,7 +45,11 @@ fn looked<F: ReadMedium>(
     validation: Validation,
 ) -> Result<Facts, Error> {
     match opened(alloc, medium, validation) {
-        Ok(opened) => Ok(facts_of(&opened.mini, opened.is_sound, bytes)),
+        Ok(opened) => {
+            let facts = facts_of(&opened.mini, opened.is_sound, bytes);
+            let _medium = opened.mini.into_inner();
+            Ok(facts)
+        }
         Err(e) => Err(e),
     }
 }
@@ -73,8 +77,10 @@ pub fn look(alloc: Global, bytes: &[u8], validation: Validation) -> Result<Facts
 fn created(alloc: Global, version: Version) -> Result<Vec<u8>, Error> {
     let letters = CaseMapper::new(alloc)?;
     let medium = MemoryMedium::new(alloc);
-    let file = create_file(alloc, version, medium, letters, MAX_REGULAR_SECTOR)?;
-    Ok(file.into_inner().into_bytes())
+    match create_file(alloc, version, medium, letters, MAX_REGULAR_SECTOR) {
+        Ok(file) => Ok(file.into_inner().into_bytes()),
+        Err(e) => Err(e),
+    }
 }
 
 /// Makes a file in place of these bytes.

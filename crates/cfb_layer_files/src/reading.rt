@@ -77,6 +77,27 @@ fn words<F: ReadMedium, A: Heap + Clone>(
     Ok((words.len() as u64, are_of_one_mini(&words)))
 }
 
+/// What a line is told of entries: how many they are, if it asks for that.
+fn told_entries(line: &Line<'_>, count: Result<u64, Error>) -> Answer {
+    match count {
+        Ok(_) if line.call() == "entries" => Answer::Done,
+        Ok(count) => Answer::Count(count),
+        Err(e) => Answer::Refused(e),
+    }
+}
+
+/// What a line is told of words: how many they are, or whether they are those of one mini sector, if it asks for that.
+fn told_words(line: &Line<'_>, words: Result<(u64, bool), Error>) -> Answer {
+    match words {
+        Ok((count, is_one)) => match line.call() {
+            "reads" => Answer::Done,
+            "words" => Answer::Count(count),
+            _ => Answer::Flag(is_one),
+        },
+        Err(e) => Answer::Refused(e),
+    }
+}
+
 /// The answer to a line.
 pub fn asked<F: ReadMedium, A: Heap + Clone>(
     heap: &A,
@@ -90,14 +111,7 @@ pub fn asked<F: ReadMedium, A: Heap + Clone>(
         Validation::Strict
     };
     match line.call() {
-        "entries" => Answer::of(entries(heap, allocator, start, mode).map(|_count| ())),
-        "new-entries" => Answer::counted(entries(heap, allocator, start, mode)),
-        "reads" => Answer::of(words(heap, allocator, start).map(|_words| ())),
-        "words" => Answer::counted(words(heap, allocator, start).map(|words| words.0)),
-        "one-mini" => match words(heap, allocator, start) {
-            Ok((_, is_one)) => Answer::Flag(is_one),
-            Err(e) => Answer::Refused(e),
-        },
-        _ => Answer::Wrong("no such line"),
+        "entries" | "new-entries" => told_entries(line, entries(heap, allocator, start, mode)),
+        _ => told_words(line, words(heap, allocator, start)),
     }
 }

@@ -6,36 +6,24 @@ use cfb_rows::lines::number_or_0;
 use std::alloc::{AllocError, Global};
 
 /// The byte that tells this place.
-fn source_byte(place: usize) -> u8 {
+fn source_byte(place: u64) -> u8 {
     (place % 150 + 100) as u8
 }
 
 /// Puts a run behind these bytes, the first of which stands at `from`.
 fn put_run(bytes: &mut Vec<u8>, run: &str, from: u64) -> Result<(), AllocError> {
-    let start = bytes.len();
     let (count, taken) = run.split_once("@").unwrap_or((run, ""));
     let content = Content::of(count);
-    bytes.resize(start.saturating_add(content.len() as usize), 0)?;
-    if taken.is_empty() {
-        lay_content(bytes, start, &content, from);
-    } else {
-        lay_source(bytes, start, number_or_0(taken) as usize);
+    let start = number_or_0(taken);
+    for i in 0..content.len() {
+        let byte = if taken.is_empty() {
+            content.byte_at(0, from.saturating_add(bytes.len() as u64))
+        } else {
+            source_byte(start.saturating_add(i))
+        };
+        bytes.push(byte)?;
     }
     Ok(())
-}
-
-/// Lays a content from this place of the list on.
-fn lay_content(bytes: &mut [u8], start: usize, content: &Content<'_>, from: u64) {
-    for (i, byte) in bytes.iter_mut().enumerate().skip(start) {
-        *byte = content.byte_at(0, from.saturating_add(i as u64));
-    }
-}
-
-/// Lays the bytes that tell their places from this one on.
-fn lay_source(bytes: &mut [u8], start: usize, from: usize) {
-    for (i, byte) in bytes.iter_mut().enumerate().skip(start) {
-        *byte = source_byte(from.saturating_add(i).saturating_sub(start));
-    }
 }
 
 /// The bytes of a word, the first of which stands at `from`.

@@ -68,19 +68,61 @@ pub fn make_tables(alloc: Global, line: &Line<'_>, bytes: &mut Vec<u8>) -> Answe
     }
 }
 
-/// The words of the first sector of each 128, and their numbers.
+/// The tables of a file, as lists of words and of sectors.
+#[derive(Drop)]
+struct Tables<A: Heap> {
+    words: Vec<u32, A>,
+    fat_sectors: Vec<u32, A>,
+    difat_sectors: Vec<u32, A>,
+}
+
+impl<A: Heap + Clone> Tables<A> {
+    /// No tables.
+    fn new(heap: &A) -> Result<Tables<A>, AllocError> {
+        let (first, second, third) = (heap.clone()?, heap.clone()?, heap.clone()?);
+        Ok(Tables {
+            words: Vec::new(first),
+            fat_sectors: Vec::new(second),
+            difat_sectors: Vec::new(third),
+        })
+    }
+}
+
+/// Appends the words of a sector.
+fn read_sector<F: ReadMedium, A: Heap + Clone>(
+    heap: &A,
+    sectors: &mut Sectors<F>,
+    number: u32,
+    words: &mut Vec<u32, A>,
+) -> Result<(), Error> {
+    let mut sector = vec![in heap.clone()?; 0; sectors.sector_len() / 4]?;
+    match sectors.read_words(number, &mut sector) {
+        Ok(()) => put_words(&sector, words),
+        Err(e) => Err(e),
+    }
+}
+
+fn put_words<A: Heap>(sector: &[u32], words: &mut Vec<u32, A>) -> Result<(), Error> {
+    words.extend_from_slice(sector)?;
+    Ok(())
+}
+
+/// Reads the first sector of each 128, and lists these, and the DIFAT sectors that there are.
 fn read_tables<F: ReadMedium, A: Heap + Clone>(
     heap: &A,
     sectors: &mut Sectors<F>,
-    words: &mut Vec<u32, A>,
-    fat_sectors: &mut Vec<u32, A>,
+    tables: &mut Tables<A>,
 ) -> Result<(), Error> {
-    for stretch in 0..sectors.num_sectors().div_ceil(128) {
+    let count = sectors.num_sectors();
+    for stretch in 0..count.div_ceil(128) {
         let number = stretch.saturating_mul(128);
-        let mut sector = vec![in heap.clone()?; 0; sectors.sector_len() / 4]?;
-        sectors.read_words(number, &mut sector)?;
-        words.extend_from_slice(&sector)?;
-        fat_sectors.push(number)?;
+        read_sector(heap, sectors, number, &mut tables.words)?;
+        tables.fat_sectors.push(number)?;
+    }
+    for number in DIFAT_SECTORS {
+        if number < count {
+            tables.difat_sectors.push(number)?;
+        }
     }
     Ok(())
 }
@@ -105,16 +147,14 @@ pub fn opened_tables<F: ReadMedium, A: Heap + Clone>(
     version: Version,
     mode: Validation,
 ) -> Result<Allocator<F, A>, Error> {
+    let mut tables = Tables::new(&heap)?;
     let mut sectors = sectors_of(medium, version)?;
-    let mut words = Vec::new(heap.clone()?);
-    let mut fat_sectors = Vec::new(heap.clone()?);
-    read_tables(&heap, &mut sectors, &mut words, &mut fat_sectors)?;
-    let mut difat_sectors = Vec::new(heap.clone()?);
-    for number in DIFAT_SECTORS {
-        if number < sectors.num_sectors() {
-            difat_sectors.push(number)?;
-        }
-    }
+    read_tables(&heap, &mut sectors, &mut tables)?;
+    let Tables {
+        words,
+        fat_sectors,
+        difat_sectors,
+    } = tables;
     Allocator::new(heap, sectors, difat_sectors, fat_sectors, words, mode)
 }
 
@@ -134,12 +174,16 @@ pub fn looked_at_tables<F: ReadMedium>(
     version: Version,
 ) -> Result<Facts, Error> {
     match opened_tables(alloc, medium, version, Validation::Strict) {
-        Ok(allocator) => Ok(Facts {
-            state: state_of_tables(&allocator),
-            is_sound: true,
-            is_owned: true,
-            is_clean: true,
-        }),
+        Ok(allocator) => {
+            let state = state_of_tables(&allocator);
+            let _medium = allocator.into_inner();
+            Ok(Facts {
+                state,
+                is_sound: true,
+                is_owned: true,
+                is_clean: true,
+            })
+        }
         Err(e) => Err(e),
     }
 }

@@ -1,7 +1,7 @@
 //! Mini chains that are lent.
 
 use crate::lent::{Call, Lent, Told, play_chain};
-use crate::sessions::{Turn, goes_on, heard};
+use crate::sessions::{Turn, hear_refused};
 use cfb_format::error::{Detail, Error};
 use cfb_format::medium::Medium;
 use cfb_mini::mini_allocator::MiniAllocator;
@@ -82,12 +82,6 @@ fn play_lent<F: Medium, A: Heap + Clone>(
             chain.end();
             if is_closed { Turn::Next } else { Turn::Stop }
         }
-        Err(e) => {
-            let is_refused = heard(judge, line, Answer::Refused(e));
-            if !is_refused {
-                script.pass_to("close");
-            }
-            goes_on(is_refused, is_asked_again, false)
-        }
+        Err(e) => hear_refused(e, line, script, judge, is_asked_again),
     }
 }

@@ -85,7 +85,7 @@ fn asked<F: Medium, A: Heap + Clone>(
             alloc, file, line,
         ),
         "found" | "entry" | "reached" | "slots" | "directory" => {
-            directories::told(alloc, file, line, text)
+            directories::told(file, line, text)
         }
         "extend" => extend(file, number, line.number_at(2) as usize),
         "free" => Answer::of(file.free_mini_chain(number)),

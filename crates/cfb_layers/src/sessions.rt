@@ -85,6 +85,21 @@ fn is_of_plan(fault: MediumFault, plan: &Plan) -> bool {
     }
 }
 
+/// Hears that a chain was refused, and passes over its lines where no fault did that.
+pub fn hear_refused(
+    e: Error,
+    line: &Line<'_>,
+    script: &mut Script<'_>,
+    judge: &mut Judge<'_>,
+    is_asked_again: bool,
+) -> Turn {
+    let is_refused = heard(judge, line, Answer::Refused(e));
+    if !is_refused {
+        script.pass_to("close");
+    }
+    goes_on(is_refused, is_asked_again, false)
+}
+
 /// What came of a session.
 #[derive(Clone, Copy, Drop)]
 pub struct Outcome {
@@ -112,6 +127,22 @@ pub fn refuse_from_here(judge: &Judge<'_>) {
     }
 }
 
+/// Hears that a file was opened, or not; its lines are passed over then.
+fn hear_opened(
+    done: Result<(), Error>,
+    line: &Line<'_>,
+    how: &How,
+    script: &mut Script<'_>,
+    judge: &mut Judge<'_>,
+) {
+    judge.hears(line, Answer::of(done));
+    if done.is_err() {
+        script.pass_to("end");
+    } else if !how.is_late {
+        refuse_from_here(judge);
+    }
+}
+
 /// Opens a file, and plays the lines of a session on it. Gives back its medium where it was opened.
 fn played_minis<F: Medium, A: Heap + Clone>(
     heap: A,
@@ -124,17 +155,13 @@ fn played_minis<F: Medium, A: Heap + Clone>(
     match opened(heap, medium, how.validation) {
         Ok(opened) => {
             let mut file = opened.mini;
-            judge.hears(line, Answer::Done);
-            if !how.is_late {
-                refuse_from_here(judge);
-            }
+            hear_opened(Ok(()), line, how, script, judge);
             let ended = play_minis(&mut file, script, judge, how.is_asked_again);
             judge.heap.refuse_none();
             (ended, Some(file.into_inner()))
         }
         Err(e) => {
-            judge.hears(line, Answer::Refused(e));
-            script.pass_to("end");
+            hear_opened(Err(e), line, how, script, judge);
             (not_opened(), None)
         }
     }
@@ -154,17 +181,13 @@ fn played_tables<F: Medium, A: Heap + Clone>(
     };
     match opened_tables(heap, medium, how.version, how.validation) {
         Ok(mut allocator) => {
-            judge.hears(line, Answer::Done);
-            if !how.is_late {
-                refuse_from_here(judge);
-            }
+            hear_opened(Ok(()), line, how, script, judge);
             let ended = play_tables(&lent, &mut allocator, script, judge, how.is_asked_again);
             judge.heap.refuse_none();
             (ended, Some(allocator.into_inner()))
         }
         Err(e) => {
-            judge.hears(line, Answer::Refused(e));
-            script.pass_to("end");
+            hear_opened(Err(e), line, how, script, judge);
             (not_opened(), None)
         }
     }

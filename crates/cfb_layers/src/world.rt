@@ -100,42 +100,44 @@ fn play_line(world: &mut World<'_>, line: &Line<'_>, script: &mut Script<'_>) {
 /// The answer to a line between sessions.
 fn answered(world: &mut World<'_>, line: &Line<'_>) -> Answer {
     match line.call() {
-        "new" => {
-            world.guards.clear();
-            make(world.judge.alloc, line, &mut world.bytes)
-        }
-        "tables" => {
-            world.guards.clear();
-            make_tables(world.judge.alloc, line, &mut world.bytes)
-        }
+        "new" | "tables" => made(world, line),
         "keep" => copied(&world.bytes, &mut world.kept),
         "back" => copied(&world.kept, &mut world.bytes),
         "same" => Answer::Flag(world.bytes.as_slice() == world.kept.as_slice()),
         "guard" => guarded(world.judge.alloc, &world.bytes, line, &mut world.guards),
         "range" => put_range(&mut world.ranges, line),
-        "broke" => Answer::Count(broken(world, line.words[1])),
-        "breaks" => Answer::Flag(broken(world, line.words[1]) > 0),
-        "sound" => sound(world),
+        "broke" => Answer::Count(broken(&world.broken, line.words[1])),
+        "breaks" => Answer::Flag(broken(&world.broken, line.words[1]) > 0),
+        "sound" => sound(world.judge.alloc, &world.bytes),
         "lay" => lay(world.judge.alloc, line, &mut world.bytes),
         "count" => Answer::Count(count_of(&world.bytes, line.number_at(1))),
         _ => asked(&mut world.bytes, line),
     }
 }
 
+/// Makes a file, of which nothing is guarded.
+fn made(world: &mut World<'_>, line: &Line<'_>) -> Answer {
+    world.guards.clear();
+    if line.call() == "new" {
+        make(world.judge.alloc, line, &mut world.bytes)
+    } else {
+        make_tables(world.judge.alloc, line, &mut world.bytes)
+    }
+}
+
 /// How many calls went wrong in turn.
-fn broken(world: &World<'_>, fault: &str) -> u64 {
-    let mut count = 0u64;
-    for (i, word) in FAULTS.iter().enumerate() {
+fn broken(broken: &[u64], fault: &str) -> u64 {
+    for (word, count) in FAULTS.iter().zip(broken.iter()) {
         if *word == fault {
-            count = world.broken.get(i).copied().unwrap_or(0);
+            return *count;
         }
     }
-    count
+    0
 }
 
 /// Whether the file is sound.
-fn sound(world: &World<'_>) -> Answer {
-    match look(world.judge.alloc, &world.bytes, Validation::Permissive) {
+fn sound(alloc: Global, bytes: &[u8]) -> Answer {
+    match look(alloc, bytes, Validation::Permissive) {
         Ok(facts) => Answer::Flag(facts.is_sound),
         Err(e) => Answer::Refused(e),
     }
@@ -209,19 +211,46 @@ fn how_of(line: &Line<'_>) -> How {
     how
 }
 
+/// A session that is played again and again.
+#[derive(Clone, Copy, Drop)]
+struct Session<'s> {
+    /// The line that opens it.
+    line: &'s Line<'s>,
+    how: How,
+    /// Before its first line.
+    start: Script<'s>,
+    /// The bytes that it leaves where nothing goes wrong.
+    whole: &'s [u8],
+}
+
 /// Plays a session as it is, and then as each further word of its line says. The bytes are those of the session as it is.
 fn play_session(world: &mut World<'_>, line: &Line<'_>, script: &mut Script<'_>) {
     let mut whole = Vec::new(world.judge.alloc);
     let how = how_of(line);
     let start = *script;
     let is_opened = play_calm(world, line, &how, script, &mut whole);
-    for word in line.said.split_whitespace().skip(2) {
-        play_word(world, line, word, &how, start, &whole);
-    }
+    let session = Session {
+        line,
+        how,
+        start,
+        whole: &whole,
+    };
+    play_words(world, &session);
     world.judge.begin(world.plan);
     if is_opened {
         world.bytes = whole;
     }
+}
+
+/// Plays a session once over the faults of the judge's plan.
+fn played(
+    world: &mut World<'_>,
+    line: &Line<'_>,
+    how: &How,
+    script: &mut Script<'_>,
+    after: &mut Vec<u8>,
+) -> Outcome {
+    play_once(line, how, &world.bytes, script, &mut world.judge, after)
 }
 
 /// Plays a session where nothing goes wrong, and says whether the file was opened.
@@ -234,24 +263,24 @@ fn play_calm(
 ) -> bool {
     world.broken = [0; 4];
     world.judge.begin(world.plan);
-    let outcome = play_once(line, how, &world.bytes, script, &mut world.judge, whole);
+    let outcome = played(world, line, how, script, whole);
     if outcome.ended.is_opened {
-        check_end(world, line, how, &outcome, whole);
+        if !are_kept(&world.guards, &world.bytes, whole) {
+            world.judge.note_wrong(line, Answer::Flag(false));
+        }
+        check_end(&mut world.judge, line, how, &outcome, whole);
     }
     outcome.ended.is_opened
 }
 
 /// Looks at what a session left, where nothing went wrong.
-fn check_end(world: &mut World<'_>, line: &Line<'_>, how: &How, outcome: &Outcome, whole: &[u8]) {
-    if !are_kept(&world.guards, &world.bytes, whole) {
-        world.judge.note_wrong(line, Answer::Flag(false));
-    }
+fn check_end(judge: &mut Judge<'_>, line: &Line<'_>, how: &How, outcome: &Outcome, whole: &[u8]) {
     if how.validation == Validation::Permissive {
         return;
     }
-    match look_at(world.judge.alloc, how, whole) {
-        Ok(facts) => hear_facts(&mut world.judge, line, how, outcome, &facts),
-        Err(e) => world.judge.note_wrong(line, Answer::Refused(e)),
+    match look_at(judge.alloc, how, whole) {
+        Ok(facts) => hear_facts(judge, line, fault_in(&facts, how, outcome)),
+        Err(e) => judge.note_wrong(line, Answer::Refused(e)),
     }
 }
 
@@ -263,9 +292,9 @@ fn look_at(alloc: Global, how: &How, bytes: &[u8]) -> Result<Facts, Error> {
     look(alloc, bytes, Validation::Strict)
 }
 
-/// Hears what was found in a file.
-fn hear_facts(judge: &mut Judge<'_>, line: &Line<'_>, how: &How, outcome: &Outcome, facts: &Facts) {
-    let fault = if facts.state != outcome.ended.state {
+/// What is wrong with a file in which this was found; empty where nothing is.
+fn fault_in(facts: &Facts, how: &How, outcome: &Outcome) -> &'static str {
+    if facts.state != outcome.ended.state {
         "not as strict opening reads it"
     } else if !facts.is_sound {
         "not sound"
@@ -275,61 +304,64 @@ fn hear_facts(judge: &mut Judge<'_>, line: &Line<'_>, how: &How, outcome: &Outco
         "bytes in free mini sectors"
     } else {
         ""
-    };
+    }
+}
+
+/// Hears what is wrong with a file, or that nothing is.
+fn hear_facts(judge: &mut Judge<'_>, line: &Line<'_>, fault: &'static str) {
     judge.text.clear();
     if fault.is_empty() {
         judge.hears(line, Answer::Done);
     } else {
-        // Where memory lacks for it, the count says it alone.
-        let _ = judge.text.push_str(fault);
-        judge.note_wrong(line, Answer::Text);
+        judge.note_wrong(line, Answer::Wrong(fault));
     }
 }
 
-/// Plays a session again as a word says.
-fn play_word(
-    world: &mut World<'_>,
-    line: &Line<'_>,
-    word: &str,
-    how: &How,
-    start: Script<'_>,
-    whole: &[u8],
-) {
+/// Plays a session again as each further word of its line says.
+fn play_words(world: &mut World<'_>, session: &Session<'_>) {
+    let mut after = Vec::new(world.judge.alloc);
+    for word in session.line.said.split_whitespace().skip(2) {
+        play_word(world, session, word, &mut after);
+    }
+}
+
+fn play_word(world: &mut World<'_>, session: &Session<'_>, word: &str, after: &mut Vec<u8>) {
     match word {
         "permissive" | "unowned" | "foreign" | "late" | "four" => {}
         "sips" => {
             let mut plan = world.plan;
             plan.piece = 1;
-            play_other(world, line, how, start, whole, plan);
+            play_other(world, session, plan, after);
         }
-        "ranges" => play_ranges(world, line, how, start, whole),
-        _ => play_faults(world, line, word, how, start, whole),
+        "ranges" => play_ranges(world, session, after),
+        _ => play_faults(world, session, word, after),
     }
+}
+
+/// Plays a session once more, by this plan.
+fn play_by(
+    world: &mut World<'_>,
+    session: &Session<'_>,
+    how: &How,
+    plan: Plan,
+    after: &mut Vec<u8>,
+) -> Outcome {
+    let mut script = session.start;
+    world.judge.begin(plan);
+    world.again = world.again.saturating_add(1);
+    played(world, session.line, how, &mut script, after)
 }
 
 /// Plays a session by another plan without faults, which is to leave the same bytes. Gives how many writes there were.
 fn play_other(
     world: &mut World<'_>,
-    line: &Line<'_>,
-    how: &How,
-    start: Script<'_>,
-    whole: &[u8],
+    session: &Session<'_>,
     plan: Plan,
+    after: &mut Vec<u8>,
 ) -> u64 {
-    let mut script = start;
-    let mut after = Vec::new(world.judge.alloc);
-    world.judge.begin(plan);
-    let outcome = play_once(
-        line,
-        how,
-        &world.bytes,
-        &mut script,
-        &mut world.judge,
-        &mut after,
-    );
-    world.again = world.again.saturating_add(1);
-    if after.as_slice() != whole {
-        world.judge.note_wrong(line, Answer::Flag(false));
+    let outcome = play_by(world, session, &session.how, plan, after);
+    if after.as_slice() != session.whole {
+        world.judge.note_wrong(session.line, Answer::Flag(false));
     }
     outcome.writes
 }
@@ -347,66 +379,50 @@ fn touching(ranges: &[Guard], start: usize, end: usize) -> u64 {
 
 /// Plays a session once for all its ranges, and for each one before it in its sector, in it, and behind it: it is to be written as often as
 /// ranges are touched there.
-fn play_ranges(world: &mut World<'_>, line: &Line<'_>, how: &How, start: Script<'_>, whole: &[u8]) {
-    play_range(world, line, how, start, whole, (0, usize::MAX));
+fn play_ranges(world: &mut World<'_>, session: &Session<'_>, after: &mut Vec<u8>) {
+    play_range(world, session, (0, usize::MAX), after);
     for i in 0..world.ranges.len() {
         let (from, to) = world.ranges.get(i).copied().unwrap_or((0, 0));
         let sector = from / 512 * 512;
-        play_range(world, line, how, start, whole, (sector, from));
-        play_range(world, line, how, start, whole, (from, to));
-        let end = sector.saturating_add(512);
-        play_range(world, line, how, start, whole, (to, end));
+        for range in [(sector, from), (from, to), (to, sector.saturating_add(512))] {
+            play_range(world, session, range, after);
+        }
     }
 }
 
-fn play_range(
-    world: &mut World<'_>,
-    line: &Line<'_>,
-    how: &How,
-    start: Script<'_>,
-    whole: &[u8],
-    range: Guard,
-) {
+fn play_range(world: &mut World<'_>, session: &Session<'_>, range: Guard, after: &mut Vec<u8>) {
     let mut plan = world.plan;
     plan.start = range.0 as u64;
     plan.end = range.1 as u64;
     let wanted = touching(&world.ranges, range.0, range.1);
-    let writes = play_other(world, line, how, start, whole, plan);
+    let writes = play_other(world, session, plan, after);
     if writes != wanted {
-        world.judge.note_wrong(line, Answer::Count(writes));
+        world.judge.note_wrong(session.line, Answer::Count(writes));
     }
 }
 
 /// Plays a session again and again, with each call in turn that goes wrong, until none does.
-fn play_faults(
-    world: &mut World<'_>,
-    line: &Line<'_>,
-    fault: &str,
-    how: &How,
-    start: Script<'_>,
-    whole: &[u8],
-) {
-    let mut after = Vec::new(world.judge.alloc);
+fn play_faults(world: &mut World<'_>, session: &Session<'_>, fault: &str, after: &mut Vec<u8>) {
     for nth in 1..MOST {
         let Some(plan) = world.plan.of(fault, nth) else {
             break;
         };
-        if !is_broken(world, line, how, start, whole, plan, &mut after) {
-            note_broken(world, fault, nth.saturating_sub(1));
+        if !is_broken(world, session, plan, after) {
+            note_broken(&mut world.broken, fault, nth.saturating_sub(1));
             return;
         }
     }
     world.judge.note_wrong(
-        line,
+        session.line,
         Answer::Wrong("no such fault, or one at each call of many"),
     );
 }
 
 /// Notes how many calls went wrong in turn.
-fn note_broken(world: &mut World<'_>, fault: &str, count: u64) {
-    for (word, broken) in FAULTS.iter().zip(world.broken.iter_mut()) {
+fn note_broken(broken: &mut [u64], fault: &str, count: u64) {
+    for (word, place) in FAULTS.iter().zip(broken.iter_mut()) {
         if *word == fault {
-            *broken = count;
+            *place = count;
         }
     }
 }
@@ -414,20 +430,13 @@ fn note_broken(world: &mut World<'_>, fault: &str, count: u64) {
 /// Plays a session over a fault, up to the call that is refused; and once more, where that call is asked again. Whether there was the fault.
 fn is_broken(
     world: &mut World<'_>,
-    line: &Line<'_>,
-    how: &How,
-    start: Script<'_>,
-    whole: &[u8],
+    session: &Session<'_>,
     plan: Plan,
     after: &mut Vec<u8>,
 ) -> bool {
-    let again = How {
-        is_asked_again: true,
-        ..*how
-    };
-    let is_broken = play_fault(world, line, how, start, whole, plan, after);
+    let is_broken = play_fault(world, session, false, plan, after);
     if is_broken && (plan.is_memory || plan.kind != Kind::Write) {
-        play_fault(world, line, &again, start, whole, plan, after);
+        play_fault(world, session, true, plan, after);
     }
     is_broken
 }
@@ -435,58 +444,54 @@ fn is_broken(
 /// Plays a session over a fault, and says whether there was one.
 fn play_fault(
     world: &mut World<'_>,
-    line: &Line<'_>,
-    how: &How,
-    start: Script<'_>,
-    whole: &[u8],
+    session: &Session<'_>,
+    is_asked_again: bool,
     plan: Plan,
     after: &mut Vec<u8>,
 ) -> bool {
-    let mut script = start;
-    world.judge.begin(plan);
-    let outcome = play_once(
-        line,
-        how,
-        &world.bytes,
-        &mut script,
-        &mut world.judge,
-        after,
-    );
-    world.again = world.again.saturating_add(1);
-    if !is_well(world, how, &outcome, whole, after) {
-        world.judge.note_wrong(line, Answer::Flag(false));
+    let how = How {
+        is_asked_again,
+        ..session.how
+    };
+    let outcome = play_by(world, session, &how, plan, after);
+    if !is_well(world, session, &outcome, after) {
+        world.judge.note_wrong(session.line, Answer::Flag(false));
     }
     world.judge.refused > 0 || outcome.failures > 0
 }
 
 /// Whether a session over a fault went as it may. What is refused with no change begun leaves the bytes as they were, and in memory what
 /// they say; so does one where want of memory was the cause.
-fn is_well(world: &World<'_>, how: &How, outcome: &Outcome, whole: &[u8], after: &[u8]) -> bool {
-    let plan = &world.judge.plan;
-    let ended = &outcome.ended;
-    if !ended.is_opened {
-        return world.judge.refused == 1 && plan.kind == Kind::Read && !plan.is_memory;
+fn is_well(world: &World<'_>, session: &Session<'_>, outcome: &Outcome, after: &[u8]) -> bool {
+    let judge = &world.judge;
+    let is_memory = judge.plan.is_memory;
+    let is_reading = judge.plan.kind == Kind::Read;
+    if !outcome.ended.is_opened {
+        return judge.refused == 1 && is_reading && !is_memory;
     }
     if !are_kept(&world.guards, &world.bytes, after) {
         return false;
     }
-    let is_once = outcome.failures == u64::from(!plan.is_memory) && world.judge.refused == 1;
-    match (world.judge.refused, ended.is_stopped) {
-        (0, _) => outcome.failures == 0 && after == whole,
-        (_, false) => is_once && after == whole && is_read_back(world, how, outcome, after),
-        (_, true) if ended.begun => is_once && !plan.is_memory,
-        (_, true) => {
-            is_once
-                && (plan.is_memory || plan.kind == Kind::Read)
-                && after == world.bytes.as_slice()
-                && is_read_back(world, how, outcome, after)
-        }
+    if judge.refused == 0 {
+        return outcome.failures == 0 && after == session.whole;
     }
+    if judge.refused > 1 || outcome.failures != u64::from(!is_memory) {
+        return false;
+    }
+    if outcome.ended.is_stopped && outcome.ended.begun {
+        return !is_memory;
+    }
+    let is_kept = if outcome.ended.is_stopped {
+        (is_memory || is_reading) && after == world.bytes.as_slice()
+    } else {
+        after == session.whole
+    };
+    is_kept && is_read_back(judge.alloc, &session.how, outcome, after)
 }
 
 /// Whether memory had what strict opening reads from these bytes.
-fn is_read_back(world: &World<'_>, how: &How, outcome: &Outcome, after: &[u8]) -> bool {
-    match look_at(world.judge.alloc, how, after) {
+fn is_read_back(alloc: Global, how: &How, outcome: &Outcome, after: &[u8]) -> bool {
+    match look_at(alloc, how, after) {
         Ok(facts) => facts.state == outcome.ended.state,
         Err(_) => false,
     }

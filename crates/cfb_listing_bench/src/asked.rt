@@ -2,15 +2,12 @@
 ghost use Rattle.std.specs.Prelude.{◌≡◌, length, IfOk};
 
 use cfb_codecs::direntry::DirEntry;
-use cfb_codecs::path::CaseMapper;
-use cfb_entries_bench::directories::is_stream;
+use cfb_entries_bench::directories::{is_stream, reached_at};
 use cfb_format::error::{Detail, Error};
-use cfb_format::validate::Validation;
 use cfb_listing::entries::Entries;
 use cfb_listing::entry::{Entry, entry_of};
 use cfb_listing::listing::{EntriesOrder, list_children, walk_from};
-use cfb_outline::outline::reached_entries;
-use std::alloc::Allocator;
+use std::alloc::{Allocator, Global};
 
 /// What is told of the object at a place in the order of what is reached, or of the root: its
 /// children, or the object and all that is in it. A stream has no children.
@@ -21,18 +18,7 @@ pub fn listed<A: Allocator + Clone>(
     path: &str,
     place: Option<usize>,
 ) -> Result<Vec<Entry<A>, A>, Error> {
-    let cases = CaseMapper::new(alloc.clone()?)?;
-    let reached = reached_entries(alloc.clone()?, &cases, entries, Validation::Permissive)?;
-    let Some(place) = place else {
-        return match order {
-            EntriesOrder::Nonrecursive => list_children(alloc, entries, path, 0),
-            EntriesOrder::Preorder => walk_from(alloc, entries, path, 0),
-        };
-    };
-    if place >= reached.len() {
-        return Ok(Vec::new(alloc));
-    }
-    let number = reached[place];
+    let number = reached_at(alloc.clone()?, entries, place)?;
     if order == EntriesOrder::Preorder {
         return walk_from(alloc, entries, path, number);
     }
@@ -43,17 +29,16 @@ pub fn listed<A: Allocator + Clone>(
 }
 
 /// What is told of the entry of this number. `NotFound` where there is none.
-pub fn told_at<A: Allocator + Clone>(
-    alloc: A,
-    entries: &[DirEntry<A>],
+pub fn told_at(
+    alloc: Global,
+    entries: &[DirEntry],
     number: u32,
     path: &str,
-) -> Result<Entry<A>, Error> {
+) -> Result<Entry, Error> {
     if number as usize >= entries.len() {
         return Err(Error::NotFound(Detail::text("no entry has this number")));
     }
-    let path = String::from_str(alloc.clone()?, path)?;
-    entry_of(entries, number, path)
+    entry_of(entries, number, String::from_str(alloc, path)?)
 }
 
 /// How many entries an iterator over a list gives: all of them.

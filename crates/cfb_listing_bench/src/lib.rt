@@ -1,6 +1,7 @@
 //! Tests of `cfb_listing`, in a crate beside it: a crate with tests of its own is proved twice.
 #![tactic(auto)]
 
-pub mod asked;
+#[cfg(test)]
+mod asked;
 #[cfg(test)]
 mod listings;

@@ -12,6 +12,7 @@ use cfb_listing::entry::Entry;
 use cfb_listing::listing::EntriesOrder::{self, Nonrecursive, Preorder};
 use cfb_media::refusing::Refusing;
 use std::alloc::{Allocator, Global};
+use std::process::Abort;
 use std::test::Fail;
 use uuid::Uuid;
 
@@ -53,40 +54,79 @@ const ROWS: [Row; 9] = [
     (DEEP, Preorder, "/a/b", Some(2), "b=/a/b (0 bytes);c=/a/b/c (0 bytes);d=/a/b/c/d (3 bytes);"),
 ];
 
+/// Puts the name and the text of an entry behind the others.
+fn tell(alloc: Global, text: &mut String, entry: &Entry) -> Result<(), Error> {
+    text.push_str(&format!(in alloc; "{}={entry:?};", entry.name())?)?;
+    Ok(())
+}
+
 /// The name and the text of each entry.
 fn told(alloc: Global, list: Vec<Entry>) -> Result<String, Error> {
     let mut text = String::new(alloc);
     let file = 0u8;
     for entry in Entries::new(&file, list) {
-        text.push_str(&format!(in alloc; "{}={entry:?};", entry.name())?)?;
+        tell(alloc, &mut text, &entry)?;
     }
     Ok(text)
 }
 
-#[test]
-fn objects_are_listed_and_walked(rt: HostRuntime) -> Result<(), Fail> {
-    for (given, order, path, place, wanted) in &ROWS {
-        let entries = directory(rt.alloc(), given)?;
-        let list = listed(rt.alloc(), &entries, *order, path, *place)?;
-        let len = list.len();
-        assert_eq!(rt; Entries::new(&entries, list).size_hint(), (len, Some(len)));
-        let list = listed(rt.alloc(), &entries, *order, path, *place)?;
-        let taken = taken_from(rt.alloc(), list)?;
-        assert_eq!(rt; taken.len(), len);
-        assert_eq!(rt; told(rt.alloc(), taken)?.as_str(), *wanted);
+/// How many entries there are, and what an iterator over them says of that.
+fn lengths(list: Vec<Entry>) -> (usize, (usize, Option<usize>)) {
+    let file = 0u8;
+    let len = list.len();
+    (len, Entries::new(&file, list).size_hint())
+}
+
+/// Whether an iterator over what a row asks for tells its length.
+fn is_measured(alloc: Global, entries: &[DirEntry], row: &Row) -> Result<bool, Error> {
+    let (_, order, path, place, _) = row;
+    let (len, hint) = lengths(listed(alloc, entries, *order, path, *place)?);
+    Ok(hint == (len, Some(len)))
+}
+
+/// Whether iterators give all that a row asks for, with these names and texts.
+fn is_told(alloc: Global, entries: &[DirEntry], row: &Row) -> Result<bool, Error> {
+    let (_, order, path, place, wanted) = row;
+    let list = listed(alloc, entries, *order, path, *place)?;
+    let len = list.len();
+    let taken = taken_from(alloc, list)?;
+    let is_whole = taken.len() == len;
+    Ok(told(alloc, taken)?.as_str() == *wanted && is_whole)
+}
+
+fn is_listed(rt: &impl Abort, alloc: Global, entries: &[DirEntry], row: &Row) -> Result<(), Error> {
+    assert!(rt; is_measured(alloc, entries, row)?, "{}", row.4);
+    assert!(rt; is_told(alloc, entries, row)?, "{}", row.4);
+    Ok(())
+}
+
+fn are_listed(rt: &impl Abort, alloc: Global, rows: &[Row]) -> Result<(), Error> {
+    for row in rows {
+        let entries = directory(alloc, row.0)?;
+        is_listed(rt, alloc, &entries, row)?;
     }
     Ok(())
 }
 
-/// Entries with fields that not each of them shows.
+#[test]
+fn objects_are_listed_and_walked(rt: HostRuntime) -> Result<(), Fail> {
+    are_listed(&rt, rt.alloc(), &ROWS)?;
+    Ok(())
+}
+
+/// Fields that not each kind shows.
+fn set_fields(entry: &mut DirEntry) {
+    entry.clsid = Uuid::from_u128(7);
+    entry.state_bits = 9;
+    entry.creation_time = Timestamp::from_unix(1, 0);
+    entry.modified_time = Timestamp::from_unix(2, 0);
+    entry.stream_len = 192;
+}
+
 fn with_fields(alloc: Global) -> Result<Vec<DirEntry>, Error> {
     let mut entries = directory(alloc, NESTED)?;
     for entry in &mut entries {
-        entry.clsid = Uuid::from_u128(7);
-        entry.state_bits = 9;
-        entry.creation_time = Timestamp::from_unix(1, 0);
-        entry.modified_time = Timestamp::from_unix(2, 0);
-        entry.stream_len = 192;
+        set_fields(entry);
     }
     Ok(entries)
 }
@@ -107,31 +147,45 @@ fn shown(entry: &Entry) -> Shown<'_> {
     )
 }
 
+/// Whether this is shown of the entry of this number.
+fn is_shown(
+    alloc: Global,
+    entries: &[DirEntry],
+    number: u32,
+    wanted: &Shown<'static>,
+) -> Result<bool, Error> {
+    let entry = told_at(alloc, entries, number, wanted.1)?;
+    Ok(shown(&entry) == *wanted)
+}
+
+/// The bits of the entry of this number, and whether it is empty.
+fn bits_at(alloc: Global, entries: &[DirEntry], number: u32) -> Result<(u32, bool), Error> {
+    let entry = told_at(alloc, entries, number, "/")?;
+    Ok((entry.state_bits(), entry.is_empty()))
+}
+
+fn are_kinds_shown(rt: &impl Abort, alloc: Global, entries: &[DirEntry]) -> Result<(), Error> {
+    let id = Uuid::from_u128(7);
+    let moments = [Timestamp::from_unix(1, 0), Timestamp::from_unix(2, 0)];
+    let root = ("Root Entry", "/", 192, [false, true, true], id, moments);
+    assert!(rt; is_shown(alloc, entries, 0, &root)?);
+    let storage = ("d", "/d", 0, [false, true, false], id, moments);
+    assert!(rt; is_shown(alloc, entries, 1, &storage)?);
+    let none = [Timestamp::zero(); 2];
+    let stream = ("z", "/Z", 192, [true, false, false], Uuid::nil(), none);
+    assert!(rt; is_shown(alloc, entries, 3, &stream)?);
+    Ok(())
+}
+
 #[test]
 fn each_kind_shows_what_it_has(rt: HostRuntime) -> Result<(), Fail> {
     let entries = with_fields(rt.alloc())?;
-    let id = Uuid::from_u128(7);
-    let moments = [Timestamp::from_unix(1, 0), Timestamp::from_unix(2, 0)];
-    let root = told_at(rt.alloc(), &entries, 0, "/")?;
-    assert_eq!(rt;
-        shown(&root),
-        ("Root Entry", "/", 192, [false, true, true], id, moments)
+    are_kinds_shown(&rt, rt.alloc(), &entries)?;
+    let (stream, storage) = (
+        bits_at(rt.alloc(), &entries, 3),
+        bits_at(rt.alloc(), &entries, 1),
     );
-    let storage = told_at(rt.alloc(), &entries, 1, "/d")?;
-    assert_eq!(rt;
-        shown(&storage),
-        ("d", "/d", 0, [false, true, false], id, moments)
-    );
-    let stream = told_at(rt.alloc(), &entries, 3, "/Z")?;
-    let none = [Timestamp::zero(); 2];
-    assert_eq!(rt;
-        shown(&stream),
-        ("z", "/Z", 192, [true, false, false], Uuid::nil(), none)
-    );
-    assert_eq!(rt;
-        (stream.state_bits(), stream.is_empty(), storage.is_empty()),
-        (9, false, true)
-    );
+    assert!(rt; stream == Ok((9, false)) && matches!(storage, Ok((_, true))));
     Ok(())
 }
 
@@ -140,18 +194,27 @@ fn walked<A: Allocator + Clone>(alloc: A, entries: &[DirEntry<A>]) -> Result<usi
     Ok(count_of(listed(alloc, entries, Preorder, "/", None)?))
 }
 
-#[test]
-fn requests_are_refused_in_turn(rt: HostRuntime) -> Result<(), Fail> {
-    let heap = Refusing::new(rt.alloc());
-    let entries = directory(&heap, DEEP)?;
+fn are_refused_in_turn<'a>(
+    rt: &impl Abort,
+    heap: &'a Refusing<Global>,
+    entries: &[DirEntry<&'a Refusing<Global>>],
+) {
     let start = heap.asked();
-    assert_eq!(rt; walked(&heap, &entries), Ok(7));
+    assert!(rt; walked(heap, entries) == Ok(7));
     let all = heap.asked().saturating_sub(start);
     assert!(rt; all > 7);
     for before in 0..all {
         heap.refuse_after(before);
-        let found = (walked(&heap, &entries), walked(&heap, &entries));
-        assert_eq!(rt; found, (Err(Error::Memory), Ok(7)), "at {before}");
+        let refused = walked(heap, entries) == Err(Error::Memory);
+        let then = walked(heap, entries) == Ok(7);
+        assert!(rt; refused && then, "at {before}");
     }
+}
+
+#[test]
+fn requests_are_refused_in_turn(rt: HostRuntime) -> Result<(), Fail> {
+    let heap = Refusing::new(rt.alloc());
+    let entries = directory(&heap, DEEP)?;
+    are_refused_in_turn(&rt, &heap, &entries);
     Ok(())
 }

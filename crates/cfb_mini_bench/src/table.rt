@@ -1,12 +1,11 @@
 //! Mini sectors that are taken and freed, over no medium.
 use cfb_format::consts::{END_OF_CHAIN as END, FREE_SECTOR as FREE, MAX_REGULAR_SECTOR};
-use cfb_format::error::Error;
+use cfb_format::error::{Detail, Error};
 use cfb_format::validate::Validation::{self, Permissive, Strict};
 use cfb_format::version::Version::{self, V3, V4};
 use cfb_media::refusing::Refusing;
 use cfb_mini_table::mini_table::MiniTable;
 use std::alloc::{Allocator, Global};
-use std::test::Fail;
 
 /// What a table is asked for.
 #[derive(Clone, Copy)]
@@ -96,7 +95,7 @@ const NONE: &[Step] = &[
 
 /// The words, how many mini sectors the mini stream has, and what is then asked for.
 #[rattlefmt::skip]
-const ROWS: [(&[u32], usize, &[Step]); 6] = [
+const ROWS: &[(&[u32], usize, &[Step])] = &[
     (&[END, FREE, FREE], 1, GROWN),
     (&[END], 1, FREED),
     (&[END, FREE, 5, FREE, FREE, 6, END], 7, READ),
@@ -105,6 +104,14 @@ const ROWS: [(&[u32], usize, &[Step]); 6] = [
     (&[1, 0, END], 3, NONE),
 ];
 
+/// Tells of a row that is wrong which it is.
+fn check(is_right: bool, row: usize) -> Result<(), Error> {
+    if is_right {
+        return Ok(());
+    }
+    Err(Error::InvalidData(Detail::number("a row is wrong", row as u64)))
+}
+
 /// The table of these words.
 fn read<A: Allocator + Clone>(
     alloc: A,
@@ -112,8 +119,7 @@ fn read<A: Allocator + Clone>(
     most: usize,
     validation: Validation,
 ) -> Result<MiniTable<A>, Error> {
-    let mut list = Vec::new(alloc.clone()?);
-    list.extend_from_slice(words)?;
+    let list = words.to_vec(alloc.clone()?)?;
     MiniTable::new(alloc, V3, list, most, validation)
 }
 
@@ -186,12 +192,7 @@ fn asked<A: Allocator>(
         Call::FreeListed(start) => free_listed(table, alloc, start),
         Call::CutListed(start, left) => cut_listed(table, alloc, start, left),
         Call::Chain(start) => table.chain(alloc, start),
-        Call::Next(mini) => {
-            let next = table.next(mini)?;
-            let mut answer = Vec::new(alloc);
-            answer.push(next)?;
-            Ok(answer)
-        }
+        Call::Next(mini) => Ok(Vec::from_array(alloc, [table.next(mini)?])?),
     }
 }
 
@@ -216,29 +217,40 @@ fn number_of<T: Drop>(answer: &Result<T, Error>) -> u8 {
     }
 }
 
+/// Asks, and says whether the answer and the sizes then are the step's.
+fn is_right(alloc: Global, table: &mut MiniTable, step: &Step) -> bool {
+    let (call, number, ranges, sizes) = step;
+    let is_answer = match asked(alloc, table, *call) {
+        Ok(numbers) => *number == 0 && are_ranges(&numbers, ranges),
+        Err(error) => error.number() == *number,
+    };
+    is_answer && [table.len(), table.free_len()] == *sizes
+}
+
+/// Asks for each step in turn.
+fn ask(alloc: Global, table: &mut MiniTable, steps: &[Step]) -> Result<(), Error> {
+    let mut number = 0usize;
+    for step in steps {
+        check(is_right(alloc, table, step), number)?;
+        number = number.saturating_add(1);
+    }
+    Ok(())
+}
+
 #[test]
-fn mini_sectors_are_taken_and_freed(rt: HostRuntime) -> Result<(), Fail> {
-    let mut row = 0usize;
+fn mini_sectors_are_taken_and_freed(rt: HostRuntime) -> Result<(), Error> {
     for (words, most, steps) in ROWS {
-        let mut table = read(rt.alloc(), words, most, Permissive)?;
-        for (call, number, ranges, sizes) in steps {
-            let is_right = match asked(rt.alloc(), &mut table, *call) {
-                Ok(numbers) => *number == 0 && are_ranges(&numbers, ranges),
-                Err(error) => error.number() == *number,
-            };
-            assert!(rt;
-                is_right && [table.len(), table.free_len()] == *sizes,
-                "row {row}"
-            );
-            row = row.saturating_add(1);
-        }
+        let mut table = read(rt.alloc(), words, *most, Permissive)?;
+        ask(rt.alloc(), &mut table, steps)?;
     }
     Ok(())
 }
 
 /// The words, how many mini sectors the mini stream has, the mode, and the table that is read: none where it is refused.
+type Opening = (&'static [u32], usize, Validation, Option<&'static [u32]>);
+
 #[rattlefmt::skip]
-const OPENINGS: [(&[u32], usize, Validation, Option<&[u32]>); 11] = [
+const OPENINGS: &[Opening] = &[
     (&[], 0, Strict, Some(&[])),
     (&[FREE, FREE], 0, Strict, Some(&[])),
     (&[1, END, FREE], 2, Strict, Some(&[1, END])),
@@ -254,35 +266,42 @@ const OPENINGS: [(&[u32], usize, Validation, Option<&[u32]>); 11] = [
     (&[FREE, FREE, END], 2, Permissive, Some(&[FREE, FREE])),
 ];
 
+/// Whether the table is read, or refused, as the row says.
+fn is_read(alloc: Global, row: &Opening) -> bool {
+    let (words, most, validation, wanted) = *row;
+    match read(alloc, words, most, validation) {
+        Ok(table) => wanted == Some(table.values()),
+        Err(error) => error.number() == 4 && wanted.is_none(),
+    }
+}
+
 #[test]
-fn words_are_read(rt: HostRuntime) -> Result<(), Fail> {
-    let mut row = 0usize;
-    for (words, most, validation, wanted) in OPENINGS {
-        let is_right = match read(rt.alloc(), words, most, validation) {
-            Ok(table) => wanted == Some(table.values()),
-            Err(error) => error.number() == 4 && wanted.is_none(),
-        };
-        assert!(rt; is_right, "row {row}");
-        row = row.saturating_add(1);
+fn words_are_read(rt: HostRuntime) -> Result<(), Error> {
+    let mut number = 0usize;
+    for row in OPENINGS {
+        check(is_read(rt.alloc(), row), number)?;
+        number = number.saturating_add(1);
     }
     Ok(())
 }
 
+/// Whether a table of one entry has this limit, and takes as many as that leaves and no more.
+fn is_limited(alloc: Global, version: Version, limit: u32) -> Result<bool, Error> {
+    let words = Vec::from_array(alloc, [END])?;
+    let table = MiniTable::new(alloc, version, words, 1, Strict)?;
+    let left = (limit as usize).saturating_sub(1);
+    let takes = table.can_take(left) && !table.can_take(left.saturating_add(1));
+    Ok(takes && table.limit() == limit && !table.is_empty())
+}
+
 #[test]
-fn versions_have_limits(rt: HostRuntime) -> Result<(), Fail> {
-    let limits: [(Version, u32); 2] = [(V3, 67108863), (V4, MAX_REGULAR_SECTOR)];
-    for (version, limit) in limits {
-        let words = Vec::from_array(rt.alloc(), [END])?;
-        let table = MiniTable::new(rt.alloc(), version, words, 1, Strict)?;
-        let left = (limit as usize).saturating_sub(1);
-        assert!(rt; table.limit() == limit && !table.is_empty());
-        assert!(rt; table.can_take(left) && !table.can_take(left.saturating_add(1)));
-    }
-    Ok(())
+fn versions_have_limits(rt: HostRuntime) -> Result<(), Error> {
+    check(is_limited(rt.alloc(), V3, 67108863)?, 0)?;
+    check(is_limited(rt.alloc(), V4, MAX_REGULAR_SECTOR)?, 1)
 }
 
 /// What is asked of a table whose chains are 0 to 3 and 5 to 6, and where 4 is free.
-const CHANGES: [Call; 8] = [
+const CHANGES: &[Call] = &[
     Call::Begin(40),
     Call::Extend(0, 40),
     Call::ExtendListed(0, 40),
@@ -308,57 +327,99 @@ fn tried(heap: &Refusing<Global>, call: Call, served: u64) -> Result<(u8, bool, 
     Ok((first, same, second))
 }
 
-#[test]
-fn memory_is_refused_in_turn(rt: HostRuntime) -> Result<(), Fail> {
-    let heap = Refusing::new(rt.alloc());
-    for call in CHANGES {
-        let mut refused = 0u64;
-        for served in 0..20 {
-            let (first, same, second) = tried(&heap, call, served)?;
-            if first == 0 {
-                break;
-            }
-            assert!(rt; first == 6 && same && second == 0, "after {served}");
-            refused = refused.saturating_add(1);
-        }
-        assert!(rt; 0 < refused && refused < 20);
-    }
-    Ok(())
-}
-
-#[test]
-fn memory_to_open_is_refused_in_turn(rt: HostRuntime) -> Result<(), Fail> {
-    let heap = Refusing::new(rt.alloc());
-    let mut refused = 0u64;
+/// How many requests of a call are refused in turn, as each is refused rightly; none where one was wrong.
+fn refused_in_turn(heap: &Refusing<Global>, call: Call) -> Result<u64, Error> {
     for served in 0..20 {
-        heap.refuse_after(served);
-        let answer = read(&heap, &CHAINS, 7, Strict);
-        if number_of(&answer) == 0 {
+        let (first, same, second) = tried(heap, call, served)?;
+        if first == 0 {
+            return Ok(served);
+        }
+        if first != 6 || !same || second != 0 {
             break;
         }
-        assert!(rt; number_of(&answer) == 6, "after {served}");
-        refused = refused.saturating_add(1);
     }
-    assert!(rt; 0 < refused && refused < 20);
+    Ok(0)
+}
+
+#[test]
+fn memory_is_refused_in_turn(rt: HostRuntime) -> Result<(), Error> {
+    let heap = Refusing::new(rt.alloc());
+    let mut number = 0usize;
+    for call in CHANGES {
+        check(0 < refused_in_turn(&heap, *call)?, number)?;
+        number = number.saturating_add(1);
+    }
     Ok(())
 }
 
-/// What was prepared is taken at once or in parts, cut and freed without another request for memory. The lists have memory of their own.
+/// The number of the refusal to open where the request after so many others is refused, or 0.
+fn opened(heap: &Refusing<Global>, served: u64) -> u8 {
+    heap.refuse_after(served);
+    number_of(&read(heap, &CHAINS, 7, Strict))
+}
+
 #[test]
-fn what_was_prepared_asks_for_no_memory(rt: HostRuntime) -> Result<(), Fail> {
-    for (first, second) in [(300, 0), (1, 299), (100, 200)] {
-        let heap = Refusing::new(rt.alloc());
-        let lists = Refusing::new(rt.alloc());
-        let mut table = read(&heap, &CHAINS, 7, Strict)?;
-        table.prepare(300)?;
-        heap.refuse_all();
-        extend_listed(&mut table, &lists, END, first)?;
-        let list = extend_listed(&mut table, &lists, 4, second)?;
-        assert!(rt; are_ranges(&list, &[(4, 4), (7, 305)]) && table.len() == 306);
-        cut_listed(&mut table, &lists, 4, 2)?;
-        assert!(rt; table.len() == 8 && table.free_len() == 0);
-        free_listed(&mut table, &lists, 4)?;
-        assert!(rt; table.values() == CHAINS.as_slice());
+fn memory_to_open_is_refused_in_turn(rt: HostRuntime) -> Result<(), Error> {
+    let heap = Refusing::new(rt.alloc());
+    let mut refused = 0usize;
+    for served in 0..20 {
+        let number = opened(&heap, served);
+        if number == 0 {
+            break;
+        }
+        check(number == 6, refused)?;
+        refused = refused.saturating_add(1);
     }
-    Ok(())
+    check(0 < refused && refused < 20, refused)
+}
+
+/// Whether a chain takes what was prepared in two parts. The lists have memory of their own.
+fn takes<'x>(
+    table: &mut MiniTable<&'x Refusing<Global>>,
+    lists: &'x Refusing<Global>,
+    first: usize,
+    second: usize,
+) -> Result<bool, Error> {
+    extend_listed(table, lists, END, first)?;
+    let list = extend_listed(table, lists, 4, second)?;
+    Ok(are_ranges(&list, &[(4, 4), (7, 305)]) && table.len() == 306)
+}
+
+/// Whether that chain is cut behind two and freed, and the table is then as it was.
+fn gives_back<'x>(
+    table: &mut MiniTable<&'x Refusing<Global>>,
+    lists: &'x Refusing<Global>,
+) -> Result<bool, Error> {
+    cut_listed(table, lists, 4, 2)?;
+    let is_cut = table.len() == 8 && table.free_len() == 0;
+    free_listed(table, lists, 4)?;
+    Ok(is_cut && table.values() == CHAINS.as_slice())
+}
+
+/// Both, once 300 were prepared and the table's heap refuses all else.
+fn turned<'x>(
+    table: &mut MiniTable<&'x Refusing<Global>>,
+    heap: &Refusing<Global>,
+    lists: &'x Refusing<Global>,
+    parts: (usize, usize),
+) -> Result<bool, Error> {
+    table.prepare(300)?;
+    heap.refuse_all();
+    Ok(takes(table, lists, parts.0, parts.1)? && gives_back(table, lists)?)
+}
+
+/// The same of a table of its own.
+fn is_turned(alloc: Global, parts: (usize, usize)) -> Result<bool, Error> {
+    let heap = Refusing::new(alloc);
+    let lists = Refusing::new(alloc);
+    let mut table = read(&heap, &CHAINS, 7, Strict)?;
+    turned(&mut table, &heap, &lists, parts)
+}
+
+/// What was prepared is taken at once or in parts, cut and freed without another request for memory.
+#[test]
+fn what_was_prepared_asks_for_no_memory(rt: HostRuntime) -> Result<(), Error> {
+    check(is_turned(rt.alloc(), (300, 0))?, 0)?;
+    check(is_turned(rt.alloc(), (1, 299))?, 1)?;
+    check(is_turned(rt.alloc(), (100, 200))?, 2)
 }

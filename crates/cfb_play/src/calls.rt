@@ -39,6 +39,9 @@ const SPARING: [&str; 14] = [
     "open",
 ];
 
+/// Calls that get a stream, work on its content, and close it.
+const ON_CONTENTS: [&str; 6] = ["put", "add", "length", "open", "make", "new"];
+
 /// What is asked of a file that has failed.
 const FAILED: [&str; 15] = [
     "open /a",
@@ -58,32 +61,59 @@ const FAILED: [&str; 15] = [
     "touch / 0",
 ];
 
-/// Plays the lines on a file up to `end`, and answers that line.
-pub fn play_file<'a, F: Medium, A: Allocator + Clone>(
+/// Plays the lines on a file up to `end`.
+pub fn play_file<F: Medium, A: Allocator + Clone>(
     alloc: &A,
     file: &mut CompoundFile<F, A>,
-    script: &mut Script<'a>,
+    script: &mut Script<'_>,
     judge: &mut Judge<'_>,
-) -> Option<Line<'a>> {
+) {
     for _turn in 0..script.lines.len() {
-        let line = script.step()?;
+        let Some(line) = script.step() else {
+            break;
+        };
         judge.text.clear();
-        let is_known = fits(&ON_FILES, &line);
-        if !is_known {
-            judge.note_wrong(&line, UNKNOWN);
+        let is_known = is_known(&line, judge);
+        if line.call() == "end" {
+            ask_failed(file, &line, judge);
+            return;
         }
-        match line.call() {
-            "end" => {
-                ask_failed(file, &line, judge);
-                return Some(line);
-            }
-            "stream" => play_on_stream(file, &line, script, judge),
-            "commands" => play_commands(alloc, file, &line, script, judge),
-            _ if !is_known => {}
-            _ => play_line(file, &line, judge),
-        }
+        play_one(alloc, file, &line, is_known, script, judge);
     }
-    None
+    note_unended(script, judge);
+}
+
+/// Whether a line has a form; else it is told as wrong.
+fn is_known(line: &Line<'_>, judge: &mut Judge<'_>) -> bool {
+    let is_known = fits(&ON_FILES, line);
+    if !is_known {
+        judge.note_wrong(line, UNKNOWN);
+    }
+    is_known
+}
+
+/// Notes that there are no lines left, and none ended the session.
+fn note_unended(script: &Script<'_>, judge: &mut Judge<'_>) {
+    if let Some(line) = script.lines.last() {
+        judge.note_wrong(line, Answer::Wrong("no line ends its session"));
+    }
+}
+
+/// Plays a line on a file, with those that belong to it.
+fn play_one<F: Medium, A: Allocator + Clone>(
+    alloc: &A,
+    file: &mut CompoundFile<F, A>,
+    line: &Line<'_>,
+    is_known: bool,
+    script: &mut Script<'_>,
+    judge: &mut Judge<'_>,
+) {
+    match line.call() {
+        "stream" => play_on_stream(file, line, script, judge),
+        "commands" => play_commands(alloc, file, line, script, judge),
+        _ if is_known => play_line(file, line, judge),
+        _ => {}
+    }
 }
 
 /// Plays a list of commands, where nothing goes wrong.
@@ -117,7 +147,7 @@ fn play_line<F: Medium, A: Allocator + Clone>(
     }
 }
 
-/// Gets a stream, and plays the lines on it. Where it is refused at last, these lines are passed over, which only a fault may do.
+/// Gets a stream, and plays the lines on it. Where it is refused at last, these lines are passed over.
 fn play_on_stream<F: Medium, A: Allocator + Clone>(
     file: &mut CompoundFile<F, A>,
     line: &Line<'_>,
@@ -136,7 +166,12 @@ fn play_on_stream<F: Medium, A: Allocator + Clone>(
             Some(false) => break,
         }
     }
-    let passed = script.pass_to("close");
+    pass_over(line, "close", script, judge);
+}
+
+/// Passes over the lines up to one with this first word, since what they are played on was refused. Only a fault may do that.
+pub fn pass_over(line: &Line<'_>, end: &str, script: &mut Script<'_>, judge: &mut Judge<'_>) {
+    let passed = script.pass_to(end);
     if judge.plan.is_calm() && passed != Some(0) {
         judge.note_wrong(line, Answer::Wrong("its lines were not played"));
     }
@@ -193,14 +228,14 @@ fn hear_close(
     }
 }
 
-/// The stream that is opened (`open`), made (`make`) or made where nothing is (`new`).
+/// The stream that is made (`make`, and to `put` a content), made where nothing is (`new`), or opened.
 fn got<'f, F: Medium, A: Allocator + Clone>(
     file: &'f mut CompoundFile<F, A>,
     how: &str,
     path: &str,
 ) -> Result<Stream<'f, F, A>, Error> {
     match how {
-        "make" => file.create_stream(path),
+        "make" | "put" => file.create_stream(path),
         "new" => file.create_new_stream(path),
         _ => file.open_stream(path),
     }
@@ -214,12 +249,11 @@ fn asked<F: Medium, A: Allocator + Clone>(
     heap: Heap<'_>,
     text: &mut String,
 ) -> Answer {
+    if is_one_of(&ON_CONTENTS, line.call()) {
+        return Answer::of(change_stream(file, line, alloc));
+    }
     match line.call() {
-        "put" => Answer::of(change_stream(file, "make", line, alloc)),
-        "add" | "length" => Answer::of(change_stream(file, "open", line, alloc)),
-        "open" | "make" | "new" => Answer::of(change_stream(file, line.call(), line, alloc)),
         "has" => has(file, line, heap),
-        "flush" => Answer::of(file.flush()),
         "memory" => lend_memory(heap, line),
         _ => match changed(file, line) {
             Some(done) => Answer::of(done),
@@ -231,11 +265,10 @@ fn asked<F: Medium, A: Allocator + Clone>(
 /// Gets a stream, does what a line says of its content, and closes it.
 fn change_stream<F: Medium, A: Allocator + Clone>(
     file: &mut CompoundFile<F, A>,
-    how: &str,
     line: &Line<'_>,
     alloc: Global,
 ) -> Result<(), Error> {
-    match got(file, how, line.path_at(1)) {
+    match got(file, line.call(), line.path_at(1)) {
         Ok(mut stream) => {
             let changed = change_content(&mut stream, line, alloc);
             changed.and(stream.close())

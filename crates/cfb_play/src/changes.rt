@@ -1,11 +1,11 @@
-//! Lines that change what lies at a path, but no content.
+//! Lines that change a file, but no content.
 
 use cfb::{CompoundFile, Error, Medium, Timestamp};
 use cfb_rows::lines::{Line, number_or_0};
 use std::alloc::Allocator;
 use uuid::Uuid;
 
-/// What came of a line that changes what lies at its path. None: it is another line.
+/// What came of a line that changes what lies at its path, or flushes. None: it is another line.
 pub fn changed<F: Medium, A: Allocator + Clone>(
     file: &mut CompoundFile<F, A>,
     line: &Line<'_>,
@@ -17,6 +17,7 @@ pub fn changed<F: Medium, A: Allocator + Clone>(
         "remove" => Some(file.remove_stream(path)),
         "remove-storage" => Some(file.remove_storage(path)),
         "remove-all" => Some(file.remove_storage_all(path)),
+        "flush" => Some(file.flush()),
         _ => marked(file, line, path),
     }
 }
@@ -29,12 +30,17 @@ fn marked<F: Medium, A: Allocator + Clone>(
 ) -> Option<Result<(), Error>> {
     match line.call() {
         "class" => Some(file.set_storage_clsid(path, class_of(line.words[2]))),
-        "bits" => Some(file.set_state_bits(path, line.number_at(2).min(0xffff_ffff) as u32)),
+        "bits" => Some(file.set_state_bits(path, bits_of(line))),
         "created" => Some(file.set_created_time(path, moment_of(line.words[2]))),
         "modified" => Some(file.set_modified_time(path, moment_of(line.words[2]))),
         "touch" => Some(file.touch(path, moment_of(line.words[2]))),
         _ => None,
     }
+}
+
+/// The bits that a line says.
+pub fn bits_of(line: &Line<'_>) -> u32 {
+    line.number_at(2).min(0xffff_ffff) as u32
 }
 
 /// The class id that a word says.

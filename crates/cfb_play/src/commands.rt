@@ -1,7 +1,7 @@
 //! Lists of commands, each a line, and the text of their replies.
 
-use crate::changes::{class_of, moment_of};
-use crate::told::tell;
+use crate::changes::{bits_of, class_of, moment_of};
+use crate::told::{tell, written};
 use cfb::{
     Command, CompoundFile, Entry, Error, Medium, Opening, Reply, StreamOp, StreamReply, run,
 };
@@ -25,23 +25,46 @@ pub fn play_list<'a, F: Medium, A: Allocator + Clone>(
     text: &mut String,
 ) -> Option<(Line<'a>, Answer)> {
     let mut commands = Vec::new(alloc.clone().ok()?);
+    match read_list(alloc, script, &mut commands) {
+        Some((line, read)) => Some((line, ran(alloc, file, &commands, read, text))),
+        None => None,
+    }
+}
+
+/// Reads the lines up to `run`, and appends the commands that they say. The line `run`, with what was refused.
+fn read_list<'a, A: Allocator + Clone>(
+    alloc: &A,
+    script: &mut Script<'a>,
+    commands: &mut Vec<Command<A>, A>,
+) -> Option<(Line<'a>, Answer)> {
     let mut answer = Answer::Text;
     for _turn in 0..script.lines.len() {
         let line = script.step()?;
         if line.call() == "run" {
-            return Some((line, ran(alloc, file, &commands, answer, text)));
+            return Some((line, answer));
         }
-        match command_of(alloc, &line) {
-            Ok(Some(command)) => {
-                if commands.push(command).is_err() {
-                    answer = Answer::Refused(Error::Memory);
-                }
-            }
-            Ok(None) => answer = UNKNOWN,
+        match put_command(alloc, &line, commands) {
+            Ok(true) => {}
+            Ok(false) => answer = UNKNOWN,
             Err(_) => answer = Answer::Refused(Error::Memory),
         }
     }
     None
+}
+
+/// Appends the command that a line says, and says whether it says one.
+fn put_command<A: Allocator + Clone>(
+    alloc: &A,
+    line: &Line<'_>,
+    commands: &mut Vec<Command<A>, A>,
+) -> Result<bool, AllocError> {
+    match command_of(alloc, line)? {
+        Some(command) => {
+            commands.push(command)?;
+            Ok(true)
+        }
+        None => Ok(false),
+    }
 }
 
 /// Runs a list whose lines were read so, and tells the replies.
@@ -66,6 +89,10 @@ fn replied<F: Medium, A: Allocator + Clone>(
 ) -> Result<(), Error> {
     let mut replies = Vec::with_capacity(alloc.clone()?, commands.len())?;
     run(file, commands, &mut replies);
+    tell_replies(&replies, text)
+}
+
+fn tell_replies<A: Allocator>(replies: &[Reply<A>], text: &mut String) -> Result<(), Error> {
     for (i, reply) in replies.iter().enumerate() {
         if i > 0 {
             text.push_str(" | ")?;
@@ -85,66 +112,127 @@ fn command_of<A: Allocator + Clone>(
     if !fits(&ON_FILES, &head) {
         return Ok(None);
     }
+    match call_of(head.call()) {
+        Some(Call::Stream(how)) => stream_command_of(alloc, &head, how, ops),
+        Some(call) => {
+            let path = String::from_str(alloc.clone()?, head.path_at(1))?;
+            Ok(Some(command_at(call, path, &head)))
+        }
+        None => Ok(None),
+    }
+}
+
+/// A call that a command is.
+#[derive(Clone, Copy, Drop)]
+enum Call {
+    Stream(Opening),
+    Storage,
+    Storages,
+    Remove,
+    RemoveStorage,
+    RemoveAll,
+    Class,
+    Bits,
+    Created,
+    Modified,
+    Touch,
+    Flush,
+    Exists,
+    IsStream,
+    IsStorage,
+    Entry,
+    List,
+    Below,
+}
+
+/// The calls, by the words for them.
+const CALLS: [(&str, Call); 20] = [
+    ("open", Call::Stream(Opening::Open)),
+    ("make", Call::Stream(Opening::Create)),
+    ("new", Call::Stream(Opening::CreateNew)),
+    ("storage", Call::Storage),
+    ("storages", Call::Storages),
+    ("remove", Call::Remove),
+    ("remove-storage", Call::RemoveStorage),
+    ("remove-all", Call::RemoveAll),
+    ("class", Call::Class),
+    ("bits", Call::Bits),
+    ("created", Call::Created),
+    ("modified", Call::Modified),
+    ("touch", Call::Touch),
+    ("flush", Call::Flush),
+    ("exists", Call::Exists),
+    ("is-stream", Call::IsStream),
+    ("is-storage", Call::IsStorage),
+    ("entry", Call::Entry),
+    ("list", Call::List),
+    ("below", Call::Below),
+];
+
+fn call_of(word: &str) -> Option<Call> {
+    for (name, call) in CALLS.iter() {
+        if *name == word {
+            return Some(*call);
+        }
+    }
+    None
+}
+
+/// The command that opens a stream so, and does what these words say with it; None where they are no calls of a stream.
+fn stream_command_of<A: Allocator + Clone>(
+    alloc: &A,
+    head: &Line<'_>,
+    how: Opening,
+    said: &str,
+) -> Result<Option<Command<A>>, AllocError> {
+    let mut ops = Vec::new(alloc.clone()?);
+    if !put_ops(alloc, head, said, &mut ops)? {
+        return Ok(None);
+    }
     let path = String::from_str(alloc.clone()?, head.path_at(1))?;
-    match opening_of(head.call()) {
-        Some(how) => match ops_of(alloc, line, ops)? {
-            Some(ops) => Ok(Some(Command::Stream(how, path, ops))),
-            None => Ok(None),
-        },
-        None => Ok(plain_command_of(&head, path)),
-    }
+    Ok(Some(Command::Stream(how, path, ops)))
 }
 
-fn opening_of(call: &str) -> Option<Opening> {
-    match call {
-        "open" => Some(Opening::Open),
-        "make" => Some(Opening::Create),
-        "new" => Some(Opening::CreateNew),
-        _ => None,
-    }
-}
-
-/// The command that a line says at this path, where it opens no stream.
-fn plain_command_of<A: Allocator>(line: &Line<'_>, path: String<A>) -> Option<Command<A>> {
+/// The command that is a call at this path, with what a line says behind it.
+fn command_at<A: Allocator>(call: Call, path: String<A>, line: &Line<'_>) -> Command<A> {
     let word = line.word_at(2);
-    Some(match line.call() {
-        "storage" => Command::CreateStorage(path, moment_of(word)),
-        "storages" => Command::CreateStorageAll(path, moment_of(word)),
-        "remove" => Command::RemoveStream(path),
-        "remove-storage" => Command::RemoveStorage(path),
-        "remove-all" => Command::RemoveStorageAll(path),
-        "class" => Command::SetStorageClsid(path, class_of(word)),
-        "bits" => Command::SetStateBits(path, line.number_at(2).min(0xffff_ffff) as u32),
-        "created" => Command::SetCreatedTime(path, moment_of(word)),
-        "modified" => Command::SetModifiedTime(path, moment_of(word)),
-        "touch" => Command::Touch(path, moment_of(word)),
-        "flush" => Command::Flush,
-        "exists" => Command::Exists(path),
-        "is-stream" => Command::IsStream(path),
-        "is-storage" => Command::IsStorage(path),
-        "entry" => Command::Entry(path),
-        "list" => Command::ReadStorage(path),
-        "below" => Command::WalkStorage(path),
-        _ => return None,
-    })
+    match call {
+        Call::Storage => Command::CreateStorage(path, moment_of(word)),
+        Call::Storages => Command::CreateStorageAll(path, moment_of(word)),
+        Call::Remove => Command::RemoveStream(path),
+        Call::RemoveStorage => Command::RemoveStorage(path),
+        Call::RemoveAll => Command::RemoveStorageAll(path),
+        Call::Class => Command::SetStorageClsid(path, class_of(word)),
+        Call::Bits => Command::SetStateBits(path, bits_of(line)),
+        Call::Created => Command::SetCreatedTime(path, moment_of(word)),
+        Call::Modified => Command::SetModifiedTime(path, moment_of(word)),
+        Call::Touch => Command::Touch(path, moment_of(word)),
+        Call::Exists => Command::Exists(path),
+        Call::IsStream => Command::IsStream(path),
+        Call::IsStorage => Command::IsStorage(path),
+        Call::Entry => Command::Entry(path),
+        Call::List => Command::ReadStorage(path),
+        Call::Below => Command::WalkStorage(path),
+        Call::Flush | Call::Stream(_) => Command::Flush,
+    }
 }
 
-/// What is done with a stream, each behind a comma; None where one is no call of a stream.
-fn ops_of<A: Allocator + Clone>(
+/// Appends what is done with a stream, each behind a comma, and says whether all are calls of a stream.
+fn put_ops<A: Allocator + Clone>(
     alloc: &A,
     line: &Line<'_>,
     said: &str,
-) -> Result<Option<Vec<StreamOp<A>, A>>, AllocError> {
-    let mut ops = Vec::new(alloc.clone()?);
+    ops: &mut Vec<StreamOp<A>, A>,
+) -> Result<bool, AllocError> {
     for text in said.split(",") {
         let op = Line::of(line.title, line.number, text);
         if fits(&ON_STREAMS, &op) {
             ops.push(op_of(alloc, &op)?)?;
         } else if op.count > 0 {
-            return Ok(None);
+            return Ok(false);
         }
     }
-    Ok(Some(ops))
+    Ok(true)
 }
 
 fn op_of<A: Allocator + Clone>(alloc: &A, line: &Line<'_>) -> Result<StreamOp<A>, AllocError> {
@@ -172,26 +260,28 @@ fn bytes_of<A: Allocator + Clone>(alloc: &A, word: &str) -> Result<Vec<u8, A>, A
     Ok(bytes)
 }
 
+fn put(word: &str, text: &mut String) -> Result<(), Error> {
+    text.push_str(word)?;
+    Ok(())
+}
+
 /// Tells a refusal, or that there was none.
 fn tell_done(done: Result<(), Error>, text: &mut String) -> Result<(), Error> {
-    text.push_str(match done {
-        Ok(()) => "ok",
-        Err(e) => refusal(e),
-    })?;
-    Ok(())
+    match done {
+        Ok(()) => put("ok", text),
+        Err(e) => put(refusal(e), text),
+    }
 }
 
 fn tell_reply<A: Allocator>(reply: &Reply<A>, text: &mut String) -> Result<(), Error> {
     match reply {
         Reply::Done(done) => tell_done(*done, text),
-        Reply::Flag(true) => Ok(text.push_str("yes")?),
-        Reply::Flag(false) => Ok(text.push_str("no")?),
+        Reply::Flag(flag) => put(if *flag { "yes" } else { "no" }, text),
         Reply::Entry(Ok(entry)) => tell(entry, text),
         Reply::Entries(Ok(entries)) => tell_entries(entries, text),
         Reply::Stream(Ok((replies, closed))) => tell_stream(replies, *closed, text),
-        Reply::Entry(Err(e)) => tell_done(Err(*e), text),
-        Reply::Entries(Err(e)) => tell_done(Err(*e), text),
-        Reply::Stream(Err(e)) => tell_done(Err(*e), text),
+        Reply::Entry(Err(e)) | Reply::Entries(Err(e)) => put(refusal(*e), text),
+        Reply::Stream(Err(e)) => put(refusal(*e), text),
     }
 }
 
@@ -224,17 +314,13 @@ fn tell_stream_reply<A: Allocator>(reply: &StreamReply<A>, text: &mut String) ->
         StreamReply::Count(Ok(count)) => tell_number(*count as u64, text),
         StreamReply::Place(Ok(place)) => tell_number(*place, text),
         StreamReply::Done(done) => tell_done(*done, text),
-        StreamReply::Bytes(Err(e)) => tell_done(Err(*e), text),
-        StreamReply::Count(Err(e)) => tell_done(Err(*e), text),
-        StreamReply::Place(Err(e)) => tell_done(Err(*e), text),
+        StreamReply::Bytes(Err(e)) => put(refusal(*e), text),
+        StreamReply::Count(Err(e)) | StreamReply::Place(Err(e)) => put(refusal(*e), text),
     }
 }
 
 fn tell_number(number: u64, text: &mut String) -> Result<(), Error> {
-    match write!(text, "{number}") {
-        Ok(()) => Ok(()),
-        Err(_) => Err(Error::Memory),
-    }
+    written(write!(text, "{number}"))
 }
 
 /// Tells bytes as the letters with these numbers.

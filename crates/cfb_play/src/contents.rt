@@ -1,6 +1,5 @@
 //! Contents of streams, written and read whole.
 
-use crate::served::Served;
 use cfb::{Error, Medium, ReadMedium, ReadStream, Stream};
 use cfb_rows::answers::Answer;
 use cfb_rows::content::Content;
@@ -11,6 +10,17 @@ use std::io::SeekFrom;
 
 /// How many bytes one write is given, if no line says it.
 const MOST: usize = 65536;
+
+/// A content that is written up to its end.
+#[derive(Clone, Copy, Drop)]
+pub struct Rest<'c> {
+    pub content: Content<'c>,
+    /// Where it begins in the stream.
+    pub from: u64,
+    /// How many bytes a call.
+    pub by: usize,
+    pub alloc: Global,
+}
 
 /// Does what a line says of the content of a stream: `put` and `add` write it, from the position on or at the end, and `length` gives it a length.
 pub fn change_content<F: Medium, A: Allocator + Clone>(
@@ -43,22 +53,24 @@ fn write_line<F: Medium, A: Allocator + Clone>(
     from: u64,
     alloc: Global,
 ) -> Result<(), Error> {
-    let by = line.number_at(4) as usize;
-    write_content(stream, &Content::of(line.words[2]), from, by, alloc)
+    let rest = Rest {
+        content: Content::of(line.words[2]),
+        from,
+        by: line.number_at(4) as usize,
+        alloc,
+    };
+    write_rest(stream, &rest)
 }
 
-/// Writes from the position on up to the end of a content that begins at `from`, so many bytes a call.
-pub fn write_content<F: Medium, A: Allocator + Clone>(
+/// Writes from the position on up to the end of a content.
+pub fn write_rest<F: Medium, A: Allocator + Clone>(
     stream: &mut Stream<'_, F, A>,
-    content: &Content<'_>,
-    from: u64,
-    by: usize,
-    alloc: Global,
+    rest: &Rest<'_>,
 ) -> Result<(), Error> {
-    let most = if by == 0 { MOST } else { by };
-    let len = (most as u64).min(content.len()).max(1);
-    let mut piece = vec![in alloc; 0u8; len.min(MOST as u64) as usize]?;
-    write_pieces(stream, content, from, &mut piece)
+    let most = if rest.by == 0 { MOST } else { rest.by };
+    let len = (most as u64).min(rest.content.len()).max(1);
+    let mut piece = vec![in rest.alloc; 0u8; len.min(MOST as u64) as usize]?;
+    write_pieces(stream, &rest.content, rest.from, &mut piece)
 }
 
 fn write_pieces<F: Medium, A: Allocator + Clone>(
@@ -86,14 +98,18 @@ pub fn has_all<F: ReadMedium, A: Allocator + Clone>(
     content: &Content<'_>,
     heap: Heap<'_>,
 ) -> Answer {
+    let mut bytes = Vec::new(heap);
     let len = stream.len();
-    match stream.has_rest(content, heap) {
+    let from = stream.position();
+    let read = stream.read_to_end(&mut bytes);
+    match compared(content, from, stream.position(), &bytes, read) {
         Answer::Done if len != content.len() => Answer::Count(len),
         answer => answer,
     }
 }
 
-/// Whether what was read from one place on, up to another, is this content, and as much as was told.
+/// Whether what was read from one place on, up to another, is this content, and as much as was told. Where it was refused, nothing may have
+/// been read.
 pub fn compared(
     content: &Content<'_>,
     from: u64,

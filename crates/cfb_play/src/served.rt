@@ -1,15 +1,24 @@
 //! Streams that lines are played on.
 
-use crate::contents::{compared, write_content};
+use crate::contents::{Rest, write_rest};
 use cfb::{Error, Medium, ReadMedium, ReadStream, Stream};
-use cfb_rows::answers::Answer;
-use cfb_rows::content::Content;
 use cfb_rows::media::Heap;
-use std::alloc::{Allocator, Global};
+use std::alloc::Allocator;
 use std::io::SeekFrom;
 
+/// What is done with a stream that is written.
+#[derive(Clone, Copy, Drop)]
+pub enum Change<'c> {
+    /// A beginning of these bytes is written, by one call.
+    Write(&'c [u8]),
+    /// A content is written up to its end.
+    Rest(Rest<'c>),
+    Length(u64),
+    Flush,
+}
+
 /// A stream that is read, and maybe written. (A generic function whose answer may hold a refusal can't be called for a stream itself, but for
-/// what implements this: so two of its calls do more than one of a stream.)
+/// what implements this.)
 pub trait Served {
     fn count(&self) -> u64;
 
@@ -18,33 +27,20 @@ pub trait Served {
     /// Reads a piece, and says how much.
     fn read_piece(&mut self, piece: &mut [u8]) -> Result<usize, Error>;
 
+    /// Appends all that is left.
+    fn read_rest(&mut self, bytes: &mut Vec<u8, Heap<'_>>) -> Result<usize, Error>;
+
     fn lent(&mut self) -> Result<&[u8], Error>;
 
     fn take(&mut self, count: usize);
 
-    /// Whether the rest is this content. Where it is refused, nothing may have been read.
-    fn has_rest(&mut self, content: &Content<'_>, heap: Heap<'_>) -> Answer;
-
     fn go(&mut self, to: SeekFrom) -> Result<u64, Error>;
 
-    /// Whether it is written, too. Where it is not, none of the calls below is made.
+    /// Whether it is written, too. Where it is not, no change is asked for.
     fn is_written(&self) -> bool;
 
-    /// Writes a beginning of these bytes, and says how much.
-    fn write_piece(&mut self, bytes: &[u8]) -> Result<usize, Error>;
-
-    /// Writes from the position on up to the end of a content that begins at `from`, so many bytes a call.
-    fn write_rest(
-        &mut self,
-        content: &Content<'_>,
-        from: u64,
-        by: usize,
-        alloc: Global,
-    ) -> Result<(), Error>;
-
-    fn resize(&mut self, len: u64) -> Result<(), Error>;
-
-    fn write_out(&mut self) -> Result<(), Error>;
+    /// What comes of a change: how many bytes one call wrote, or 0.
+    fn change(&mut self, change: Change<'_>) -> Result<u64, Error>;
 }
 
 impl<'a, F: ReadMedium, A: Allocator + Clone> Served for ReadStream<'a, F, A> {
@@ -60,19 +56,16 @@ impl<'a, F: ReadMedium, A: Allocator + Clone> Served for ReadStream<'a, F, A> {
         self.read(piece)
     }
 
+    fn read_rest(&mut self, bytes: &mut Vec<u8, Heap<'_>>) -> Result<usize, Error> {
+        self.read_to_end(bytes)
+    }
+
     fn lent(&mut self) -> Result<&[u8], Error> {
         self.fill_buf()
     }
 
     fn take(&mut self, count: usize) {
         self.consume(count);
-    }
-
-    fn has_rest(&mut self, content: &Content<'_>, heap: Heap<'_>) -> Answer {
-        let mut bytes = Vec::new(heap);
-        let from = self.position();
-        let read = self.read_to_end(&mut bytes);
-        compared(content, from, self.position(), &bytes, read)
     }
 
     fn go(&mut self, to: SeekFrom) -> Result<u64, Error> {
@@ -83,26 +76,16 @@ impl<'a, F: ReadMedium, A: Allocator + Clone> Served for ReadStream<'a, F, A> {
         false
     }
 
-    fn write_piece(&mut self, _bytes: &[u8]) -> Result<usize, Error> {
+    fn change(&mut self, _change: Change<'_>) -> Result<u64, Error> {
         Err(Error::Failed)
     }
+}
 
-    fn write_rest(
-        &mut self,
-        _content: &Content<'_>,
-        _from: u64,
-        _by: usize,
-        _alloc: Global,
-    ) -> Result<(), Error> {
-        Err(Error::Failed)
-    }
-
-    fn resize(&mut self, _len: u64) -> Result<(), Error> {
-        Err(Error::Failed)
-    }
-
-    fn write_out(&mut self) -> Result<(), Error> {
-        Err(Error::Failed)
+/// What comes of a call that gives no number.
+fn nothing(done: Result<(), Error>) -> Result<u64, Error> {
+    match done {
+        Ok(()) => Ok(0),
+        Err(e) => Err(e),
     }
 }
 
@@ -119,19 +102,16 @@ impl<'a, F: Medium, A: Allocator + Clone> Served for Stream<'a, F, A> {
         self.read(piece)
     }
 
+    fn read_rest(&mut self, bytes: &mut Vec<u8, Heap<'_>>) -> Result<usize, Error> {
+        self.read_to_end(bytes)
+    }
+
     fn lent(&mut self) -> Result<&[u8], Error> {
         self.fill_buf()
     }
 
     fn take(&mut self, count: usize) {
         self.consume(count);
-    }
-
-    fn has_rest(&mut self, content: &Content<'_>, heap: Heap<'_>) -> Answer {
-        let mut bytes = Vec::new(heap);
-        let from = self.position();
-        let read = self.read_to_end(&mut bytes);
-        compared(content, from, self.position(), &bytes, read)
     }
 
     fn go(&mut self, to: SeekFrom) -> Result<u64, Error> {
@@ -142,25 +122,15 @@ impl<'a, F: Medium, A: Allocator + Clone> Served for Stream<'a, F, A> {
         true
     }
 
-    fn write_piece(&mut self, bytes: &[u8]) -> Result<usize, Error> {
-        self.write(bytes)
-    }
-
-    fn write_rest(
-        &mut self,
-        content: &Content<'_>,
-        from: u64,
-        by: usize,
-        alloc: Global,
-    ) -> Result<(), Error> {
-        write_content(self, content, from, by, alloc)
-    }
-
-    fn resize(&mut self, len: u64) -> Result<(), Error> {
-        self.set_len(len)
-    }
-
-    fn write_out(&mut self) -> Result<(), Error> {
-        self.flush()
+    fn change(&mut self, change: Change<'_>) -> Result<u64, Error> {
+        match change {
+            Change::Write(bytes) => match self.write(bytes) {
+                Ok(count) => Ok(count as u64),
+                Err(e) => Err(e),
+            },
+            Change::Rest(rest) => nothing(write_rest(self, &rest)),
+            Change::Length(len) => nothing(self.set_len(len)),
+            Change::Flush => nothing(self.flush()),
+        }
     }
 }

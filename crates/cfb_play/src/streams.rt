@@ -1,6 +1,7 @@
 //! Lines on an open stream.
 
-use crate::served::Served;
+use crate::contents::{Rest, compared};
+use crate::served::{Change, Served};
 use cfb::Error;
 use cfb_rows::answers::Answer;
 use cfb_rows::content::Content;
@@ -91,10 +92,10 @@ fn asked<S: Served>(
         "len" => Answer::Count(stream.count()),
         "empty" => Answer::Flag(stream.count() == 0),
         "place" => Answer::Count(stream.place()),
-        "read" => read(stream, line),
+        "read" => read(stream, content_at(line, 2), line.number_at(1)),
         "lend" => lends(stream, &Content::of(line.words[1])),
         "lent-up" => lent_up(stream, &Content::of(line.words[1])),
-        "rest" => stream.has_rest(&Content::of(line.words[1]), heap),
+        "rest" => has_rest(stream, &Content::of(line.words[1]), heap),
         "take" => taken(stream, line.number_at(1) as usize),
         "at" | "end" | "by" => sought(stream, line),
         _ if stream.is_written() => changed(stream, line, from, alloc),
@@ -102,24 +103,40 @@ fn asked<S: Served>(
     }
 }
 
+/// What comes of a change whose answer is no number.
+fn done(changed: Result<u64, Error>) -> Answer {
+    match changed {
+        Ok(_) => Answer::Done,
+        Err(e) => Answer::Refused(e),
+    }
+}
+
 /// The answer to a line that writes.
 fn changed<S: Served>(stream: &mut S, line: &Line<'_>, from: u64, alloc: Global) -> Answer {
     match line.call() {
-        "flush" => Answer::of(stream.write_out()),
-        "length" => Answer::of(stream.resize(line.number_at(1))),
+        "flush" => done(stream.change(Change::Flush)),
+        "length" => done(stream.change(Change::Length(line.number_at(1)))),
         "same-length" => {
             let len = stream.count();
-            Answer::of(stream.resize(len))
+            done(stream.change(Change::Length(len)))
         }
-        "write" => Answer::of(stream.write_rest(
-            &Content::of(line.words[1]),
+        "write" => done(stream.change(Change::Rest(Rest {
+            content: Content::of(line.words[1]),
             from,
-            line.number_at(3) as usize,
+            by: line.number_at(3) as usize,
             alloc,
-        )),
+        }))),
         "once" => write_once(stream, &Content::of(line.words[1])),
         _ => UNKNOWN,
     }
+}
+
+/// Whether the rest is this content.
+fn has_rest<S: Served>(stream: &mut S, content: &Content<'_>, heap: Heap<'_>) -> Answer {
+    let mut bytes = Vec::new(heap);
+    let from = stream.place();
+    let read = stream.read_rest(&mut bytes);
+    compared(content, from, stream.place(), &bytes, read)
 }
 
 fn taken<S: Served>(stream: &mut S, count: usize) -> Answer {
@@ -127,19 +144,26 @@ fn taken<S: Served>(stream: &mut S, count: usize) -> Answer {
     Answer::Done
 }
 
-/// Reads by one call: how many bytes came, which are to be of this content if the line has one.
-fn read<S: Served>(stream: &mut S, line: &Line<'_>) -> Answer {
+/// Reads by one call, with room for so many bytes: how many came, which are to be of this content if there is one.
+fn read<S: Served>(stream: &mut S, content: Option<Content<'_>>, most: u64) -> Answer {
     let mut piece = [0u8; ROOM];
     let place = stream.place();
-    let room = line.number_at(1).min(ROOM as u64) as usize;
+    let room = most.min(ROOM as u64) as usize;
     match stream.read_piece(&mut piece[..room]) {
-        Ok(count) if line.count == 2 => Answer::Count(count as u64),
-        Ok(count) => counted(
-            &Content::of(line.words[2]),
-            place,
-            piece.get(..count).unwrap_or(&[]),
-        ),
+        Ok(count) => match content {
+            Some(content) => counted(&content, place, piece.get(..count).unwrap_or(&[])),
+            None => Answer::Count(count as u64),
+        },
         Err(e) => Answer::Refused(e),
+    }
+}
+
+/// The content that a line says at this place, if it says one.
+fn content_at<'a>(line: &Line<'a>, place: usize) -> Option<Content<'a>> {
+    if place < line.count {
+        Some(Content::of(line.word_at(place)))
+    } else {
+        None
     }
 }
 
@@ -202,21 +226,19 @@ fn write_once<S: Served>(stream: &mut S, content: &Content<'_>) -> Answer {
     let place = stream.place();
     content.lay(place, place, &mut piece);
     let count = content.len().min(ROOM as u64) as usize;
-    Answer::counted(
-        stream
-            .write_piece(&piece[..count])
-            .map(|count| count as u64),
-    )
+    Answer::counted(stream.change(Change::Write(&piece[..count])))
 }
 
 /// Reads by pieces, up to the end or a refusal that comes behind all of this content, which is what reading to the end answers then, too. A
 /// call that is refused by a fault is to keep position and length, and is asked again.
 fn reads_pieces<S: Served>(stream: &mut S, line: &Line<'_>, judge: &mut Judge<'_>) -> Answer {
     let content = Content::of(line.words[1]);
+    let by = line.number_at(3);
+    let most = if by == 0 { ROOM as u64 } else { by };
     let len = stream.count();
     for _turn in 0..len.saturating_add(9) {
         let at = stream.place();
-        match read_piece(stream, &content, line.number_at(3)) {
+        match read(stream, Some(content), most) {
             Answer::Count(0) => return at_end(stream, &content),
             Answer::Count(_) => {}
             Answer::Refused(e) if judge.plan.is_calm() => {
@@ -246,21 +268,9 @@ fn refused_at_end<S: Served>(
     if stream.place() != content.len() {
         return Answer::Count(stream.place());
     }
-    match stream.has_rest(&Content::Places(0), heap) {
+    match has_rest(stream, &Content::Places(0), heap) {
         Answer::Refused(rest) if rest.number() == e.number() => Answer::Refused(e),
         _ => Answer::Differs(content.len()),
-    }
-}
-
-/// The next piece, of so many bytes at most, which is to be of this content: how many bytes it has.
-fn read_piece<S: Served>(stream: &mut S, content: &Content<'_>, by: u64) -> Answer {
-    let mut piece = [0u8; ROOM];
-    let at = stream.place();
-    let most = if by == 0 { ROOM as u64 } else { by };
-    let room = most.min(ROOM as u64) as usize;
-    match stream.read_piece(&mut piece[..room]) {
-        Ok(count) => counted(content, at, piece.get(..count).unwrap_or(&[])),
-        Err(e) => Answer::Refused(e),
     }
 }
 

@@ -3,7 +3,7 @@
 use cfb::{CompoundFile, Entries, Entry, Error, Medium};
 use cfb_rows::answers::Answer;
 use cfb_rows::lines::Line;
-use std::alloc::Allocator;
+use std::alloc::{AllocError, Allocator};
 use std::fmt::Write;
 
 /// The answer to a question, which changes nothing. None: the line is none.
@@ -44,10 +44,24 @@ fn about<A: Allocator>(
     text: &mut String,
 ) -> Answer {
     match entry {
-        Ok(entry) if line.call() == "entry" => Answer::told(tell(&entry, text)),
-        Ok(entry) if line.call() == "fields" => Answer::told(tell_fields(&entry, text)),
-        Ok(entry) => Answer::Count(entry.len()),
+        Ok(entry) => told_of(line, &entry, text),
         Err(e) => Answer::Refused(e),
+    }
+}
+
+fn told_of<A: Allocator>(line: &Line<'_>, entry: &Entry<A>, text: &mut String) -> Answer {
+    match line.call() {
+        "entry" => Answer::told(tell(entry, text)),
+        "fields" => Answer::told(tell_fields(entry, text)),
+        _ => Answer::Count(entry.len()),
+    }
+}
+
+/// What came of telling something: where it was refused, memory lacked for the text.
+pub fn written(done: Result<(), AllocError>) -> Result<(), Error> {
+    match done {
+        Ok(()) => Ok(()),
+        Err(_) => Err(Error::Memory),
     }
 }
 
@@ -61,20 +75,14 @@ pub fn tell<A: Allocator>(entry: &Entry<A>, text: &mut String) -> Result<(), Err
     };
     let end = if entry.is_empty() { " and empty" } else { "" };
     let (name, path) = (entry.name(), entry.path());
-    match write!(text, "{kind} {name} {path} {}{end}", entry.len()) {
-        Ok(()) => Ok(()),
-        Err(_) => Err(Error::Memory),
-    }
+    written(write!(text, "{kind} {name} {path} {}{end}", entry.len()))
 }
 
 /// Tells the fields of an entry: its class id, its bits, and when it was made and changed, in hundreds of nanoseconds from 1601 on.
 fn tell_fields<A: Allocator>(entry: &Entry<A>, text: &mut String) -> Result<(), Error> {
     let (created, modified) = (entry.created().value(), entry.modified().value());
     let bits = entry.state_bits();
-    match write!(text, "{} {bits} @{created} @{modified}", entry.clsid()) {
-        Ok(()) => Ok(()),
-        Err(_) => Err(Error::Memory),
-    }
+    written(write!(text, "{} {bits} @{created} @{modified}", entry.clsid()))
 }
 
 /// The answer to a question for a listing.
@@ -109,29 +117,32 @@ fn tell_entries<F: Medium, A: Allocator + Clone>(
     text: &mut String,
 ) -> Answer {
     let mut count = 0u64;
+    let mut told = Ok(());
     for entry in entries {
         count = count.saturating_add(1);
-        let done = match call {
-            "count" => Ok(()),
-            "told" => tell_as_printed(&entry, text),
-            "walk" => tell_found(file, &entry, text),
-            _ => put_path(&entry, text),
-        };
-        if let Err(e) = done {
-            return Answer::Refused(e);
+        told = tell_one(file, call, &entry, text);
+        if told.is_err() {
+            break;
         }
     }
-    if call == "count" {
-        return Answer::Count(count);
+    match told {
+        Ok(()) if call == "count" => Answer::Count(count),
+        _ => Answer::told(told),
     }
-    Answer::Text
 }
 
-/// Tells an entry as it is printed.
-fn tell_as_printed<A: Allocator>(entry: &Entry<A>, text: &mut String) -> Result<(), Error> {
-    match write!(text, "{entry:?};") {
-        Ok(()) => Ok(()),
-        Err(_) => Err(Error::Memory),
+/// Tells an entry of a listing, as the call wants it.
+fn tell_one<F: Medium, A: Allocator + Clone>(
+    file: &CompoundFile<F, A>,
+    call: &str,
+    entry: &Entry<A>,
+    text: &mut String,
+) -> Result<(), Error> {
+    match call {
+        "count" => Ok(()),
+        "told" => written(write!(text, "{entry:?};")),
+        "walk" => tell_found(file, entry, text),
+        _ => put_path(entry, text),
     }
 }
 

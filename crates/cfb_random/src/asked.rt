@@ -2,7 +2,7 @@
 
 use crate::calls::Call;
 use crate::tree::{Object, Tree};
-use cfb::{Command, CompoundFile, Entries, Medium};
+use cfb::{Command, CompoundFile, Entries, Entry, Medium};
 use std::alloc::{AllocError, Allocator, Global};
 
 /// The commands that calls are.
@@ -11,10 +11,19 @@ pub fn commands_of<A: Allocator + Clone>(
     calls: &[Call],
 ) -> Result<Vec<Command<A>, A>, AllocError> {
     let mut commands = Vec::new(alloc.clone()?);
+    put_commands(alloc, calls, &mut commands)?;
+    Ok(commands)
+}
+
+fn put_commands<A: Allocator + Clone>(
+    alloc: &A,
+    calls: &[Call],
+    commands: &mut Vec<Command<A>, A>,
+) -> Result<(), AllocError> {
     for call in calls {
         commands.push(call.command(alloc)?)?;
     }
-    Ok(commands)
+    Ok(())
 }
 
 /// Whether a file says of all its objects what a tree has, in the order of a walk, and is sound.
@@ -38,17 +47,23 @@ pub fn says<F: Medium, A: Allocator + Clone>(
     true
 }
 
+/// Whether these entries are the objects of a tree.
 fn tells<F, A: Allocator>(entries: Entries<'_, F, A>, tree: &Tree) -> bool {
     let mut count = 0usize;
+    let mut are_told = true;
     for entry in entries {
-        match tree.objects.get(count) {
-            Some(object) if object.is_told_by(&object.names, &entry) => {
-                count = count.saturating_add(1);
-            }
-            _ => return false,
-        }
+        are_told = are_told && is_told(tree, count, &entry);
+        count = count.saturating_add(1);
     }
-    count == tree.objects.len()
+    are_told && count == tree.objects.len()
+}
+
+/// Whether an entry is the object of a tree at this place.
+fn is_told<A: Allocator>(tree: &Tree, at: usize, entry: &Entry<A>) -> bool {
+    match tree.objects.get(at) {
+        Some(object) => object.is_told_by(&object.names, entry),
+        None => false,
+    }
 }
 
 /// Whether the content of a stream is read as it is to be.

@@ -8,7 +8,7 @@ use std::alloc::{AllocError, Allocator};
 use uuid::Uuid;
 
 /// What a call does.
-#[derive(Clone, Copy, Debug, PartialEq, Eq)]
+#[derive(Clone, Copy, Debug)]
 pub enum What {
     Storage,
     Storages,
@@ -84,10 +84,30 @@ impl Call {
         Timestamp::read_from(&self.value.to_le_bytes())
     }
 
+    /// How the stream is got, where the call works on one.
+    fn opening(&self) -> Option<Opening> {
+        match self.what {
+            What::Make => Some(Opening::Create),
+            What::New => Some(Opening::CreateNew),
+            What::Open => Some(Opening::Open),
+            _ => None,
+        }
+    }
+
     /// The command that this call is.
     pub fn command<A: Allocator + Clone>(&self, alloc: &A) -> Result<Command<A>, AllocError> {
-        let path = self.names.path(alloc.clone()?)?;
-        Ok(match self.what {
+        match self.opening() {
+            Some(how) => {
+                let ops = self.ops(alloc)?;
+                Ok(Command::Stream(how, self.names.path(alloc.clone()?)?, ops))
+            }
+            None => Ok(self.plain(self.names.path(alloc.clone()?)?)),
+        }
+    }
+
+    /// The command that this call is at its path, where it works on no stream.
+    fn plain<A: Allocator>(&self, path: String<A>) -> Command<A> {
+        match self.what {
             What::Storage => Command::CreateStorage(path, self.moment()),
             What::Storages => Command::CreateStorageAll(path, self.moment()),
             What::RemoveStream => Command::RemoveStream(path),
@@ -98,17 +118,14 @@ impl Call {
             What::Created => Command::SetCreatedTime(path, self.moment()),
             What::Modified => Command::SetModifiedTime(path, self.moment()),
             What::Touch => Command::Touch(path, self.moment()),
-            What::Flush => Command::Flush,
             What::Exists => Command::Exists(path),
             What::IsStream => Command::IsStream(path),
             What::IsStorage => Command::IsStorage(path),
             What::Entry => Command::Entry(path),
             What::List => Command::ReadStorage(path),
             What::Below => Command::WalkStorage(path),
-            What::Make => Command::Stream(Opening::Create, path, self.ops(alloc)?),
-            What::New => Command::Stream(Opening::CreateNew, path, self.ops(alloc)?),
-            What::Open => Command::Stream(Opening::Open, path, self.ops(alloc)?),
-        })
+            What::Flush | What::Make | What::New | What::Open => Command::Flush,
+        }
     }
 
     fn ops<A: Allocator + Clone>(&self, alloc: &A) -> Result<Vec<StreamOp<A>, A>, AllocError> {

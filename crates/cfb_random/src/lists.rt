@@ -27,6 +27,8 @@ struct Trial<'t, 'h> {
     numbers: Numbers,
     tree: Tree,
     ear: Ear,
+    /// How many calls are made at most until the file is opened again.
+    session: u64,
     /// How many calls one list of commands has at most.
     most: u64,
     /// Whether requests for memory are refused.
@@ -41,10 +43,10 @@ struct Trial<'t, 'h> {
     text: &'t mut String,
 }
 
-/// Plays lists of calls that the seed of a line determines, as many and as long as it says, as commands: `by` so many at once, or one by one; and
-/// where it says `lacking`, requests for memory are refused. Each reply is to be what a plain tree says. After each list of commands the file
-/// is to say what the tree does, is to be sound, and after some to be opened strictly from its bytes alone. How many calls were played, or how
-/// many lists of commands were refused memory; a text tells a call that went otherwise.
+/// Plays lists of calls that the seed of a line determines, as many and as long as it says, as commands: `by` so many at once, or one by one, and
+/// by none each on a file that is opened for it; and where it says `lacking`, requests for memory are refused. Each reply is to be what a plain
+/// tree says. After each list of commands the file is to say what the tree does, is to be sound, and after some to be opened strictly from its
+/// bytes alone. How many calls were played, or how many lists of commands were refused memory; a text tells a call that went otherwise.
 pub fn played_at_random(
     alloc: Global,
     heap: Heap<'_>,
@@ -71,29 +73,8 @@ fn play_list(
     line: &Line<'_>,
     text: &mut String,
 ) -> Result<Option<u64>, Error> {
-    let mut numbers = Numbers::new(seed);
-    let is_old = numbers.below(2) == 0;
-    let bytes = made(heap, is_old)?;
-    let ear = Ear {
-        may_lack: false,
-        lacked: false,
-        is_old,
-        count: 0,
-    };
-    let mut trial = Trial {
-        alloc,
-        heap,
-        numbers,
-        tree: Tree::new(alloc)?,
-        ear,
-        most: line.number_at(5).max(1),
-        lacks: line.word_at(4) == "lacking",
-        is_over: false,
-        right: 0,
-        refused: 0,
-        text,
-    };
-    let is_well = is_played(&mut trial, bytes, line.number_at(3));
+    let mut trial = Trial::new(alloc, heap, seed, line, text)?;
+    let is_well = play_made(&mut trial, line.number_at(3))?;
     let count = if trial.lacks {
         trial.refused
     } else {
@@ -102,58 +83,55 @@ fn play_list(
     Ok(if is_well { Some(count) } else { None })
 }
 
-/// The bytes of a file without objects.
-fn made<'h>(heap: Heap<'h>, is_old: bool) -> Result<Vec<u8, Heap<'h>>, Error> {
-    let version = if is_old { Version::V3 } else { Version::V4 };
-    let medium = MemoryMedium::new(heap);
-    let file = CompoundFile::create_with_version(heap, version, medium)?;
-    Ok(file.into_inner().into_bytes())
+/// Makes a file without objects, and plays so many calls on it.
+fn play_made(trial: &mut Trial<'_, '_>, len: u64) -> Result<bool, Error> {
+    let version = if trial.ear.is_old {
+        Version::V3
+    } else {
+        Version::V4
+    };
+    let medium = MemoryMedium::new(trial.heap);
+    match CompoundFile::create_with_version(trial.heap, version, medium) {
+        Ok(file) => Ok(is_played(trial, file.into_inner(), len)),
+        Err(e) => Err(e),
+    }
 }
 
-/// Plays so many calls on the file that has these bytes, which is opened again and again, at last once more.
-fn is_played<'h>(trial: &mut Trial<'_, 'h>, bytes: Vec<u8, Heap<'h>>, len: u64) -> bool {
-    let mut bytes = bytes;
+/// Plays so many calls on the file on this medium, which is opened again and again, at last once more.
+fn is_played<F: Medium>(trial: &mut Trial<'_, '_>, medium: F, len: u64) -> bool {
+    let mut medium = medium;
     let mut left = len;
     for _turn in 0..len.saturating_add(1) {
-        let count = trial.numbers.below(SESSION).saturating_add(1).min(left);
-        match play_session(trial, bytes, count) {
-            Some(after) => bytes = after,
+        let drawn = trial.numbers.below(trial.session).saturating_add(1);
+        let count = drawn.min(left);
+        match play_session(trial, medium, count) {
+            Some(after) => medium = after,
             None => return false,
         }
         if left == 0 || trial.is_over {
-            return true;
+            break;
         }
         left = left.saturating_sub(count);
     }
     true
 }
 
-/// Opens a file, plays so many calls on it, and gives back its bytes. None where something went otherwise.
-fn play_session<'h>(
-    trial: &mut Trial<'_, 'h>,
-    bytes: Vec<u8, Heap<'h>>,
-    count: u64,
-) -> Option<Vec<u8, Heap<'h>>> {
+/// Opens a file, plays so many calls on it, and gives back its medium. None where something went otherwise.
+fn play_session<F: Medium>(trial: &mut Trial<'_, '_>, medium: F, count: u64) -> Option<F> {
+    let heap = trial.heap;
     let buffer = trial.numbers.one_of(&[0, 1_048_576]) as usize;
     let options = OpenOptions::new().max_buffer_size(buffer).strict();
-    match options.open_with(trial.heap, MemoryMedium::from_bytes(bytes)) {
-        Ok(file) => play_opened(trial, file, count),
+    match options.open_with(heap, medium) {
+        Ok(mut file) => {
+            let is_well = play_calls(trial, &heap, &mut file, count);
+            let medium = file.into_inner();
+            if is_well { Some(medium) } else { None }
+        }
         Err(e) => {
             trial.tell("strict opening", e);
             None
         }
     }
-}
-
-fn play_opened<'h>(
-    trial: &mut Trial<'_, 'h>,
-    mut file: CompoundFile<MemoryMedium<Heap<'h>>, Heap<'h>>,
-    count: u64,
-) -> Option<Vec<u8, Heap<'h>>> {
-    let heap = trial.heap;
-    let is_well = play_calls(trial, &heap, &mut file, count);
-    let bytes = file.into_inner().into_bytes();
-    if is_well { Some(bytes) } else { None }
 }
 
 /// Plays so many calls, and says whether all went as the tree says.
@@ -181,25 +159,25 @@ fn play_calls<F: Medium, A: Allocator + Clone>(
     true
 }
 
-/// Draws so many calls, and plays them as one list of commands. Where a request for memory is refused to them, they are played once more.
+/// Draws so many calls, and plays them as one list of commands.
 fn play_some<F: Medium, A: Allocator + Clone>(
     trial: &mut Trial<'_, '_>,
     alloc: &A,
     file: &mut CompoundFile<F, A>,
     count: u64,
 ) -> Result<bool, AllocError> {
-    let mut calls = Vec::new(trial.alloc);
-    for _turn in 0..count {
-        calls.push(Call::drawn(&mut trial.numbers))?;
-    }
+    let calls = drawn(trial.alloc, &mut trial.numbers, count)?;
     let commands = commands_of(alloc, &calls)?;
-    let mut is_well = trial.is_heard(alloc, file, &calls, &commands, trial.lacks)?;
-    if is_well && trial.ear.lacked {
-        trial.refused = trial.refused.saturating_add(1);
-        is_well = trial.is_heard(alloc, file, &calls, &commands, false)?;
+    trial.are_heard(alloc, file, &calls, &commands)
+}
+
+/// So many calls.
+fn drawn(alloc: Global, numbers: &mut Numbers, count: u64) -> Result<Vec<Call>, AllocError> {
+    let mut calls = Vec::new(alloc);
+    for _turn in 0..count {
+        calls.push(Call::drawn(numbers))?;
     }
-    trial.right = trial.right.saturating_add(count);
-    Ok(is_well)
+    Ok(calls)
 }
 
 /// Whether a failed file answers so.
@@ -212,7 +190,60 @@ fn is_failed_reply<A: Allocator>(reply: &Reply<A>) -> bool {
     }
 }
 
+fn are_failed<A: Allocator>(replies: &[Reply<A>]) -> bool {
+    for reply in replies {
+        if !is_failed_reply(reply) {
+            return false;
+        }
+    }
+    true
+}
+
 impl<'t, 'h> Trial<'t, 'h> {
+    fn new(
+        alloc: Global,
+        heap: Heap<'h>,
+        seed: u64,
+        line: &Line<'_>,
+        text: &'t mut String,
+    ) -> Result<Trial<'t, 'h>, AllocError> {
+        let mut numbers = Numbers::new(seed);
+        let is_old = numbers.below(2) == 0;
+        let by = line.number_at(5);
+        let lacks = line.word_at(4) == "lacking";
+        Ok(Trial {
+            alloc,
+            heap,
+            numbers,
+            tree: Tree::new(alloc)?,
+            ear: Ear::new(is_old),
+            session: if by > 0 || lacks { SESSION } else { 1 },
+            most: by.max(1),
+            lacks,
+            is_over: false,
+            right: 0,
+            refused: 0,
+            text,
+        })
+    }
+
+    /// Plays commands. Where a request for memory is refused to them, they are played once more.
+    fn are_heard<F: Medium, A: Allocator + Clone>(
+        &mut self,
+        alloc: &A,
+        file: &mut CompoundFile<F, A>,
+        calls: &[Call],
+        commands: &[Command<A>],
+    ) -> Result<bool, AllocError> {
+        let mut is_well = self.is_heard(alloc, file, calls, commands, self.lacks)?;
+        if is_well && self.ear.lacked {
+            self.refused = self.refused.saturating_add(1);
+            is_well = self.is_heard(alloc, file, calls, commands, false)?;
+        }
+        self.right = self.right.saturating_add(calls.len() as u64);
+        Ok(is_well)
+    }
+
     /// Plays commands, and says whether all are answered as the tree says, and the file is as it says then; or whether a failed file answers
     /// all of them so.
     fn is_heard<F: Medium, A: Allocator + Clone>(
@@ -229,10 +260,19 @@ impl<'t, 'h> Trial<'t, 'h> {
         }
         run(file, commands, &mut replies);
         self.heap.refuse_none();
-        if self.is_over {
-            return Ok(replies.iter().all(is_failed_reply));
-        }
         self.ear.begin(lacks);
+        self.is_answered(file, calls, &replies)
+    }
+
+    fn is_answered<F: Medium, A: Allocator + Clone>(
+        &mut self,
+        file: &mut CompoundFile<F, A>,
+        calls: &[Call],
+        replies: &[Reply<A>],
+    ) -> Result<bool, AllocError> {
+        if self.is_over {
+            return Ok(are_failed(replies));
+        }
         for (call, reply) in calls.iter().zip(replies.iter()) {
             if !self.ear.hears(&mut self.tree, call, reply)? {
                 self.tell_call(call, reply);

@@ -24,6 +24,16 @@ pub struct Ear {
 }
 
 impl Ear {
+    /// One that has heard nothing, of a file of version 3 or not.
+    pub fn new(is_old: bool) -> Ear {
+        Ear {
+            may_lack: false,
+            lacked: false,
+            is_old,
+            count: 0,
+        }
+    }
+
     /// Begins to hear the replies to a list of commands.
     pub fn begin(&mut self, may_lack: bool) {
         self.may_lack = may_lack;
@@ -53,13 +63,13 @@ impl Ear {
         }
         match reply {
             Reply::Done(Ok(())) => Ok(tree.take(call)? == DONE),
-            Reply::Done(Err(e)) => self.hears_refused(tree, call, *e),
+            Reply::Done(Err(e)) | Reply::Stream(Err(e)) => self.hears_refused(tree, call, *e),
             Reply::Flag(flag) => Ok(flag_of(tree, call) == *flag),
             Reply::Entry(Ok(entry)) => Ok(is_told(tree, call, entry)),
-            Reply::Entry(Err(e)) => Ok(self.is_lack(*e) || refusal_of(tree, call) == e.number()),
             Reply::Entries(Ok(list)) => Ok(are_told(tree, call, list)),
-            Reply::Entries(Err(e)) => Ok(self.is_lack(*e) || refusal_of(tree, call) == e.number()),
-            Reply::Stream(Err(e)) => self.hears_refused(tree, call, *e),
+            Reply::Entry(Err(e)) | Reply::Entries(Err(e)) => {
+                Ok(self.is_lack(*e) || refusal_of(tree, call) == e.number())
+            }
             Reply::Stream(Ok((replies, closed))) => {
                 self.hears_stream(tree, call, replies, *closed)
             }
@@ -128,15 +138,16 @@ impl Ear {
 
 /// Whether a call is answered by such a reply.
 fn is_of_kind<A: Allocator>(what: What, reply: &Reply<A>) -> bool {
+    let is_entry = matches!(what, What::Entry);
     let is_asked = matches!(what, What::Exists | What::IsStream | What::IsStorage);
     let is_listed = matches!(what, What::List | What::Below);
     let is_opened = matches!(what, What::Make | What::New | What::Open);
     match reply {
         Reply::Flag(_) => is_asked,
-        Reply::Entry(_) => what == What::Entry,
+        Reply::Entry(_) => is_entry,
         Reply::Entries(_) => is_listed,
         Reply::Stream(_) => is_opened,
-        Reply::Done(_) => !is_asked && !is_listed && !is_opened && what != What::Entry,
+        Reply::Done(_) => !is_asked && !is_listed && !is_opened && !is_entry,
     }
 }
 
@@ -155,7 +166,7 @@ fn refusal_of(tree: &Tree, call: &Call) -> u8 {
     match tree.is_stream(&call.names) {
         None => ABSENT,
         Some(is_stream) => {
-            if is_stream && call.what == What::List {
+            if is_stream && matches!(call.what, What::List) {
                 INPUT
             } else {
                 DONE
@@ -166,7 +177,7 @@ fn refusal_of(tree: &Tree, call: &Call) -> u8 {
 
 /// Whether an entry tells what a call asks for, by the names that it is asked by.
 fn is_told<A: Allocator>(tree: &Tree, call: &Call, entry: &Entry<A>) -> bool {
-    match tree.find(&call.names).and_then(|at| tree.objects.get(at)) {
+    match tree.at(&call.names) {
         Some(object) => object.is_told_by(&call.names, entry),
         None => false,
     }
@@ -197,7 +208,7 @@ fn are_told<A: Allocator>(tree: &Tree, call: &Call, entries: &[Entry<A>]) -> boo
 }
 
 fn is_listed(call: &Call, names: &Names) -> bool {
-    let is_deep = call.what == What::Below;
+    let is_deep = matches!(call.what, What::Below);
     names.is_at_or_below(&call.names)
         && (is_deep || names.count == call.names.count.saturating_add(1))
 }

@@ -99,10 +99,14 @@ impl Tree {
         None
     }
 
+    /// The object at a path, if there is one.
+    pub fn at(&self, names: &Names) -> Option<&Object> {
+        self.objects.get(self.find(names)?)
+    }
+
     /// Whether a stream lies at a path; None where nothing does.
     pub fn is_stream(&self, names: &Names) -> Option<bool> {
-        let at = self.find(names)?;
-        Some(self.objects.get(at)?.is_stream)
+        Some(self.at(names)?.is_stream)
     }
 
     /// How many objects lie at a path or below it.
@@ -130,10 +134,7 @@ impl Tree {
 
     /// Adds an object where nothing is, below a storage.
     fn add(&mut self, names: &Names, is_stream: bool, moment: u64) -> Result<(), AllocError> {
-        let parent = match self
-            .find(&names.parent())
-            .and_then(|at| self.objects.get(at))
-        {
+        let parent = match self.at(&names.parent()) {
             Some(parent) => parent.names,
             None => Names::root(),
         };
@@ -206,7 +207,8 @@ impl Tree {
         if !call.names.are_valid(true) {
             return Ok(INPUT);
         }
-        let is_emptied = call.what == What::Make && self.is_stream(&call.names) == Some(true);
+        let is_emptied = matches!(call.what, What::Make)
+            && self.is_stream(&call.names) == Some(true);
         if is_emptied {
             self.empty(&call.names);
             return Ok(DONE);
@@ -259,7 +261,7 @@ impl Tree {
             return ABSENT;
         };
         match self.objects.get_mut(at) {
-            Some(object) if object.is_stream && call.what == What::Class => INPUT,
+            Some(object) if object.is_stream && matches!(call.what, What::Class) => INPUT,
             Some(object) => {
                 object.mark(call);
                 DONE

@@ -87,10 +87,8 @@ pub struct Worked<'c> {
 /// The refusal in a reply; None where it is none.
 pub fn refused<A: Allocator>(reply: &StreamReply<A>) -> Option<Error> {
     match reply {
-        StreamReply::Bytes(Err(e)) => Some(*e),
-        StreamReply::Count(Err(e)) => Some(*e),
-        StreamReply::Place(Err(e)) => Some(*e),
-        StreamReply::Done(Err(e)) => Some(*e),
+        StreamReply::Bytes(Err(e)) | StreamReply::Count(Err(e)) => Some(*e),
+        StreamReply::Place(Err(e)) | StreamReply::Done(Err(e)) => Some(*e),
         _ => None,
     }
 }

@@ -1,11 +1,8 @@
 //! Each byte of a file set to 0 and to 255 in turn: nothing hangs or breaks, and what is opened means the same when it is opened again.
 
-use cfb::{CompoundFile, Entry, Error, Medium, MemoryMedium, ReadMedium};
+use cfb::{CompoundFile, Entry, Error, MemoryMedium, ReadMedium};
 use cfb_rows::answers::Answer;
 use std::alloc::{Allocator, Global};
-
-/// A file in memory.
-type File = CompoundFile<MemoryMedium, Global>;
 
 /// Appends all that is told of an object.
 fn tell<A: Allocator>(entry: &Entry<A>, told: &mut Vec<u8>) -> Result<(), Error> {
@@ -91,17 +88,11 @@ fn tell_file<F: ReadMedium, A: Allocator + Clone>(
     Ok(())
 }
 
-/// What a file says, and its medium.
-fn told_by<F: Medium, A: Allocator + Clone>(
+fn opened<F: ReadMedium>(
     alloc: Global,
-    mut file: CompoundFile<F, A>,
-    told: &mut Vec<u8>,
-) -> (bool, F) {
-    let is_told = tell_file(alloc, &mut file, told).is_ok();
-    (is_told, file.into_inner())
-}
-
-fn opened(alloc: Global, medium: MemoryMedium, is_strict: bool) -> Result<File, Error> {
+    medium: F,
+    is_strict: bool,
+) -> Result<CompoundFile<F>, Error> {
     if is_strict {
         CompoundFile::open_strict(alloc, medium)
     } else {
@@ -109,23 +100,37 @@ fn opened(alloc: Global, medium: MemoryMedium, is_strict: bool) -> Result<File, 
     }
 }
 
-/// Whether a medium is opened, and says this of its objects.
-fn says_again(alloc: Global, medium: MemoryMedium, told: &[u8]) -> bool {
-    let mut again = Vec::new(alloc);
-    match opened(alloc, medium, false) {
-        Ok(file) => {
-            let (is_told, _medium) = told_by(alloc, file, &mut again);
-            is_told && again.as_slice() == told
+/// Opens a medium, and appends what its file says. Gives the medium back, with whether all was told.
+fn told_on<F: ReadMedium>(
+    alloc: Global,
+    medium: F,
+    is_strict: bool,
+    told: &mut Vec<u8>,
+) -> Result<(bool, F), Error> {
+    match opened(alloc, medium, is_strict) {
+        Ok(mut file) => {
+            let is_told = tell_file(alloc, &mut file, told).is_ok();
+            Ok((is_told, file.into_inner()))
         }
-        Err(_) => false,
+        Err(e) => Err(e),
     }
 }
 
-/// Whether a file that was opened means the same when it is opened again.
-fn means_the_same(alloc: Global, file: File) -> bool {
-    let mut told = Vec::new(alloc);
-    let (is_told, medium) = told_by(alloc, file, &mut told);
-    is_told && says_again(alloc, medium, &told)
+/// Opens a medium, and once more in the permissive mode, and appends what its file says each time. Whether all was told, and was opened again.
+fn told_twice<F: ReadMedium>(
+    alloc: Global,
+    medium: F,
+    is_strict: bool,
+    told: &mut Vec<u8>,
+    again: &mut Vec<u8>,
+) -> Result<bool, Error> {
+    match told_on(alloc, medium, is_strict, told) {
+        Ok((is_told, medium)) => match told_on(alloc, medium, false, again) {
+            Ok((is_told_again, _medium)) => Ok(is_told && is_told_again),
+            Err(_) => Ok(false),
+        },
+        Err(e) => Err(e),
+    }
 }
 
 /// Whether bytes that are opened in a mode mean the same when they are opened again. None: they are refused as they may be.
@@ -133,8 +138,11 @@ fn meaning(alloc: Global, bytes: &[u8], is_strict: bool) -> Option<bool> {
     let Ok(bytes) = Vec::from_slice(alloc, bytes) else {
         return Some(false);
     };
-    match opened(alloc, MemoryMedium::from_bytes(bytes), is_strict) {
-        Ok(file) => Some(means_the_same(alloc, file)),
+    let mut told = Vec::new(alloc);
+    let mut again = Vec::new(alloc);
+    let medium = MemoryMedium::from_bytes(bytes);
+    match told_twice(alloc, medium, is_strict, &mut told, &mut again) {
+        Ok(is_told) => Some(is_told && told.as_slice() == again.as_slice()),
         Err(Error::InvalidData(_)) => None,
         Err(_) => Some(false),
     }

@@ -1,7 +1,7 @@
 //! A file over a medium, from its opening to its end.
 
 use cfb::{CaseMapper, CompoundFile, Error, Medium, MemoryMedium, OpenOptions, Version};
-use cfb_play::calls::play_file;
+use cfb_play::calls::{pass_over, play_file};
 use cfb_rows::answers::Answer;
 use cfb_rows::faults::Plan;
 use cfb_rows::judge::Judge;
@@ -21,36 +21,31 @@ pub struct Settings {
 /// A file of rows.
 type RowFile<'h> = CompoundFile<RowMedium<'h>, Heap<'h>>;
 
+/// The options of these settings, but for the letters.
+fn plain_options<A: Allocator>(line: &Line<'_>, settings: &Settings) -> OpenOptions<A> {
+    let options = OpenOptions::new()
+        .max_buffer_size(settings.buffer)
+        .max_sectors(settings.sectors);
+    if line.words[1] == "strict" {
+        options.strict()
+    } else {
+        options
+    }
+}
+
 /// The options of these settings.
 fn options_of<'h>(
     heap: Heap<'h>,
     line: &Line<'_>,
     settings: &Settings,
 ) -> Result<OpenOptions<Heap<'h>>, Error> {
-    let options = OpenOptions::new()
-        .max_buffer_size(settings.buffer)
-        .max_sectors(settings.sectors);
-    let options = match settings.letters {
-        Some(pair) => options.case_mapper(CaseMapper::from_pairs(heap, &[pair])?),
-        None => options,
-    };
-    Ok(if line.words[1] == "strict" {
-        options.strict()
-    } else {
-        options
-    })
-}
-
-/// Opens these bytes over the faults of a plan.
-fn opened<'h>(
-    heap: Heap<'h>,
-    bytes: &[u8],
-    line: &Line<'_>,
-    settings: &Settings,
-    plan: &Plan,
-) -> Result<RowFile<'h>, Error> {
-    let medium = medium_of(heap, bytes, plan)?;
-    options_of(heap, line, settings)?.open_with(heap, medium)
+    match settings.letters {
+        Some(pair) => {
+            let letters = CaseMapper::from_pairs(heap, &[pair])?;
+            Ok(plain_options(line, settings).case_mapper(letters))
+        }
+        None => Ok(plain_options(line, settings)),
+    }
 }
 
 /// Makes a file over the faults of a plan. One of version 4 has the settings; one of version 3 has none.
@@ -60,14 +55,15 @@ fn started<'h>(
     settings: &Settings,
     plan: &Plan,
 ) -> Result<RowFile<'h>, Error> {
-    let medium = with_faults(empty_medium(heap, plan), plan);
     if line.words[1] == "4" {
-        return options_of(heap, line, settings)?.create_with(heap, medium);
+        let options = options_of(heap, line, settings)?;
+        return options.create_with(heap, with_faults(empty_medium(heap, plan), plan));
     }
+    let medium = with_faults(empty_medium(heap, plan), plan);
     CompoundFile::create_with_version(heap, Version::V3, medium)
 }
 
-/// The file of a session: made, or opened.
+/// The file of a session: made, or opened from these bytes, over the faults of a plan.
 fn got<'h>(
     heap: Heap<'h>,
     bytes: &[u8],
@@ -78,23 +74,27 @@ fn got<'h>(
     if line.call() == "start" {
         return started(heap, line, settings, plan);
     }
-    opened(heap, bytes, line, settings, plan)
+    let options = options_of(heap, line, settings)?;
+    let medium = medium_of(heap, bytes, plan)?;
+    options.open_with(heap, medium)
 }
 
 /// The bytes of a file that is made in memory.
-fn made(alloc: Global, version: &str) -> Result<Vec<u8>, Error> {
-    let version = if version == "4" {
-        Version::V4
-    } else {
-        Version::V3
-    };
-    let file = CompoundFile::create_with_version(alloc, version, MemoryMedium::new(alloc))?;
-    Ok(file.into_inner().into_bytes())
+fn made(alloc: Global, version: Version) -> Result<Vec<u8>, Error> {
+    match CompoundFile::create_with_version(alloc, version, MemoryMedium::new(alloc)) {
+        Ok(file) => Ok(file.into_inner().into_bytes()),
+        Err(e) => Err(e),
+    }
 }
 
 /// Makes a file in place of these bytes.
 pub fn make(alloc: Global, line: &Line<'_>, bytes: &mut Vec<u8>) -> Answer {
-    match made(alloc, line.words[1]) {
+    let version = if line.words[1] == "4" {
+        Version::V4
+    } else {
+        Version::V3
+    };
+    match made(alloc, version) {
         Ok(new) => {
             *bytes = new;
             Answer::Done
@@ -113,27 +113,41 @@ pub struct Outcome {
     pub reads: u64,
     pub writes: u64,
     pub flushes: u64,
-    /// Whether the file was opened.
+    /// Whether the file was got.
     pub is_opened: bool,
 }
 
-/// Plays the lines of a session on a file, and gives back its medium, with whether the file has failed.
-fn played<F: Medium, A: Allocator + Clone>(
-    alloc: &A,
-    mut file: CompoundFile<F, A>,
-    script: &mut Script<'_>,
-    judge: &mut Judge<'_>,
-) -> (bool, F) {
-    if play_file(alloc, &mut file, script, judge).is_none() {
-        note_unended(script, judge);
+impl Outcome {
+    /// Nothing came of it.
+    pub fn none() -> Outcome {
+        Outcome {
+            failures: 0,
+            is_failed: false,
+            reads: 0,
+            writes: 0,
+            flushes: 0,
+            is_opened: false,
+        }
     }
-    (file.is_failed(), file.into_inner())
 }
 
-/// Notes that there are no lines left, and none ended the session.
-fn note_unended(script: &Script<'_>, judge: &mut Judge<'_>) {
-    if let Some(line) = script.lines.last() {
-        judge.note_wrong(line, Answer::Wrong("no line ends its session"));
+/// Plays the lines of a session on the file that was got for it, and gives back its medium, with whether the file has failed.
+fn played<F: Medium, A: Allocator + Clone>(
+    alloc: &A,
+    got: Result<CompoundFile<F, A>, Error>,
+    line: &Line<'_>,
+    script: &mut Script<'_>,
+    judge: &mut Judge<'_>,
+) -> Result<(bool, F), Error> {
+    match got {
+        Ok(mut file) => {
+            judge.hears_opened(line);
+            play_file(alloc, &mut file, script, judge);
+            judge.heap.refuse_none();
+            let is_failed = file.is_failed();
+            Ok((is_failed, file.into_inner()))
+        }
+        Err(e) => Err(e),
     }
 }
 
@@ -141,6 +155,7 @@ fn note_unended(script: &Script<'_>, judge: &mut Judge<'_>) {
 fn outcome_of(is_failed: bool, medium: RowMedium<'_>, after: &mut Vec<u8>) -> Outcome {
     let left = left_by(medium);
     after.clear();
+    // Where memory lacks for it the bytes are others, and that is told.
     let _ = after.extend_from_slice(&left.bytes);
     Outcome {
         failures: left.failures,
@@ -152,37 +167,33 @@ fn outcome_of(is_failed: bool, medium: RowMedium<'_>, after: &mut Vec<u8>) -> Ou
     }
 }
 
-/// Nothing came of it.
-fn not_opened() -> Outcome {
-    Outcome {
-        failures: 0,
-        is_failed: false,
-        reads: 0,
-        writes: 0,
-        flushes: 0,
-        is_opened: false,
-    }
-}
-
 /// Gets the file of a session, and plays its lines on it.
-fn play_opened<'h>(
+fn play_opened(
     line: &Line<'_>,
     settings: &Settings,
     before: &[u8],
     script: &mut Script<'_>,
-    judge: &mut Judge<'h>,
+    judge: &mut Judge<'_>,
     after: &mut Vec<u8>,
 ) -> Result<Outcome, Error> {
-    let file = got(judge.heap, before, line, settings, &judge.plan)?;
-    judge.hears_opened(line);
     let heap = judge.heap;
-    let (is_failed, medium) = played(&heap, file, script, judge);
+    let file = got(heap, before, line, settings, &judge.plan);
+    match played(&heap, file, line, script, judge) {
+        Ok((is_failed, medium)) => Ok(outcome_of(is_failed, medium, after)),
+        Err(e) => Err(e),
+    }
+}
+
+/// Has the request for memory refused that the judge's plan names, if it names one.
+fn lend_memory(judge: &Judge<'_>) {
     judge.heap.refuse_none();
-    Ok(outcome_of(is_failed, medium, after))
+    if judge.plan.is_memory {
+        judge.heap.refuse_after(judge.plan.nth.saturating_sub(1));
+    }
 }
 
 /// Plays a session once over the faults of the judge's plan, on a file with these bytes, or on one that is made. Where want of memory refuses
-/// that, it is asked again. Where it is refused at last, there may be no lines but by a fault.
+/// that, it is asked again. Where it is refused at last, nothing comes of it, and there may be no lines but by a fault.
 pub fn play_once(
     line: &Line<'_>,
     settings: &Settings,
@@ -192,10 +203,7 @@ pub fn play_once(
     after: &mut Vec<u8>,
 ) -> Outcome {
     judge.buffer = settings.buffer as u64;
-    judge.heap.refuse_none();
-    if judge.plan.is_memory {
-        judge.heap.refuse_after(judge.plan.nth.saturating_sub(1));
-    }
+    lend_memory(judge);
     for _turn in 0..2 {
         match play_opened(line, settings, before, script, judge, after) {
             Ok(outcome) => return outcome,
@@ -207,9 +215,6 @@ pub fn play_once(
         }
     }
     judge.heap.refuse_none();
-    let passed = script.pass_to("end");
-    if judge.plan.is_calm() && passed != Some(0) {
-        judge.note_wrong(line, Answer::Wrong("its lines were not played"));
-    }
-    not_opened()
+    pass_over(line, "end", script, judge);
+    Outcome::none()
 }

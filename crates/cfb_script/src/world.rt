@@ -19,6 +19,9 @@ const MOST: u64 = 20000;
 /// How many places are guarded at most.
 const GUARDS: usize = 4;
 
+/// From which place on so many bytes stay; where these are none, nothing is guarded.
+type Guard = (usize, usize);
+
 /// What is told of a line that is none between sessions.
 const UNKNOWN: Answer = Answer::Wrong("no line between sessions has these words");
 
@@ -32,11 +35,9 @@ pub struct World<'h> {
     settings: Settings,
     plan: Plan,
     /// Places that stay in each session with a fault, and how many bytes each.
-    guards: [(usize, usize); GUARDS],
-    /// How often the last session read and wrote the range that is counted, and how often it flushed.
-    reads: u64,
-    writes: u64,
-    flushes: u64,
+    guards: [Guard; GUARDS],
+    /// What came of the last session, as it was played first.
+    last: Outcome,
     /// How often the last session went wrong once its file was got, by the fault by which it did so least often.
     struck: u64,
     /// How often it did by the fault that is played.
@@ -54,9 +55,7 @@ impl<'h> World<'h> {
             settings: plain(),
             plan: Plan::calm(),
             guards: [(0, 0); GUARDS],
-            reads: 0,
-            writes: 0,
-            flushes: 0,
+            last: Outcome::none(),
             struck: 0,
             hits: 0,
             again: 0,
@@ -88,19 +87,23 @@ fn play_line(world: &mut World<'_>, line: &Line<'_>, script: &mut Script<'_>) {
     world.judge.begin(world.plan);
     world.judge.text.clear();
     if line.title.is_empty() {
-        world
-            .judge
-            .note_wrong(line, Answer::Wrong("its row has no title"));
+        note(&mut world.judge, line, "its row has no title");
     }
-    match line.call() {
-        _ if begins_session(line) => play_session(world, line, script),
-        _ if !fits(&BETWEEN, line) => world.judge.note_wrong(line, UNKNOWN),
-        "set" => set(world, line),
-        _ => {
-            let answer = answered(world, line);
-            world.judge.hears(line, answer);
-        }
+    if begins_session(line) {
+        play_session(world, line, script);
+    } else if !fits(&BETWEEN, line) {
+        world.judge.note_wrong(line, UNKNOWN);
+    } else if line.call() == "set" {
+        set(world, line);
+    } else {
+        let answer = answered(world, line);
+        world.judge.hears(line, answer);
     }
+}
+
+/// Notes a line as wrong.
+fn note(judge: &mut Judge<'_>, line: &Line<'_>, what: &'static str) {
+    judge.note_wrong(line, Answer::Wrong(what));
 }
 
 /// Whether a line opens or makes the file of a session.
@@ -111,32 +114,45 @@ fn begins_session(line: &Line<'_>) -> bool {
 
 /// Sets how the next sessions are played.
 fn set(world: &mut World<'_>, line: &Line<'_>) {
-    let value = line.number_at(2);
-    let other = line.number_at(3);
     match line.words[1] {
-        "buffer" => world.settings.buffer = value as usize,
-        "sectors" => world.settings.sectors = value.min(0xffff_ffff) as u32,
-        "piece" => world.plan.piece = value as usize,
-        "letter" => world.settings.letters = letters_of(line.words[2], line.words[3]),
-        "count" => count_within(&mut world.plan, value, other),
-        "guard" => guard(world, line, value as usize, other as usize),
-        "run" => guard_run(world, line, value, other as usize),
+        "guard" => guard(world, line, number_of(line, 2), number_of(line, 3)),
+        "run" => guard_run(world, line, line.number_at(2), number_of(line, 3)),
         "plain" => {
             world.settings = plain();
             world.plan = Plan::calm();
             world.guards = [(0, 0); GUARDS];
         }
-        _ => world.judge.note_wrong(line, UNKNOWN),
+        _ => {
+            if !set_one(&mut world.settings, &mut world.plan, line) {
+                world.judge.note_wrong(line, UNKNOWN);
+            }
+        }
     }
 }
 
-fn count_within(plan: &mut Plan, start: u64, end: u64) {
-    plan.start = start;
-    plan.end = end;
+/// A number that counts bytes.
+fn number_of(line: &Line<'_>, place: usize) -> usize {
+    line.number_at(place) as usize
+}
+
+/// Sets what a line names, and says whether there is such a thing.
+fn set_one(settings: &mut Settings, plan: &mut Plan, line: &Line<'_>) -> bool {
+    match line.words[1] {
+        "buffer" => settings.buffer = number_of(line, 2),
+        "sectors" => settings.sectors = line.number_at(2).min(0xffff_ffff) as u32,
+        "letter" => settings.letters = letters_of(line.words[2], line.words[3]),
+        "piece" => plan.piece = number_of(line, 2),
+        "count" => {
+            plan.start = line.number_at(2);
+            plan.end = line.number_at(3);
+        }
+        _ => return false,
+    }
+    true
 }
 
 /// Guards a place in the next free row, if there is one.
-fn put_guard(guards: &mut [(usize, usize)], at: usize, count: usize) -> bool {
+fn put_guard(guards: &mut [Guard], at: usize, count: usize) -> bool {
     for row in guards.iter_mut() {
         if row.1 == 0 {
             *row = (at, count);
@@ -148,18 +164,14 @@ fn put_guard(guards: &mut [(usize, usize)], at: usize, count: usize) -> bool {
 
 fn guard(world: &mut World<'_>, line: &Line<'_>, at: usize, count: usize) {
     if !put_guard(&mut world.guards, at, count) {
-        world
-            .judge
-            .note_wrong(line, Answer::Wrong("too many places are guarded"));
+        note(&mut world.judge, line, "too many places are guarded");
     }
 }
 
 /// Guards so many of this byte where they stand, and the words of the FAT for their sectors where they are as many as lie in these.
 fn guard_run(world: &mut World<'_>, line: &Line<'_>, byte: u64, count: usize) {
     let Some(at) = place_of(&world.bytes, byte, count) else {
-        world
-            .judge
-            .note_wrong(line, Answer::Wrong("they stand nowhere"));
+        note(&mut world.judge, line, "they stand nowhere");
         return;
     };
     guard(world, line, at, count);
@@ -182,25 +194,32 @@ fn answered(world: &mut World<'_>, line: &Line<'_>) -> Answer {
         "keep" => copied(&world.bytes, &mut world.kept),
         "back" => copied(&world.kept, &mut world.bytes),
         "same" => Answer::Flag(world.bytes.as_slice() == world.kept.as_slice()),
-        "reads" => Answer::Count(world.reads),
-        "writes" => Answer::Count(world.writes),
-        "flushes" => Answer::Count(world.flushes),
         "struck" => Answer::Count(world.struck),
+        "reads" | "writes" | "flushes" => Answer::Count(count_of(&world.last, line.call())),
         "mutate" => mutated(
             world.judge.alloc,
             &mut world.bytes,
-            line.number_at(1) as usize,
-            line.number_at(2) as usize,
+            number_of(line, 1),
+            number_of(line, 2),
         ),
         "slot" if line.count == 2 => slot_told(&world.bytes, line, &mut world.judge.text),
-        "random" => played_at_random(
-            world.judge.alloc,
-            world.judge.heap,
-            line,
-            &mut world.judge.text,
-        ),
+        "random" => drawn(&mut world.judge, line),
         _ => asked(&mut world.bytes, line),
     }
+}
+
+/// How often a session made such calls.
+fn count_of(last: &Outcome, call: &str) -> u64 {
+    match call {
+        "reads" => last.reads,
+        "writes" => last.writes,
+        _ => last.flushes,
+    }
+}
+
+/// The answer to a line that draws lists of commands.
+fn drawn(judge: &mut Judge<'_>, line: &Line<'_>) -> Answer {
+    played_at_random(judge.alloc, judge.heap, line, &mut judge.text)
 }
 
 fn copied(from: &[u8], into: &mut Vec<u8>) -> Answer {
@@ -215,16 +234,39 @@ fn copied(from: &[u8], into: &mut Vec<u8>) -> Answer {
 fn play_session(world: &mut World<'_>, line: &Line<'_>, script: &mut Script<'_>) {
     let mut whole = Vec::new(world.judge.alloc);
     let start = *script;
-    let is_opened = play_calm(world, line, script, &mut whole);
+    world.last = played(world, line, script, &mut whole);
+    play_each_fault(world, line, start, &whole);
+    world.judge.begin(world.plan);
+    if world.last.is_opened {
+        world.bytes = whole;
+    }
+}
+
+/// Plays a session once over the faults of the judge's plan.
+fn played(
+    world: &mut World<'_>,
+    line: &Line<'_>,
+    script: &mut Script<'_>,
+    after: &mut Vec<u8>,
+) -> Outcome {
+    play_once(
+        line,
+        &world.settings,
+        &world.bytes,
+        script,
+        &mut world.judge,
+        after,
+    )
+}
+
+/// Plays a session with each fault that its line names, in turn.
+fn play_each_fault(world: &mut World<'_>, line: &Line<'_>, start: Script<'_>, whole: &[u8]) {
+    let mut after = Vec::new(world.judge.alloc);
     world.struck = u64::MAX;
     for fault in line.said.split_whitespace().skip(first_fault(line)) {
         world.hits = 0;
-        play_faults(world, line, fault, start, &whole);
+        play_faults(world, line, fault, start, whole, &mut after);
         world.struck = world.struck.min(world.hits);
-    }
-    world.judge.begin(world.plan);
-    if is_opened {
-        world.bytes = whole;
     }
 }
 
@@ -237,28 +279,6 @@ fn first_fault(line: &Line<'_>) -> usize {
     }
 }
 
-/// Plays a session where nothing goes wrong, and says whether the file was opened.
-fn play_calm(
-    world: &mut World<'_>,
-    line: &Line<'_>,
-    script: &mut Script<'_>,
-    whole: &mut Vec<u8>,
-) -> bool {
-    world.judge.begin(world.plan);
-    let outcome = play_once(
-        line,
-        &world.settings,
-        &world.bytes,
-        script,
-        &mut world.judge,
-        whole,
-    );
-    world.reads = outcome.reads;
-    world.writes = outcome.writes;
-    world.flushes = outcome.flushes;
-    outcome.is_opened
-}
-
 /// Plays a session again and again, with each call in turn that goes wrong, until none does.
 fn play_faults(
     world: &mut World<'_>,
@@ -266,28 +286,22 @@ fn play_faults(
     fault: &str,
     start: Script<'_>,
     whole: &[u8],
+    after: &mut Vec<u8>,
 ) {
-    let mut after = Vec::new(world.judge.alloc);
     for nth in 1..MOST {
         let Some(plan) = world.plan.of(fault, nth) else {
-            world
-                .judge
-                .note_wrong(line, Answer::Wrong("no fault has this word"));
+            note(&mut world.judge, line, "no fault has this word");
             return;
         };
         world.judge.begin(plan);
-        if !is_played(world, line, start, whole, &mut after) {
+        if !is_played(world, line, start, whole, after) {
             if nth == 1 {
-                world
-                    .judge
-                    .note_wrong(line, Answer::Wrong("no call went wrong"));
+                note(&mut world.judge, line, "no call went wrong");
             }
             return;
         }
     }
-    world
-        .judge
-        .note_wrong(line, Answer::Wrong("there is always one more"));
+    note(&mut world.judge, line, "there is always one more");
 }
 
 /// Plays it once more, and says whether something went wrong in it.
@@ -300,38 +314,32 @@ fn is_played(
 ) -> bool {
     let mut script = start;
     let before = world.judge.heap.asked();
-    let outcome = play_once(
-        line,
-        &world.settings,
-        &world.bytes,
-        &mut script,
-        &mut world.judge,
-        after,
-    );
+    let outcome = played(world, line, &mut script, after);
     world.again = world.again.saturating_add(1);
-    let requests = world.judge.heap.asked().saturating_sub(before);
-    let strikes = if world.judge.plan.is_memory {
-        requests >= world.judge.plan.nth
-    } else {
-        outcome.failures > 0
-    };
     if !is_well(world, line, &outcome, whole, after) {
-        world
-            .judge
-            .note_wrong(line, Answer::Wrong("it ended otherwise over the fault"));
+        note(&mut world.judge, line, "it ended otherwise over the fault");
     }
-    if strikes && world.judge.refused == 0 {
-        world
-            .judge
-            .note_wrong(line, Answer::Wrong("no answer tells the fault"));
-    }
-    let is_hit = strikes || world.judge.refused > 0;
+    let is_hit = is_struck(&mut world.judge, line, &outcome, before);
     if is_hit && outcome.is_opened {
         world.hits = world.hits.saturating_add(1);
     }
     is_hit
 }
 
+/// Whether something went wrong in a session before which so many requests for memory had been made. An answer has to tell it.
+fn is_struck(judge: &mut Judge<'_>, line: &Line<'_>, outcome: &Outcome, before: u64) -> bool {
+    let strikes = if judge.plan.is_memory {
+        judge.heap.asked().saturating_sub(before) >= judge.plan.nth
+    } else {
+        outcome.failures > 0
+    };
+    if strikes && judge.refused == 0 {
+        note(judge, line, "no answer tells the fault");
+    }
+    strikes || judge.refused > 0
+}
+
+/// Whether a session over a fault ended as it may.
 fn is_well(
     world: &World<'_>,
     line: &Line<'_>,
@@ -340,25 +348,28 @@ fn is_well(
     after: &[u8],
 ) -> bool {
     if !outcome.is_opened {
-        return may_be_refused(world, line);
+        return may_be_refused(&world.judge, line);
     }
-    let is_whole = after == whole;
-    let stay = world.guards.iter().all(|(at, count)| {
+    are_kept(&world.guards, &world.bytes, after)
+        && world
+            .judge
+            .ended_well(outcome.failures, outcome.is_failed, after == whole)
+}
+
+/// Whether the guarded places have the same bytes before and after.
+fn are_kept(guards: &[Guard], before: &[u8], after: &[u8]) -> bool {
+    for (at, count) in guards {
         let end = at.saturating_add(*count);
-        *count == 0
-            || after.get(*at..end).is_some() && after.get(*at..end) == world.bytes.get(*at..end)
-    });
-    stay && world
-        .judge
-        .ended_well(outcome.failures, outcome.is_failed, is_whole)
+        let kept = after.get(*at..end);
+        if *count > 0 && (kept.is_none() || kept != before.get(*at..end)) {
+            return false;
+        }
+    }
+    true
 }
 
 /// Whether it may be by the fault that the file was not got: opening writes nothing and is asked again for memory, and so is making.
-fn may_be_refused(world: &World<'_>, line: &Line<'_>) -> bool {
-    if line.wanted != "ok" {
-        return true;
-    }
-    let plan = world.judge.plan;
-    let is_hit = plan.kind == Kind::Read || line.call() == "start";
-    world.judge.refused == 1 && is_hit && !plan.is_memory
+fn may_be_refused(judge: &Judge<'_>, line: &Line<'_>) -> bool {
+    let is_hit = judge.plan.kind == Kind::Read || line.call() == "start";
+    line.wanted != "ok" || judge.refused == 1 && is_hit && !judge.plan.is_memory
 }

@@ -1,34 +1,47 @@
 //! Sound files and files that are not.
 use cfb_codecs::direntry::DirEntry;
 use cfb_codecs::timestamp::Timestamp;
-use cfb_format::consts::{END_OF_CHAIN, FAT_SECTOR, FREE_SECTOR};
-use cfb_format::error::Error;
+use cfb_format::consts::{END_OF_CHAIN as END, FAT_SECTOR as FATSECT, FREE_SECTOR as FREE};
+use cfb_format::error::{Detail, Error};
 use cfb_format::objtype::ObjType;
 use cfb_format::version::Version;
 use cfb_soundness::parts::Parts;
 use cfb_soundness::soundness::is_sound_file;
 use std::alloc::Global;
-use std::test::Fail;
 
 /// The values of the sectors: a FAT sector, a sector of the directory, one of the MiniFAT, one of the mini stream, and a stream
 /// of 8 sectors.
-const FAT: [u32; 12] = [
-    FAT_SECTOR,
-    END_OF_CHAIN,
-    END_OF_CHAIN,
-    END_OF_CHAIN,
-    5,
-    6,
-    7,
-    8,
-    9,
-    10,
-    11,
-    END_OF_CHAIN,
-];
+const FAT: &[u32] = &[FATSECT, END, END, END, 5, 6, 7, 8, 9, 10, 11, END];
+
+/// With a sector more at the stream's end.
+const LONGER: &[u32] = &[FATSECT, END, END, END, 5, 6, 7, 8, 9, 10, 11, 12, END];
+
+/// With a loose end that points nowhere.
+const LOOSE_END: &[u32] = &[FATSECT, END, END, END, 5, 6, 7, 8, 9, 10, 11, END, END];
+
+/// With a loose end that points to the stream.
+const LOOSE: &[u32] = &[FATSECT, END, END, END, 5, 6, 7, 8, 9, 10, 11, END, 4];
+
+/// With a stream that comes back to its start.
+const LOOPED: &[u32] = &[FATSECT, END, END, END, 5, 6, 7, 8, 9, 10, 11, 4];
+
+/// With a stream of a sector less.
+const CUT: &[u32] = &[FATSECT, END, END, END, 5, 6, 7, 8, 9, 10, END, FREE];
 
 /// The values of the mini sectors, of which the mini stream has 8.
-const MINIFAT: [u32; 2] = [1, END_OF_CHAIN];
+const MINIFAT: &[u32] = &[1, END];
+
+/// The values of the sectors and those of the mini sectors, the file's length, where a third stream begins, or the end for none,
+/// and whether the file is sound.
+type Row = (&'static [u32], &'static [u32], u64, u32, bool);
+
+/// The root's entry, with a mini stream of so many mini sectors.
+fn root(alloc: Global, minis: usize) -> Result<DirEntry, Error> {
+    let mut root = DirEntry::empty_root_entry(alloc)?;
+    root.start_sector = 3;
+    root.stream_len = 64 * minis.min(1000) as u64;
+    Ok(root)
+}
 
 fn stream(alloc: Global, start: u32, len: u64) -> DirEntry {
     let mut entry = DirEntry::new(String::new(alloc), ObjType::Stream, Timestamp::zero());
@@ -37,24 +50,11 @@ fn stream(alloc: Global, start: u32, len: u64) -> DirEntry {
     entry
 }
 
-/// Whether a file of version 3 is sound that has these tables, this length, and streams of 4096 and of 100 bytes. A third stream
-/// begins at `third`, unless that is the end.
-fn is_sound<'x>(
-    alloc: Global,
-    fat: &'x [u32],
-    minifat: &'x [u32],
-    len: u64,
-    third: u32,
-) -> Result<bool, Error> {
-    let mut root = DirEntry::empty_root_entry(alloc)?;
-    root.start_sector = 3;
-    root.stream_len = 64 * minifat.len().min(1000) as u64;
-    let mut entries = vec![in alloc; root]?;
-    entries.push(stream(alloc, 4, 4096))?;
-    entries.push(stream(alloc, 0, 100))?;
-    entries.push(stream(alloc, third, 4096))?;
+/// Whether the row's file is sound, where it is of version 3 and has these entries.
+fn is_sound_with(alloc: Global, row: &Row, entries: &[DirEntry]) -> Result<bool, Error> {
+    let (fat, minifat, len, third, _) = *row;
     let numbers: [u32; 3] = [1, 2, 3];
-    let count = if third == END_OF_CHAIN { 2 } else { 3 };
+    let count = if third == END { 2 } else { 3 };
     let parts = Parts {
         version: Version::V3,
         len,
@@ -62,7 +62,7 @@ fn is_sound<'x>(
         difat_sectors: &[],
         fat,
         directory: &[1],
-        entries: &entries,
+        entries,
         streams: &numbers[..count],
         minifat_sectors: &[2],
         minifat,
@@ -71,82 +71,113 @@ fn is_sound<'x>(
     is_sound_file(alloc, &parts)
 }
 
-#[test]
-fn whole_files_with_one_use_of_each_sector_are_sound(rt: HostRuntime) -> Result<(), Fail> {
-    let alloc = rt.alloc();
-    assert!(rt; is_sound(alloc, &FAT, &MINIFAT, 13 * 512, END_OF_CHAIN)?);
-    // a sector more at the stream's end, of which the file has one byte
-    let mut longer = Vec::from_array(alloc, FAT)?;
-    longer[11] = 12;
-    longer.push(END_OF_CHAIN)?;
-    assert!(rt; is_sound(alloc, &longer, &MINIFAT, 13 * 512 + 1, END_OF_CHAIN)?);
-    // a loose end that points nowhere
-    longer[11] = END_OF_CHAIN;
-    assert!(rt; is_sound(alloc, &longer, &MINIFAT, 14 * 512, END_OF_CHAIN)?);
-    Ok(())
+/// The same with streams of 4096 and of 100 bytes, and a third one of 4096.
+fn is_sound(alloc: Global, row: &Row) -> Result<bool, Error> {
+    let root = root(alloc, row.1.len())?;
+    let entries = [
+        root,
+        stream(alloc, 4, 4096),
+        stream(alloc, 0, 100),
+        stream(alloc, row.3, 4096),
+    ];
+    is_sound_with(alloc, row, &entries)
 }
 
-#[test]
-fn a_sector_with_two_uses_is_not_sound(rt: HostRuntime) -> Result<(), Fail> {
-    let alloc = rt.alloc();
-    // two streams on one chain, and a stream on the directory
-    assert!(rt; !is_sound(alloc, &FAT, &MINIFAT, 13 * 512, 4)?);
-    assert!(rt; !is_sound(alloc, &FAT, &MINIFAT, 13 * 512, 1)?);
-    // a chain that comes back to its start
-    let mut looped = Vec::from_array(alloc, FAT)?;
-    looped[11] = 4;
-    assert!(rt; !is_sound(alloc, &looped, &MINIFAT, 13 * 512, END_OF_CHAIN)?);
-    // a loose end that points to the stream
-    let mut loose = Vec::from_array(alloc, FAT)?;
-    loose.push(4)?;
-    assert!(rt; !is_sound(alloc, &loose, &MINIFAT, 14 * 512, END_OF_CHAIN)?);
-    Ok(())
-}
-
-#[test]
-fn a_stream_that_lacks_bytes_is_not_sound(rt: HostRuntime) -> Result<(), Fail> {
-    let alloc = rt.alloc();
-    assert!(rt; !is_sound(alloc, &FAT, &MINIFAT, 13 * 512 - 1, END_OF_CHAIN)?);
-    let mut cut = Vec::from_array(alloc, FAT)?;
-    cut[10] = END_OF_CHAIN;
-    cut[11] = FREE_SECTOR;
-    assert!(rt; !is_sound(alloc, &cut, &MINIFAT, 13 * 512, END_OF_CHAIN)?);
-    assert!(rt; !is_sound(alloc, &FAT, &[END_OF_CHAIN], 13 * 512, END_OF_CHAIN)?);
-    Ok(())
-}
-
-#[test]
-fn a_mini_stream_without_room_is_not_sound(rt: HostRuntime) -> Result<(), Fail> {
-    let alloc = rt.alloc();
-    let mut minifat = vec![in alloc; FREE_SECTOR; 8]?;
-    minifat[0] = 1;
-    minifat[1] = END_OF_CHAIN;
-    minifat[7] = END_OF_CHAIN;
-    assert!(rt; is_sound(alloc, &FAT, &minifat, 13 * 512, END_OF_CHAIN)?);
-    minifat.push(END_OF_CHAIN)?;
-    assert!(rt; !is_sound(alloc, &FAT, &minifat, 13 * 512, END_OF_CHAIN)?);
-    Ok(())
-}
-
-#[test]
-fn a_pointer_past_the_file_is_not_sound(rt: HostRuntime) -> Result<(), Fail> {
-    let alloc = rt.alloc();
-    let entries = vec![in alloc; DirEntry::empty_root_entry(alloc)?]?;
-    for points_into_file in [true, false] {
-        let parts = Parts {
-            version: Version::V3,
-            len: 3 * 512,
-            fat_sectors: &[0],
-            difat_sectors: &[],
-            fat: &[FAT_SECTOR, END_OF_CHAIN],
-            directory: &[1],
-            entries: &entries,
-            streams: &[],
-            minifat_sectors: &[],
-            minifat: &[],
-            points_into_file,
-        };
-        assert_eq!(rt; is_sound_file(alloc, &parts)?, points_into_file);
+/// Whether of each row it is told what it says; else which row is wrong.
+fn check(alloc: Global, rows: &[Row]) -> Result<(), Error> {
+    let mut number = 0u64;
+    for row in rows {
+        if is_sound(alloc, row)? != row.4 {
+            return Err(Error::InvalidData(Detail::number("a row is wrong", number)));
+        }
+        number = number.saturating_add(1);
     }
+    Ok(())
+}
+
+const WHOLE: &[Row] = &[
+    (FAT, MINIFAT, 13 * 512, END, true),
+    // Of the sector more the file has one byte.
+    (LONGER, MINIFAT, 13 * 512 + 1, END, true),
+    (LOOSE_END, MINIFAT, 14 * 512, END, true),
+];
+
+#[test]
+fn whole_files_with_one_use_of_each_sector_are_sound(rt: HostRuntime) -> Result<(), Error> {
+    check(rt.alloc(), WHOLE)
+}
+
+const USED_TWICE: &[Row] = &[
+    // Two streams on one chain, and a stream on the directory.
+    (FAT, MINIFAT, 13 * 512, 4, false),
+    (FAT, MINIFAT, 13 * 512, 1, false),
+    (LOOPED, MINIFAT, 13 * 512, END, false),
+    (LOOSE, MINIFAT, 14 * 512, END, false),
+];
+
+#[test]
+fn a_sector_with_two_uses_is_not_sound(rt: HostRuntime) -> Result<(), Error> {
+    check(rt.alloc(), USED_TWICE)
+}
+
+const SHORT: &[Row] = &[
+    (FAT, MINIFAT, 13 * 512 - 1, END, false),
+    (CUT, MINIFAT, 13 * 512, END, false),
+    (FAT, &[END], 13 * 512, END, false),
+];
+
+#[test]
+fn a_stream_that_lacks_bytes_is_not_sound(rt: HostRuntime) -> Result<(), Error> {
+    check(rt.alloc(), SHORT)
+}
+
+const MINI_STREAMS: &[Row] = &[
+    (
+        FAT,
+        &[1, END, FREE, FREE, FREE, FREE, FREE, END],
+        13 * 512,
+        END,
+        true,
+    ),
+    (
+        FAT,
+        &[1, END, FREE, FREE, FREE, FREE, FREE, END, END],
+        13 * 512,
+        END,
+        false,
+    ),
+];
+
+#[test]
+fn a_mini_stream_without_room_is_not_sound(rt: HostRuntime) -> Result<(), Error> {
+    check(rt.alloc(), MINI_STREAMS)
+}
+
+/// Whether a file of a root alone is sound, whose FAT points into the file or not.
+fn is_root_sound(alloc: Global, points_into_file: bool) -> Result<bool, Error> {
+    let entries = [DirEntry::empty_root_entry(alloc)?];
+    let parts = Parts {
+        version: Version::V3,
+        len: 3 * 512,
+        fat_sectors: &[0],
+        difat_sectors: &[],
+        fat: &[FATSECT, END],
+        directory: &[1],
+        entries: &entries,
+        streams: &[],
+        minifat_sectors: &[],
+        minifat: &[],
+        points_into_file,
+    };
+    is_sound_file(alloc, &parts)
+}
+
+#[test]
+fn a_pointer_past_the_file_is_not_sound(rt: HostRuntime) -> Result<(), Error> {
+    let told = (
+        is_root_sound(rt.alloc(), true)?,
+        is_root_sound(rt.alloc(), false)?,
+    );
+    assert!(rt; told == (true, false));
     Ok(())
 }

@@ -1,8 +1,8 @@
 //! What is timed.
 
-use crate::pieces::{File, add, fill, overwrite, read_through};
+use crate::pieces::{File, fill, overwrite, read_through};
 use anyhow::Result;
-use cfb::{CompoundFile, MemoryMedium, Version};
+use cfb::{CompoundFile, MemoryMedium, Timestamp, Version};
 use std::alloc::Global;
 use std::rt::Clock;
 use std::time::Instant;
@@ -15,25 +15,32 @@ const LONG: usize = 65_536;
 const SHORT: usize = 100;
 
 /// What each time is of.
-pub const ROWS: [&str; 8] = [
-    "make 10,000 streams",
+pub const ROWS: [&str; 13] = [
+    "make 10,000 streams of 100 bytes",
+    "find each by its path",
+    "read each",
     "open the file with them",
     "walk its entries",
+    "remove every second",
+    "remove the rest with their storage",
     "write 64 MiB by 64 KiB",
     "read 64 MiB by 64 KiB",
     "write 100 bytes over 64 MiB, 10,000 times",
+    "remove 64 MiB",
     "write 2 MB by 100 bytes",
     "write 100 bytes over 2 MB, 10,000 times",
 ];
 
 /// The least times of three runs, in microseconds.
-pub fn least_times<R: Clock + AllocGlobal>(rt: &R, version: Version) -> Result<[u64; 8]> {
-    let mut least = [u64::MAX; 8];
+pub fn least_times<R: Clock + AllocGlobal>(rt: &R, version: Version) -> Result<[u64; 13]> {
+    let mut least = [u64::MAX; 13];
     for _turn in 0..3 {
-        let [make, open, walk] = times_of_many(rt, version)?;
-        let [write, read, over] = times_of_long(rt, version)?;
+        let [make, find, look, open, walk, half, rest] = times_of_many(rt, version)?;
+        let [write, read, over, removed] = times_of_long(rt, version)?;
         let [short, over_short] = times_of_short(rt, version)?;
-        let times = [make, open, walk, write, read, over, short, over_short];
+        let times = [
+            make, find, look, open, walk, half, rest, write, read, over, removed, short, over_short,
+        ];
         for (best, time) in least.iter_mut().zip(times.iter()) {
             *best = (*best).min(*time);
         }
@@ -54,50 +61,75 @@ fn new_file(alloc: Global, version: Version) -> Result<File> {
 
 // What owns a file only makes it and lends it: each way out of a function that owns one costs the proof of letting it go.
 
-/// Streams are made, the file is opened anew, and its entries are walked.
-fn times_of_many<R: Clock + AllocGlobal>(rt: &R, version: Version) -> Result<[u64; 3]> {
+/// Streams are made in a storage, found and read; the file is opened anew and walked; and they are removed.
+fn times_of_many<R: Clock + AllocGlobal>(rt: &R, version: Version) -> Result<[u64; 7]> {
     let mut file = new_file(rt.alloc(), version)?;
-    let made = time_to_make(rt, &mut file)?;
-    let [opened, walked] = times_to_open(rt, file.into_inner())?;
-    Ok([made, opened, walked])
+    let [made, found, read] = times_to_make(rt, &mut file)?;
+    let [opened, walked, half, rest] = times_to_open(rt, file.into_inner())?;
+    Ok([made, found, read, opened, walked, half, rest])
 }
 
-fn time_to_make<R: Clock + AllocGlobal>(rt: &R, file: &mut File) -> Result<u64> {
+fn times_to_make<R: Clock + AllocGlobal>(rt: &R, file: &mut File) -> Result<[u64; 3]> {
     let mut clock = Instant::now(rt)?;
+    file.create_storage("/many", Timestamp::zero())?;
     for number in 0..STREAMS {
-        let path = format!(in rt.alloc(); "/{number}")?;
-        add(file, path.as_str())?;
+        let path = format!(in rt.alloc(); "/many/{number}")?;
+        fill(file, path.as_str(), &[7; SHORT], 1)?;
     }
-    lap(rt, &mut clock)
+    let made = lap(rt, &mut clock)?;
+    for number in 0..STREAMS {
+        let path = format!(in rt.alloc(); "/many/{number}")?;
+        let _found = file.is_stream(path.as_str());
+    }
+    let found = lap(rt, &mut clock)?;
+    let mut room = [0; SHORT];
+    for number in 0..STREAMS {
+        let path = format!(in rt.alloc(); "/many/{number}")?;
+        read_through(file, path.as_str(), &mut room)?;
+    }
+    Ok([made, found, lap(rt, &mut clock)?])
 }
 
-fn times_to_open<R: Clock + AllocGlobal>(rt: &R, medium: MemoryMedium) -> Result<[u64; 2]> {
+fn times_to_open<R: Clock + AllocGlobal>(rt: &R, medium: MemoryMedium) -> Result<[u64; 4]> {
     let mut clock = Instant::now(rt)?;
-    let file = CompoundFile::open(rt.alloc(), medium)?;
-    times_to_walk(rt, &file, &mut clock)
+    let mut file = CompoundFile::open(rt.alloc(), medium)?;
+    times_to_remove(rt, &mut file, &mut clock)
 }
 
-fn times_to_walk<R: Clock>(rt: &R, file: &File, clock: &mut Instant) -> Result<[u64; 2]> {
+fn times_to_remove<R: Clock + AllocGlobal>(
+    rt: &R,
+    file: &mut File,
+    clock: &mut Instant,
+) -> Result<[u64; 4]> {
     let opened = lap(rt, clock)?;
     let _count = file.walk()?.count();
-    Ok([opened, lap(rt, clock)?])
+    let walked = lap(rt, clock)?;
+    for number in (0..STREAMS).step_by(2) {
+        let path = format!(in rt.alloc(); "/many/{number}")?;
+        file.remove_stream(path.as_str())?;
+    }
+    let half = lap(rt, clock)?;
+    file.remove_storage_all("/many")?;
+    Ok([opened, walked, half, lap(rt, clock)?])
 }
 
-/// A long stream is written, read, and written over.
-fn times_of_long<R: Clock + AllocGlobal>(rt: &R, version: Version) -> Result<[u64; 3]> {
+/// A long stream is written, read, written over, and removed.
+fn times_of_long<R: Clock + AllocGlobal>(rt: &R, version: Version) -> Result<[u64; 4]> {
     let mut piece = vec![in rt.alloc(); 7u8; LONG]?;
     let mut file = new_file(rt.alloc(), version)?;
     long_times(rt, &mut file, &mut piece)
 }
 
-fn long_times<R: Clock>(rt: &R, file: &mut File, piece: &mut [u8]) -> Result<[u64; 3]> {
+fn long_times<R: Clock>(rt: &R, file: &mut File, piece: &mut [u8]) -> Result<[u64; 4]> {
     let mut clock = Instant::now(rt)?;
     fill(file, "/long", piece, 1024)?;
     let written = lap(rt, &mut clock)?;
     read_through(file, "/long", piece)?;
     let read = lap(rt, &mut clock)?;
     overwrite(file, "/long", &[8; SHORT], 10_000)?;
-    Ok([written, read, lap(rt, &mut clock)?])
+    let over = lap(rt, &mut clock)?;
+    file.remove_stream("/long")?;
+    Ok([written, read, over, lap(rt, &mut clock)?])
 }
 
 /// A stream is written in short pieces, and written over.

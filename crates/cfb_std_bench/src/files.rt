@@ -1,23 +1,23 @@
 //! Files in memory with one stream, and what is done with it by std's traits.
 use cfb::{CompoundFile, Error, MemoryMedium, Version};
 use std::alloc::Global;
-use std::io::Write;
+use std::io::{self, ErrorKind, Write};
 use std::test::Fail;
 
 /// The path of the one stream.
 pub const PATH: &str = "/data";
 
 /// So many bytes, none of them 0, that tell where they stand.
-pub fn numbered(alloc: Global, count: usize) -> Result<Vec<u8>, Fail> {
-    let mut bytes = Vec::new(alloc);
-    for place in 0..count {
-        bytes.push((place % 251 + 1) as u8)?;
+pub fn numbered(alloc: Global, count: usize) -> Result<Vec<u8>, Error> {
+    let mut bytes = vec![in alloc; 0u8; count]?;
+    for (place, byte) in bytes.iter_mut().enumerate() {
+        *byte = (place % 251 + 1) as u8;
     }
     Ok(bytes)
 }
 
 /// Makes the stream, and writes all of these bytes into it by std.
-pub fn put(file: &mut CompoundFile<MemoryMedium>, bytes: &[u8]) -> Result<(), Fail> {
+fn put(file: &mut CompoundFile<MemoryMedium>, bytes: &[u8]) -> Result<(), Fail> {
     let mut stream = file.create_stream(PATH)?;
     let written = stream.write_all(bytes);
     stream.close()?;
@@ -36,12 +36,30 @@ pub fn file_with(
     Ok(file)
 }
 
-/// All bytes of the stream.
-pub fn stored(alloc: Global, file: &mut CompoundFile<MemoryMedium>) -> Result<Vec<u8>, Error> {
-    let mut bytes = Vec::new(alloc);
+/// Appends all bytes of the stream.
+fn read_all(file: &mut CompoundFile<MemoryMedium>, into: &mut Vec<u8>) -> Result<(), Error> {
     let mut stream = file.open_read_stream(PATH)?;
-    let read = stream.read_to_end(&mut bytes);
+    let read = stream.read_to_end(into);
     stream.close()?;
     read?;
-    Ok(bytes)
+    Ok(())
+}
+
+/// Whether the stream has these bytes.
+pub fn has_stored(
+    alloc: Global,
+    file: &mut CompoundFile<MemoryMedium>,
+    bytes: &[u8],
+) -> Result<bool, Error> {
+    let mut found = Vec::new(alloc);
+    read_all(file, &mut found)?;
+    Ok(found.as_slice() == bytes)
+}
+
+/// The kind of a refusal, if it is one.
+pub fn kind_of<T: Drop>(done: io::Result<T>) -> Option<ErrorKind> {
+    match done {
+        Ok(_) => None,
+        Err(e) => Some(e.kind()),
+    }
 }

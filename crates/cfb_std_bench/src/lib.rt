@@ -11,4 +11,6 @@ mod reading;
 #[cfg(test)]
 mod refusals;
 #[cfg(test)]
+mod streams;
+#[cfg(test)]
 mod writing;

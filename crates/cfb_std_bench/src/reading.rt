@@ -1,96 +1,83 @@
 //! Readers, buffered readers and seeks by std over a stream that is only read, and over one that is written too.
-use crate::files::{PATH, file_with, numbered};
+use crate::files::{file_with, kind_of, numbered};
+use crate::streams::{Task, in_read_stream, in_stream};
 use cfb::{CompoundFile, MemoryMedium, Version};
-use std::alloc::{Allocator, Global};
+use std::alloc::Global;
 use std::io::{self, BufRead, ErrorKind, Read, Seek, SeekFrom};
 use std::test::Fail;
 
-/// What a reader gave: a piece that was to be read whole, all that was left, and the kind of one more such piece.
-#[derive(Drop)]
-struct WhatWasRead {
-    piece: [u8; 600],
-    rest: Vec<u8>,
-    past: Option<ErrorKind>,
-}
-
-fn pieces<R: Read>(alloc: Global, reader: &mut R) -> io::Result<WhatWasRead> {
+/// Whether a piece can be read whole, then all that is left, and then not one more byte.
+pub fn has_bytes<R: Read>(alloc: Global, reader: &mut R, bytes: &[u8]) -> io::Result<bool> {
     let mut piece = [0u8; 600];
     reader.read_exact(&mut piece)?;
     let mut rest = Vec::new(alloc);
     Read::read_to_end(reader, &mut rest)?;
-    let mut more = [0u8; 1];
-    let past = reader.read_exact(&mut more).err().map(|e| e.kind());
-    Ok(WhatWasRead { piece, rest, past })
+    let past = kind_of(reader.read_exact(&mut [0u8; 1]));
+    Ok(
+        bytes.get(..600) == Some(piece.as_slice())
+            && bytes.get(600..) == Some(rest.as_slice())
+            && past == Some(ErrorKind::UnexpectedEof),
+    )
 }
 
-/// What the stream gave, opened to be read, or to be written too.
-fn pieces_of<A: Allocator + Clone>(
+/// Whether the lines have these lengths, without their ends.
+pub fn has_lines<R: BufRead + Drop>(
     alloc: Global,
-    file: &mut CompoundFile<MemoryMedium, A>,
-    writes: bool,
-) -> Result<WhatWasRead, Fail> {
-    if writes {
-        let mut stream = file.open_stream(PATH)?;
-        let read = pieces(alloc, &mut stream);
-        stream.close()?;
-        return Ok(read?);
+    reader: R,
+    lengths: &[usize],
+) -> io::Result<bool> {
+    let mut found = Vec::new(alloc);
+    for line in reader.lines(alloc) {
+        found.push(line?.len())?;
     }
-    let mut stream = file.open_read_stream(PATH)?;
-    let read = pieces(alloc, &mut stream);
-    stream.close()?;
-    Ok(read?)
+    Ok(found.as_slice() == lengths)
+}
+
+/// Whether a seek from place 10 leads to this place, or is refused and the place stays.
+pub fn leads_to<S: Seek>(stream: &mut S, to: SeekFrom, place: Option<u64>) -> io::Result<bool> {
+    stream.rewind()?;
+    stream.seek_relative(10)?;
+    let found = match stream.seek(to) {
+        Ok(found) => Some(found),
+        Err(e) if e.kind() == ErrorKind::InvalidInput => None,
+        Err(e) => return Err(e),
+    };
+    Ok(found == place && stream.stream_position()? == place.unwrap_or(10))
+}
+
+/// Whether it comes so of the stream, however it is opened.
+fn in_both(
+    alloc: Global,
+    file: &mut CompoundFile<MemoryMedium>,
+    task: &Task<'_>,
+) -> Result<bool, Fail> {
+    Ok(in_read_stream(alloc, file, task)? && in_stream(alloc, file, task)?)
+}
+
+/// The same in a file whose stream has these bytes.
+fn in_file(alloc: Global, version: Version, bytes: &[u8], task: &Task<'_>) -> Result<bool, Fail> {
+    let mut file = file_with(alloc, version, bytes)?;
+    in_both(alloc, &mut file, task)
 }
 
 #[test]
 fn pieces_and_the_rest_are_read(rt: HostRuntime) -> Result<(), Fail> {
     for len in [600usize, 601, 4095, 4096, 70_000] {
         let bytes = numbered(rt.alloc(), len)?;
-        let mut file = file_with(rt.alloc(), Version::V3, &bytes)?;
-        for writes in [false, true] {
-            let read = pieces_of(rt.alloc(), &mut file, writes)?;
-            assert!(rt; bytes.get(..600) == Some(read.piece.as_slice()), "{len}");
-            assert!(rt; bytes.get(600..) == Some(read.rest.as_slice()), "{len}");
-            assert!(rt; read.past == Some(ErrorKind::UnexpectedEof), "{len}");
-        }
+        assert!(rt;
+            in_file(rt.alloc(), Version::V3, &bytes, &Task::Bytes(&bytes))?,
+            "{len}"
+        );
     }
     Ok(())
-}
-
-/// The lengths of the lines, without their ends.
-fn line_lengths<R: BufRead + Drop>(alloc: Global, reader: R) -> io::Result<Vec<usize>> {
-    let mut lengths = Vec::new(alloc);
-    for line in reader.lines(alloc) {
-        lengths.push(line?.len())?;
-    }
-    Ok(lengths)
-}
-
-fn lines_of<A: Allocator + Clone>(
-    alloc: Global,
-    file: &mut CompoundFile<MemoryMedium, A>,
-    writes: bool,
-) -> Result<Vec<usize>, Fail> {
-    if writes {
-        let mut stream = file.open_stream(PATH)?;
-        let lengths = line_lengths(alloc, &mut stream);
-        stream.close()?;
-        return Ok(lengths?);
-    }
-    let mut stream = file.open_read_stream(PATH)?;
-    let lengths = line_lengths(alloc, &mut stream);
-    stream.close()?;
-    Ok(lengths?)
 }
 
 #[test]
 fn lines_are_read(rt: HostRuntime) -> Result<(), Fail> {
     let mut text = vec![in rt.alloc(); b'a'; 5000]?;
     text.extend_from_slice(b"\nbc\r\n\nlast")?;
-    let mut file = file_with(rt.alloc(), Version::V4, &text)?;
-    for writes in [false, true] {
-        let lengths = lines_of(rt.alloc(), &mut file, writes)?;
-        assert_eq!(rt; lengths.as_slice(), [5000usize, 2, 0, 4].as_slice());
-    }
+    let lengths = [5000usize, 2, 0, 4];
+    assert!(rt; in_file(rt.alloc(), Version::V4, &text, &Task::Lines(&lengths))?);
     Ok(())
 }
 
@@ -105,46 +92,12 @@ const SEEKS: [Row; 12] = [
     (SeekFrom::Current(91), None), (SeekFrom::Current(-11), None), (SeekFrom::Current(i64::MIN), None),
 ];
 
-/// Where a seek from place 10 leads: its answer or the kind of its refusal, and the position then.
-fn sought<S: Seek>(stream: &mut S, to: SeekFrom) -> io::Result<(Result<u64, ErrorKind>, u64)> {
-    stream.rewind()?;
-    stream.seek_relative(10)?;
-    let answer = stream.seek(to).map_err(|e| e.kind());
-    Ok((answer, stream.stream_position()?))
-}
-
-fn sought_in<A: Allocator + Clone>(
-    file: &mut CompoundFile<MemoryMedium, A>,
-    to: SeekFrom,
-    writes: bool,
-) -> Result<(Result<u64, ErrorKind>, u64), Fail> {
-    if writes {
-        let mut stream = file.open_stream(PATH)?;
-        let answer = sought(&mut stream, to);
-        stream.close()?;
-        return Ok(answer?);
-    }
-    let mut stream = file.open_read_stream(PATH)?;
-    let answer = sought(&mut stream, to);
-    stream.close()?;
-    Ok(answer?)
-}
-
 #[test]
 fn seeks_stay_in_the_stream(rt: HostRuntime) -> Result<(), Fail> {
-    let mut file = file_with(rt.alloc(), Version::V3, &numbered(rt.alloc(), 100)?)?;
-    for (to, place) in SEEKS {
-        for writes in [false, true] {
-            let (answer, position) = sought_in(&mut file, to, writes)?;
-            assert!(rt;
-                answer.ok() == place && position == place.unwrap_or(10),
-                "{to:?}"
-            );
-            assert!(rt;
-                place.is_some() || answer == Err(ErrorKind::InvalidInput),
-                "{to:?}"
-            );
-        }
+    let bytes = numbered(rt.alloc(), 100)?;
+    for (to, place) in &SEEKS {
+        let task = Task::Place(*to, *place);
+        assert!(rt; in_file(rt.alloc(), Version::V3, &bytes, &task)?, "{to:?}");
     }
     Ok(())
 }

@@ -199,7 +199,7 @@ impl<A: Allocator> StreamBuffer<A> {
 
 /// Reads what lies at a place, at most `left` bytes.
 #[tactic(auto, using(crate::proofs::Lists::read_before))]
-fn read_front<C: ReadContents>(
+pub fn read_front<C: ReadContents>(
     content: &mut C,
     id: u32,
     at: u64,

@@ -14,8 +14,8 @@ use Rattle.cfb_format.specs.declared.error.Detail.{Detail}
 use Rattle.cfb_rules.specs.Refusal.{invalid_input, invalid_data, failed_earlier}
 use Rattle.cfb_rules.specs.StreamCalls.{StreamState, StreamCall, read, fill_buf, seek, flush, StreamReply, ready, got, offset, Moves, Refuses, Serves, ReadsOn, sought, StreamStep}
 use Rattle.cfb_rules.specs.Runs.{Causes, is_never_refused}
-use Rattle.cfb_stream_buffer.specs.Contents.{Stored, stream_setting_of, laid}
-use Rattle.cfb_stream_window.specs.Windows.{Window, LiesOver, Carries, ReadBrokeOff, Unreadable, Runs, IsCallRefused, state_of, window_settled, window_at, WentTo, target_of, whence_of}
+use Rattle.cfb_stream_buffer.specs.Contents.{Stored, ReadsPart, stream_setting_of, laid}
+use Rattle.cfb_stream_window.specs.Windows.{Window, LiesOver, Carries, ReadBrokeOff, Unreadable, Runs, IsCallRefused, state_of, window_settled, window_at, WentTo, ReadPast, target_of, whence_of}
 use Rattle.cfb_stream_buffer.proofs.Lists.{length-laid, part-laid, laid-nothing}
 use Rattle.cfb_stream_window.proofs.Asking.{agrees_moved}
 use Rattle.cfb_stream_window.proofs.Breaking.{match_true, match_false, read_broken}
@@ -236,6 +236,46 @@ went s t w v x at k none calm inside is = subst (λ (z : Window). WentTo at s w 
     trusted = λ (h : false ≡ true). absurd (cc);
   };
 })
+
+-- ---- reading past the window
+
+pub read_past : (s t : Stored) (w v x : Window) (into : List ℕ) (n : ℕ) → LiesOver s w → Carries s w s v → v ≡ window_at (w.base + w.cursor) w → t ≡ s → ReadsPart s.content v.base into n → v.base + n ≤ w.size
+    → x ≡ window_at (v.base + n) v → ReadPast into s w t x n
+read_past s t w v x into n a k is same part fits at = subst (λ (z : Stored). ReadPast into s w z x n) (sym same) (
+    let base = ap (λ (z : Window). z.base) is in
+    let none = ap (λ (z : Window). z.filled) is in
+    let calm = ap (λ (z : Window). z.pending) is in
+    let list : s.content ≡ laid w.base w.filled s.content = sym (ap (λ (xs : List ℕ). laid v.base xs s.content) none ∙ laid-nothing v.base s.content) ∙ k.list in
+    record {
+      some = part.some;
+      inside = omega (arith, part.inside, base, ap length list);
+      gives = part.gives ∙ ap (λ (m : ℕ). take n (drop m s.content)) base ∙ ap (λ (xs : List ℕ). take n (drop (w.base + w.cursor) xs)) list;
+      went = subst (λ (m : ℕ). WentTo (m + n) s w s x) base (went s s w v x (v.base + n) k none calm fits at);
+    })
+
+-- first it was carried into another window
+pub carried_past : (s s1 t : Stored) (w w1 x : Window) (into : List ℕ) (n : ℕ) → Carries s w s1 w1 → ReadPast into s1 w1 t x n → ReadPast into s w t x n
+carried_past s s1 t w w1 x into n k p = record {
+  some = p.some;
+  inside = omega (arith, p.inside, k.place, ap length k.list);
+  gives = p.gives ∙ ap (λ (m : ℕ). take n (drop m (laid w1.base w1.filled s1.content))) k.place ∙ ap (λ (xs : List ℕ). take n (drop (w.base + w.cursor) xs)) k.list;
+  went = record {
+    list = p.went.list ∙ k.list;
+    place = p.went.place ∙ ap (λ (m : ℕ). m + n) k.place;
+    same_size = p.went.same_size ∙ k.same_size;
+    limit = p.went.limit ∙ k.limit;
+    sound = p.went.sound ∙ k.sound;
+    calm = λ (h : w.pending ≡ false). p.went.calm (k.calm h);
+    ahead = p.went.ahead;
+    agrees = p.went.agrees;
+  };
+}
+
+module _ (causes : Causes) (s t : Stored) (w x : Window) (into : List ℕ) (f : s.failed ≡ false) (before : w.base + w.cursor < w.size) where
+  pub past_runs : (wanted n : ℕ) → n ≤ wanted → ReadPast into s w t x n → Runs causes s w (read wanted) (got (take n into)) t x
+  past_runs wanted n most p = step_runs causes s w t x (read wanted) _ f p.went.agrees.unfailed
+      (reads_some (wanted == 0) _ _ wanted (state_of s w) _ (state_of t x) (let some = p.some in grind (arith, nat_tests)) before (omega (arith, p.some, p.inside))
+      (n, p.some, most, p.inside, ap got p.gives, went_moves s t w x (w.base + w.cursor + n) p.went))
 
 -- ---- flushing
 

@@ -185,6 +185,13 @@ pub record WentTo (at : ℕ) (s : Stored) (w : Window) (s' : Stored) (w' : Windo
   pub ahead : w'.ahead ≡ 0
   pub agrees : LiesOver s' w'
 
+-- bytes read past the window, which holds nothing behind them
+pub record ReadPast (into : List ℕ) (s : Stored) (w : Window) (s' : Stored) (w' : Window) (n : ℕ) : Type 0 where
+  pub some : 1 ≤ n
+  pub inside : w.base + w.cursor + n ≤ length (laid w.base w.filled s.content)
+  pub gives : take n into ≡ take n (drop (w.base + w.cursor) (laid w.base w.filled s.content))
+  pub went : WentTo (w.base + w.cursor + n) s w s' w'
+
 -- bytes kept back at the cursor
 abbrev pub window_kept : Window → List ℕ → Window
 window_kept w bytes = record w {

@@ -3,11 +3,11 @@ ghost use Rattle.std.specs.Prelude.{◌≡◌, ◌+◌, ◌-◌, ◌<◌, ◌≤
 ghost use Rattle.cfb_format.specs.Refused.{IsMemory};
 ghost use Rattle.cfb_rules.specs.StreamCalls.{StreamStep, read, fill_buf, consume, seek, read_to_end, ask_len, ask_position, ask_is_empty, ready, got, offset, answered, opened};
 ghost use Rattle.cfb_stream_buffer.specs.Contents.{Stored, stream_setting_of, IsFitting};
-ghost use Rattle.cfb_stream_window.specs.Windows.{state_of, LiesOver, Carries, ReadBrokeOff, Unreadable, StandsInside, WentTo, window_opened, target_of, whence_of};
+ghost use Rattle.cfb_stream_window.specs.Windows.{state_of, LiesOver, Carries, ReadBrokeOff, Unreadable, StandsInside, WentTo, window_opened, target_of, whence_of, ReadPast};
 ghost use Rattle.cfb_stream_window.specs.Answers.{IsOpen, IsReady, RunsReading, IsRefusedReading, GoesOn};
 ghost use Rattle.cfb_stream_buffer.specs.Touched.{IsRead};
 
-use crate::window::Window;
+use crate::window::{STRAIGHT, Window};
 use cfb_format::error::{Detail, Error};
 use cfb_stream_buffer::content::ReadContents;
 use std::alloc::{Allocator, Global};
@@ -102,6 +102,7 @@ impl<A: Allocator> ReadWindow<A> {
         ensures ok { IsReady C.ReadContents content.old id self.old → OnOk result (Carries (C.stored content.old id) self.old (C.stored content.new id) self.new) }
         ensures some { IsReady C.ReadContents content.old id self.old → OnOk result (self.new.cursor < length self.new.filled) }
         ensures held { self.old.cursor < length self.old.filled → content.new ≡ content.old }
+        ensures stays { self.old.cursor < length self.old.filled → self.new ≡ self.old }
         ensures refused { IsReady C.ReadContents content.old id self.old
             → IfErr result (λ e. ReadBrokeOff ⊥ (C.stored content.old id) self.old (C.stored content.new id) self.new e ⊎ Unreadable (C.stored content.old id) self.old (C.stored content.new id) self.new e) }
         ensures grown { self.new.room < min (self.old.size - (self.old.base + self.old.cursor)) self.old.bound
@@ -114,6 +115,30 @@ impl<A: Allocator> ReadWindow<A> {
         }
         self.window.refill(content, id)?;
         Ok(())
+    }
+
+    /// Reads what lies at the position past the buffer.
+    fn read_past<C: ReadContents>(
+        &mut self,
+        content: &mut C,
+        id: u32,
+        into: &mut [u8],
+    ) -> Result<usize, Error>
+        requires there { C.has content.old id }
+        requires behind { self.old.base + self.old.cursor < self.old.size }
+        requires unread { self.old.ahead ≡ 0 }
+        requires some { 0 < length into.old }
+        ensures there { C.has content.new id }
+        ensures around { C.tells content.old → IsRead C.ReadContents content.old content.new id result }
+        ensures most { IfOk result (λ n. n ≤ length into.new) }
+        ensures ok { IsReady C.ReadContents content.old id self.old → IfOk result (ReadPast into.new (C.stored content.old id) self.old (C.stored content.new id) self.new) }
+        ensures refused { IsReady C.ReadContents content.old id self.old
+            → IfErr result (λ e. ReadBrokeOff ⊥ (C.stored content.old id) self.old (C.stored content.new id) self.new e ⊎ Unreadable (C.stored content.old id) self.old (C.stored content.new id) self.new e) }
+        ensures room { self.new.room ≡ self.old.room }
+        ensures bound { self.new.bound ≡ self.old.bound }
+    {
+        let count = self.window.read_past(content, id, into)?;
+        Ok(count)
     }
 
     /// Reads bytes from the position on into a beginning of `into`, and answers how many: at least one,
@@ -134,8 +159,9 @@ impl<A: Allocator> ReadWindow<A> {
         ensures goes_on { IsOpen C.ReadContents content.old id self.old → GoesOn C.ReadContents content.old content.new id self.new }
         ensures none { length into.old ≡ 0 → content.new ≡ content.old }
         ensures held { StandsInside self.old → content.new ≡ content.old }
-        ensures grown { self.new.room < min (self.old.size - (self.old.base + self.old.cursor)) self.old.bound
-            → content.new ≡ content.old }
+        ensures grown { length into.old < 65536
+            → self.new.room < min (self.old.size - (self.old.base + self.old.cursor)) self.old.bound → content.new ≡ content.old }
+        ensures straight { 65536 ≤ length into.old → self.new.room ≡ self.old.room }
         ensures bound { self.new.bound ≡ self.old.bound }
         ensures lean { self.new.room ≤ max self.old.room (min (self.old.size - (self.old.base + self.old.cursor)) self.old.bound) }
         ensures around { C.tells content.old → IsRead C.ReadContents content.old content.new id result }
@@ -150,6 +176,10 @@ impl<A: Allocator> ReadWindow<A> {
         if self.position() == self.len() {
             self.window.take_back();
             return Ok(0);
+        }
+        if into.len() >= STRAIGHT && !self.window.has_rest() {
+            let count = self.read_past(content, id, into)?;
+            return Ok(count);
         }
         self.have_rest(content, id)?;
         Ok(self.window.serve(into))

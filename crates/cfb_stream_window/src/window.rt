@@ -3,7 +3,7 @@ ghost use Rattle.std.specs.Prelude.{◌≡◌, ◌+◌, ◌-◌, ◌<◌, ◌≤
 ghost use Rattle.cfb_format.specs.Refused.{IsInvalidOrMemory, IsMemory};
 ghost use Rattle.cfb_rules.specs.StreamCalls.{StreamStep, consume, ask_len, ask_position, ask_is_empty, ready, offset, answered, opened};
 ghost use Rattle.cfb_stream_buffer.specs.Contents.{Stored, stream_setting_of, IsRefusedRead, IsFitting};
-ghost use Rattle.cfb_stream_window.specs.Windows.{state_of, LiesOver, Carries, CalmBrokeOff, Unreadable, window_at, window_opened, window_over, IsLoaded, target_of, IsReadable, IsUnreadable, Appended};
+ghost use Rattle.cfb_stream_window.specs.Windows.{state_of, LiesOver, Carries, CalmBrokeOff, Unreadable, window_at, window_opened, window_over, IsLoaded, target_of, IsReadable, IsUnreadable, Appended, ReadPast};
 ghost use Rattle.cfb_stream_window.specs.Answers.{IsOpen, IsReady};
 ghost use Rattle.cfb_stream_buffer.specs.Touched.{IsRead};
 
@@ -12,12 +12,15 @@ mod writing;
 
 use crate::pieces::{copy_out, make_space, place_at};
 use cfb_format::error::{Detail, Error};
-use cfb_stream_buffer::buffer::StreamBuffer;
+use cfb_stream_buffer::buffer::{StreamBuffer, read_front};
 use cfb_stream_buffer::content::ReadContents;
 use cfb_stream_buffer::whole::read_into;
 use std::alloc::{Allocator, Global};
 use std::io::SeekFrom;
 use std::marker::Model;
+
+/// A read or a write of so many bytes goes past the buffer.
+pub(crate) const STRAIGHT: usize = 65536;
 
 /// A piece of a stream in memory, with a position in it. What it stands on is handed to each call,
 /// with the stream's number.
@@ -244,6 +247,36 @@ impl<A: Allocator> Window<A> {
         self.buffer.refill(content, id, self.base, left)
     }
 
+    /// Reads what lies at the position past the buffer, which holds nothing from then on, where nothing
+    /// is pending.
+    pub(crate) fn read_past<C: ReadContents>(
+        &mut self,
+        content: &mut C,
+        id: u32,
+        into: &mut [u8],
+    ) -> Result<usize, Error>
+        requires there { C.has content.old id }
+        requires calm { self.old.pending ≡ false }
+        requires behind { self.old.base + self.old.cursor < self.old.size }
+        requires unread { self.old.ahead ≡ 0 }
+        requires some { 0 < length into.old }
+        ensures there { C.has content.new id }
+        ensures around { C.tells content.old → IsRead C.ReadContents content.old content.new id result }
+        ensures calm { self.new.pending ≡ false }
+        ensures most { IfOk result (λ n. n ≤ length into.new) }
+        ensures ok { IsReady C.ReadContents content.old id self.old → IfOk result (ReadPast into.new (C.stored content.old id) self.old (C.stored content.new id) self.new) }
+        ensures refused { IsReady C.ReadContents content.old id self.old
+            → IfErr result (λ e. CalmBrokeOff (C.stored content.old id) self.old (C.stored content.new id) self.new e ⊎ Unreadable (C.stored content.old id) self.old (C.stored content.new id) self.new e) }
+        ensures room { self.new.room ≡ self.old.room }
+        ensures bound { self.new.bound ≡ self.old.bound }
+    {
+        self.let_go();
+        let at = self.base;
+        let count = read_front(content, id, at, self.size - at, into)?;
+        self.go_outside(at + count as u64);
+        Ok(count)
+    }
+
     /// Where a seek goes, if it may.
     pub(crate) fn target(&self, to: SeekFrom) -> Option<u64>
         ensures value { result ≡ target_of self.now.size (self.now.base + self.now.cursor) to }
@@ -307,6 +340,10 @@ impl<A: Allocator> Window<A> {
             return Ok(());
         }
         if self.position() == self.size {
+            return Ok(());
+        }
+        // Streams of a sound file are whole: none is walked along for it.
+        if content.is_sound(id) {
             return Ok(());
         }
         match content.readable(id) {

@@ -1,10 +1,11 @@
 //! What counts as lent after each call, the greatest lengths, and what a flush hands on.
-use crate::calls::{Call, are_pieces, make, number_of, source};
+use crate::calls::{Call, Means, check, closed, content_of, fill, make, number_of, opened, source};
 use crate::memory::MemoryContents;
-use cfb_stream_buffer::content::ReadContents;
+use crate::play::{Ground, Script, Step, play_all};
+use cfb_format::error::Error;
+use cfb_media::refusing::Refusing;
 use cfb_stream_window::window::Window;
-use std::io::SeekFrom;
-use std::test::Fail;
+use std::alloc::Allocator;
 
 /// A call behind ten bytes that were lent, the number of its refusal or 0, and where consuming seven bytes leads then.
 const AFTER_LENDING: &[(Call, u8, u64)] = &[
@@ -26,73 +27,156 @@ const AFTER_LENDING: &[(Call, u8, u64)] = &[
     (Call::Flush, 0, 0),
 ];
 
-#[test]
-fn calls_take_back_what_was_lent(rt: HostRuntime) -> Result<(), Fail> {
-    let bytes = source(rt.alloc())?;
-    for (call, number, position) in AFTER_LENDING {
-        let stored = bytes.get(..10).unwrap_or(&[]).to_vec(rt.alloc())?;
-        let mut content = MemoryContents::new(stored, 0, 100_000);
-        let mut window = Window::open(rt.alloc(), &content, 0, 1)?;
-        window.fill(&mut content, 0)?;
-        let mut read = Vec::new(rt.alloc());
-        let answer = make(
-            rt.alloc(),
-            &mut window,
-            &mut content,
-            *call,
-            &bytes,
-            &mut read,
-        );
-        window.consume(7);
-        assert!(rt; number_of(&answer) == *number && window.position() == *position);
-        window.consume(usize::MAX);
-        assert!(rt; window.position() <= window.len());
-        window.close(&mut content, 0)?;
+/// Whether the row's call is answered as it says behind bytes that were lent, and consuming leads as far as it says, and never
+/// past the end.
+fn are_taken_back<A: Allocator>(
+    means: Means<'_>,
+    window: &mut Window<A>,
+    content: &mut MemoryContents,
+    row: &(Call, u8, u64),
+) -> Result<bool, Error> {
+    let (call, number, position) = *row;
+    let mut read = Vec::new(means.alloc);
+    fill(window, content)?;
+    let answer = number_of(&make(means, window, content, call, &mut read));
+    window.consume(7);
+    let place = window.position();
+    window.consume(usize::MAX);
+    Ok(answer == number && place == position && window.position() <= window.len())
+}
+
+/// The same of a stream that is opened before and closed behind it.
+fn is_right(
+    means: Means<'_>,
+    content: &mut MemoryContents,
+    row: &(Call, u8, u64),
+) -> Result<bool, Error> {
+    let mut window = opened(means.alloc, content, 1)?;
+    let right = are_taken_back(means, &mut window, content, row)?;
+    Ok(closed(window, content) == 0 && right)
+}
+
+/// Whether each row is right.
+fn check_rows(means: Means<'_>) -> Result<(), Error> {
+    let first = means.source.get(..10).unwrap_or(&[]);
+    let mut number = 0usize;
+    for row in AFTER_LENDING {
+        let mut content = content_of(means.alloc, first, 0, 100_000)?;
+        check(is_right(means, &mut content, row)?, number)?;
+        number = number.saturating_add(1);
     }
     Ok(())
 }
 
-/// The greatest length of each version, and how a length of one byte more is answered where there is one.
-const GREATEST: &[(u64, u8)] = &[(0xffff_ffff, 3), (u64::MAX, 0)];
+#[test]
+fn calls_take_back_what_was_lent(rt: HostRuntime) -> Result<(), Error> {
+    let source = source(rt.alloc())?;
+    let heap = Refusing::new(rt.alloc());
+    check_rows(Means {
+        alloc: rt.alloc(),
+        heap: &heap,
+        source: &source,
+    })
+}
+
+/// The greatest length of version 3, and no byte is there.
+const THREE: &Ground = &Ground {
+    stored: 0,
+    missing: 0xffff_ffff,
+    most: 0xffff_ffff,
+    room: 0xffff_ffff,
+    writes: u64::MAX,
+};
+
+/// A length of one byte more is refused.
+#[rattlefmt::skip]
+const AT_THREE: &[Step] = &[
+    (Call::FromEnd(0), 0, 0xffff_ffff, 0xffff_ffff, &[]),
+    (Call::Once(0, 1), 3, 0xffff_ffff, 0xffff_ffff, &[]),
+    (Call::Once(0, 0), 0, 0xffff_ffff, 0xffff_ffff, &[]),
+    (Call::By(-1), 0, 0xffff_fffe, 0xffff_ffff, &[]),
+    (Call::Once(0, 1), 8, 0xffff_fffe, 0xffff_ffff, &[]),
+    (Call::SetLen(0x1_0000_0000), 3, 0xffff_fffe, 0xffff_ffff, &[]),
+];
+
+/// The same of version 4.
+const FOUR: &Ground = &Ground {
+    stored: 0,
+    missing: u64::MAX,
+    most: u64::MAX,
+    room: u64::MAX,
+    writes: u64::MAX,
+};
+
+/// There is no length of one byte more, and the same is given.
+#[rattlefmt::skip]
+const AT_FOUR: &[Step] = &[
+    (Call::FromEnd(0), 0, u64::MAX, u64::MAX, &[]),
+    (Call::Once(0, 1), 3, u64::MAX, u64::MAX, &[]),
+    (Call::Once(0, 0), 0, u64::MAX, u64::MAX, &[]),
+    (Call::By(-1), 0, 0xffff_ffff_ffff_fffe, u64::MAX, &[]),
+    (Call::Once(0, 1), 8, 0xffff_ffff_ffff_fffe, u64::MAX, &[]),
+    (Call::SetLen(u64::MAX), 0, 0xffff_ffff_ffff_fffe, u64::MAX, &[]),
+];
+
+#[rattlefmt::skip]
+const GREATEST: &[Script] = &[
+    Script { limits: &[0], ground: THREE, steps: AT_THREE, closing: 0, held: &[] },
+    Script { limits: &[0], ground: FOUR, steps: AT_FOUR, closing: 0, held: &[] },
+];
 
 /// At the greatest length nothing can be written; that comes before what is said of a file that is not sound.
 #[test]
-fn greatest_lengths_are_kept(rt: HostRuntime) -> Result<(), Fail> {
-    for (greatest, past) in GREATEST {
-        let mut content = MemoryContents::new(Vec::new(rt.alloc()), *greatest, *greatest);
-        let mut window = Window::open(rt.alloc(), &content, 0, 0)?;
-        let end = window.seek(&mut content, 0, SeekFrom::End(0))?;
-        assert!(rt; end == *greatest && number_of(&window.write(&mut content, 0, &[2])) == 3);
-        assert!(rt; window.write(&mut content, 0, &[])? == 0 && window.position() == end);
-        let before = window.seek(&mut content, 0, SeekFrom::Current(-1))?;
-        assert!(rt;
-            before == greatest.saturating_sub(1)
-                && number_of(&window.write(&mut content, 0, &[2])) == 8
-        );
-        let longer = window.set_len(&mut content, 0, greatest.saturating_add(1));
-        assert!(rt; number_of(&longer) == *past && window.position() == before);
-        window.close(&mut content, 0)?;
-    }
-    Ok(())
+fn greatest_lengths_are_kept(rt: HostRuntime) -> Result<(), Error> {
+    play_all(rt.alloc(), GREATEST)
 }
 
-/// How many calls that write succeed, the numbers of the flush and of the close behind it, and how many of nine bytes
-/// are stored then.
-const FLUSHES: &[(u64, u8, u8, usize)] = &[(0, 5, 9, 0), (1, 5, 9, 9), (2, 0, 0, 9)];
+/// No call that writes succeeds; the write of what was kept back, and not the flush; both.
+const NO_WRITE: &Ground = &Ground {
+    stored: 0,
+    missing: 0,
+    most: 100_000,
+    room: 100_000,
+    writes: 0,
+};
+
+const ONE_WRITE: &Ground = &Ground {
+    stored: 0,
+    missing: 0,
+    most: 100_000,
+    room: 100_000,
+    writes: 1,
+};
+
+const TWO_WRITES: &Ground = &Ground {
+    stored: 0,
+    missing: 0,
+    most: 100_000,
+    room: 100_000,
+    writes: 2,
+};
+
+/// A flush that is refused fails the file.
+const REFUSED_FLUSH: &[Step] = &[
+    (Call::Once(0, 9), 0, 9, 9, &[]),
+    (Call::Flush, 5, 9, 9, &[]),
+    (Call::Stored, 9, 9, 9, &[]),
+];
+
+const FLUSH: &[Step] = &[
+    (Call::Once(0, 9), 0, 9, 9, &[]),
+    (Call::Flush, 0, 9, 9, &[]),
+    (Call::Stored, 0, 9, 9, &[(9, 0)]),
+];
+
+#[rattlefmt::skip]
+const FLUSHES: &[Script] = &[
+    Script { limits: &[1], ground: NO_WRITE, steps: REFUSED_FLUSH, closing: 9, held: &[] },
+    Script { limits: &[1], ground: ONE_WRITE, steps: REFUSED_FLUSH, closing: 9, held: &[(9, 0)] },
+    Script { limits: &[1], ground: TWO_WRITES, steps: FLUSH, closing: 0, held: &[(9, 0)] },
+];
 
 #[test]
-fn flushes_are_handed_on(rt: HostRuntime) -> Result<(), Fail> {
-    let bytes = source(rt.alloc())?;
-    for (writes, flushed, closed, stored) in FLUSHES {
-        let mut content = MemoryContents::new(Vec::new(rt.alloc()), 0, 100_000).with_writes(
-            *writes,
-        );
-        let mut window = Window::open(rt.alloc(), &content, 0, 1)?;
-        window.write(&mut content, 0, bytes.get(..9).unwrap_or(&[]))?;
-        let answer = window.flush(&mut content, 0);
-        assert!(rt; number_of(&answer) == *flushed && content.is_failed(0) == (*flushed == 5));
-        assert!(rt; number_of(&window.close(&mut content, 0)) == *closed);
-        assert!(rt; are_pieces(content.bytes(), &bytes, &[(*stored, 0)]));
-    }
-    Ok(())
+fn flushes_are_handed_on(rt: HostRuntime) -> Result<(), Error> {
+    play_all(rt.alloc(), FLUSHES)
 }

@@ -5,9 +5,12 @@
 mod calls;
 #[cfg(test)]
 mod lent;
-pub mod memory;
+#[cfg(test)]
+mod memory;
 #[cfg(test)]
 mod odd;
+#[cfg(test)]
+mod play;
 #[cfg(test)]
 mod refusals;
 #[cfg(test)]

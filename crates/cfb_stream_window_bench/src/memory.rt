@@ -8,7 +8,7 @@ ghost use Rattle.cfb_rules.specs.StreamCalls.{resized};
 use cfb_format::error::{Detail, Error};
 use cfb_format::medium::MediumFault;
 use cfb_stream_buffer::content::{Contents, ReadContents};
-use std::alloc::{AllocError, Allocator, Global};
+use std::alloc::AllocError;
 use std::marker::Model;
 
 /// A write takes no more bytes than these at once.
@@ -18,8 +18,8 @@ const BITE: usize = 700;
 /// file is not sound. So many calls that write or flush succeed, and then each is refused as if by a medium,
 /// and changes nothing but that a refused flush fails the file; so is one read, behind so many others.
 #[derive(Drop)]
-pub struct MemoryContents<A: Allocator = Global> {
-    bytes: Vec<u8, A>,
+pub struct MemoryContents {
+    bytes: Vec<u8>,
     missing: u64,
     limit: u64,
     room: u64,
@@ -29,7 +29,7 @@ pub struct MemoryContents<A: Allocator = Global> {
     failures: u64,
 }
 
-impl<A: Allocator> Model for MemoryContents<A> {
+impl Model for MemoryContents {
     ghost use Rattle.std.specs.Prelude.{◌≤◌, ◌+◌, length};
     ghost use Rattle.cfb_stream_window_bench.specs.Memory.{MemoryState};
 
@@ -40,9 +40,9 @@ impl<A: Allocator> Model for MemoryContents<A> {
     ghost invariant = { λ m. length m.bytes.items + m.missing ≤ m.limit };
 }
 
-impl<A: Allocator> MemoryContents<A> {
+impl MemoryContents {
     /// These bytes, and so many that are missing, which may become `limit` many, and have room for as many.
-    pub fn new(bytes: Vec<u8, A>, missing: u64, limit: u64) -> MemoryContents<A>
+    pub fn new(bytes: Vec<u8>, missing: u64, limit: u64) -> MemoryContents
         requires { length bytes.items + missing ≤ limit }
     {
         MemoryContents {
@@ -58,21 +58,18 @@ impl<A: Allocator> MemoryContents<A> {
     }
 
     /// There is room for no more bytes than these.
-    pub fn with_room(mut self, room: u64) -> MemoryContents<A> {
+    pub fn set_room(&mut self, room: u64) {
         self.room = room;
-        self
     }
 
     /// Only so many more calls that write or flush succeed.
-    pub fn with_writes(mut self, writes: u64) -> MemoryContents<A> {
+    pub fn set_writes(&mut self, writes: u64) {
         self.writes_left = writes;
-        self
     }
 
     /// The read behind so many others is refused, once.
-    pub fn with_reads(mut self, reads: u64) -> MemoryContents<A> {
+    pub fn set_reads(&mut self, reads: u64) {
         self.reads_left = reads;
-        self
     }
 
     /// The bytes as they stand.
@@ -123,7 +120,7 @@ impl<A: Allocator> MemoryContents<A> {
     }
 }
 
-impl<A: Allocator> ReadContents for MemoryContents<A> {
+impl ReadContents for MemoryContents {
     ghost has = { λ _ _. Unit {0} };
 
     ghost tells = { λ _. Unit {0} };
@@ -173,7 +170,7 @@ impl<A: Allocator> ReadContents for MemoryContents<A> {
     }
 }
 
-impl<A: Allocator> Contents for MemoryContents<A> {
+impl Contents for MemoryContents {
     ghost keeps = { λ _ _ _. Unit {0} };
 
     ghost write_faults = { λ _. true };
@@ -231,7 +228,7 @@ impl<A: Allocator> Contents for MemoryContents<A> {
 
 /// Puts all of the bytes at a place, or nothing where memory is refused.
 #[tactic(auto, using(crate::proofs::Laid::laid_resized, crate::proofs::Laid::length_laid))]
-fn overwrite<A: Allocator>(bytes: &mut Vec<u8, A>, at: usize, from: &[u8]) -> Result<(), AllocError>
+fn overwrite(bytes: &mut Vec<u8>, at: usize, from: &[u8]) -> Result<(), AllocError>
     requires inside { at ≤ length bytes.old.items }
     requires fits { at + length from.now < 2 ^ 64 }
     ensures ok { OnOk result (bytes.new.items ≡ laid at from.now bytes.old.items) }
@@ -249,7 +246,7 @@ fn overwrite<A: Allocator>(bytes: &mut Vec<u8, A>, at: usize, from: &[u8]) -> Re
 }
 
 /// Cuts them or pads them with zeros, or leaves them where memory is refused.
-fn set_len<A: Allocator>(bytes: &mut Vec<u8, A>, len: usize) -> Result<(), AllocError>
+fn set_len(bytes: &mut Vec<u8>, len: usize) -> Result<(), AllocError>
     ensures ok { OnOk result (bytes.new.items ≡ resized bytes.old.items len) }
     ensures len { OnOk result (length bytes.new.items ≡ len) }
     ensures err { OnErr result (bytes.new.items ≡ bytes.old.items) }
@@ -258,7 +255,7 @@ fn set_len<A: Allocator>(bytes: &mut Vec<u8, A>, len: usize) -> Result<(), Alloc
     Ok(())
 }
 
-fn put_at<A: Allocator>(bytes: &mut Vec<u8, A>, at: usize, from: &[u8])
+fn put_at(bytes: &mut Vec<u8>, at: usize, from: &[u8])
     requires { at + length from.now ≤ length bytes.old.items }
     ensures { bytes.new.items ≡ laid at from.now bytes.old.items }
 {

@@ -1,12 +1,11 @@
 //! Writes and requests for memory that are refused.
-use crate::calls::{Call, are_pieces, make, number_of, source};
+use crate::calls::{Call, Means, check, closed, content_of, make, number_of, opened, source};
 use crate::memory::MemoryContents;
+use crate::play::{EMPTY, Ground, Script, Step, play_all};
 use cfb_format::error::Error;
 use cfb_media::refusing::Refusing;
-use cfb_stream_buffer::content::ReadContents;
 use cfb_stream_window::window::Window;
-use std::alloc::Global;
-use std::test::Fail;
+use std::alloc::Allocator;
 
 /// Each of these but the last reads finds bytes kept back where the buffer has room for 1024.
 const KEPT: &[Call] = &[
@@ -23,154 +22,144 @@ const KEPT: &[Call] = &[
     Call::Rest,
 ];
 
-/// The numbers of the answers where so many writes succeed, closing at the end, one behind the other.
-fn answers(alloc: Global, writes: u64, bytes: &[u8]) -> Result<Vec<u8>, Error> {
-    let mut content = MemoryContents::new(Vec::new(alloc), 0, 100_000).with_writes(writes);
-    let mut window = Window::open(alloc, &content, 0, 1)?;
-    let mut numbers = Vec::new(alloc);
-    for call in KEPT {
-        let mut read = Vec::new(alloc);
-        let answer = make(alloc, &mut window, &mut content, *call, bytes, &mut read);
-        numbers.push(number_of(&answer))?;
+/// Whether an answer may follow another one: all succeed, or one is refused by the medium and all behind it since the file has
+/// failed.
+fn follows(last: u8, number: u8) -> bool {
+    match last {
+        0 => number == 0 || number == 5,
+        _ => number == 9,
     }
-    let closing = window.close(&mut content, 0);
-    numbers.push(number_of(&closing))?;
-    Ok(numbers)
 }
 
-/// All succeed, or one is refused by the medium and all behind it since the file has failed.
-fn is_failed_once(numbers: &[u8]) -> bool {
+/// Makes the calls: the last answer's number, and none where one was wrong.
+fn last_answer<A: Allocator>(
+    means: Means<'_>,
+    window: &mut Window<A>,
+    content: &mut MemoryContents,
+) -> Option<u8> {
     let mut last = 0u8;
-    for number in numbers {
-        let follows = match last {
-            0 => *number == 0 || *number == 5,
-            _ => *number == 9,
-        };
-        if !follows {
-            return false;
+    for call in KEPT {
+        let mut read = Vec::new(means.alloc);
+        let number = number_of(&make(means, window, content, *call, &mut read));
+        if !follows(last, number) {
+            return None;
         }
-        last = *number;
+        last = number;
     }
-    true
+    Some(last)
+}
+
+/// Whether a call was refused, closing at the end, and all answers are right.
+fn is_refused(means: Means<'_>, content: &mut MemoryContents) -> Result<bool, Error> {
+    let mut window = opened(means.alloc, content, 1)?;
+    let last = last_answer(means, &mut window, content);
+    let number = closed(window, content);
+    match last {
+        Some(last) if follows(last, number) => Ok(number != 0),
+        _ => Err(Error::Failed),
+    }
+}
+
+/// In how many of 40 cases a call is refused, where so many writes succeed.
+fn refused_cases(means: Means<'_>) -> Result<usize, Error> {
+    let mut refused = 0usize;
+    for writes in 0..40 {
+        let mut content = content_of(means.alloc, &[], 0, 100_000)?;
+        content.set_writes(writes);
+        if is_refused(means, &mut content)? {
+            refused = refused.saturating_add(1);
+        }
+    }
+    Ok(refused)
 }
 
 #[test]
-fn lost_bytes_fail_the_file(rt: HostRuntime) -> Result<(), Fail> {
-    let bytes = source(rt.alloc())?;
-    let mut failed = 0usize;
-    for writes in 0..40 {
-        let numbers = answers(rt.alloc(), writes, &bytes)?;
-        assert!(rt; is_failed_once(&numbers), "{writes} writes");
-        if numbers.contains(&5) {
-            failed = failed.saturating_add(1);
-        }
-    }
-    assert!(rt; 4 < failed && failed < 40);
-    Ok(())
+fn lost_bytes_fail_the_file(rt: HostRuntime) -> Result<(), Error> {
+    let source = source(rt.alloc())?;
+    let heap = Refusing::new(rt.alloc());
+    let refused = refused_cases(Means {
+        alloc: rt.alloc(),
+        heap: &heap,
+        source: &source,
+    })?;
+    check(4 < refused && refused < 40, refused)
 }
+
+/// Nine bytes are stored, and each call that writes is refused.
+const NINE: &Ground = &Ground {
+    stored: 9,
+    missing: 0,
+    most: 100_000,
+    room: 100_000,
+    writes: 0,
+};
 
 /// With nothing kept back a refused large write and a refused length leave all as it was.
+const REFUSED: &[Step] = &[
+    (Call::Read(4), 0, 4, 9, &[(4, 0)]),
+    (Call::Write(0, 70000), 5, 4, 9, &[]),
+    (Call::SetLen(3), 5, 4, 9, &[]),
+    (Call::Stored, 0, 4, 9, &[(9, 0)]),
+    (Call::Rest, 0, 9, 9, &[(5, 4)]),
+];
+
+#[rattlefmt::skip]
+const CHANGES: &[Script] = &[
+    Script { limits: &[4096], ground: NINE, steps: REFUSED, closing: 0, held: &[(9, 0)] },
+];
+
 #[test]
-fn refused_changes_leave_the_stream(rt: HostRuntime) -> Result<(), Fail> {
-    let bytes = source(rt.alloc())?;
-    let start = bytes.get(..9).unwrap_or(&[]).to_vec(rt.alloc())?;
-    let mut content = MemoryContents::new(start, 0, 100_000).with_writes(0);
-    let mut window = Window::open(rt.alloc(), &content, 0, 4096)?;
-    let mut read = Vec::new(rt.alloc());
-    for call in [Call::Read(4), Call::Write(0, 70000), Call::SetLen(3)] {
-        let answer = make(
-            rt.alloc(),
-            &mut window,
-            &mut content,
-            call,
-            &bytes,
-            &mut read,
-        );
-        let refused = matches!(call, Call::Read(_)) != matches!(&answer, Err(Error::Medium(_)));
-        assert!(rt; refused && window.position() == 4 && window.len() == 9);
-    }
-    assert!(rt; !content.is_failed(0));
-    make(
-        rt.alloc(),
-        &mut window,
-        &mut content,
-        Call::Rest,
-        &bytes,
-        &mut read,
-    )?;
-    window.close(&mut content, 0)?;
-    assert!(rt;
-        are_pieces(&read, &bytes, &[(9, 0)]) && are_pieces(content.bytes(), &bytes, &[(9, 0)])
-    );
-    Ok(())
+fn refused_changes_leave_the_stream(rt: HostRuntime) -> Result<(), Error> {
+    play_all(rt.alloc(), CHANGES)
 }
 
 /// A buffer that gets no memory to grow loses nothing: the call is made again once there is some.
+const GROWTH: &[Step] = &[
+    (Call::Refuse, 0, 0, 0, &[]),
+    (Call::Write(0, 2000), 6, 1024, 1024, &[]),
+    (Call::Stored, 0, 1024, 1024, &[]),
+    (Call::Serve, 0, 1024, 1024, &[]),
+    (Call::Write(1024, 2000), 0, 2000, 2000, &[]),
+    (Call::Refuse, 0, 2000, 2000, &[]),
+    (Call::Write(2000, 5000), 6, 4096, 4096, &[]),
+    (Call::Stored, 0, 4096, 4096, &[]),
+    (Call::Serve, 0, 4096, 4096, &[]),
+    (Call::Write(4096, 5000), 0, 5000, 5000, &[]),
+    (Call::Stored, 0, 5000, 5000, &[]),
+];
+
+const FIVE_THOUSAND: &Ground = &Ground {
+    stored: 5000,
+    missing: 0,
+    most: 100_000,
+    room: 100_000,
+    writes: u64::MAX,
+};
+
+/// The same for what is read.
+const GROWTH_TO_READ: &[Step] = &[
+    (Call::Refuse, 0, 0, 5000, &[]),
+    (Call::Read(1), 6, 0, 5000, &[]),
+    (Call::Serve, 0, 0, 5000, &[]),
+    (Call::Lend(5000), 0, 5000, 5000, &[(5000, 0)]),
+];
+
+#[rattlefmt::skip]
+const GROWTHS: &[Script] = &[
+    Script { limits: &[8192], ground: EMPTY, steps: GROWTH, closing: 0, held: &[(5000, 0)] },
+    Script { limits: &[8192], ground: FIVE_THOUSAND, steps: GROWTH_TO_READ, closing: 0, held: &[(5000, 0)] },
+];
+
 #[test]
-fn refused_growth_loses_nothing(rt: HostRuntime) -> Result<(), Fail> {
-    let bytes = source(rt.alloc())?;
-    let heap = Refusing::new(rt.alloc());
-    let mut content = MemoryContents::new(Vec::new(rt.alloc()), 0, 100_000);
-    let mut window = Window::open(&heap, &content, 0, 8192)?;
-    let mut read = Vec::new(rt.alloc());
-    for (call, again) in [
-        (Call::Write(0, 2000), Call::Write(1024, 2000)),
-        (Call::Write(2000, 5000), Call::Write(4096, 5000)),
-    ] {
-        heap.refuse_all();
-        let answer = make(
-            rt.alloc(),
-            &mut window,
-            &mut content,
-            call,
-            &bytes,
-            &mut read,
-        );
-        assert!(rt; number_of(&answer) == 6 && !content.is_failed(0));
-        heap.refuse_none();
-        make(
-            rt.alloc(),
-            &mut window,
-            &mut content,
-            again,
-            &bytes,
-            &mut read,
-        )?;
-    }
-    assert!(rt; window.position() == 5000 && content.bytes().is_empty());
-    window.close(&mut content, 0)?;
-    let mut window = Window::open(&heap, &content, 0, 8192)?;
-    heap.refuse_all();
-    let answer = make(
-        rt.alloc(),
-        &mut window,
-        &mut content,
-        Call::Read(1),
-        &bytes,
-        &mut read,
-    );
-    assert!(rt; number_of(&answer) == 6 && window.position() == 0);
-    heap.refuse_none();
-    make(
-        rt.alloc(),
-        &mut window,
-        &mut content,
-        Call::Lend(5000),
-        &bytes,
-        &mut read,
-    )?;
-    assert!(rt; are_pieces(&read, &bytes, &[(5000, 0)]));
-    window.close(&mut content, 0)?;
-    Ok(())
+fn refused_growth_loses_nothing(rt: HostRuntime) -> Result<(), Error> {
+    play_all(rt.alloc(), GROWTHS)
 }
 
 /// The first buffer is a request too.
 #[test]
-fn refused_memory_opens_nothing(rt: HostRuntime) -> Result<(), Fail> {
+fn refused_memory_opens_nothing(rt: HostRuntime) -> Result<(), Error> {
     let heap = Refusing::new(rt.alloc());
-    let content = MemoryContents::new(Vec::new(rt.alloc()), 0, 100_000);
+    let content = content_of(rt.alloc(), &[], 0, 100_000)?;
     heap.refuse_all();
-    let answer = Window::open(&heap, &content, 0, 8192);
-    assert!(rt; number_of(&answer) == 6);
-    Ok(())
+    check(number_of(&opened(&heap, &content, 8192)) == 6, 0)
 }

@@ -1,14 +1,7 @@
 //! Scripts of calls over buffers of several limits: what a stream holds, reads and answers is the same for each.
-use crate::calls::{Call, ZEROS, are_pieces, make, number_of, source};
-use crate::memory::MemoryContents;
+use crate::calls::{Call, ZEROS};
+use crate::play::{EMPTY, Script, Step, play_all};
 use cfb_format::error::Error;
-use cfb_stream_window::window::Window;
-use std::alloc::Global;
-use std::test::Fail;
-
-/// A call, the number of its refusal or 0, the position and the length then, and the pieces that it read: so many of
-/// the source's bytes from there on.
-type Step = (Call, u8, u64, u64, &'static [(usize, usize)]);
 
 /// Written, overwritten at a place, and read in each way.
 const WRITTEN: &[Step] = &[
@@ -86,53 +79,20 @@ const FULL: &[Step] = &[
     (Call::SetLen(7), 0, 7, 7, &[]),
 ];
 
-/// How many steps are right before the first that is wrong, and the bytes that are stored after closing.
-fn right_steps(
-    alloc: Global,
-    limit: usize,
-    steps: &[Step],
-    bytes: &[u8],
-) -> Result<(usize, MemoryContents), Error> {
-    let mut content = MemoryContents::new(Vec::new(alloc), 0, 100_000);
-    let mut window = Window::open(alloc, &content, 0, limit)?;
-    let mut right = 0usize;
-    for step in steps {
-        let (call, number, position, len, pieces) = *step;
-        let mut read = Vec::new(alloc);
-        let answer = make(alloc, &mut window, &mut content, call, bytes, &mut read);
-        let is_right = number_of(&answer) == number
-            && window.position() == position
-            && window.len() == len
-            && window.is_empty() == (len == 0)
-            && are_pieces(&read, bytes, pieces);
-        if !is_right {
-            break;
-        }
-        right = right.saturating_add(1);
-    }
-    window.close(&mut content, 0)?;
-    Ok((right, content))
-}
+/// Also one below the least room and one above what is asked for at once.
+const LIMITS: &[usize] = &[0, 1, 1024, 1025, 1500, 4096, 5000, usize::MAX];
 
-/// For every limit, also one below the least room and one above what is asked for at once.
+#[rattlefmt::skip]
+const SCRIPTS: &[Script] = &[
+    Script { limits: LIMITS, ground: EMPTY, steps: WRITTEN, closing: 0, held: &[(10, 0), (1, 5000), (2989, 11)] },
+    Script { limits: LIMITS, ground: EMPTY, steps: CUT, closing: 0, held: &[(5, 0), (3, 200)] },
+    Script { limits: LIMITS, ground: EMPTY, steps: LARGE, closing: 0, held: &[(69990, 0), (30, 100)] },
+    Script { limits: LIMITS, ground: EMPTY, steps: EDGES, closing: 0, held: &[(1023, 0), (1997, 3000), (1, 0), (2102, 4998)] },
+    Script { limits: LIMITS, ground: EMPTY, steps: FULL, closing: 0, held: &[(7, ZEROS)] },
+];
+
+/// For every limit.
 #[test]
-fn steps_are_taken(rt: HostRuntime) -> Result<(), Fail> {
-    let bytes = source(rt.alloc())?;
-    for limit in [0, 1, 1024, 1025, 1500, 4096, 5000, usize::MAX] {
-        for (steps, held) in [
-            (
-                WRITTEN,
-                [(10usize, 0usize), (1, 5000), (2989, 11)].as_slice(),
-            ),
-            (CUT, &[(5, 0), (3, 200)]),
-            (LARGE, &[(69990, 0), (30, 100)]),
-            (EDGES, &[(1023, 0), (1997, 3000), (1, 0), (2102, 4998)]),
-            (FULL, &[(7, ZEROS)]),
-        ] {
-            let (right, content) = right_steps(rt.alloc(), limit, steps, &bytes)?;
-            assert_eq!(rt; right, steps.len(), "limit {limit}");
-            assert!(rt; are_pieces(content.bytes(), &bytes, held), "limit {limit}");
-        }
-    }
-    Ok(())
+fn steps_are_taken(rt: HostRuntime) -> Result<(), Error> {
+    play_all(rt.alloc(), SCRIPTS)
 }

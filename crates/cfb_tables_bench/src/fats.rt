@@ -1,11 +1,13 @@
 //! The FAT that is read of the words of the FAT sectors.
+use crate::checked::check;
 use cfb_format::consts::{
     DIFAT_SECTOR as DIFSECT, END_OF_CHAIN as END, FAT_SECTOR as FATSECT, FREE_SECTOR as FREE,
     INVALID_SECTOR,
 };
+use cfb_format::error::Error;
 use cfb_format::validate::Validation;
 use cfb_tables::fat::read_fat;
-use std::test::Fail;
+use std::alloc::Global;
 
 const PERMISSIVE: Validation = Validation::Permissive;
 
@@ -13,7 +15,16 @@ const STRICT: Validation = Validation::Strict;
 
 /// How many sectors there are, the words, the FAT sectors, the DIFAT sectors, the mode, and the FAT that is read: none
 /// where it is refused.
-const ROWS: [(u32, &[u32], &[u32], &[u32], Validation, &[u32]); 15] = [
+type Row = (
+    u32,
+    &'static [u32],
+    &'static [u32],
+    &'static [u32],
+    Validation,
+    &'static [u32],
+);
+
+const ROWS: &[Row] = &[
     // A pointer past the file ends its chain.
     (
         3,
@@ -72,24 +83,23 @@ const ROWS: [(u32, &[u32], &[u32], &[u32], Validation, &[u32]); 15] = [
     (5, &[7, 7, 7], &[0, 1, 9], &[1, 2], STRICT, &[]),
 ];
 
+/// Whether the FAT is read, or refused, as the row says.
+fn is_read(alloc: Global, row: &Row) -> Result<bool, Error> {
+    let (count, words, fat_sectors, difat_sectors, validation, wanted) = *row;
+    let words = words.to_vec(alloc)?;
+    let answer = read_fat(alloc, count, words, fat_sectors, difat_sectors, validation);
+    Ok(match answer {
+        Ok(fat) => fat.as_slice() == wanted,
+        Err(error) => error.number() == 4 && wanted.is_empty(),
+    })
+}
+
 #[test]
-fn words_are_read_in_both_modes(rt: HostRuntime) -> Result<(), Fail> {
-    let mut row = 0usize;
-    for (num_sectors, words, fat_sectors, difat_sectors, validation, wanted) in ROWS {
-        let words = words.to_vec(rt.alloc())?;
-        let is_right = match read_fat(
-            rt.alloc(),
-            num_sectors,
-            words,
-            fat_sectors,
-            difat_sectors,
-            validation,
-        ) {
-            Ok(fat) => fat.as_slice() == wanted,
-            Err(error) => error.number() == 4 && wanted.is_empty(),
-        };
-        assert!(rt; is_right, "row {row}");
-        row = row.saturating_add(1);
+fn words_are_read_in_both_modes(rt: HostRuntime) -> Result<(), Error> {
+    let mut number = 0usize;
+    for row in ROWS {
+        check(is_read(rt.alloc(), row)?, number)?;
+        number = number.saturating_add(1);
     }
     Ok(())
 }

@@ -1,10 +1,10 @@
 //! Tables that take and free numbers, over no medium.
+use crate::checked::check;
 use cfb_format::consts::FAT_SECTOR;
 use cfb_format::error::Error;
 use cfb_format::version::Version;
 use cfb_tables::tables::Tables;
 use std::alloc::Global;
-use std::test::Fail;
 
 /// What tables are asked for.
 #[derive(Clone, Copy)]
@@ -119,32 +119,42 @@ const FULL: &[Step] = &[
     (Call::Last(1), 0, &[(127, 127)], [130, 2, 0]),
 ];
 
+/// The scripts, each on the tables of a file of one FAT sector.
+const SCRIPTS: &[&[Step]] = &[ROUND, FREED, AT_ONCE, FIRST_DIFAT, SECOND_DIFAT, FULL];
+
+fn one(alloc: Global, number: u32) -> Result<Vec<u32>, Error> {
+    Ok(Vec::from_array(alloc, [number])?)
+}
+
+/// The numbers behind so many.
+fn behind(alloc: Global, numbers: &[u32], skipped: usize) -> Result<Vec<u32>, Error> {
+    Ok(numbers.get(skipped..).unwrap_or(&[]).to_vec(alloc)?)
+}
+
 /// Asks, and gives the numbers of the answer.
 fn asked(alloc: Global, tables: &mut Tables, call: Call) -> Result<Vec<u32>, Error> {
-    let mut answer = Vec::new(alloc);
     match call {
-        Call::Limit(count) => tables.set_max_sectors(count),
-        Call::Take => answer.push(tables.take()?)?,
-        Call::TakeBy(count) => return tables.take_by(alloc, count),
-        Call::ExtendBy(start, count) => return tables.extend_by(alloc, start, count),
+        Call::Limit(count) => {
+            tables.set_max_sectors(count);
+            Ok(Vec::new(alloc))
+        }
+        Call::Take => one(alloc, tables.take()?),
+        Call::TakeBy(count) => tables.take_by(alloc, count),
+        Call::ExtendBy(start, count) => tables.extend_by(alloc, start, count),
         Call::Grow(start, count) => {
             tables.extend_by(alloc, start, count)?;
+            Ok(Vec::new(alloc))
         }
-        Call::Free(start) => return tables.free(alloc, start),
+        Call::Free(start) => tables.free(alloc, start),
         Call::FreeAfter(sector) if (sector as usize) < tables.len() => {
-            return tables.free_after(alloc, sector);
+            tables.free_after(alloc, sector)
         }
-        Call::FreeAfter(_) => {}
-        Call::Chain(start) => return tables.chain(alloc, start),
-        Call::Last(start) => answer.push(tables.last(start)?)?,
-        Call::FatSectors(skipped) => {
-            answer.extend_from_slice(tables.fat_sectors().get(skipped..).unwrap_or(&[]))?;
-        }
-        Call::DifatSectors(skipped) => {
-            answer.extend_from_slice(tables.difat_sectors().get(skipped..).unwrap_or(&[]))?;
-        }
+        Call::FreeAfter(_) => Ok(Vec::new(alloc)),
+        Call::Chain(start) => tables.chain(alloc, start),
+        Call::Last(start) => one(alloc, tables.last(start)?),
+        Call::FatSectors(skipped) => behind(alloc, tables.fat_sectors(), skipped),
+        Call::DifatSectors(skipped) => behind(alloc, tables.difat_sectors(), skipped),
     }
-    Ok(answer)
 }
 
 /// Whether these are the numbers of the ranges.
@@ -161,24 +171,39 @@ fn are_ranges(numbers: &[u32], ranges: &[(u32, u32)]) -> bool {
     at == numbers.len()
 }
 
+/// Asks, and says whether the answer and the sizes then are the step's.
+fn is_right(alloc: Global, tables: &mut Tables, step: &Step) -> bool {
+    let (call, number, ranges, sizes) = step;
+    let is_answer = match asked(alloc, tables, *call) {
+        Ok(numbers) => *number == 0 && are_ranges(&numbers, ranges),
+        Err(error) => error.number() == *number,
+    };
+    let (fats, difats) = (tables.fat_sectors().len(), tables.difat_sectors().len());
+    is_answer && [tables.len(), fats, difats] == *sizes
+}
+
+/// Asks for each step in turn.
+fn ask(alloc: Global, tables: &mut Tables, steps: &[Step]) -> Result<(), Error> {
+    let mut number = 0usize;
+    for step in steps {
+        check(is_right(alloc, tables, step), number)?;
+        number = number.saturating_add(1);
+    }
+    Ok(())
+}
+
+/// The same of the tables of a file of one FAT sector.
+fn ask_tables(alloc: Global, steps: &[Step]) -> Result<(), Error> {
+    let fat = Vec::from_array(alloc, [FAT_SECTOR])?;
+    let fat_sectors = Vec::from_array(alloc, [0])?;
+    let mut tables = Tables::new(alloc, Version::V3, fat, fat_sectors, Vec::new(alloc))?;
+    ask(alloc, &mut tables, steps)
+}
+
 #[test]
-fn numbers_are_taken_and_freed(rt: HostRuntime) -> Result<(), Fail> {
-    let mut row = 0usize;
-    for steps in [ROUND, FREED, AT_ONCE, FIRST_DIFAT, SECOND_DIFAT, FULL] {
-        let fat = Vec::from_array(rt.alloc(), [FAT_SECTOR])?;
-        let fat_sectors = Vec::from_array(rt.alloc(), [0])?;
-        let difat_sectors = Vec::new(rt.alloc());
-        let mut tables = Tables::new(rt.alloc(), Version::V3, fat, fat_sectors, difat_sectors)?;
-        for (call, number, ranges, sizes) in steps {
-            let is_right = match asked(rt.alloc(), &mut tables, *call) {
-                Ok(numbers) => *number == 0 && are_ranges(&numbers, ranges),
-                Err(error) => error.number() == *number,
-            };
-            let (fats, difats) = (tables.fat_sectors().len(), tables.difat_sectors().len());
-            let is_right = is_right && [tables.len(), fats, difats] == *sizes;
-            assert!(rt; is_right, "row {row}");
-            row = row.saturating_add(1);
-        }
+fn numbers_are_taken_and_freed(rt: HostRuntime) -> Result<(), Error> {
+    for steps in SCRIPTS {
+        ask_tables(rt.alloc(), steps)?;
     }
     Ok(())
 }

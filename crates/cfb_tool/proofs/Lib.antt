@@ -1,3 +1,10 @@
 pub mod Lines
 pub mod Listed
 pub mod Telling
+pub mod Turns
+pub mod Runs
+pub mod Pieces
+pub mod Stored
+pub mod WholeWrites
+pub mod WholePuts
+pub mod WholeReads

@@ -1,3 +1,5 @@
 pub mod Asking
 pub mod Listing
 pub mod Playing
+pub mod Content
+pub mod Laws

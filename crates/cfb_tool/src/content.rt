@@ -1,4 +1,10 @@
 //! All bytes of a stream, read and written.
+ghost use Rattle.std.specs.Prelude.{◌≡◌, ◌||◌, IsTrue, IfErr, IfOk, OnOk, chars};
+ghost use Rattle.cfb_commands.specs.Commands.{closing_of};
+ghost use Rattle.cfb_compound_file.specs.Streams.{file_of, open_of};
+ghost use Rattle.cfb_tool.specs.Content.{HoldsStream, IsNotRead, IsOnlyRead, IsPut, IsWritten};
+
+use crate::playing::behind;
 use cfb_compound_file::compound_file::CompoundFile;
 use cfb_compound_file::stream::Stream;
 use cfb_format::error::Error;
@@ -6,11 +12,20 @@ use cfb_format::medium::{Medium, MediumFault, ReadMedium};
 use std::alloc::Allocator as Heap;
 
 /// All bytes of the stream at this path. It is refused as `open_read_stream` and `read_to_end` are.
+/// Nothing changes but the count of failures.
 pub fn content_at<F: ReadMedium, A: Heap + Clone>(
     alloc: A,
     file: &mut CompoundFile<F, A>,
     path: &str,
-) -> Result<Vec<u8, A>, Error> {
+) -> Result<Vec<u8, A>, Error>
+    ensures reads { IsTrue F.tells → IfOk result (λ bytes.
+        HoldsStream file.old (chars path.now) bytes.items) }
+    ensures refused { IsTrue F.tells
+        → IfErr result (IsNotRead file.old (chars path.now) file.new) }
+    ensures kept { IsTrue F.tells → IsOnlyRead file.old file.new }
+{
+    // What the file keeps in memory is what its bytes say.
+    let _is_failed = file.is_failed();
     let mut bytes = Vec::new(alloc);
     let mut stream = file.open_read_stream(path)?;
     let read = stream.read_to_end(&mut bytes);
@@ -27,7 +42,14 @@ pub fn put_content<F: Medium, A: Heap + Clone>(
     file: &mut CompoundFile<F, A>,
     path: &str,
     bytes: &[u8],
-) -> Result<(), Error> {
+) -> Result<(), Error>
+    ensures put { IsTrue F.tells → IsPut (λ f. F.read_faults f || F.write_faults f) file.old
+        (chars path.now) bytes.now (closing_of result) file.new }
+    ensures holds { IsTrue F.tells
+        → OnOk result (HoldsStream file.new (chars path.now) bytes.now) }
+{
+    // What the file keeps in memory is what its bytes say.
+    let _is_failed = file.is_failed();
     let mut stream = file.create_stream(path)?;
     let written = write_all(&mut stream, bytes);
     let closed = stream.close();
@@ -39,7 +61,11 @@ pub fn put_content<F: Medium, A: Heap + Clone>(
 fn write_all<F: Medium, A: Heap + Clone>(
     stream: &mut Stream<'_, F, A>,
     bytes: &[u8],
-) -> Result<(), Error> {
+) -> Result<(), Error>
+    ensures same_file { (file_of stream.new).ghost_name ≡ (file_of stream.old).ghost_name }
+    ensures works { IsTrue F.tells → IsWritten (λ f. F.read_faults f || F.write_faults f)
+        (open_of stream.old) bytes.now (closing_of result) (open_of stream.new) }
+{
     let mut rest = bytes;
     while !rest.is_empty() {
         let count = stream.write(rest)?;
@@ -47,7 +73,7 @@ fn write_all<F: Medium, A: Heap + Clone>(
         if count == 0 {
             return Err(Error::Medium(MediumFault::Stuck));
         }
-        rest = &rest[count..];
+        rest = behind(rest, count);
     }
     Ok(())
 }

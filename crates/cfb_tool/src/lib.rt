@@ -3,6 +3,7 @@
 
 pub mod asking;
 pub mod content;
+pub mod laws;
 pub mod listing;
 pub mod playing;
 mod replies;

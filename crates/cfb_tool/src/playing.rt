@@ -1,9 +1,13 @@
 //! Commands done one after the other, each to its end: a write goes on until all of its bytes are
 //! taken.
-ghost use Rattle.std.specs.Prelude.{◌≡◌, ◌≤◌, ◌+◌, ◌*◌, ◌++◌, ◌∷◌, [], length, vec_capacity};
+ghost use Rattle.std.specs.Prelude.{◌≡◌, ◌<◌, ◌≤◌, ◌+◌, ◌*◌, ◌++◌, ◌∷◌, ◌||◌, [], IfErr, IfOk, IsTrue, OnErr, chars, drop, length, map, take, vec_capacity};
+ghost use Rattle.cfb_commands.specs.Commands.{closing_of, command_of};
+ghost use Rattle.cfb_format.specs.Refused.{IsMemory};
+ghost use Rattle.cfb_rules.specs.Lists.{Command as Ordered};
+ghost use Rattle.cfb_tool.specs.Playing.{ArePlayed, IsAdded, IsPlayed, PlaysOnce, addition};
 
 use crate::replies::{first_error, taken, written_by};
-use cfb_commands::command::{Command, Opening, StreamOp};
+use cfb_commands::command::{Command, Opening, Reply, StreamOp};
 use cfb_commands::run::run;
 use cfb_compound_file::compound_file::CompoundFile;
 use cfb_format::error::Error;
@@ -12,14 +16,20 @@ use std::alloc::Allocator as Heap;
 use std::io::SeekFrom;
 
 /// Does one command, once, and answers how many bytes its last operation took, or its first refusal.
-/// `Memory` for its reply, before anything is done.
+/// There is room for its reply.
 fn do_once<F: Medium, A: Heap + Clone>(
-    alloc: &A,
     file: &mut CompoundFile<F, A>,
     one: &[Command<A>],
-) -> Result<usize, Error> {
-    let mut replies = Vec::with_capacity(alloc.clone()?, one.len())?;
-    run(file, one, &mut replies);
+    replies: &mut Vec<Reply<A>, A>,
+) -> Result<usize, Error>
+    requires one { length one.now ≡ 1 }
+    requires room { 1 ≤ vec_capacity replies.old }
+    ensures room { 1 ≤ vec_capacity replies.new }
+    ensures plays { IsTrue F.tells → (asked : Ordered) → map command_of one.now ≡ asked ∷ []
+        → PlaysOnce (λ f. F.read_faults f || F.write_faults f) file.old asked result file.new }
+{
+    replies.clear();
+    run(file, one, replies);
     let Some(reply) = replies.first() else {
         return Ok(0);
     };
@@ -30,11 +40,11 @@ fn do_once<F: Medium, A: Heap + Clone>(
 }
 
 /// A command that opens the stream at this path, and writes at its end. `Memory`.
-fn adding<A: Heap + Clone>(
-    alloc: &A,
-    path: &str,
-    bytes: &[u8],
-) -> Result<Vec<Command<A>, A>, Error> {
+fn adding<A: Heap + Clone>(alloc: &A, path: &str, bytes: &[u8]) -> Result<Vec<Command<A>, A>, Error>
+    ensures ok { IfOk result (λ one. map command_of one.items
+        ≡ addition (chars path.entry.now) bytes.entry.now ∷ []) }
+    ensures memory { IfErr result IsMemory }
+{
     let path = String::from_str(alloc.clone()?, path)?;
     let bytes = Vec::from_slice(alloc.clone()?, bytes)?;
     let mut ops = Vec::with_capacity(alloc.clone()?, 2)?;
@@ -45,86 +55,103 @@ fn adding<A: Heap + Clone>(
     Ok(one)
 }
 
+/// What is left behind so many bytes.
+#[tactic(auto, using(crate::proofs::Pieces::past_end))]
+pub(crate) fn behind(bytes: &[u8], count: usize) -> &[u8]
+    ensures { result.now ≡ drop count bytes.now }
+{
+    if bytes.len() <= count {
+        return &[];
+    }
+    &bytes[count..]
+}
+
 /// Writes these bytes at the end of the stream at this path, opening it again for as much as one
 /// write takes. The first refusal; `Memory` for each command, too.
 fn go_on<F: Medium, A: Heap + Clone>(
-    alloc: &A,
     file: &mut CompoundFile<F, A>,
     path: &str,
     bytes: &[u8],
-) -> Result<(), Error> {
+    replies: &mut Vec<Reply<A>, A>,
+) -> Result<(), Error>
+    requires room { 1 ≤ vec_capacity replies.old }
+    ensures room { 1 ≤ vec_capacity replies.new }
+    ensures added { IsTrue F.tells → IsAdded (λ f. F.read_faults f || F.write_faults f) file.old
+        (chars path.now) bytes.now (closing_of result) file.new }
+{
     let mut rest = bytes;
     while !rest.is_empty() {
-        let one = adding(alloc, path, rest)?;
-        let count = do_once(alloc, file, one.as_slice())?;
+        let one = adding(replies.allocator(), path, rest)?;
+        let count = do_once(file, one.as_slice(), replies)?;
         // no write of a file takes nothing
         if count == 0 {
             return Err(Error::Medium(MediumFault::Stuck));
         }
-        rest = &rest[count.min(rest.len())..];
+        rest = behind(rest, count);
     }
     Ok(())
 }
 
 /// Does one command, and goes on behind its write until all bytes are taken. The first refusal;
-/// `Memory` for the command, too.
+/// `Memory` for what is added, too.
 fn do_command<F: Medium, A: Heap + Clone>(
-    alloc: &A,
     file: &mut CompoundFile<F, A>,
     one: &[Command<A>],
-) -> Result<(), Error> {
-    let count = do_once(alloc, file, one)?;
+    replies: &mut Vec<Reply<A>, A>,
+) -> Result<(), Error>
+    requires one { length one.now ≡ 1 }
+    requires room { 1 ≤ vec_capacity replies.old }
+    ensures room { 1 ≤ vec_capacity replies.new }
+    ensures played { IsTrue F.tells → (asked : Ordered) → map command_of one.now ≡ asked ∷ []
+        → IsPlayed (λ f. F.read_faults f || F.write_faults f) file.old asked (closing_of result)
+        file.new }
+{
+    let count = do_once(file, one, replies)?;
     let Some(command) = one.first() else {
         return Ok(());
     };
     match written_by(command) {
-        Some((path, bytes)) => go_on(alloc, file, path, &bytes[count.min(bytes.len())..]),
+        Some((path, bytes)) => go_on(file, path, behind(bytes, count), replies),
         None => Ok(()),
     }
 }
 
-/// Does one command to its end, and appends its line, for which there is room. Answers whether it
-/// was not refused.
-fn play_one<F: Medium, A: Heap + Clone>(
-    alloc: &A,
-    file: &mut CompoundFile<F, A>,
-    one: &[Command<A>],
-    lines: &mut Vec<u8, A>,
-) -> bool
-    requires room { length lines.old.items + 3 ≤ vec_capacity lines.old }
-    ensures line { length lines.new.items ≡ length lines.old.items + 3 }
-    ensures capacity { vec_capacity lines.new ≡ vec_capacity lines.old }
+/// The command at this place, as a list of one.
+fn one_at<A: Heap>(commands: &[Command<A>], at: usize) -> &[Command<A>]
+    requires { at < length commands.now }
+    ensures { result.now ≡ take 1 (drop at commands.now) }
 {
-    match do_command(alloc, file, one) {
-        Ok(()) => {
-            push_line(lines, b'o', b'k');
-            true
-        }
-        Err(e) => {
-            push_line(lines, b'E', b'0'.saturating_add(e.number()));
-            false
-        }
-    }
+    &commands[at..at + 1]
 }
 
 /// Does these commands in their order, whether or not one is refused, and appends a line for each:
 /// `ok`, or `E` and the number of its first refusal. There is room for the lines. Answers whether
-/// none was refused.
+/// none was refused. `Memory` for a reply, before anything is done.
 pub fn play<F: Medium, A: Heap + Clone>(
     alloc: &A,
     file: &mut CompoundFile<F, A>,
     commands: &[Command<A>],
     lines: &mut Vec<u8, A>,
-) -> bool
+) -> Result<bool, Error>
     requires room { length lines.old.items + 3 * length commands.now ≤ vec_capacity lines.old }
-    ensures lines { length lines.new.items ≡ length lines.old.items + 3 * length commands.now }
+    ensures played { IfOk result (λ all. ArePlayed F.tells (λ f. F.read_faults f
+        || F.write_faults f) file.old (map command_of commands.now) lines.old.items lines.new.items
+        all file.new) }
+    ensures refused { IfErr result IsMemory }
+    ensures nothing { OnErr result ((file.new ≡ file.old) × (lines.new ≡ lines.old)) }
 {
+    let mut replies = Vec::with_capacity(alloc.clone()?, 1)?;
     let mut is_done = true;
     for at in 0..commands.len() {
-        let is_played = play_one(alloc, file, &commands[at..at + 1], lines);
-        is_done = is_done && is_played;
+        match do_command(file, one_at(commands, at), &mut replies) {
+            Ok(()) => push_line(lines, b'o', b'k'),
+            Err(e) => {
+                is_done = false;
+                push_line(lines, b'E', b'0'.saturating_add(e.number()));
+            }
+        }
     }
-    is_done
+    Ok(is_done)
 }
 
 /// Appends a line of two letters, for which there is room.

@@ -2,7 +2,7 @@
 ghost use Rattle.std.specs.Prelude.{◌≡◌, ◌*◌, ◌≤◌, [], IfOk, vec_capacity};
 
 use crate::refusal::{Refusal, tell};
-use cfb::{CompoundFile, Error, FileMedium, FileReadMedium, Version};
+use cfb::{Command, CompoundFile, Error, FileMedium, FileReadMedium, ReadMedium, Version};
 use cfb_lines::LinesError;
 use cfb_lines::lines::commands_in;
 use cfb_tool::asking::{Asked, asked_by};
@@ -101,7 +101,15 @@ fn list<H: Files<File = File> + AllocGlobal, W: Write>(
     out: &mut W,
 ) -> Result<(), Refusal> {
     let file = cfb::open(rt, rt.alloc(), path)?;
-    let lines = listing(&rt.alloc(), &file)?;
+    print_list(rt.alloc(), &file, out)
+}
+
+fn print_list<F: ReadMedium, W: Write>(
+    alloc: Global,
+    file: &CompoundFile<F>,
+    out: &mut W,
+) -> Result<(), Refusal> {
+    let lines = listing(&alloc, file)?;
     print(lines.as_bytes(), out)
 }
 
@@ -112,7 +120,16 @@ fn list_at<H: Files<File = File> + AllocGlobal, W: Write>(
     out: &mut W,
 ) -> Result<(), Refusal> {
     let file = cfb::open(rt, rt.alloc(), path)?;
-    let lines = listing_at(&rt.alloc(), &file, object)?;
+    print_list_at(rt.alloc(), &file, object, out)
+}
+
+fn print_list_at<F: ReadMedium, W: Write>(
+    alloc: Global,
+    file: &CompoundFile<F>,
+    object: &str,
+    out: &mut W,
+) -> Result<(), Refusal> {
+    let lines = listing_at(&alloc, file, object)?;
     print(lines.as_bytes(), out)
 }
 
@@ -123,7 +140,16 @@ fn cat<H: Files<File = File> + AllocGlobal, W: Write>(
     out: &mut W,
 ) -> Result<(), Refusal> {
     let mut file = cfb::open(rt, rt.alloc(), path)?;
-    let bytes = content_at(rt.alloc(), &mut file, stream)?;
+    print_content(rt.alloc(), &mut file, stream, out)
+}
+
+fn print_content<F: ReadMedium, W: Write>(
+    alloc: Global,
+    file: &mut CompoundFile<F>,
+    stream: &str,
+    out: &mut W,
+) -> Result<(), Refusal> {
+    let bytes = content_at(alloc, file, stream)?;
     print(bytes.as_slice(), out)
 }
 
@@ -135,9 +161,17 @@ fn put_input<H: Files<File = File> + AllocGlobal, R: Read>(
     input: &mut R,
 ) -> Result<(), Refusal> {
     let bytes = read_input(rt.alloc(), input)?;
+    put_bytes(rt, path, stream, bytes.as_slice())
+}
+
+fn put_bytes<H: Files<File = File> + AllocGlobal>(
+    rt: &H,
+    path: &str,
+    stream: &str,
+    bytes: &[u8],
+) -> Result<(), Refusal> {
     let mut file = cfb::open_rw(rt, rt.alloc(), path)?;
-    put_content(&mut file, stream, bytes.as_slice())?;
-    Ok(())
+    put_content(&mut file, stream, bytes).map_err(Refusal::Of)
 }
 
 fn check<H: Files<File = File> + AllocGlobal, W: Write>(
@@ -152,7 +186,15 @@ fn check<H: Files<File = File> + AllocGlobal, W: Write>(
     } else {
         CompoundFile::open(rt.alloc(), medium)?
     };
-    let line = soundness_line(rt.alloc(), &file)?;
+    print_soundness(rt.alloc(), &file, out)
+}
+
+fn print_soundness<F: ReadMedium, W: Write>(
+    alloc: Global,
+    file: &CompoundFile<F>,
+    out: &mut W,
+) -> Result<(), Refusal> {
+    let line = soundness_line(alloc, file)?;
     print(line.as_bytes(), out)?;
     if file.is_sound() {
         Ok(())
@@ -171,6 +213,14 @@ fn compact<H: Files<File = File> + AllocGlobal>(
         return Err(Refusal::TargetExists);
     }
     let mut file = cfb::open(rt, rt.alloc(), path)?;
+    copy_into(rt, &mut file, target)
+}
+
+fn copy_into<H: Files<File = File>, F: ReadMedium>(
+    rt: &H,
+    file: &mut CompoundFile<F>,
+    target: &str,
+) -> Result<(), Refusal> {
     let medium = FileMedium::create_new(rt, target)?;
     let _copy = file.copy_to(medium)?;
     Ok(())
@@ -184,15 +234,38 @@ fn run_input<H: Files<File = File> + AllocGlobal, R: Read, W: Write>(
     out: &mut W,
 ) -> Result<(), Refusal> {
     let text = read_input(rt.alloc(), input)?;
-    let commands = match commands_in(rt.alloc(), text.as_slice()) {
-        Ok(commands) => commands,
-        Err(LinesError::WrongWords) => return Err(Refusal::WrongWords),
-        Err(LinesError::Memory) => return Err(Refusal::Of(Error::Memory)),
-    };
+    let commands = commands_of(rt.alloc(), text.as_slice())?;
+    run_commands(rt, path, commands.as_slice(), out)
+}
+
+fn commands_of(alloc: Global, text: &[u8]) -> Result<Vec<Command>, Refusal> {
+    match commands_in(alloc, text) {
+        Ok(commands) => Ok(commands),
+        Err(LinesError::WrongWords) => Err(Refusal::WrongWords),
+        Err(LinesError::Memory) => Err(Refusal::Of(Error::Memory)),
+    }
+}
+
+fn run_commands<H: Files<File = File> + AllocGlobal, W: Write>(
+    rt: &H,
+    path: &str,
+    commands: &[Command],
+    out: &mut W,
+) -> Result<(), Refusal> {
     let mut lines = room_for_lines(rt.alloc(), commands.len())?;
     let mut file = cfb::open_rw(rt, rt.alloc(), path)?;
-    let is_done = play(&rt.alloc(), &mut file, commands.as_slice(), &mut lines);
-    print(lines.as_slice(), out)?;
+    let played = play(&rt.alloc(), &mut file, commands, &mut lines);
+    print_lines(played, lines.as_slice(), out)
+}
+
+/// Prints what is told of commands, once they are done.
+fn print_lines<W: Write>(
+    played: Result<bool, Error>,
+    lines: &[u8],
+    out: &mut W,
+) -> Result<(), Refusal> {
+    let is_done = played?;
+    print(lines, out)?;
     if is_done { Ok(()) } else { Err(Refusal::Told) }
 }
 

@@ -2,11 +2,11 @@
 ghost use Rattle.std.specs.Prelude.{◌≡◌, ◌+◌, ◌-◌, ◌<◌, ◌≤◌, ◌⊎◌, ◌++◌, min, max, ℕ, true, false, OnOk, OnErr, IfOk, IfErr, length, take, drop, Some, None};
 ghost use Rattle.cfb_rules.specs.StreamCalls.{read, fill_buf, seek, flush, read_to_end, ready, got, offset};
 ghost use Rattle.cfb_format.specs.Refused.{IsBreak};
-ghost use Rattle.cfb_stream_window.specs.Windows.{Carries, ReadBrokeOff, IsLost, Unreadable, IsSettled, StandsInside, settled, window_settled, window_at, WentTo, target_of, whence_of, IsReadable, Appended};
+ghost use Rattle.cfb_stream_window.specs.Windows.{Carries, ReadBrokeOff, IsLost, Unreadable, IsSettled, StandsInside, settled, window_settled, window_at, WentTo, target_of, whence_of, IsReadable, Appended, ReadPast};
 ghost use Rattle.cfb_stream_window.specs.Answers.{IsOpen, IsReady, RunsOn, IsRefusedOn, ClosesOn, IsClosingRefused, GoesOn};
 ghost use Rattle.cfb_stream_buffer.specs.Touched.{IsRead, IsWritten};
 
-use super::Window;
+use super::{STRAIGHT, Window};
 use crate::pieces::make_space;
 use cfb_format::error::{Detail, Error};
 use cfb_stream_buffer::content::Contents;
@@ -89,6 +89,39 @@ impl<A: Allocator> Window<A> {
         Ok(())
     }
 
+    /// Writes out what is pending, and reads what lies at the position past the buffer.
+    fn write_out_and_read<C: Contents>(
+        &mut self,
+        content: &mut C,
+        id: u32,
+        into: &mut [u8],
+    ) -> Result<usize, Error>
+        requires there { C.has content.old id }
+        requires behind { self.old.base + self.old.cursor < self.old.size }
+        requires unread { self.old.ahead ≡ 0 }
+        requires some { 0 < length into.old }
+        ensures there { C.has content.new id }
+        ensures around { C.tells content.old → IsWritten C.ReadContents C.Contents.own content.old content.new id result }
+        ensures calm { C.tells content.old → self.old.pending ≡ false → IsRead C.ReadContents content.old content.new id result }
+        ensures most { IfOk result (λ n. n ≤ length into.new) }
+        ensures ok { IsReady C.ReadContents content.old id self.old → IfOk result (ReadPast into.new (C.stored content.old id) self.old (C.stored content.new id) self.new) }
+        ensures settles { IsReady C.ReadContents content.old id self.old → OnOk result (IsSettled (C.stored content.old id) self.old (C.stored content.new id)) }
+        ensures refused { IsReady C.ReadContents content.old id self.old
+            → IfErr result (λ e. ReadBrokeOff (C.is_full content.new) (C.stored content.old id) self.old (C.stored content.new id) self.new e ⊎ Unreadable (C.stored content.old id) self.old (C.stored content.new id) self.new e) }
+        ensures room { self.new.room ≡ self.old.room }
+        ensures bound { self.new.bound ≡ self.old.bound }
+    {
+        let was_pending = self.pending;
+        self.leave(content, id)?;
+        match self.read_past(content, id, into) {
+            Ok(count) => Ok(count),
+            Err(e) => {
+                give_up(content, id, was_pending);
+                Err(e)
+            }
+        }
+    }
+
     /// Sees to it that a byte is held at the position, which lies before the end.
     fn have_rest<C: Contents>(&mut self, content: &mut C, id: u32) -> Result<(), Error>
         requires there { C.has content.old id }
@@ -99,6 +132,7 @@ impl<A: Allocator> Window<A> {
         ensures ok { IsReady C.ReadContents content.old id self.old → OnOk result (Carries (C.stored content.old id) self.old (C.stored content.new id) self.new) }
         ensures some { IsReady C.ReadContents content.old id self.old → OnOk result (self.new.cursor < length self.new.filled) }
         ensures held { self.old.cursor < length self.old.filled → content.new ≡ content.old }
+        ensures stays { self.old.cursor < length self.old.filled → self.new ≡ self.old }
         ensures settles { IsReady C.ReadContents content.old id self.old → OnOk result (IsSettled (C.stored content.old id) self.old (C.stored content.new id)) }
         ensures refused { IsReady C.ReadContents content.old id self.old
             → IfErr result (λ e. ReadBrokeOff (C.is_full content.new) (C.stored content.old id) self.old (C.stored content.new id) self.new e ⊎ Unreadable (C.stored content.old id) self.old (C.stored content.new id) self.new e) }
@@ -133,7 +167,9 @@ impl<A: Allocator> Window<A> {
         ensures calm { C.tells content.old → self.old.pending ≡ false → IsRead C.ReadContents content.old content.new id result }
         ensures none { length into.old ≡ 0 → content.new ≡ content.old }
         ensures held { StandsInside self.old → content.new ≡ content.old }
-        ensures grown { self.new.room < min (self.old.size - (self.old.base + self.old.cursor)) self.old.bound → content.new ≡ content.old }
+        ensures grown { length into.old < 65536
+            → self.new.room < min (self.old.size - (self.old.base + self.old.cursor)) self.old.bound → content.new ≡ content.old }
+        ensures straight { 65536 ≤ length into.old → self.new.room ≡ self.old.room }
         ensures bound { self.new.bound ≡ self.old.bound }
         ensures lean { self.new.room ≤ max self.old.room (min (self.old.size - (self.old.base + self.old.cursor)) self.old.bound) }
         ensures around { C.tells content.old → IsWritten C.ReadContents C.Contents.own content.old content.new id result }
@@ -148,6 +184,10 @@ impl<A: Allocator> Window<A> {
         if self.position() == self.size {
             self.take_back();
             return Ok(0);
+        }
+        if into.len() >= STRAIGHT && !self.has_rest() {
+            let count = self.write_out_and_read(content, id, into)?;
+            return Ok(count);
         }
         self.have_rest(content, id)?;
         Ok(self.serve(into))

@@ -6,15 +6,12 @@ ghost use Rattle.cfb_stream_window.specs.Windows.{Carries, WriteBrokeOff, Length
 ghost use Rattle.cfb_stream_window.specs.Answers.{IsOpen, IsReady, IsResized, RunsOn, IsRefusedOn, RunsSettingLen, IsLengthRefusedOn, GoesOn};
 ghost use Rattle.cfb_stream_buffer.specs.Touched.{IsWritten};
 
-use super::Window;
+use super::{STRAIGHT, Window};
 use crate::pieces::is_fault;
 use cfb_format::error::{Detail, Error};
 use cfb_stream_buffer::content::Contents;
 use cfb_stream_buffer::whole::give_up;
 use std::alloc::Allocator;
-
-/// A write of so many bytes goes straight through.
-const STRAIGHT: usize = 65536;
 
 impl<A: Allocator> Window<A> {
     /// Writes a beginning of the bytes at the position, at least one, and answers how many. Writing no

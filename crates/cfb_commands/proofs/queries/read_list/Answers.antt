@@ -4,12 +4,22 @@ use Rattle.cfb_rules.specs.Calls.{read_storage}
 use Rattle.cfb_commands.proofs.Asking.{memory_answers}
 use Rattle.cfb_commands.proofs.queries.read_list.Goals as goal
 
-pub returns-in_err-clone : goal.returns-in_err-clone
-returns-in_err-clone g c =
+pub returns-in_err-clone-clause-answers : goal.returns-in_err-clone-clause-answers
+returns-in_err-clone-clause-answers g c =
     let p = err_from_is_err_and c.from_residual-in_err-clone.result c.from_residual-in_err-clone.ensures.1 in
     rw (p.1, p.2) (λ told. memory_answers c.args.file.now (read_storage (chars c.args.path.now)) refl)
 
-pub returns-in_err-collect : goal.returns-in_err-collect
-returns-in_err-collect g c =
+pub returns-in_err-collect-clause-answers : goal.returns-in_err-collect-clause-answers
+returns-in_err-collect-clause-answers g c =
     let p = err_from_is_err_and c.from_residual-in_err-collect.result c.from_residual-in_err-collect.ensures.1 in
     rw (p.1, p.2) (λ told. memory_answers c.args.file.now (read_storage (chars c.args.path.now)) refl)
+
+pub returns-in_err-clone-clause-kinds : goal.returns-in_err-clone-clause-kinds
+returns-in_err-clone-clause-kinds g c =
+    let p = err_from_is_err_and c.from_residual-in_err-clone.result c.from_residual-in_err-clone.ensures.1 in
+    rw (p.1, p.2) tt
+
+pub returns-in_err-collect-clause-kinds : goal.returns-in_err-collect-clause-kinds
+returns-in_err-collect-clause-kinds g c =
+    let p = err_from_is_err_and c.from_residual-in_err-collect.result c.from_residual-in_err-collect.ensures.1 in
+    rw (p.1, p.2) tt

@@ -4,8 +4,10 @@ use Rattle.std.specs.Prelude.{◌||◌}
 use Rattle.cfb_commands.specs.declared.command.Command.{Command as TheCommand}
 use Rattle.cfb_commands.specs.Commands.{command_of, reply_of}
 use Rattle.cfb_commands.specs.Working.{RunsLegally}
+use Rattle.cfb_commands.specs.Faults.{IsGiven}
 use Rattle.cfb_commands.specs.Kinds.{AreOfKinds, kind_of_command}
-use Rattle.cfb_commands.proofs.Fitting.{none_replied, replied_more}
+use Rattle.cfb_commands.proofs.Faults.{one_more_behind}
+use Rattle.cfb_commands.proofs.Fitting.{replied_more}
 use Rattle.cfb_commands.proofs.Runs.{runs_more, stays_made}
 use Rattle.cfb_commands.proofs.run.run.Goals as goal
 
@@ -21,6 +23,8 @@ loop-command-preserved g c =
       kept = ap (take first) c.push_reserved.ensures.items ∙ take-append-le first c.loop-command.replies.items (c.run_one-reply.result ∷ []) least ∙ i.kept;
       of_kinds = replied_more c.args.commands.now c.loop-command.command-index c.command-item.result first c.loop-command.replies.items c.push_reserved.new.self.items
           c.run_one-reply.result c.loop-command-test.true c.command-item.is c.push_reserved.ensures.items least i.of_kinds c.run_one-reply.ensures.of_kind;
+      given = λ told. one_more_behind (IsGiven (λ f. g.F.ReadMedium.read_faults f || g.F.Medium.write_faults f)) first c.loop-command.replies.items c.push_reserved.new.self.items
+          c.run_one-reply.result c.push_reserved.ensures.items least (i.given told) (c.run_one-reply.ensures.given told);
       runs = λ told. runs_more _ c.args.file.now c.loop-command.file c.run_one-reply.new.file c.args.commands.now c.loop-command.command-index c.command-item.result first
           c.loop-command.replies.items c.push_reserved.new.self.items c.run_one-reply.result c.loop-command-test.true c.command-item.is c.push_reserved.ensures.items least (i.runs told)
           (c.run_one-reply.ensures.answers told);

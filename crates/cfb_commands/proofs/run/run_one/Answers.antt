@@ -11,6 +11,7 @@ use Rattle.cfb_commands.specs.Kinds.{kind_of_answer, kind_of_op}
 use Rattle.cfb_commands.specs.Working.{Answers}
 use Rattle.cfb_commands.proofs.Asking.{asked}
 use Rattle.cfb_commands.proofs.Calls.{changed, changed_in_turn, flush_keeps, or_so}
+use Rattle.cfb_commands.proofs.Faults.{changes_given, flush_given, questions_given, turns_given}
 use Rattle.cfb_commands.proofs.Runs.{by_call}
 use Rattle.cfb_commands.proofs.run.run_one.Goals as goal
 
@@ -151,13 +152,13 @@ pub returns-in-ReadStorage-clause-answers : goal.returns-in-ReadStorage-clause-a
 returns-in-ReadStorage-clause-answers g c =
     let file = c.args.file.now in
     rw c.in-ReadStorage.is (λ told. by_call (λ f. g.F.ReadMedium.read_faults f || g.F.Medium.write_faults f) file file (read_storage (chars (string_bytes c.in-ReadStorage.path))) (call_answer (λ list. entries list.items) c.read_list.result)
-    (record { same = refl; answers = subst (λ (text : List ℕ). path.Answers file (read_storage (chars text)) (call_answer (λ list. entries list.items) c.read_list.result)) c.deref-in-ReadStorage.ensures (c.read_list.ensures told) }))
+    (record { same = refl; answers = subst (λ (text : List ℕ). path.Answers file (read_storage (chars text)) (call_answer (λ list. entries list.items) c.read_list.result)) c.deref-in-ReadStorage.ensures (c.read_list.ensures.answers told) }))
 
 pub returns-in-WalkStorage-clause-answers : goal.returns-in-WalkStorage-clause-answers
 returns-in-WalkStorage-clause-answers g c =
     let file = c.args.file.now in
     rw c.in-WalkStorage.is (λ told. by_call (λ f. g.F.ReadMedium.read_faults f || g.F.Medium.write_faults f) file file (walk_storage (chars (string_bytes c.in-WalkStorage.path))) (call_answer (λ list. entries list.items) c.walk_list.result)
-    (record { same = refl; answers = subst (λ (text : List ℕ). path.Answers file (walk_storage (chars text)) (call_answer (λ list. entries list.items) c.walk_list.result)) c.deref-in-WalkStorage.ensures (c.walk_list.ensures told) }))
+    (record { same = refl; answers = subst (λ (text : List ℕ). path.Answers file (walk_storage (chars text)) (call_answer (λ list. entries list.items) c.walk_list.result)) c.deref-in-WalkStorage.ensures (c.walk_list.ensures.answers told) }))
 
 pub returns-in-Stream-clause-answers : goal.returns-in-Stream-clause-answers
 returns-in-Stream-clause-answers g c =
@@ -178,3 +179,46 @@ returns-in-Stream-clause-of_kind g c =
       subst (λ (ops : List (StreamOp g.row.A.Denot)).
           IfOk c.run_on_stream.result (λ works. map kind_of_answer works.0.items ≡ map kind_of_op ops)) c.deref-in-Stream-2.ensures.value c.run_on_stream.ensures.of_kinds,
     )
+
+pub returns-in-CreateStorage-clause-given : goal.returns-in-CreateStorage-clause-given
+returns-in-CreateStorage-clause-given g c = λ told. changes_given _ c.args.file.now _ c.create_storage.result c.create_storage.new.self (c.create_storage.ensures told)
+
+pub returns-in-RemoveStorage-clause-given : goal.returns-in-RemoveStorage-clause-given
+returns-in-RemoveStorage-clause-given g c = λ told. changes_given _ c.args.file.now _ c.remove_storage.result c.remove_storage.new.self (c.remove_storage.ensures told)
+
+pub returns-in-RemoveStorageAll-clause-given : goal.returns-in-RemoveStorageAll-clause-given
+returns-in-RemoveStorageAll-clause-given g c = λ told. changes_given _ c.args.file.now _ c.remove_storage_all.result c.remove_storage_all.new.self (c.remove_storage_all.ensures told)
+
+pub returns-in-RemoveStream-clause-given : goal.returns-in-RemoveStream-clause-given
+returns-in-RemoveStream-clause-given g c = λ told. changes_given _ c.args.file.now _ c.remove_stream.result c.remove_stream.new.self (c.remove_stream.ensures told)
+
+pub returns-in-SetStorageClsid-clause-given : goal.returns-in-SetStorageClsid-clause-given
+returns-in-SetStorageClsid-clause-given g c = λ told. changes_given _ c.args.file.now _ c.set_storage_clsid.result c.set_storage_clsid.new.self (c.set_storage_clsid.ensures told)
+
+pub returns-in-SetStateBits-clause-given : goal.returns-in-SetStateBits-clause-given
+returns-in-SetStateBits-clause-given g c = λ told. changes_given _ c.args.file.now _ c.set_state_bits.result c.set_state_bits.new.self (c.set_state_bits.ensures told)
+
+pub returns-in-SetCreatedTime-clause-given : goal.returns-in-SetCreatedTime-clause-given
+returns-in-SetCreatedTime-clause-given g c = λ told. changes_given _ c.args.file.now _ c.set_created_time.result c.set_created_time.new.self (c.set_created_time.ensures told)
+
+pub returns-in-SetModifiedTime-clause-given : goal.returns-in-SetModifiedTime-clause-given
+returns-in-SetModifiedTime-clause-given g c = λ told. changes_given _ c.args.file.now _ c.set_modified_time.result c.set_modified_time.new.self (c.set_modified_time.ensures told)
+
+pub returns-in-Touch-clause-given : goal.returns-in-Touch-clause-given
+returns-in-Touch-clause-given g c = λ told. changes_given _ c.args.file.now _ c.touch.result c.touch.new.self (c.touch.ensures told)
+
+pub returns-in-CreateStorageAll-clause-given : goal.returns-in-CreateStorageAll-clause-given
+returns-in-CreateStorageAll-clause-given g c = λ told. turns_given _ c.args.file.now _ c.create_storage_all.result c.create_storage_all.new.self (c.create_storage_all.ensures told)
+
+pub returns-in-Flush-clause-given : goal.returns-in-Flush-clause-given
+returns-in-Flush-clause-given g c = λ told.
+    flush_given _ g.F.Medium.write_faults c.args.file.now c.flush.result c.flush.new.self (λ f. or_so (g.F.ReadMedium.read_faults f) (g.F.Medium.write_faults f)) (c.flush.ensures.refused told)
+
+pub returns-in-Entry-clause-given : goal.returns-in-Entry-clause-given
+returns-in-Entry-clause-given g c = λ told. questions_given _ c.entry.result c.entry.ensures.kinds
+
+pub returns-in-ReadStorage-clause-given : goal.returns-in-ReadStorage-clause-given
+returns-in-ReadStorage-clause-given g c = λ told. questions_given _ c.read_list.result c.read_list.ensures.kinds
+
+pub returns-in-WalkStorage-clause-given : goal.returns-in-WalkStorage-clause-given
+returns-in-WalkStorage-clause-given g c = λ told. questions_given _ c.walk_list.result c.walk_list.ensures.kinds

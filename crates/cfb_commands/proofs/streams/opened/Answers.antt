@@ -2,6 +2,7 @@ use Rattle.std.proofs.Common.{Bool, refl, chars, true, false}
 use Rattle.std.specs.Prelude.{◌||◌}
 use Rattle.cfb_format.specs.declared.medium.MediumFault.{MediumFault}
 use Rattle.cfb_compound_file.specs.Streams.{open_of}
+use Rattle.cfb_commands.proofs.Faults.{makings_given, openings_given}
 use Rattle.cfb_commands.proofs.Openings.{creates_not, creates_ok, on_error, opens_not, opens_ok}
 use Rattle.cfb_commands.proofs.streams.opened.Goals as goal
 
@@ -18,8 +19,11 @@ returns-in-Open g c =
       ),
       (
         c.open_stream.ensures.lent,
-        λ told. opens_ok can_give old at (λ s. open_of s) c.open_stream.result (c.is_failed-is_failed.ensures.agrees told) c.open_stream.ensures.opened (c.open_stream.ensures.runs told)
-            (c.open_stream.ensures.begins told),
+        (
+          (λ told. opens_ok can_give old at (λ s. open_of s) c.open_stream.result (c.is_failed-is_failed.ensures.agrees told) c.open_stream.ensures.opened (c.open_stream.ensures.runs told)
+              (c.open_stream.ensures.begins told)),
+          (λ told. openings_given can_give c.open_stream.result c.open_stream.ensures.kinds),
+        ),
       ),
     )
 
@@ -34,7 +38,13 @@ returns-in-Create g c =
         c.create_stream.follows.holds,
         on_error c.create_stream.result _ _ c.create_stream.follows.holds-at-none (λ e h told. creates_not can_give old _ at e true (h told)),
       ),
-      (c.create_stream.ensures.lent, λ told. creates_ok can_give old at (λ s. open_of s) _ true c.create_stream.result told c.create_stream.ensures.created),
+      (
+        c.create_stream.ensures.lent,
+        (
+          (λ told. creates_ok can_give old at (λ s. open_of s) _ true c.create_stream.result told c.create_stream.ensures.created),
+          (λ told. makings_given can_give _ old _ _ c.create_stream.result told c.create_stream.follows.holds-at-none),
+        ),
+      ),
     )
 
 pub returns-in-CreateNew : goal.returns-in-CreateNew
@@ -48,5 +58,11 @@ returns-in-CreateNew g c =
         c.create_new_stream.follows.holds,
         on_error c.create_new_stream.result _ _ c.create_new_stream.follows.holds-at-none (λ e h told. creates_not can_give old _ at e false (h told)),
       ),
-      (c.create_new_stream.ensures.lent, λ told. creates_ok can_give old at (λ s. open_of s) _ false c.create_new_stream.result told c.create_new_stream.ensures.created),
+      (
+        c.create_new_stream.ensures.lent,
+        (
+          (λ told. creates_ok can_give old at (λ s. open_of s) _ false c.create_new_stream.result told c.create_new_stream.ensures.created),
+          (λ told. makings_given can_give _ old _ _ c.create_new_stream.result told c.create_new_stream.follows.holds-at-none),
+        ),
+      ),
     )

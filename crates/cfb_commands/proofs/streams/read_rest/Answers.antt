@@ -4,6 +4,7 @@ use Rattle.cfb_rules.specs.StreamCalls.{got, read_to_end}
 use Rattle.cfb_compound_file.specs.Streams.{open_of}
 use Rattle.cfb_compound_file.proofs.StoredStreams.{as_before}
 use Rattle.cfb_command_steps.specs.Promised.{IsWorkedOn}
+use Rattle.cfb_commands.proofs.Faults.{counted}
 use Rattle.cfb_commands.proofs.Operations.{failed_on, goes_told, memory_on, refused_on, served_on}
 use Rattle.cfb_commands.proofs.Quiet.{from_none}
 use Rattle.cfb_commands.proofs.streams.read_rest.Goals as goal
@@ -30,3 +31,13 @@ returns-clause-works g c =
     λ told nothing. subst (λ (bytes : List ℕ). IsWorkedOn old read_to_end (got bytes) new) (from_none c.new-bytes.result.items c.read_to_end.new.into.items c.new-bytes.ensures.items)
     (served_on old read_to_end new (goes_told _ old new told c.read_to_end.ensures.goes_on) _ refl (c.in_ok-read_to_end.ensures.runs told)
     (c.in_ok-read_to_end.ensures.counts told) (λ quiet. as_before old.file new.file (c.read_to_end.ensures.calm told quiet)))
+
+pub returns-in_err-clone-clause-given : goal.returns-in_err-clone-clause-given
+returns-in_err-clone-clause-given g c =
+    let p = err_from_is_err_and c.from_residual.result c.from_residual.ensures.1 in
+    rw (p.1, p.2) (λ told. tt)
+
+pub returns-in_err-read_to_end-clause-given : goal.returns-in_err-read_to_end-clause-given
+returns-in_err-read_to_end-clause-given g c =
+    let p = err_from_is_err_and c.from_residual-in_err-read_to_end.result c.from_residual-in_err-read_to_end.ensures.1 in
+    rw (p.1, p.2) (λ told. counted _ _ _ c.in_err-read_to_end.field-0.0 (c.in_err-read_to_end.ensures.counts told))

@@ -6,6 +6,7 @@ use Rattle.cfb_compound_file.specs.StreamAnswers.{stream_in}
 use Rattle.cfb_compound_file.specs.Streams.{open_of}
 use Rattle.cfb_compound_file.proofs.StoredStreams.{as_before}
 use Rattle.cfb_command_steps.specs.Promised.{IsWorkedOn}
+use Rattle.cfb_commands.proofs.Faults.{counted}
 use Rattle.cfb_commands.proofs.Operations.{failed_on, goes_told, memory_on, refused_on, served_on, shorter}
 use Rattle.cfb_commands.proofs.Quiet.{given_back}
 use Rattle.cfb_commands.proofs.streams.read_some.Goals as goal
@@ -53,3 +54,18 @@ returns-clause-works g c =
     (shorter old new (got (take c.in_ok-count.count c.read.new.into)) c.args.wanted less here inside
     (served_on old (read less) new (goes_told _ old new told c.read.ensures.goes_on) (got (take c.in_ok-count.count c.read.new.into)) refl (c.in_ok-count.ensures.runs told)
     (c.in_ok-count.ensures.counts told) (λ quiet. as_before old.file new.file (c.read.ensures.calm told quiet))))
+
+pub returns-in_err-clone-clause-given : goal.returns-in_err-clone-clause-given
+returns-in_err-clone-clause-given g c =
+    let p = err_from_is_err_and c.from_residual.result c.from_residual.ensures.1 in
+    rw (p.1, p.2) (λ told. tt)
+
+pub returns-in_err-bytes-clause-given : goal.returns-in_err-bytes-clause-given
+returns-in_err-bytes-clause-given g c =
+    let p = err_from_is_err_and c.from_residual-in_err-bytes.result c.from_residual-in_err-bytes.ensures.1 in
+    rw (p.1, p.2) (λ told. tt)
+
+pub returns-in_err-count-clause-given : goal.returns-in_err-count-clause-given
+returns-in_err-count-clause-given g c =
+    let p = err_from_is_err_and c.from_residual-in_err-count.result c.from_residual-in_err-count.ensures.1 in
+    rw (p.1, p.2) (λ told. counted _ _ _ c.in_err-count.field-0.0 (c.in_err-count.ensures.counts told))

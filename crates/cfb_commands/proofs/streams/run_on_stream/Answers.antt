@@ -7,6 +7,7 @@ use Rattle.cfb_rules.specs.Refusal.{failed_earlier, out_of_memory}
 use Rattle.cfb_compound_file.specs.Streams.{open_of}
 use Rattle.cfb_commands.specs.Commands.{closing_of, opening_of, refusal_of, stream_call_of, stream_reply_of, streamed_reply}
 use Rattle.cfb_commands.specs.Working.{Answers}
+use Rattle.cfb_commands.proofs.Faults.{all_counted}
 use Rattle.cfb_commands.proofs.Openings.{at_error, done_so, failed_not, memory_not, refused_so, same_file}
 use Rattle.cfb_commands.proofs.Working.{closed_of}
 use Rattle.cfb_commands.proofs.streams.run_on_stream.Goals as goal
@@ -52,3 +53,21 @@ returns-clause-answers g c =
     (closing_of c.close-closed.result) o (λ first tree same. c.work_all.ensures.works told first s.file (chars c.args.path.now) tree same o.since o.lends)
     (closed_of _ s.file now c.close-closed.result c.close-closed.new.self.0 (c.close-closed.ensures.closes told) (c.close-closed.ensures.refused told) (c.close-closed.ensures.tree told s.file)
     (c.close-closed.ensures.changes told) (c.close-closed.ensures.rest told) c.close-closed.ensures.calm (c.close-closed.ensures.counts told)))
+
+pub returns-in_err-clone-clause-given : goal.returns-in_err-clone-clause-given
+returns-in_err-clone-clause-given g c =
+    let p = err_from_is_err_and c.from_residual.result c.from_residual.ensures.1 in
+    rw (p.1, p.2) (λ told. tt)
+
+pub returns-in_err-replies-clause-given : goal.returns-in_err-replies-clause-given
+returns-in_err-replies-clause-given g c =
+    let p = err_from_is_err_and c.from_residual-in_err-replies.result c.from_residual-in_err-replies.ensures.1 in
+    rw (p.1, p.2) (λ told. tt)
+
+pub returns-in_err-stream-clause-given : goal.returns-in_err-stream-clause-given
+returns-in_err-stream-clause-given g c =
+    let p = err_from_is_err_and c.from_residual-in_err-stream.result c.from_residual-in_err-stream.ensures.1 in
+    rw (p.1, p.2) (λ told. c.in_err-stream.ensures.given told)
+
+pub returns-clause-given : goal.returns-clause-given
+returns-clause-given g c = λ told. (c.work_all.ensures.given told, all_counted _ _ _ c.close-closed.result (c.close-closed.ensures.counts told))

@@ -6,6 +6,7 @@ use Rattle.cfb_compound_file.specs.Streams.{open_of}
 use Rattle.cfb_command_steps.specs.Promised.{IsWorkedOn}
 use Rattle.cfb_command_steps.proofs.Before.{same_before}
 use Rattle.cfb_commands.specs.Commands.{stream_answer}
+use Rattle.cfb_commands.proofs.Faults.{all_counted}
 use Rattle.cfb_commands.proofs.Operations.{goes_told, left_alone, worked_on}
 use Rattle.cfb_commands.proofs.Quiet.{keeps_len, writes_none}
 use Rattle.cfb_commands.proofs.streams.work.Goals as goal
@@ -52,3 +53,15 @@ pub returns-in-Len-clause-works : goal.returns-in-Len-clause-works
 returns-in-Len-clause-works g c =
     let s = open_of c.args.stream.now in
     rw c.in-Len.is (λ told nothing. left_alone s ask_len (offset c.len.result) c.len.ensures.runs)
+
+pub returns-in-Write-clause-given : goal.returns-in-Write-clause-given
+returns-in-Write-clause-given g c = λ told. all_counted _ _ _ c.write.result (c.write.ensures.counts told)
+
+pub returns-in-Seek-clause-given : goal.returns-in-Seek-clause-given
+returns-in-Seek-clause-given g c = λ told. all_counted _ _ _ c.seek.result (c.seek.ensures.counts told)
+
+pub returns-in-SetLen-clause-given : goal.returns-in-SetLen-clause-given
+returns-in-SetLen-clause-given g c = λ told. all_counted _ _ _ c.set_len.result (c.set_len.ensures.counts told)
+
+pub returns-in-Flush-clause-given : goal.returns-in-Flush-clause-given
+returns-in-Flush-clause-given g c = λ told. all_counted _ _ _ c.flush.result (c.flush.ensures.counts told)

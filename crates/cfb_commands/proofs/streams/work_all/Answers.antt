@@ -3,9 +3,11 @@ use Rattle.std.specs.Prelude.{◌||◌}
 use Rattle.std.proofs.lemmas.List.{take_all}
 use Rattle.cfb_commands.specs.declared.command.StreamOp.{StreamOp}
 use Rattle.cfb_commands.specs.Commands.{stream_call_of, stream_reply_of}
+use Rattle.cfb_commands.specs.Faults.{IsAnswerGiven}
 use Rattle.cfb_commands.specs.Kinds.{kind_of_answer, kind_of_op}
 use Rattle.cfb_commands.specs.Working.{Works}
 use Rattle.cfb_compound_file.specs.Streams.{open_of}
+use Rattle.cfb_commands.proofs.Faults.{one_more}
 use Rattle.cfb_commands.proofs.Growing.{kinds_more}
 use Rattle.cfb_commands.proofs.Working.{works_more}
 use Rattle.cfb_commands.proofs.streams.work_all.Goals as goal
@@ -20,6 +22,8 @@ loop-op-preserved g c =
       room = c.push_reserved.ensures.capacity ∙ i.room;
       of_kinds = kinds_more kind_of_op kind_of_answer c.args.ops.now c.loop-op.op-index c.op-item.result c.loop-op.replies.items c.push_reserved.new.self.items c.work-reply.result
           c.loop-op-test.true c.op-item.is c.push_reserved.ensures.items i.of_kinds c.work-reply.ensures.of_kind;
+      given = λ told. one_more (IsAnswerGiven (λ f. g.F.ReadMedium.read_faults f || g.F.Medium.write_faults f)) c.loop-op.replies.items c.push_reserved.new.self.items c.work-reply.result
+          c.push_reserved.ensures.items (i.given told) (c.work-reply.ensures.given told);
       works = λ told first opened path tree same since nothing.
           let w = i.works told first opened path tree same since nothing in
           works_more _ first opened path tree same (open_of c.args.stream.now) (open_of c.loop-op.stream) (open_of c.work-reply.new.stream) c.args.ops.now c.loop-op.op-index

@@ -6,6 +6,7 @@ use Rattle.cfb_rules.specs.Calls.{read_storage}
 use Rattle.cfb_listing.specs.Left.{entries_left}
 use Rattle.cfb_compound_file.proofs.Asked.{read-looks, refused-at-path}
 use Rattle.cfb_path_changes.proofs.Numbers.{object-within}
+use Rattle.cfb_compound_file.proofs.RefusedKinds.{finding_asks, memory_asks}
 use Rattle.cfb_compound_file.proofs.Numbers.{memory-refused, no-stream-by-test, ok-then, stream-by-test}
 use Rattle.cfb_compound_file.proofs.Told.{read-answered, read-refused}
 use Rattle.cfb_compound_file.proofs.compound_file.CompoundFile.read_storage.Goals as goal
@@ -37,3 +38,11 @@ returns-clause-ok g c = λ told. ok-then _ _ c.children_at.result
 
 pub returns-clause-refused : goal.returns-clause-refused
 returns-clause-refused g c = λ told. memory-refused c.args.self.now (read_storage (chars c.args.path.now)) c.children_at.result refl c.children_at.ensures.err
+
+pub returns-in_err-names-clause-kinds : goal.returns-in_err-names-clause-kinds
+returns-in_err-names-clause-kinds g c =
+    let p = err_from_is_err_and c.from_residual.result c.from_residual.ensures.1 in
+    rw (p.1, p.2) (finding_asks c.args.self.now (chars c.args.path.now) c.in_err-names.field-0.0 c.in_err-names.ensures.refused)
+
+pub returns-clause-kinds : goal.returns-clause-kinds
+returns-clause-kinds g c = memory_asks c.children_at.result c.children_at.ensures.err

@@ -5,6 +5,7 @@ use Rattle.cfb_rules.specs.Calls.{walk_storage}
 use Rattle.cfb_listing.specs.Left.{entries_left}
 use Rattle.cfb_compound_file.proofs.Asked.{refused-at-path, walk-looks}
 use Rattle.cfb_path_changes.proofs.Numbers.{map-split, says-none}
+use Rattle.cfb_compound_file.proofs.RefusedKinds.{finding_asks, memory_asks}
 use Rattle.cfb_compound_file.proofs.Numbers.{memory-refused, ok-then}
 use Rattle.cfb_compound_file.proofs.Told.{walk-at-root, walk-storage-answered}
 use Rattle.cfb_compound_file.proofs.compound_file.CompoundFile.walk_storage.Goals as goal
@@ -31,3 +32,14 @@ returns-clause-ok g c = λ told. ok-then _ _ c.walk_below.result
 
 pub returns-clause-refused : goal.returns-clause-refused
 returns-clause-refused g c = λ told. memory-refused c.args.self.now (walk_storage (chars c.args.path.now)) c.walk_below.result refl c.walk_below.ensures.err
+
+pub returns-in_err-names-clause-kinds : goal.returns-in_err-names-clause-kinds
+returns-in_err-names-clause-kinds g c =
+    let p = err_from_is_err_and c.from_residual.result c.from_residual.ensures.1 in
+    rw (p.1, p.2) (finding_asks c.args.self.now (chars c.args.path.now) c.in_err-names.field-0.0 c.in_err-names.ensures.refused)
+
+pub returns-in_default-clause-kinds : goal.returns-in_default-clause-kinds
+returns-in_default-clause-kinds g c = memory_asks c.walk_root.result c.walk_root.ensures.err
+
+pub returns-clause-kinds : goal.returns-clause-kinds
+returns-clause-kinds g c = memory_asks c.walk_below.result c.walk_below.ensures.err

@@ -1,6 +1,7 @@
 use Rattle.std.proofs.Common.{sym, subst, refl, ◌∙◌, true}
 use Rattle.cfb_agreement.specs.Files.{FileState, Holds}
 use Rattle.cfb_compound_file.specs.Opening.{IsCreatedWith, Options}
+use Rattle.cfb_compound_file.specs.Taken.{TakesOptions}
 use Rattle.cfb_compound_file.proofs.options.OpenOptions.create_as.Goals as goal
 
 pub invariant_of-result : goal.invariant_of-result
@@ -25,3 +26,11 @@ returns-clause-answers g c told =
       limit = made.limit;
       buffer_limit = refl;
     }))
+
+pub returns-clause-options : goal.returns-clause-options
+returns-clause-options g c =
+    let inside = c.self.inside in
+    let made = c.in_ok-mini.ensures in
+    subst (λ (file : FileState). TakesOptions c.args.self file) (sym c.new-volume.ensures)
+    (subst (λ (o : Options). TakesOptions o (record { base = c.in_ok-mini.mini; is_sound = true; buffer_limit = inside.max_buffer_size })) c.self.view_is
+    (record { letters = made.letters ∙ c.in_ok-letters.ensures.ok; limit = made.limit; buffer_limit = refl }))

@@ -1,4 +1,4 @@
-use Rattle.std.proofs.Common.{inl, refl}
+use Rattle.std.proofs.Common.{◌≤◌, inl, refl, arith}
 use Rattle.cfb_compound_file.specs.Flags.{reads_keep}
 use Rattle.cfb_compound_file.proofs.StoredStreams.{nothing_changes}
 use Rattle.cfb_compound_file.proofs.StreamCalls.{goes_on_by, stays_or_fails}
@@ -15,7 +15,7 @@ returns-in-Ok g c = (
       goes_on = goes_on_by _ _ _ refl c.fill.ensures.bound (λ told. reads_keep _ _ _ _ (c.fill.ensures.around told).kept (nothing_changes _ _));
       counts = λ told. (c.in-Ok.ensures.around told).counts;
       kept = λ told. (c.fill.ensures.around told).kept;
-      buffers = record { held = c.fill.ensures.held; grown = c.fill.ensures.grown; lean = c.fill.ensures.lean; settles = λ told. inl (c.in-Ok.ensures.around told).same };
+      buffers = record { held = c.fill.ensures.held; grown = λ _. c.fill.ensures.grown; straight = λ (many : 65536 ≤ 0). absurd (omega (arith, many)); lean = c.fill.ensures.lean; settles = λ told. inl (c.in-Ok.ensures.around told).same };
     },
   ),
   record { after_borrow = tt },
@@ -32,7 +32,7 @@ returns-in-Err g c = (
       goes_on = goes_on_by _ _ _ refl c.fill.ensures.bound (λ told. reads_keep _ _ _ _ (c.fill.ensures.around told).kept (nothing_changes _ _));
       counts = λ told. (c.in-Err.ensures.around told).counts;
       kept = λ told. (c.fill.ensures.around told).kept;
-      buffers = record { held = c.fill.ensures.held; grown = c.fill.ensures.grown; lean = c.fill.ensures.lean; settles = λ told. tt };
+      buffers = record { held = c.fill.ensures.held; grown = λ _. c.fill.ensures.grown; straight = λ (many : 65536 ≤ 0). absurd (omega (arith, many)); lean = c.fill.ensures.lean; settles = λ told. tt };
     },
   ),
   record { after_borrow = tt },

@@ -24,4 +24,4 @@ pub returns-clause-counts : goal.returns-clause-counts
 returns-clause-counts g c = λ told. (c.read.ensures.around told).counts
 
 pub returns-clause-buffers : goal.returns-clause-buffers
-returns-clause-buffers g c = record { held = c.read.ensures.held; grown = c.read.ensures.grown; lean = c.read.ensures.lean; settles = λ told. settles_none _ _ c.args.self.now.window c.read.result (c.read.ensures.around told).same }
+returns-clause-buffers g c = record { held = c.read.ensures.held; grown = c.read.ensures.grown; straight = c.read.ensures.straight; lean = c.read.ensures.lean; settles = λ told. settles_none _ _ c.args.self.now.window c.read.result (c.read.ensures.around told).same }

@@ -1,4 +1,4 @@
-use Rattle.std.proofs.Common.{refl}
+use Rattle.std.proofs.Common.{◌≤◌, refl, arith}
 use Rattle.cfb_compound_file.proofs.StoredStreams.{nothing_changes}
 use Rattle.cfb_compound_file.proofs.StreamCalls.{goes_on_by, stays_or_fails}
 use Rattle.cfb_compound_file.proofs.stream.Stream+F+A.fill_buf.Goals as goal
@@ -14,7 +14,7 @@ returns-in-Ok g c = (
       goes_on = goes_on_by _ _ _ refl c.fill.ensures.bound (λ told. (c.fill.ensures.around told).others _ (nothing_changes _ _));
       counts = λ told. (c.in-Ok.ensures.around told).counts;
       calm = λ told calm. (c.fill.ensures.calm told calm).kept;
-      buffers = record { held = c.fill.ensures.held; grown = c.fill.ensures.grown; lean = c.fill.ensures.lean; settles = λ told. c.in-Ok.ensures.settles (record { told = told; suits = c.args.self.now.is_open told }) };
+      buffers = record { held = c.fill.ensures.held; grown = λ _. c.fill.ensures.grown; straight = λ (many : 65536 ≤ 0). absurd (omega (arith, many)); lean = c.fill.ensures.lean; settles = λ told. c.in-Ok.ensures.settles (record { told = told; suits = c.args.self.now.is_open told }) };
     },
   ),
   record { after_borrow = tt },
@@ -31,7 +31,7 @@ returns-in-Err g c = (
       goes_on = goes_on_by _ _ _ refl c.fill.ensures.bound (λ told. (c.fill.ensures.around told).others _ (nothing_changes _ _));
       counts = λ told. (c.in-Err.ensures.around told).counts;
       calm = λ told calm. (c.fill.ensures.calm told calm).kept;
-      buffers = record { held = c.fill.ensures.held; grown = c.fill.ensures.grown; lean = c.fill.ensures.lean; settles = λ told. tt };
+      buffers = record { held = c.fill.ensures.held; grown = λ _. c.fill.ensures.grown; straight = λ (many : 65536 ≤ 0). absurd (omega (arith, many)); lean = c.fill.ensures.lean; settles = λ told. tt };
     },
   ),
   record { after_borrow = tt },

@@ -3,7 +3,7 @@ use Rattle.std.proofs.lemmas.Result.{err_from_is_err_and}
 use Rattle.cfb_rules.specs.StreamCalls.{read}
 use Rattle.cfb_stream_window.specs.Answers.{IsOpen, IsReady}
 use Rattle.cfb_stream_window.specs.Windows.{Window}
-use Rattle.cfb_stream_window.proofs.Reading.{empty_read, end_read, read_runs, refused_read, not_empty, is_empty_from}
+use Rattle.cfb_stream_window.proofs.Reading.{empty_read, end_read, read_runs, past_runs, refused_read, not_empty, is_empty_from}
 use Rattle.cfb_stream_window.proofs.Refusing.{failed_for, read_for}
 use Rattle.cfb_stream_window.proofs.window.Window.read.Goals as goal
 
@@ -27,7 +27,7 @@ returns-in_err-have_rest-clause-refused g c = λ (h : IsOpen g.C.ReadContents c.
     let size = ap (λ (z : Window). z.size) c.self.view_is in
     let e = c.in_err-have_rest.ensures in
     let some = not_empty _ (sym c.is_empty.ensures ∙ c.if-is_empty.false) in
-    let p = err_from_is_err_and c.from_residual.result c.from_residual.ensures.1 in
+    let p = err_from_is_err_and c.from_residual-in_err-have_rest.result c.from_residual-in_err-have_rest.ensures.1 in
     rw (p.1, p.2) (read_for _ _ _ _ _ _ _ _ _
     (refused_read _ _ _ _ _ _ _ _ _ a (omega (arith, size)) (e.around h.told).counts (e.refused r) (length c.args.into.now) some) _ (λ calm. (e.calm h.told calm).kept) (e.refused r))
 
@@ -39,3 +39,22 @@ returns-clause-runs g c = λ (h : IsOpen g.C.ReadContents c.args.content.now c.a
     let some = not_empty _ (sym c.is_empty.ensures ∙ c.if-is_empty.false) in
     let had = c.in_ok-have_rest.ensures in
     read_runs _ _ _ _ _ _ a.unfailed (had.ok r) (omega (arith, size)) c.serve.new.into (length c.args.into.now) c.serve.result (omega (arith, had.some r, some)) (omega arith) (omega (arith, had.some r)) c.serve.ensures.bytes c.serve.ensures.window
+
+pub returns-in_err-count-clause-refused : goal.returns-in_err-count-clause-refused
+returns-in_err-count-clause-refused g c = λ (h : IsOpen g.C.ReadContents c.args.content.now c.args.id c.args.self.now).
+    let a = h.suits (sym c.is_failed.ensures ∙ c.if-is_failed.false) in
+    let r : IsReady g.C.ReadContents c.args.content.now c.args.id c.args.self.now = record { told = h.told; agrees = a } in
+    let size = ap (λ (z : Window). z.size) c.self.view_is in
+    let e = c.in_err-count.ensures in
+    let some = not_empty _ (sym c.is_empty.ensures ∙ c.if-is_empty.false) in
+    let p = err_from_is_err_and c.from_residual.result c.from_residual.ensures.1 in
+    rw (p.1, p.2) (read_for _ _ _ _ _ _ _ _ _
+    (refused_read _ _ _ _ _ _ _ _ _ a (omega (arith, size)) (e.around h.told).counts (e.refused r) (length c.args.into.now) some) _ (λ calm. (e.calm h.told calm).kept) (e.refused r))
+
+pub returns-then-not-has_rest-clause-runs : goal.returns-then-not-has_rest-clause-runs
+returns-then-not-has_rest-clause-runs g c = λ (h : IsOpen g.C.ReadContents c.args.content.now c.args.id c.args.self.now).
+    let a = h.suits (sym c.is_failed.ensures ∙ c.if-is_failed.false) in
+    let r : IsReady g.C.ReadContents c.args.content.now c.args.id c.args.self.now = record { told = h.told; agrees = a } in
+    let size = ap (λ (z : Window). z.size) c.self.view_is in
+    let e = c.in_ok-count.ensures in
+    past_runs _ _ _ _ _ _ a.unfailed (omega (arith, size)) (length c.args.into.now) c.in_ok-count.count (omega (arith, e.most)) (e.ok r)

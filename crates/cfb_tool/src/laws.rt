@@ -1,0 +1,12 @@
+//! What is told to be done is stored. The function does nothing: it has laws as its contract.
+ghost use Rattle.cfb_tool.specs.Laws.{AddedIsStored, PutIsStored, WrittenIsStored};
+
+use cfb_rules::laws::Seen;
+
+/// Where a `put` or an `add` that was done to its end tells no refusal, or a stream was written whole
+/// by one command, the stream at that path has exactly the bytes, and the file has not failed.
+pub fn what_is_told_is_stored<S: Seen>()
+    ensures written { WrittenIsStored S.seen S.promised }
+    ensures put { PutIsStored S.seen S.promised }
+    ensures added { AddedIsStored S.seen S.promised }
+{}

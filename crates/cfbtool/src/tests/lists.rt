@@ -1,0 +1,264 @@
+//! Words of a run, and lines of its input.
+use super::{
+    DONE, Run, SOUND_3, SOUND_4, WITH_STREAM, WRONG_WORDS, bytes_of, content, do_runs, enter,
+    is_there, leave, len_of, path_of, tells, want,
+};
+use cfb::{CompoundFile, ReadMedium};
+use std::io::Write;
+use std::test::Fail;
+
+#[rattlefmt::skip]
+const WRONG: [&[&str]; 31] = [
+    &[],
+    &[""],
+    &["create"],
+    &["create", "3"],
+    &["create", "@f"],
+    &["create", "5", "@f"],
+    &["create", "03", "@f"],
+    &["create", "", "@f"],
+    &["create", "3", "@f", "/"],
+    &["Create", "3", "@f"],
+    &["ls"],
+    &["ls", "@f", "/", "/a"],
+    &["list", "@f"],
+    &["cat"],
+    &["cat", "@f"],
+    &["cat", "@f", "/a", "strict"],
+    &["put"],
+    &["put", "@f"],
+    &["put", "@f", "/a", "/b"],
+    &["put ", "@f", "/a"],
+    &["check"],
+    &["check", "@f", "stric"],
+    &["check", "@f", "Strict"],
+    &["check", "@f", ""],
+    &["check", "@f", "strict", "strict"],
+    &["compact"],
+    &["compact", "@f"],
+    &["compact", "@f", "@g", "@h"],
+    &["run"],
+    &["run", "@f", "@g"],
+    &["mkdir", "@f", "/s"],
+];
+
+fn refuse_wrong_words(rt: &HostRuntime, folder: &str) -> Result<(), Fail> {
+    for words in &WRONG {
+        let is_told = tells(rt, folder, words, b"rm\t/a", (2, b"", WRONG_WORDS))?;
+        want(is_told, "wrong words are told")?;
+    }
+    want(!is_there(rt, folder, "f")?, "nothing is made")
+}
+
+#[test]
+fn wrong_words_do_nothing(rt: HostRuntime) -> Result<(), Fail> {
+    let folder = enter(&rt)?;
+    refuse_wrong_words(&rt, &folder)?;
+    leave(&rt, &folder)
+}
+
+#[rattlefmt::skip]
+const LISTS: [Run<'static>; 26] = [
+    (&["create", "3", "@f"], b"", 0, b"", b""),
+    (&["ls", "@f"], b"", 0, b"d 0 /\n", b""),
+    (&["run", "@f"], b"mkdir\t/s\t0\nput\t/s/x\t616263\nrm\t/t\n", 1, b"ok\nok\nE1\n", b""),
+    (&["cat", "@f", "/s/x"], b"", 0, b"abc", b""),
+    (&["ls", "@f"], b"", 0, b"d 64 /\nd 0 /s\nf 3 /s/x\n", b""),
+    (&["ls", "@f", "S/x"], b"", 0, b"f 3 /S/x\n", b""),
+    (&["ls", "@f", "/s"], b"", 0, b"d 0 /s\nf 3 /s/x\n", b""),
+    (&["ls", "@f", ""], b"", 0, b"d 64 /\nd 0 /s\nf 3 /s/x\n", b""),
+    (&["ls", "@f", "/t"], b"", 1, b"", b"cfbtool: nothing is at this path\n"),
+    (&["ls", "@f", "/.."], b"", 1, b"", b"cfbtool: the path leaves the root\n"),
+    (&["cat", "@f", "/s"], b"", 1, b"", b"cfbtool: no stream is at this path\n"),
+    (&["cat", "@f", ""], b"", 1, b"", b"cfbtool: no stream is at this path\n"),
+    (&["put", "@f", ""], b"abc", 1, b"", b"cfbtool: the root is there\n"),
+    (&["put", "@f", "/a\tb"], b"abc", 0, b"", b""),
+    (&["ls", "@f", "/a\tb"], b"", 0, b"f 3 /a\tb\n", b""),
+    (&["run", "@f"], b"", 0, b"", b""),
+    (&["run", "@f"], b"mkdirs\t/p/q/r\t-1\nput\t/p/y\t\nadd\t/p/y\t00ff\nadd\t/p/y\t\nlen\t/p/y\t5", 0, b"ok\nok\nok\nok\nok\n", b""),
+    (&["cat", "@f", "/p/y"], b"", 0, b"\x00\xff\x00\x00\x00", b""),
+    (&["run", "@f"], b"rmdir\t/p\nrmdir\t/p/q/r\nrmdir\t/\nrm\t/p/q\nrmtree\t/s\n", 1, b"E3\nok\nE3\nE3\nok\n", b""),
+    (&["run", "@f"], b"mkdir\t/p\t0\nmkdirs\t/p\t0\nmkdirs\t/p/y\t0\nput\t/p\t61\nadd\t/z\t61\nlen\t/p/y\t4294967296\n", 1, b"E2\nok\nE2\nE2\nE1\nE3\n", b""),
+    (&["run", "@f"], b"mkdir\t/a:b\t0\nrm\t\ntouch\t/z\t0\nbits\t/p/y\t0\ntouch\t/p/y\t1\n", 1, b"E3\nE3\nE1\nok\nok\n", b""),
+    (&["ls", "@f"], b"", 0, b"d 192 /\nd 0 /p\nd 0 /p/q\nf 5 /p/y\nf 3 /a\tb\n", b""),
+    (&["check", "@f", "strict"], b"", 0, b"version 3 sound\n", b""),
+    (&["create", "4", "@f"], b"", 0, b"", b""),
+    (&["check", "@f"], b"", 0, b"version 4 sound\n", b""),
+    (&["ls", "@f"], b"", 0, b"d 0 /\n", b""),
+];
+
+fn do_lists(rt: &HostRuntime, folder: &str) -> Result<(), Fail> {
+    do_runs(rt, folder, "lists", &LISTS)?;
+    want(
+        len_of(rt, folder, "f")? == 12288,
+        "the length of an empty file",
+    )
+}
+
+#[test]
+fn lists_of_commands(rt: HostRuntime) -> Result<(), Fail> {
+    let folder = enter(&rt)?;
+    do_lists(&rt, &folder)?;
+    leave(&rt, &folder)
+}
+
+/// What `run` takes for no commands.
+#[rattlefmt::skip]
+const NO_COMMANDS: [&[u8]; 36] = [
+    b"put\t/a\t61\nbits\t/a\tx",
+    b"\n",
+    b"rm\t/a\n\n",
+    b"\nrm\t/a",
+    b"rm\t/a\n \n",
+    b"rm",
+    b"rm /a",
+    b"rm\t/a\t",
+    b" rm\t/a",
+    b"RM\t/a",
+    b"cat\t/a",
+    b"mkdir\t/s",
+    b"mkdir\t/s\t",
+    b"mkdir\t/s\t0\t",
+    b"mkdir\t/s\t0\r\n",
+    b"mkdir\t/s\t+1",
+    b"mkdir\t/s\t-",
+    b"mkdir\t/s\t--1",
+    b"mkdir\t/s\t1.0",
+    b"mkdir\t/s\t 1",
+    b"mkdirs\t/s\t9223372036854775808",
+    b"touch\t/s\t-9223372036854775809",
+    b"bits\t/a\t4294967296",
+    b"bits\t/a\t-1",
+    b"bits\t/a\t0x1",
+    b"len\t/a\t18446744073709551616",
+    b"len\t/a\t",
+    b"put\t/a",
+    b"put\t/a\t6",
+    b"put\t/a\t6A",
+    b"put\t/a\t6g",
+    b"put\t/a\t61 62",
+    b"put\t/a\t61\r\n",
+    b"add\t/a\t616",
+    b"add\t/\xff\t61",
+    b"rm\t/a\n\xc3",
+];
+
+/// The file that there is, and one that is not even looked for.
+fn refuse_texts(rt: &HostRuntime, folder: &str) -> Result<(), Fail> {
+    for text in &NO_COMMANDS {
+        let is_told = tells(rt, folder, &["run", "@f"], text, (2, b"", WRONG_WORDS))?
+            && tells(rt, folder, &["run", "@g"], text, (2, b"", WRONG_WORDS))?;
+        want(is_told, "no commands")?;
+    }
+    Ok(())
+}
+
+fn keep_file_at_texts(rt: &HostRuntime, folder: &str) -> Result<(), Fail> {
+    do_runs(rt, folder, "a stream", &WITH_STREAM)?;
+    let before = bytes_of(rt, folder, "f")?;
+    refuse_texts(rt, folder)?;
+    want(bytes_of(rt, folder, "f")? == before, "the file stays")
+}
+
+#[test]
+fn lines_that_are_no_commands_do_nothing(rt: HostRuntime) -> Result<(), Fail> {
+    let folder = enter(&rt)?;
+    keep_file_at_texts(&rt, &folder)?;
+    leave(&rt, &folder)
+}
+
+/// What is told of a storage: its bits, and when it was made and changed.
+type Fields = (u32, u64, u64);
+
+fn fields_in<F: ReadMedium>(file: &CompoundFile<F>, object: &str) -> Result<Fields, Fail> {
+    let told = file.entry(object)?;
+    let created = told.created().value();
+    Ok((told.state_bits(), created, told.modified().value()))
+}
+
+fn fields_of(rt: &HostRuntime, path: &str, object: &str) -> Result<Fields, Fail> {
+    let file = cfb::open(rt, rt.alloc(), path)?;
+    fields_in(&file, object)
+}
+
+/// Numbers at the ends of what a line may say. The moments are those of 1970 and of a second after
+/// it, and the first and the last one.
+#[rattlefmt::skip]
+const FIELDS: &[u8] = b"mkdir\t/a\t-0\nmkdir\t/b\t1\nmkdir\t/c\t-9223372036854775808\nmkdirs\t/c/d\t9223372036854775807\ntouch\t/a\t0001\nbits\t/b\t4294967295\nbits\t/c\t007";
+
+const TO_1970: u64 = 116444736000000000;
+
+const SECOND: u64 = TO_1970 + 10000000;
+
+#[rattlefmt::skip]
+const SAID: [(&str, Fields); 4] = [
+    ("/a", (0, TO_1970, SECOND)),
+    ("/b", (u32::MAX, SECOND, SECOND)),
+    ("/c", (7, 0, 0)),
+    ("/c/d", (0, u64::MAX, u64::MAX)),
+];
+
+#[rattlefmt::skip]
+const WITH_FIELDS: [Run<'static>; 3] = [
+    (&["create", "4", "@f"], b"", 0, b"", b""),
+    (&["run", "@f"], FIELDS, 0, b"ok\nok\nok\nok\nok\nok\nok\n", b""),
+    (&["check", "@f", "strict"], b"", 0, SOUND_4, b""),
+];
+
+fn say_numbers(rt: &HostRuntime, folder: &str, path: &str) -> Result<(), Fail> {
+    do_runs(rt, folder, "fields", &WITH_FIELDS)?;
+    for (object, fields) in &SAID {
+        want(fields_of(rt, path, object)? == *fields, object)?;
+    }
+    Ok(())
+}
+
+#[test]
+fn lines_say_numbers(rt: HostRuntime) -> Result<(), Fail> {
+    let folder = enter(&rt)?;
+    let path = path_of(&rt, &folder, "f")?;
+    say_numbers(&rt, &folder, &path)?;
+    leave(&rt, &folder)
+}
+
+/// A line of `run`, behind one that is refused: a word, a path, and these bytes.
+fn write_line<W: Write>(line: &mut W, word: &str, bytes: &[u8]) -> Result<(), Fail> {
+    write!(line, "rm\t/none\n{word}\t/a\t")?;
+    for byte in bytes {
+        write!(line, "{byte:02x}")?;
+    }
+    writeln!(line)?;
+    Ok(())
+}
+
+fn is_line_done(rt: &HostRuntime, folder: &str, word: &str, bytes: &[u8]) -> Result<bool, Fail> {
+    let mut line = Vec::new(rt.alloc());
+    write_line(&mut line, word, bytes)?;
+    tells(rt, folder, &["run", "@f"], &line, (1, b"E1\nok\n", b""))
+}
+
+fn write_all_bytes(rt: &HostRuntime, folder: &str, all: &[u8]) -> Result<(), Fail> {
+    want(
+        tells(rt, folder, &["create", "3", "@f"], b"", DONE)?
+            && is_line_done(rt, folder, "put", all.get(..5000).unwrap_or(&[]))?
+            && is_line_done(rt, folder, "add", all.get(5000..).unwrap_or(&[]))?
+            && tells(rt, folder, &["cat", "@f", "/a"], b"", (0, all, b""))?
+            && tells(
+                rt,
+                folder,
+                &["check", "@f", "strict"],
+                b"",
+                (0, SOUND_3, b""),
+            )?,
+        "all bytes of a line",
+    )
+}
+
+/// A line writes all of its bytes, of which one write takes a beginning.
+#[test]
+fn lines_write_all_bytes(rt: HostRuntime) -> Result<(), Fail> {
+    let folder = enter(&rt)?;
+    let all = content(rt.alloc(), 75000)?;
+    write_all_bytes(&rt, &folder, &all)?;
+    leave(&rt, &folder)
+}
