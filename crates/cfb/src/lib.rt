@@ -44,7 +44,6 @@ pub mod internal {
     pub use cfb_codecs::path::{self, CaseMapper};
     pub use cfb_codecs::timestamp::Timestamp;
     pub use cfb_compound_file::stream::Stream;
-    pub use cfb_content::listed::ListedChain;
     pub use cfb_content::writing::write_content;
     pub use cfb_directory::directory::Directory;
     pub use cfb_entries::fields::Fields;

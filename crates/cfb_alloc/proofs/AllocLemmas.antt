@@ -8,16 +8,17 @@ use Rattle.cfb_format.specs.declared.version.Version.{Version}
 use Rattle.cfb_format.specs.Bytes.{end_of_chain, free_sector}
 use Rattle.cfb_format.specs.Chain.{value, IsChain}
 use Rattle.cfb_format.specs.declared.validate.Validation.{Validation}
-use Rattle.cfb_alloc.specs.Alloc.{AllocatorState, HoldsTables, HoldsBut, IsPlaced, OthersStay, ChangesSectors, IsOtherHeaderByte}
+use Rattle.cfb_alloc.specs.Alloc.{AllocatorState, HoldsTables, OthersStay}
+use Rattle.cfb_table_words.specs.Holding.{HoldsBut, IsPlaced, ChangesSectors, IsOtherHeaderByte}
 use Rattle.cfb_tables.specs.Changes.{AreDisjoint}
 use Rattle.cfb_tables.specs.Clean.{IsClean}
-use Rattle.cfb_alloc.specs.Difat.{difat_places}
+use Rattle.cfb_table_words.specs.Difat.{difat_places}
 use Rattle.cfb_tables.specs.Refused.{TableRefused, ChangeRefused, NextRefused}
 use Rattle.cfb_alloc.specs.Broken.{BreaksOff}
 use Rattle.cfb_sectors.specs.Sectors.{SectorFile, SectorStays, IsMediumError}
 use Rattle.cfb_tables.specs.Tables.{TableState, HasTaken, TakesFor, AreSizes, sizes_of, ending}
 use Rattle.cfb_tables.proofs.CleanLemmas.{taken-clean}
-use Rattle.cfb_alloc.proofs.GrowthLemmas.{fats_apart_more}
+use Rattle.cfb_table_words.proofs.GrowthLemmas.{fats_apart_more}
 use Rattle.cfb_tables.proofs.Members.{value-below}
 use Rattle.cfb_sectors.proofs.SectorLemmas.{SectorStays_refl}
 

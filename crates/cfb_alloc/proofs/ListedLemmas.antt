@@ -22,7 +22,8 @@ use Rattle.cfb_tables.proofs.ListedLemmas.{end_chain, ended_alone, ended_regular
 use Rattle.cfb_tables.proofs.Members.{Contains-nil, Contains-one}
 use Rattle.cfb_tables.proofs.PreparedLemmas.{chain-one}
 use Rattle.cfb_tables.proofs.TakenLemmas.{taken-none, taken-nothing}
-use Rattle.cfb_alloc.specs.Alloc.{AllocatorState, HoldsBut, ChangesSectors}
+use Rattle.cfb_alloc.specs.Alloc.{AllocatorState}
+use Rattle.cfb_table_words.specs.Holding.{HoldsBut, ChangesSectors}
 use Rattle.cfb_alloc.specs.Frame.{Spares}
 use Rattle.cfb_alloc.specs.ListedChain.{Lengthens, Shortens}
 use Rattle.cfb_alloc.proofs.AllocLemmas.{next_refused, refused-less}

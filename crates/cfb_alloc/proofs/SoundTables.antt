@@ -20,21 +20,21 @@ use Rattle.cfb_format.specs.Reading.{Reading, Reads, root_entry}
 use Rattle.cfb_format.specs.Siblings.{entry_at}
 use Rattle.cfb_format.specs.Soundness.{IsSound, used_sectors, sectors_of, mini_stream_sectors, large_streams}
 use Rattle.cfb_format.proofs.Chains.{chain_from-IsChain}
-use Rattle.cfb_alloc.specs.Agreement.{word_of, WordsAgree, IsStrictBut}
+use Rattle.cfb_table_words.specs.Agreement.{word_of, WordsAgree, IsStrictBut}
 use Rattle.cfb_alloc.specs.Alloc.{AllocatorState, HoldsTables}
 use Rattle.cfb_tables.specs.Changes.{AreDisjoint}
 use Rattle.cfb_tables.specs.Clean.{IsClean}
-use Rattle.cfb_alloc.specs.Difat.{ListsTables}
+use Rattle.cfb_table_words.specs.Difat.{ListsTables}
 use Rattle.cfb_alloc.specs.Held.{SoundTablesAreHeld, StrictTablesAreHeld, HeldTablesAreStrict}
-use Rattle.cfb_alloc.proofs.AgreementLemmas.{within-stays}
+use Rattle.cfb_table_words.proofs.AgreementLemmas.{within-stays}
 use Rattle.cfb_tables.proofs.ChainLemmas.{regular-le, follows-busy}
 use Rattle.cfb_tables.proofs.CleanLemmas.{clean-within, follows-next}
-use Rattle.cfb_alloc.proofs.HeldLemmas.{every_member}
+use Rattle.cfb_table_words.proofs.HeldLemmas.{every_member}
 use Rattle.cfb_alloc.proofs.StrictFat.{strict_is, strict_from}
-use Rattle.cfb_alloc.proofs.StrictLemmas.{if_strict}
-use Rattle.cfb_alloc.proofs.Listed.{among-Contains, Contains-among}
+use Rattle.cfb_table_words.proofs.StrictLemmas.{if_strict}
+use Rattle.cfb_table_words.proofs.Listed.{among-Contains, Contains-among}
 use Rattle.cfb_tables.proofs.Members.{Contains-nil, Contains-here, Contains-there, Contains-cases, Contains-or, value-at, distinct-left, distinct-apart}
-use Rattle.cfb_alloc.proofs.TableWords.{raw_fat-at, fat_words-at, length-fat_words}
+use Rattle.cfb_table_words.proofs.TableWords.{raw_fat-at, fat_words-at, length-fat_words}
 
 pub not-among : (xs : List ℕ) (x : ℕ) → (Contains xs x → ⊥) → is_among xs x ≡ false
 not-among xs x out = go (is_among xs x) refl

@@ -12,11 +12,12 @@ use Rattle.cfb_tables.specs.Tables.{TableState, HasTaken, TablesGiveBack}
 use Rattle.cfb_sectors.specs.Words.{Apart}
 use Rattle.cfb_sectors.specs.Sectors.{SectorFile, place_in_sector}
 use Rattle.cfb_sectors.proofs.SectorLemmas.{sector_apart}
-use Rattle.cfb_alloc.specs.Alloc.{AllocatorState, ChangesSectors, IsOtherHeaderByte, IsPlaced}
+use Rattle.cfb_alloc.specs.Alloc.{AllocatorState}
+use Rattle.cfb_table_words.specs.Holding.{ChangesSectors, IsOtherHeaderByte, IsPlaced}
 use Rattle.cfb_alloc.specs.Frame.{IsFixedHeaderByte, Spares, LieAmong, TakingSpares, FreeingSpares, WritingSpares, table_sectors}
 use Rattle.cfb_alloc.specs.InSector.{LiesIn}
 use Rattle.cfb_alloc.proofs.AllocLemmas.{others_written}
-use Rattle.cfb_alloc.proofs.Listed.{not_in_nil}
+use Rattle.cfb_table_words.proofs.Listed.{not_in_nil}
 use Rattle.cfb_alloc.proofs.Frames.{nothing-touched, spares-less}
 
 -- ---- where nothing changes

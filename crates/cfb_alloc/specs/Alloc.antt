@@ -1,29 +1,18 @@
--- The sectors of a file and its tables, and what of the tables the bytes hold (MS-CFB 2.1, 2.3 and 2.5).
-use Rattle.std.specs.Prelude.{ℕ, ◌≡◌, ◌+◌, ◌<◌, ◌≤◌, ◌⊎◌, List, [], ◌++◌, length, slice_index, Contains}
+-- The sectors of a file and its tables, as an allocator keeps them, and when the bytes hold them (MS-CFB 2.1, 2.3 and 2.5).
+use Rattle.std.specs.Prelude.{ℕ, ◌≡◌, ◌<◌, ◌≤◌, List, [], ◌++◌, length, slice_index, Contains}
 use Rattle.cfb_format.specs.declared.version.Version.{Version}
 use Rattle.cfb_format.specs.declared.validate.Validation.{Validation}
-use Rattle.cfb_format.specs.Bytes.{sector_len, sector_start, sector_bytes, free_sector}
+use Rattle.cfb_format.specs.Bytes.{free_sector}
 use Rattle.cfb_format.specs.Chain.{value}
-use Rattle.cfb_format.specs.Header.{IfStrict}
-use Rattle.cfb_sectors.specs.declared.sector.SectorInit.{SectorInit}
-use Rattle.cfb_alloc.specs.Agreement.{AgreesBut, IsStrictBut}
-use Rattle.cfb_tables.specs.Changes.{AreDisjoint}
+use Rattle.cfb_sectors.specs.Sectors.{SectorFile, SectorStays}
 use Rattle.cfb_tables.specs.Clean.{IsClean}
-use Rattle.cfb_alloc.specs.Difat.{ListsTables}
-use Rattle.cfb_sectors.specs.Sectors.{SectorFile, SectorStays, init_bytes}
 use Rattle.cfb_tables.specs.Tables.{TableState, AreSizes, IsCovered}
+pub use Rattle.cfb_table_words.specs.Holding.{IsPlaced, IsMeasured, HoldsBut, IsFilled, IsOtherHeaderByte, ChangesSectors}
 
 -- what an allocator keeps
 pub record AllocatorState : Type 0 where
   pub file : SectorFile
   pub tables : TableState
-
--- the tables are of this file: they have a value for each sector, and the table sectors are among the sectors
-pub record IsPlaced (file : SectorFile) (t : TableState) : Type 0 where
-  pub same_version : file.version ≡ t.version
-  pub count : file.num_sectors ≡ length t.fat
-  pub fats : (i : ℕ) → Contains t.fat_sectors i → i < length t.fat
-  pub difats : (i : ℕ) → Contains t.difat_sectors i → i < length t.fat
 
 -- the table sectors are among so many sectors, and the DIFAT has a place for each FAT sector
 pub record AreListed (version : Version) (count : ℕ) (list own : List ℕ) : Type 0 where
@@ -31,46 +20,10 @@ pub record AreListed (version : Version) (count : ℕ) (list own : List ℕ) : T
   pub fats : (i : ℕ) → Contains list i → i < count
   pub difats : (i : ℕ) → Contains own i → i < count
 
--- the length that is kept is that of the medium
-abbrev pub IsMeasured : SectorFile → Type 0
-IsMeasured file = file.len ≡ length file.bytes
-
--- ---- what the bytes hold
-
--- the FAT, the FAT sectors and the DIFAT sectors are those that the bytes hold, as this mode wants it, but perhaps not the words of
--- the late numbers
-pub record HoldsBut (validation : Validation) (late : List ℕ) (file : SectorFile) (t : TableState) : Type 0 where
-  pub measured : IsMeasured file
-  pub listed : ListsTables validation t.version file.bytes t.fat_sectors t.difat_sectors
-  pub agrees : AgreesBut late t.version file.bytes t.fat_sectors t.difat_sectors t.fat
-  pub strict : IfStrict validation (IsStrictBut late t.version file.bytes t.fat_sectors t.fat)
-  pub apart : AreDisjoint t.fat_sectors t.difat_sectors
-
 -- they are those that the bytes hold, and no number is named twice
 pub record HoldsTables (validation : Validation) (a : AllocatorState) : Type 0 where
   pub holds : HoldsBut validation [] a.file a.tables
   pub clean : IsClean a.tables.fat
-
--- the sector is whole and as it was filled
-pub record IsFilled (version : Version) (init : SectorInit) (bytes : List ℕ) (i : ℕ) : Type 0 where
-  pub whole : sector_start version i + sector_len version ≤ length bytes
-  pub filled : sector_bytes version bytes i ≡ init_bytes version init
-
--- ---- what a change leaves alone
-
--- a byte of the header, or behind it, that speaks neither of the FAT sectors nor of the DIFAT sectors (MS-CFB 2.2)
-abbrev pub IsOtherHeaderByte : Version → ℕ → Type 0
-IsOtherHeaderByte version i = (i < 44) ⊎ ((48 ≤ i) × (i < 68)) ⊎ ((512 ≤ i) × (i < sector_len version))
-
--- a word of the header that speaks of the FAT sectors or the DIFAT sectors (MS-CFB 2.2)
-abbrev pub IsTablesWord : ℕ → Type 0
-IsTablesWord at = (at ≡ 44) ⊎ ((68 ≤ at) × (at + 4 ≤ 512))
-
--- of the sectors these alone change, and of the header what speaks of the FAT sectors and the DIFAT sectors
-pub record ChangesSectors (touched : List ℕ) (version : Version) (old new : List ℕ) : Type 0 where
-  pub no_shorter : length old ≤ length new
-  pub sectors : (i : ℕ) → (Contains touched i → ⊥) → SectorStays version i old new
-  pub header : (i : ℕ) → i < length old → IsOtherHeaderByte version i → slice_index new i ≡ slice_index old i
 
 -- every sector that is in use stays, but for the table sectors and these
 pub record OthersStayBut (own : List ℕ) (old new : AllocatorState) : Type 0 where

@@ -5,7 +5,7 @@ use Rattle.cfb_format.specs.Bytes.{sector_start, entries_per_sector}
 use Rattle.cfb_format.specs.DirectoryEntry.{entry_bytes, unallocated_entry}
 use Rattle.cfb_format.specs.Medium.{part}
 use Rattle.cfb_sectors.specs.declared.sector.SectorInit.TheVariants.{Dir}
-use Rattle.cfb_alloc.specs.Alloc.{IsFilled}
+use Rattle.cfb_table_words.specs.Holding.{IsFilled}
 
 -- ---- laws
 

@@ -1,11 +1,12 @@
-pub mod Agreement
+pub use Rattle.cfb_table_words.specs.Agreement
+pub use Rattle.cfb_table_words.specs.Difat
 pub mod Alloc
-pub mod Difat
 pub mod Held
 pub mod InSector
 pub mod LentSector
 pub mod Broken
 pub mod ListedChain
+pub mod Kept
 pub mod HeaderWords
 pub mod Frame
 pub mod Fresh

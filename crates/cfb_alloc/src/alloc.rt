@@ -1,10 +1,11 @@
 //! The allocator of sectors: chains are begun, extended, cut and freed (MS-CFB 2.3 and 2.5).
-ghost use Rattle.std.specs.Prelude.{◌≡◌, ◌≢◌, ◌↔◌, ℕ, List, [], ◌∷◌, max, min, length, true, false, IsTrue, IfOk, IfErr, OnOk, OnErr, take, drop, ◌++◌, ◌⊎◌, ◌+◌, ◌-◌, ◌<◌, ◌≤◌, Contains, IsErrAnd, MatchResult, vec_len};
+ghost use Rattle.std.specs.Prelude.{◌≡◌, ◌≢◌, ◌↔◌, ℕ, List, [], ◌∷◌, max, min, length, true, false, IsTrue, IfOk, IfErr, IfSome, OnOk, OnErr, take, drop, ◌++◌, ◌⊎◌, ◌+◌, ◌-◌, ◌<◌, ◌≤◌, Contains, IsErrAnd, MatchResult, vec_len};
 ghost use Rattle.cfb_format.specs.declared.validate.Validation.{Validation};
 ghost use Rattle.cfb_format.specs.Bytes.{sector_len, max_regular_sector, end_of_chain};
 ghost use Rattle.cfb_format.specs.Chain.{IsChain, value};
 ghost use Rattle.cfb_format.specs.Refused.{CountsFailure, IsInvalidData};
-ghost use Rattle.cfb_alloc.specs.Alloc.{AreListed, ChangesSectors, HoldsTables, IsPlaced, IsUsable, IsFilled, OthersStay};
+ghost use Rattle.cfb_alloc.specs.Alloc.{AreListed, HoldsTables, IsUsable, OthersStay};
+ghost use Rattle.cfb_table_words.specs.Holding.{ChangesSectors, IsPlaced, IsFilled};
 ghost use Rattle.cfb_tables.specs.ReadFat.{AcceptsFat, AcceptsNoFat};
 ghost use Rattle.cfb_tables.specs.Changes.{IsNextOf, NoChain};
 ghost use Rattle.cfb_tables.specs.Refused.{TableRefused, NextRefused, NoLast, WalkRefused, ChangeRefused};
@@ -20,15 +21,17 @@ ghost use Rattle.cfb_tables.specs.Clean.{IsUnnamed};
 ghost use Rattle.cfb_sectors.specs.Sectors.{IsMediumError, IsRaised, OtherSectorsStay, place_in_sector, sectors_end};
 ghost use Rattle.cfb_format.specs.Medium.{ChangesOnlyBytes, part, written};
 
-use crate::writing::{TableSizes, write_taken, write_values};
 use cfb_format::consts::{END_OF_CHAIN, NUM_DIFAT_ENTRIES_IN_HEADER};
 use cfb_format::error::{Detail, Error};
 use cfb_format::medium::{Medium, ReadMedium};
 use cfb_format::validate::Validation;
 use cfb_format::version::Version;
 use cfb_sectors::sector::{SectorInit, Sectors};
+use cfb_table_words::writing::{TableSizes, write_taken, write_values};
+use cfb_tables::ends::first_number;
 use cfb_tables::fat::read_fat;
 use cfb_tables::tables::Tables;
+use cfb_tables::walk::walk;
 use std::alloc::{Allocator as Heap, Global};
 use std::marker::Model;
 
@@ -61,17 +64,21 @@ impl HeaderWord {
 pub struct Allocator<F: ReadMedium, A: Heap = Global> {
     sectors: Sectors<F>,
     tables: Tables<A>,
+    // The sectors of the chain that was ended last, if the FAT has not changed since: it is found by the first of them.
+    kept: Option<Vec<u32, A>>,
     heap: A,
 }
 
 impl<F: ReadMedium, A: Heap> Model for Allocator<F, A> {
-    ghost use Rattle.cfb_alloc.specs.Alloc.{AllocatorState, IsPlaced};
+    ghost use Rattle.cfb_alloc.specs.Alloc.{AllocatorState};
+    ghost use Rattle.cfb_table_words.specs.Holding.{IsPlaced};
+    ghost use Rattle.cfb_alloc.specs.Kept.{IsKeptChain};
 
     ghost Value = { AllocatorState };
 
     ghost view = { λ a. record { file = a.sectors; tables = a.tables } };
 
-    ghost invariant = { λ a. IsPlaced a.sectors a.tables };
+    ghost invariant = { λ a. IsPlaced a.sectors a.tables × IsKeptChain a.tables.fat a.kept };
 }
 
 impl<F: ReadMedium, A: Heap + Clone> Allocator<F, A> {
@@ -115,6 +122,7 @@ impl<F: ReadMedium, A: Heap + Clone> Allocator<F, A> {
         Ok(Allocator {
             sectors,
             tables,
+            kept: None,
             heap,
         })
     }
@@ -203,6 +211,7 @@ impl<F: ReadMedium, A: Heap> Allocator<F, A> {
         let Allocator {
             sectors,
             tables: _,
+            kept: _,
             heap: _,
         } = self;
         sectors.into_inner()
@@ -383,6 +392,7 @@ impl<F: Medium, A: Heap> Allocator<F, A> {
             → CountsFailure F.write_faults result self.old.file.failures self.new.file.failures }
     {
         let before = self.usable_sizes()?;
+        self.kept = None;
         let sector = self.tables.take()?;
         self.sectors.reserve_sectors(self.tables.len() as u32);
         write_taken(
@@ -445,6 +455,7 @@ impl<F: Medium, A: Heap> Allocator<F, A> {
             return Ok(());
         }
         let len = ids.len();
+        self.kept = None;
         self.tables.extend_listed(ids, count)?;
         self.sectors.reserve_sectors(self.tables.len() as u32);
         write_taken(
@@ -475,6 +486,7 @@ impl<F: Medium, A: Heap> Allocator<F, A> {
         ensures counts { IsTrue F.tells
             → CountsFailure F.write_faults result self.old.file.failures self.new.file.failures }
     {
+        self.kept = None;
         self.tables.cut_listed(ids, left);
         write_values(
             &mut self.sectors,
@@ -583,6 +595,55 @@ impl<F: ReadMedium, A: Heap + Clone> Allocator<F, A> {
         let _fact = sectors;
         Ok(list)
     }
+
+    /// The sectors of the chain from `start`, in order, to work on: those that were kept when it was ended, or else it is walked.
+    /// Whoever is done with the chain gives it to `end_chain`. `InvalidData` where there is no such chain, and `Memory`.
+    pub fn open_chain(&mut self, start: u32) -> Result<Vec<u32, A>, Error>
+        ensures unchanged { self.new ≡ self.old }
+        ensures ok { IfOk result (λ list. IsChain self.old.tables.fat start list.items) }
+        ensures few { IfOk result (λ list. vec_len list ≤ max_regular_sector) }
+        ensures err { IfErr result (WalkRefused self.old.tables.fat start) }
+    {
+        let list = Vec::new(self.heap.clone()?);
+        self.open_chain_in(list, start)
+    }
+}
+
+impl<F: ReadMedium, A: Heap> Allocator<F, A> {
+    /// The same as `open_chain`, walked in the list that is given, whatever that held: it asks for memory only where that has too
+    /// little room.
+    pub fn open_chain_in(&mut self, list: Vec<u32, A>, start: u32) -> Result<Vec<u32, A>, Error>
+        ensures unchanged { self.new ≡ self.old }
+        ensures ok { IfOk result (λ list. IsChain self.old.tables.fat start list.items) }
+        ensures few { IfOk result (λ list. vec_len list ≤ max_regular_sector) }
+        ensures err { IfErr result (WalkRefused self.old.tables.fat start) }
+    {
+        // The FAT is no longer than it may be, and so no chain is.
+        let _ = self.tables.len();
+        match self.kept.take() {
+            Some(kept) if first_number(&kept) == start => Ok(kept),
+            _ => walk(list, self.tables.fat(), start),
+        }
+    }
+
+    /// The sectors of the chain from `start`, if that is the one that is kept.
+    pub fn kept_chain(&self, start: u32) -> Option<&[u32]>
+        ensures { IfSome result (λ list. IsChain self.now.tables.fat start list.now) }
+    {
+        match &self.kept {
+            Some(kept) if first_number(kept) == start => Some(kept.as_slice()),
+            _ => None,
+        }
+    }
+
+    /// Keeps the sectors of a chain that was worked on, in order, until the FAT changes or another chain is opened: then who opens
+    /// it again need not walk it.
+    pub fn end_chain(&mut self, sectors: Vec<u32, A>)
+        requires { IsChain self.old.tables.fat (first_or_end sectors.items) sectors.items }
+        ensures { self.new ≡ self.old }
+    {
+        self.kept = Some(sectors);
+    }
 }
 
 impl<F: Medium, A: Heap + Clone> Allocator<F, A> {
@@ -613,6 +674,7 @@ impl<F: Medium, A: Heap + Clone> Allocator<F, A> {
     {
         let before = self.usable_sizes()?;
         let last = self.tables.last(start)?;
+        self.kept = None;
         let sector = self.tables.attach(last)?;
         self.sectors.reserve_sectors(self.tables.len() as u32);
         write_taken(
@@ -690,6 +752,7 @@ impl<F: Medium, A: Heap + Clone> Allocator<F, A> {
         if start == END_OF_CHAIN {
             return Ok(());
         }
+        self.kept = None;
         let freed = self.tables.free(self.heap.clone()?, start)?;
         write_values(&mut self.sectors, &self.tables, &freed)
     }
@@ -718,6 +781,7 @@ impl<F: Medium, A: Heap + Clone> Allocator<F, A> {
     {
         self.usable_sizes()?;
         self.tables.next(sector)?;
+        self.kept = None;
         let freed = self.tables.free_after(self.heap.clone()?, sector)?;
         write_values(&mut self.sectors, &self.tables, &freed)?;
         write_values(&mut self.sectors, &self.tables, &[sector])
@@ -751,6 +815,7 @@ impl<F: Medium, A: Heap + Clone> Allocator<F, A> {
         if count == 0 {
             return Ok(Vec::new(self.heap.clone()?));
         }
+        self.kept = None;
         self.tables.reserve(count)?;
         let list = self.tables.take_by(self.heap.clone()?, count)?;
         self.sectors.reserve_sectors(self.tables.len() as u32);
@@ -789,6 +854,7 @@ impl<F: Medium, A: Heap + Clone> Allocator<F, A> {
         if count == 0 {
             return Ok(Vec::new(self.heap.clone()?));
         }
+        self.kept = None;
         self.tables.reserve(count)?;
         let list = self.tables.attach_by(self.heap.clone()?, last, count)?;
         self.sectors.reserve_sectors(self.tables.len() as u32);

@@ -63,8 +63,8 @@ impl<'a, F: ReadMedium, A: Heap + Clone> Chain<'a, F, A> {
     ghost use Rattle.std.specs.Borrow.{sem};
     ghost use Rattle.cfb_chains.specs.LentChain.{allocator_of, start_sector_of, ids_of, init_of, position_of, allocator_rests};
 
-    /// Lends the chain from `start`, at its first byte. A sector that it gains holds what `init` says. `InvalidData` where there is no
-    /// such chain, and `Memory`.
+    /// Lends the chain from `start`, at its first byte. A sector that it gains holds what `init` says. It is not walked where it is the
+    /// chain that was ended last, and the FAT is as it was then. `InvalidData` where there is no such chain, and `Memory`.
     pub fn new(
         allocator: &'a mut Allocator<F, A>,
         start: u32,
@@ -80,7 +80,7 @@ impl<'a, F: ReadMedium, A: Heap + Clone> Chain<'a, F, A> {
             × (init_of c ≡ init) × (position_of c ≡ 0)) }
         ensures err { IfErr result (WalkRefused allocator.old.tables.fat start) }
     {
-        let ids = allocator.chain(start)?;
+        let ids = allocator.open_chain(start)?;
         Ok(Chain {
             allocator,
             ids,
@@ -206,17 +206,18 @@ impl<'a, F: ReadMedium, A: Heap> Chain<'a, F, A> {
         Ok(count)
     }
 
-    /// Gives the allocator back.
+    /// Gives the allocator back, which keeps the list of its sectors for who opens it next.
     pub fn end(self)
         ensures { self.exit.0.now ≡ (allocator_of self.entry).now }
     {
         let Chain {
-            allocator: _,
-            ids: _,
+            allocator,
+            ids,
             start: _,
             init: _,
             position: _,
         } = self;
+        allocator.end_chain(ids);
     }
 }
 

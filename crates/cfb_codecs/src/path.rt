@@ -127,7 +127,7 @@ impl<A: Allocator> CaseMapper<A> {
     }
 
     /// The upper case of a character.
-    fn upper_case(&self, letter: char) -> char
+    pub fn upper_case(&self, letter: char) -> char
         ensures { result ≡ upper_case self.now letter }
     {
         if letter.is_ascii() {

@@ -6,14 +6,14 @@ use Rattle.cfb_format.specs.declared.error.Error.TheVariants.{NotFound, AlreadyE
 use Rattle.cfb_format.specs.declared.medium.MediumFault.{MediumFault}
 use Rattle.cfb_format.specs.Refused.{CountsError, HasReason, at_every_error}
 use Rattle.cfb_format.specs.Tree.{Tree}
-use Rattle.cfb_rules.specs.Calls.{Call, Reply, create_storage_all, done, entries, flag, one_entry, refused}
+use Rattle.cfb_rules.specs.Calls.{Call, Reply, create_storage_all, done, entries, flag, one_entry, refused, remove_storage_all, remove_stream}
 use Rattle.cfb_rules.specs.Lists.{CallStep, LeavesAll, blame_of, reply_blame}
 use Rattle.cfb_rules.specs.Refusal.{IsRefusal, Refusal, already_exists, failed_earlier, file_full, invalid_data, invalid_input, medium_failed, not_found, not_sound, out_of_memory, refusal_number}
 use Rattle.cfb_rules.specs.Runs.{CallRuns, Setting}
 use Rattle.cfb_rules.specs.Steps.{CallKind, asking, asking_freely, changing, creating, emptying, flushing, is_changing, kind_of, opening, opening_to_read}
 use Rattle.cfb_agreement.specs.Changes.{StaysOrFails}
 use Rattle.cfb_agreement.specs.Files.{FileState, IsAsBefore, SameSetting, failures_of, is_failed}
-use Rattle.cfb_path_changes.specs.Answers.{IsRefusedBy, IsRefusedInTurn, MeansTree, RunsOn, causes_of_call, setting_of, state_with}
+use Rattle.cfb_path_changes.specs.Answers.{ForMemory, IsRefusedBy, IsRefusedInTurn, MeansTree, RunsOn, causes_of_call, setting_of, state_with}
 use Rattle.cfb_command_steps.specs.Promised.{Asks, CallKeeps, Changes, Refuses, IsKeptBy, promised}
 use Rattle.cfb_command_steps.specs.Seen.{seen_as, standing_at}
 use Rattle.cfb_command_steps.proofs.Before.{same_before, seen_before, setting_same, stayed}
@@ -36,41 +36,49 @@ uncounted can_give old new refusal Full is counts none = counts
 uncounted can_give old new refusal Unsound is counts none = counts
 uncounted can_give old new refusal Failed is counts none = counts
 
-refused_before : (old new : FileState) (e : Error)
-    → HasReason (record (at_every_error (new ≡ old)) { medium = λ f. StaysOrFails old new; memory = StaysOrFails old new; full = StaysOrFails old new }) e
+-- where memory lacked all is as before, or the file has failed
+stays_for_memory : (old new : FileState) (call : Call) → ForMemory call old new → StaysOrFails old new
+stays_for_memory old new (create_storage_all path moment) stays = stays
+stays_for_memory old new (remove_storage_all path) stays = stays
+stays_for_memory old new (remove_stream path) stays = stays
+stays_for_memory old new call same = inl (same_before old new same)
+
+refused_before : (old new : FileState) (call : Call) (e : Error)
+    → HasReason (record (at_every_error (new ≡ old)) { medium = λ f. StaysOrFails old new; memory = ForMemory call old new; full = StaysOrFails old new }) e
     → is_failed new ≡ false → IsAsBefore old new
-refused_before old new (Medium f) why calm = stayed old new why calm
-refused_before old new Memory why calm = stayed old new why calm
-refused_before old new Full why calm = stayed old new why calm
-refused_before old new (NotFound d) why calm = same_before old new why
-refused_before old new (AlreadyExists d) why calm = same_before old new why
-refused_before old new (InvalidInput d) why calm = same_before old new why
-refused_before old new (InvalidData d) why calm = same_before old new why
-refused_before old new Unsound why calm = same_before old new why
-refused_before old new Failed why calm = same_before old new why
+refused_before old new call (Medium f) why calm = stayed old new why calm
+refused_before old new call Memory why calm = stayed old new (stays_for_memory old new call why) calm
+refused_before old new call Full why calm = stayed old new why calm
+refused_before old new call (NotFound d) why calm = same_before old new why
+refused_before old new call (AlreadyExists d) why calm = same_before old new why
+refused_before old new call (InvalidInput d) why calm = same_before old new why
+refused_before old new call (InvalidData d) why calm = same_before old new why
+refused_before old new call Unsound why calm = same_before old new why
+refused_before old new call Failed why calm = same_before old new why
 
 -- where nothing has changed, all is as before or the file has failed
-less_said : (old new : FileState) (e : Error) → HasReason (record (at_every_error (new ≡ old)) { medium = λ f. StaysOrFails old new; memory = StaysOrFails old new; full = new ≡ old }) e
-    → HasReason (record (at_every_error (new ≡ old)) { medium = λ f. StaysOrFails old new; memory = StaysOrFails old new; full = StaysOrFails old new }) e
-less_said old new (Medium f) why = why
-less_said old new Memory why = why
-less_said old new Full why = inl (same_before old new why)
-less_said old new (NotFound d) why = why
-less_said old new (AlreadyExists d) why = why
-less_said old new (InvalidInput d) why = why
-less_said old new (InvalidData d) why = why
-less_said old new Unsound why = why
-less_said old new Failed why = why
+less_said : (old new : FileState) (call : Call) (e : Error) → HasReason (record (at_every_error (new ≡ old)) { medium = λ f. StaysOrFails old new; memory = ForMemory call old new; full = new ≡ old }) e
+    → HasReason (record (at_every_error (new ≡ old)) { medium = λ f. StaysOrFails old new; memory = ForMemory call old new; full = StaysOrFails old new }) e
+less_said old new call (Medium f) why = why
+less_said old new call Memory why = why
+less_said old new call Full why = inl (same_before old new why)
+less_said old new call (NotFound d) why = why
+less_said old new call (AlreadyExists d) why = why
+less_said old new call (InvalidInput d) why = why
+less_said old new call (InvalidData d) why = why
+less_said old new call Unsound why = why
+less_said old new call Failed why = why
 
 at_once : (can_give : MediumFault → Bool) (old : FileState) (call : Call) (new : FileState) (e : Error) → IsRefusedBy can_give old call new e → IsRefusedInTurn can_give old call new e
 at_once can_give old call new e why = record {
   refusal = why.refusal;
   is = why.is;
   runs = why.runs;
-  stays = less_said old new e why.stays;
+  stays = less_said old new call e why.stays;
   order = why.order;
   balanced = why.balanced;
   spares = why.spares;
+  quiet = why.quiet;
   counts = why.counts;
 }
 
@@ -125,7 +133,7 @@ module _ (can_give : MediumFault → Bool) (old new : FileState) (call : Call) w
       → LeavesAll call reply → is_failed new ≡ false → IsAsBefore old new
   change_before done k same (inl (r, bad)) calm = absurd (cc)
   change_before done k same (inr asks) calm = same_before old new (same asks refl)
-  change_before (refused refusal) (e, is, why) same leaves calm = refused_before old new e (in_turn can_give old call new e why).stays calm
+  change_before (refused refusal) (e, is, why) same leaves calm = refused_before old new call e (in_turn can_give old call new e why).stays calm
   change_before (flag b) k same leaves calm = absurd k
   change_before (one_entry e) k same leaves calm = absurd k
   change_before (entries es) k same leaves calm = absurd k

@@ -2,3 +2,4 @@ pub mod Before
 pub mod Calls
 pub mod Steps
 pub mod Made
+pub mod Idle

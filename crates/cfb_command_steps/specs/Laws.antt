@@ -1,5 +1,5 @@
 -- What the calls on a file promise each for itself makes the steps of a run.
-use Rattle.std.specs.Prelude.{ℕ, ◌≡◌, Bool, false, List, Option}
+use Rattle.std.specs.Prelude.{ℕ, ◌≡◌, Bool, true, false, List, Option}
 use Rattle.cfb_format.specs.declared.medium.MediumFault.{MediumFault}
 use Rattle.cfb_format.specs.Reading.{IsOutline, Outline}
 use Rattle.cfb_format.specs.Tree.{Tree}
@@ -41,6 +41,11 @@ ClosingsAreSteps = (can_give : MediumFault → Bool) (first opened : FileState) 
 abbrev pub RunsStayMade : Type 0
 RunsStayMade = (can_give : MediumFault → Bool) (setting : Setting) (old new : Standing) (commands : List Command) (replies : List CommandReply)
     → IsLegalRun seen_as (promised can_give) setting old commands replies new → StaysMade old.file new.file
+
+-- on a file that has failed it changes nothing
+abbrev pub RunsStayIdle : Type 0
+RunsStayIdle = (can_give : MediumFault → Bool) (setting : Setting) (old new : Standing) (commands : List Command) (replies : List CommandReply)
+    → IsLegalRun seen_as (promised can_give) setting old commands replies new → is_failed old.file ≡ true → new.file ≡ old.file
 
 -- and in a file that was made here, unless it fails, each storage's tree of siblings is low afterwards
 abbrev pub RunsStayLow : Type 0

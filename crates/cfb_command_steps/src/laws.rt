@@ -1,5 +1,5 @@
 //! Each call on a file is a step of a run of commands. None of these functions does anything: each has a law as its contract.
-ghost use Rattle.cfb_command_steps.specs.Laws.{CallsAreSteps, ClosingsAreSteps, RunsStayLow, RunsStayMade, StreamCallsAreSteps};
+ghost use Rattle.cfb_command_steps.specs.Laws.{CallsAreSteps, ClosingsAreSteps, RunsStayIdle, RunsStayLow, RunsStayMade, StreamCallsAreSteps};
 
 /// A call by path is a step.
 pub fn calls_are_steps()
@@ -12,8 +12,10 @@ pub fn streams_are_steps()
     ensures closed { ClosingsAreSteps }
 {}
 
-/// A list of commands keeps the setting, and a file that was made here in order: each storage's tree of siblings is low then.
+/// A list of commands keeps the setting, and a file that was made here in order: each storage's tree of siblings is low then. A file that has
+/// failed it leaves as it is.
 pub fn runs_stay_made()
     ensures made { RunsStayMade }
     ensures low { RunsStayLow }
+    ensures idle { RunsStayIdle }
 {}

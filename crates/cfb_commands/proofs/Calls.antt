@@ -36,6 +36,7 @@ refused_wider few all old call new e wider why = record {
   order = why.order;
   balanced = why.balanced;
   spares = why.spares;
+  quiet = why.quiet;
   counts = counts_wider few all (failures_of old) (failures_of new) e wider why.counts;
 }
 

@@ -10,3 +10,4 @@ pub mod Asking
 pub mod Calls
 pub mod Fitting
 pub mod Faults
+pub mod Failing

@@ -23,7 +23,7 @@ use Rattle.cfb_commands.specs.Working.{Answers, RunsLegally}
 use Rattle.cfb_commands.proofs.Growing.{put_behind, taken_more}
 
 -- the bytes of each file mean some tree, unless it has failed
-some_tree : (file : FileState) → Agrees file → (tree : Tree) × MeansTree file tree
+pub some_tree : (file : FileState) → Agrees file → (tree : Tree) × MeansTree file tree
 some_tree file agrees = go (is_failed file) refl
   where
     go : (b : Bool) → is_failed file ≡ b → (tree : Tree) × MeansTree file tree

@@ -1,6 +1,8 @@
 //! Commands are done one after the other.
-ghost use Rattle.std.specs.Prelude.{◌≡◌, ◌≤◌, ◌+◌, ◌||◌, All, IsTrue, drop, length, map, take, vec_capacity};
+ghost use Rattle.std.specs.Prelude.{◌≡◌, ◌≤◌, ◌+◌, ◌||◌, true, All, IsTrue, drop, length, map, take, vec_capacity};
+ghost use Rattle.cfb_agreement.specs.Files.{is_failed};
 ghost use Rattle.cfb_commands.specs.Commands.{command_of, reply_of};
+ghost use Rattle.cfb_commands.specs.Failing.{IsAsked, OnceFailed};
 ghost use Rattle.cfb_commands.specs.Faults.{IsGiven};
 ghost use Rattle.cfb_commands.specs.Kinds.{AreOfKinds, IsOfKind, kind_of_command};
 ghost use Rattle.cfb_command_steps.specs.Made.{StaysMade};
@@ -20,6 +22,7 @@ fn run_one<F: Medium, A: Heap + Clone>(
     command: &Command<A>,
 ) -> Reply<A>
     ensures of_kind { IsOfKind (kind_of_command command.now) result }
+    ensures asked { IsAsked result }
     ensures given { IsTrue F.tells → IsGiven (λ f. F.read_faults f || F.write_faults f) result }
     ensures answers { IsTrue F.tells → Answers (λ f. F.read_faults f || F.write_faults f) file.old
         (command_of command.now) (reply_of result) file.new }
@@ -62,6 +65,10 @@ fn run_one<F: Medium, A: Heap + Clone>(
 /// Each command is answered as its call is. A stream command on a failed file is answered by `Failed`; else room is had for its replies
 /// (`Memory`), the stream is opened, its operations are done in their order, whether or not one is refused, and it is closed. `Read` has
 /// room for no more bytes than are left (`Memory`), and `ReadStorage` and `WalkStorage` for a list (`Memory`).
+///
+/// On a failed file each command but those that only look is answered by `Failed`, and nothing changes. So it goes behind the first reply
+/// that tells that the file has failed: by `Failed`, by a refused flush of the file, or by a refused closing. What only looks is refused as
+/// `InvalidInput`, `NotFound` or `Memory` alone, on a failed file too.
 pub fn run<F: Medium, A: Heap + Clone>(
     file: &mut CompoundFile<F, A>,
     commands: &[Command<A>],
@@ -73,12 +80,17 @@ pub fn run<F: Medium, A: Heap + Clone>(
         ≡ length replies.old.items + length commands.now }
     ensures of_kinds { AreOfKinds (map kind_of_command commands.now)
         (drop (length replies.old.items) replies.new.items) }
+    ensures asked { All IsAsked (drop (length replies.old.items) replies.new.items) }
     ensures given { IsTrue F.tells → All (IsGiven (λ f. F.read_faults f || F.write_faults f))
         (drop (length replies.old.items) replies.new.items) }
     ensures runs { IsTrue F.tells → RunsLegally (λ f. F.read_faults f || F.write_faults f) file.old
         (map command_of commands.now) (map reply_of (drop (length replies.old.items)
         replies.new.items)) file.new }
     ensures order { IsTrue F.tells → StaysMade file.old file.new }
+    ensures failed { IsTrue F.tells
+        → OnceFailed (is_failed file.old) (map command_of commands.now) (map reply_of
+        (drop (length replies.old.items) replies.new.items)) file.new }
+    ensures untouched { IsTrue F.tells → is_failed file.old ≡ true → file.new ≡ file.old }
 {
     // What the file keeps in memory is what its bytes say.
     let _is_failed = file.is_failed();

@@ -1,12 +1,12 @@
 -- What the window answers, said of an open stream.
-use Rattle.std.proofs.Common.{◌≡◌, inl, inr, ℕ, Bool, true, false, refl, sym, ◌∙◌, ap}
+use Rattle.std.proofs.Common.{◌≡◌, ◌⊎◌, inl, inr, ℕ, Bool, true, false, refl, sym, ◌∙◌, ap}
 use Rattle.std.specs.Prelude.{IsTrue, Some, Result, Ok, Err, IfErr, OnErr, OnOk, MatchBool}
 use Rattle.cfb_format.specs.declared.error.Error.{Error}
 use Rattle.cfb_format.specs.declared.medium.MediumFault.{MediumFault}
 use Rattle.cfb_format.specs.Refused.{CountsError, CountsFailure}
 use Rattle.cfb_rules.specs.Refusal.{Refusal, failed_earlier}
-use Rattle.cfb_rules.specs.Runs.{BlamesOneOf, Causes, Closes, StreamRun, is_never_refused, is_served}
-use Rattle.cfb_rules.specs.StreamCalls.{StreamCall, StreamReply, StreamStep}
+use Rattle.cfb_rules.specs.Runs.{BlamesOneOf, Causes, Closes, IsStreamBroken, StaysUnfailed, StreamOnFailed, StreamRun, is_never_refused, is_served, writing_out}
+use Rattle.cfb_rules.specs.StreamCalls.{StreamCall, StreamReply, StreamStep, flush, not_done}
 use Rattle.cfb_agreement.specs.Changes.{StaysOrFails}
 use Rattle.cfb_agreement.specs.Files.{FileState, failures_of, is_failed}
 use Rattle.cfb_volume.specs.Answers.{content_at}
@@ -66,6 +66,32 @@ asks causes s w x call reply never served step = asked causes (stream_setting_of
 pub settles_none : {T : Type 0} (s t : Stored) (w : Window) (result : Result T Error) → t ≡ s → OnOk result (IsSettled s w t)
 settles_none s t w (Ok x) same = inl same
 settles_none s t w (Err e) same = tt
+
+-- ---- flushing
+
+never_unfailed : (pending : Bool) (refusal : Refusal) → StaysUnfailed pending writing_out refusal → ⊥
+never_unfailed true refusal stays = stays
+never_unfailed false refusal stays = stays
+
+-- flushing is refused on a failed file alone
+pub flushing_failed : (causes : Causes) (s t : Stored) (w x : Window) (refusal : Refusal) → Runs causes s w flush (not_done refusal) t x → t.failed ≡ true
+unfolding Runs
+flushing_failed causes s t w x refusal = go s.failed
+  where
+    broken : IsStreamBroken causes (state_of s w) flush (not_done refusal) (run_of t x) → t.failed ≡ true
+    broken why = elim why.3 [
+      | inl stays ↦ absurd (never_unfailed w.pending why.0 stays.0)
+      | inr failed ↦ failed.1
+    ]
+
+    go : (b : Bool) → MatchBool b (StreamOnFailed flush (not_done refusal) (run_of t x))
+        ((StreamStep (stream_setting_of s) (state_of s w) flush (not_done refusal) (state_of t x) × (t.failed ≡ false)) ⊎ IsStreamBroken causes (state_of s w) flush (not_done refusal) (run_of t x))
+        → t.failed ≡ true
+    go true why = why.0
+    go false why = elim why [
+      | inl done ↦ absurd (let ready = done.0.0 in cc)
+      | inr why ↦ broken why
+    ]
 
 -- ---- closing
 

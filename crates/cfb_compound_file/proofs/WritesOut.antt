@@ -55,7 +55,7 @@ stays file = record {
 }
 
 pub flush-done : (file : FileState) → is_failed file ≡ false → IsDoneBy file flush done file
-flush-done file unfailed = record { runs = runs-done file unfailed; order = stays file; balanced = λ _ all. all; spares = spares_all file flush; room = λ tree means creates. absurd (let clash : flushing ≡ creating = creates in cc); calm = refl }
+flush-done file unfailed = record { runs = runs-done file unfailed; order = stays file; balanced = λ _ all. all; spares = spares_all file flush; quiet = λ tree means none. absurd none; room = λ tree means creates. absurd (let clash : flushing ≡ creating = creates in cc); calm = refl }
 
 pub flush-on-failed : (can : MediumFault → Bool) (file : FileState) → is_failed file ≡ true → IsRefusedBy can file flush file Failed
 flush-on-failed can file failed = record {
@@ -66,6 +66,7 @@ flush-on-failed can file failed = record {
   order = stays file;
   balanced = λ _ all. all;
   spares = spares_all file flush;
+  quiet = λ tree means none. refl;
   counts = refl;
 }
 
@@ -89,6 +90,7 @@ flush-refused can old new (Err (Medium f)) unfailed setting rest failed is count
   order = broken-in-order old new setting (ap (λ (file : FileState). bytes_of file.base) rest) failed;
   balanced = λ calm. absurd (let w : true ≡ false = sym failed ∙ calm in cc);
   spares = flags_spare old new flush rest;
+  quiet = λ tree means none. absurd none;
   counts = counts;
 }
 flush-refused can old new (Err (NotFound d)) unfailed setting rest failed is counts = absurd is

@@ -1,7 +1,6 @@
 -- What the calls on an open stream do with its buffer, and with the file for its sake.
 use Rattle.std.specs.Prelude.{ℕ, ◌+◌, ◌-◌, ◌*◌, ◌≡◌, ◌<◌, ◌≤◌, min, max, true, false, IsTrue, Bool, length, Result, OnOk, OnErr, Option, Some, None}
 use Rattle.std.specs.declared.io.traits.SeekFrom.{SeekFrom}
-use Rattle.cfb_format.specs.declared.error.Error.{Error}
 use Rattle.cfb_agreement.specs.Files.{is_failed}
 use Rattle.cfb_stream_window.specs.Windows.{HasBufferRoom, StandsInside, IsSettled, Window, target_of}
 use Rattle.cfb_compound_file.specs.StreamAnswers.{OpenStream, stored_in}
@@ -14,7 +13,7 @@ left_of w = w.size - (w.base + w.cursor)
 abbrev pub target_in : Window → SeekFrom → Option ℕ
 target_in w to = target_of w.size (w.base + w.cursor) to
 
-module _ {T : Type 0} (tells : Bool) (old new : OpenStream) (result : Result T Error) where
+module _ {T E : Type 0} (tells : Bool) (old new : OpenStream) (result : Result T E) where
   -- of what is stored no more was changed than that bytes kept back were written out
   abbrev pub WritesOutAtMost : Type 0
   WritesOutAtMost = OnOk result (IsSettled (stored_in old) old.window (stored_in new))
@@ -35,10 +34,12 @@ module _ {T : Type 0} (tells : Bool) (old new : OpenStream) (result : Result T E
     pub room : new.window.room ≡ old.window.room
     pub settles : IsTrue tells → WritesOutAtMost
 
-  -- A seek: the file is left alone where the place is among the bytes that are held, or right behind them. With no bytes kept back only a
-  -- place outside of the stream is refused.
+  -- A seek: the file is left alone where the place is among the bytes that are held, or right behind them, and these stay held. With no bytes
+  -- kept back only a place outside of the stream is refused.
   pub record BuffersSeek (to : SeekFrom) : Type 0 where
     pub held : (at : ℕ) → target_in old.window to ≡ Some at → old.window.base ≤ at → at ≤ old.window.base + length old.window.filled → new.file ≡ old.file
+    pub stays : (at : ℕ) → target_in old.window to ≡ Some at → old.window.base ≤ at → at ≤ old.window.base + length old.window.filled
+        → (new.window.base ≡ old.window.base) × (new.window.filled ≡ old.window.filled)
     pub sure : old.window.pending ≡ false → is_failed old.file ≡ false → OnErr result (target_in old.window to ≡ None)
     pub room : new.window.room ≡ old.window.room
     pub settles : IsTrue tells → WritesOutAtMost

@@ -1,4 +1,4 @@
--- What a file keeps of the options that it was made with, whatever its medium tells.
+-- What a file keeps of the options that it was opened or made with, whatever its medium tells.
 use Rattle.std.specs.Prelude.{◌≡◌, min}
 use Rattle.cfb_format.specs.Bytes.{max_regular_sector}
 use Rattle.cfb_mini_sectors.specs.State.{cases_of, tables_in}

@@ -60,8 +60,8 @@ impl<F: Medium, A: Heap + Clone> CompoundFile<F, A> {
     ///
     /// `Failed` on a failed file. By the rules of calls: `InvalidInput` where the path leaves the root, its last name is not valid or the
     /// parent is a stream; `AlreadyExists` for the root and for a storage; `NotFound` where there is no parent; and then `Unsound` in a file
-    /// that is not sound; `Full` where no entry can be had. Nothing has changed then. `Memory`, and `Medium` where the medium fails: all but
-    /// the count of failures is as before, or the file has failed.
+    /// that is not sound; `Full` where no entry can be had; `Memory`. Nothing has changed then. `Medium` where the medium fails: all but the
+    /// count of failures is as before, or the file has failed.
     pub fn create_stream(&mut self, path: &str) -> Result<Stream<'_, F, A>, Error>
         ensures lent { IfOk result (λ s. (file_of s).ghost_name ≡ self.entry.ghost_name) }
         ensures created { IfOk result (λ s. IsCreatedBy F.tells self.old

@@ -17,7 +17,7 @@ impl<F: Medium, A: Heap + Clone> CompoundFile<F, A> {
     ///
     /// `Failed` on a failed file. By the rules of calls: `InvalidInput` where the path leaves the root, its last name is not valid or the
     /// parent is a stream; `AlreadyExists` where something is there, as for the root; `NotFound` where there is no parent; and then
-    /// `Unsound` in a file that is not sound; `Full` where no entry can be had. Nothing has changed then. `Memory`, and `Medium` where the
+    /// `Unsound` in a file that is not sound; `Full` where no entry can be had; `Memory`. Nothing has changed then. `Medium` where the
     /// medium fails: all but the count of failures is as before, or the file has failed.
     pub fn create_storage(&mut self, path: &str, moment: Timestamp) -> Result<(), Error>
         ensures { IsTrue F.tells → CallAnswers (λ f. F.read_faults f || F.write_faults f)
@@ -43,8 +43,8 @@ impl<F: Medium, A: Heap + Clone> CompoundFile<F, A> {
     /// Removes the storage at this path, in which nothing is.
     ///
     /// `Failed` on a failed file. By the rules of calls: `InvalidInput` where the path leaves the root or leads to it, to a stream or to a
-    /// storage that is not empty; `NotFound` where nothing is there; and then `Unsound` in a file that is not sound. Nothing has changed
-    /// then. `Memory`, and `Medium` where the medium fails: all but the count of failures is as before, or the file has failed.
+    /// storage that is not empty; `NotFound` where nothing is there; and then `Unsound` in a file that is not sound; `Memory`. Nothing has
+    /// changed then. `Medium` where the medium fails: all but the count of failures is as before, or the file has failed.
     pub fn remove_storage(&mut self, path: &str) -> Result<(), Error>
         ensures { IsTrue F.tells → CallAnswers (λ f. F.read_faults f || F.write_faults f)
             self.old (remove_storage (chars path.now)) result self.new }
@@ -80,8 +80,8 @@ impl<F: Medium, A: Heap + Clone> CompoundFile<F, A> {
     /// Gives the storage at this path, or the root, this class id.
     ///
     /// `Failed` on a failed file. By the rules of calls: `InvalidInput` where the path leaves the root or leads to a stream; `NotFound`
-    /// where nothing is there; and then `Unsound` in a file that is not sound, even where nothing would change. Nothing has changed then.
-    /// `Memory`, and `Medium` where the medium fails: all but the count of failures is as before, or the file has failed.
+    /// where nothing is there; and then `Unsound` in a file that is not sound, even where nothing would change; `Memory`. Nothing has
+    /// changed then. `Medium` where the medium fails: all but the count of failures is as before, or the file has failed.
     pub fn set_storage_clsid(&mut self, path: &str, clsid: Uuid) -> Result<(), Error>
         ensures { IsTrue F.tells → CallAnswers (λ f. F.read_faults f || F.write_faults f)
             self.old (set_storage_clsid (chars path.now) clsid) result self.new }
@@ -92,8 +92,8 @@ impl<F: Medium, A: Heap + Clone> CompoundFile<F, A> {
     /// Gives the object at this path these state bits.
     ///
     /// `Failed` on a failed file. By the rules of calls: `InvalidInput` where the path leaves the root; `NotFound` where nothing is there;
-    /// and then `Unsound` in a file that is not sound, even where nothing would change. Nothing has changed then. `Memory`, and `Medium`
-    /// where the medium fails: all but the count of failures is as before, or the file has failed.
+    /// and then `Unsound` in a file that is not sound, even where nothing would change; `Memory`. Nothing has changed then. `Medium` where
+    /// the medium fails: all but the count of failures is as before, or the file has failed.
     pub fn set_state_bits(&mut self, path: &str, bits: u32) -> Result<(), Error>
         ensures { IsTrue F.tells → CallAnswers (λ f. F.read_faults f || F.write_faults f)
             self.old (set_state_bits (chars path.now) bits) result self.new }
@@ -104,8 +104,8 @@ impl<F: Medium, A: Heap + Clone> CompoundFile<F, A> {
     /// Says when the storage at this path, or the root, was made. A stream has no such moment, and stays as it is.
     ///
     /// `Failed` on a failed file. By the rules of calls: `InvalidInput` where the path leaves the root; `NotFound` where nothing is there;
-    /// and then `Unsound` in a file that is not sound, even where nothing would change. Nothing has changed then. `Memory`, and `Medium`
-    /// where the medium fails: all but the count of failures is as before, or the file has failed.
+    /// and then `Unsound` in a file that is not sound, even where nothing would change; `Memory`. Nothing has changed then. `Medium` where
+    /// the medium fails: all but the count of failures is as before, or the file has failed.
     pub fn set_created_time(&mut self, path: &str, moment: Timestamp) -> Result<(), Error>
         ensures { IsTrue F.tells → CallAnswers (λ f. F.read_faults f || F.write_faults f)
             self.old (set_created_time (chars path.now) moment) result self.new }
@@ -116,8 +116,8 @@ impl<F: Medium, A: Heap + Clone> CompoundFile<F, A> {
     /// Says when the storage at this path, or the root, was changed last. A stream has no such moment, and stays as it is.
     ///
     /// `Failed` on a failed file. By the rules of calls: `InvalidInput` where the path leaves the root; `NotFound` where nothing is there;
-    /// and then `Unsound` in a file that is not sound, even where nothing would change. Nothing has changed then. `Memory`, and `Medium`
-    /// where the medium fails: all but the count of failures is as before, or the file has failed.
+    /// and then `Unsound` in a file that is not sound, even where nothing would change; `Memory`. Nothing has changed then. `Medium` where
+    /// the medium fails: all but the count of failures is as before, or the file has failed.
     pub fn set_modified_time(&mut self, path: &str, moment: Timestamp) -> Result<(), Error>
         ensures { IsTrue F.tells → CallAnswers (λ f. F.read_faults f || F.write_faults f)
             self.old (set_modified_time (chars path.now) moment) result self.new }
@@ -128,8 +128,8 @@ impl<F: Medium, A: Heap + Clone> CompoundFile<F, A> {
     /// Says when the storage at this path was changed last. A stream and the root stay as they are.
     ///
     /// `Failed` on a failed file. By the rules of calls: `InvalidInput` where the path leaves the root; `NotFound` where nothing is there;
-    /// and then `Unsound` in a file that is not sound, even where nothing would change. Nothing has changed then. `Memory`, and `Medium`
-    /// where the medium fails: all but the count of failures is as before, or the file has failed.
+    /// and then `Unsound` in a file that is not sound, even where nothing would change; `Memory`. Nothing has changed then. `Medium` where
+    /// the medium fails: all but the count of failures is as before, or the file has failed.
     pub fn touch(&mut self, path: &str, moment: Timestamp) -> Result<(), Error>
         ensures { IsTrue F.tells → CallAnswers (λ f. F.read_faults f || F.write_faults f)
             self.old (touch (chars path.now) moment) result self.new }

@@ -15,8 +15,9 @@ use std::alloc::Allocator as Heap;
 
 impl<F: ReadMedium, A: Heap + Clone> CompoundFile<F, A> {
     /// Copies the file into a medium without bytes. The copy has its version, its letters and its tree, the root's fields among it, and
-    /// no sector without an owner; its limits are those that `create` gives. It goes by entries, so that a name which no path says does
-    /// not stop it, and it copies a file that is not sound, if each of its streams can be read to its end.
+    /// no sector without an owner; its limits, and the bytes of its header that nobody reads, are those that `create` gives. It goes by
+    /// entries, so that a name which no path says does not stop it, and it copies a file that is not sound, if each of its streams can be
+    /// read to its end.
     ///
     /// `Failed` exactly on a failed file; `InvalidData` exactly where some stream can't be read to its end; `Full` exactly where no file
     /// of the version has room for the tree: nothing is written then. `Memory`, and `Medium` where one of the two media fails. The file

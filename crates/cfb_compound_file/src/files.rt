@@ -1,8 +1,9 @@
 //! Compound files in files of the system. What such a file holds is known to nobody, so no call here
 //! promises what its bytes mean.
-ghost use Rattle.std.specs.Prelude.{IfErr, IfOk, ◌≡◌};
+ghost use Rattle.std.specs.Prelude.{IfErr, IfOk, ◌≡◌, false};
 ghost use Rattle.cfb_format.specs.declared.version.Version.TheVariants.{V4};
 ghost use Rattle.cfb_mini_sectors.specs.State.{version_of};
+ghost use Rattle.cfb_agreement.specs.Files.{is_failed};
 ghost use Rattle.cfb_opening.specs.Opened.{IsOfOpening};
 ghost use Rattle.cfb_compound_file.specs.Opening.{IsOfCreating};
 ghost use Rattle.cfb_compound_file.specs.Taken.{TakesOptions};
@@ -25,7 +26,9 @@ impl<A: Heap + Clone> OpenOptions<A> {
         alloc: A,
         path: &str,
     ) -> Result<CompoundFile<FileReadMedium, A>, Error>
-        ensures { IfErr result IsOfOpening }
+        ensures options { IfOk result (TakesOptions self) }
+        ensures unfailed { IfOk result (λ file. is_failed file ≡ false) }
+        ensures kinds { IfErr result IsOfOpening }
     {
         let medium = FileReadMedium::open(rt, path)?;
         self.open_with(alloc, medium)
@@ -40,7 +43,9 @@ impl<A: Heap + Clone> OpenOptions<A> {
         alloc: A,
         path: &str,
     ) -> Result<CompoundFile<FileMedium, A>, Error>
-        ensures { IfErr result IsOfOpening }
+        ensures options { IfOk result (TakesOptions self) }
+        ensures unfailed { IfOk result (λ file. is_failed file ≡ false) }
+        ensures kinds { IfErr result IsOfOpening }
     {
         let medium = FileMedium::open(rt, path)?;
         self.open_with(alloc, medium)
@@ -58,6 +63,7 @@ impl<A: Heap + Clone> OpenOptions<A> {
     ) -> Result<CompoundFile<FileMedium, A>, Error>
         ensures version { IfOk result (λ file. version_of file.base ≡ V4) }
         ensures options { IfOk result (TakesOptions self) }
+        ensures unfailed { IfOk result (λ file. is_failed file ≡ false) }
         ensures kinds { IfErr result IsOfCreating }
     {
         let medium = FileMedium::create(rt, path)?;

@@ -1,11 +1,12 @@
 //! How compound files are opened and made.
-ghost use Rattle.std.specs.Prelude.{◌≡◌, [], IsTrue, IfErr, IfOk, MatchResult};
+ghost use Rattle.std.specs.Prelude.{◌≡◌, [], false, IsTrue, IfErr, IfOk, MatchResult};
 ghost use Rattle.std.specs.Option.{unwrap_or};
 ghost use Rattle.cfb_format.specs.declared.validate.Validation.TheVariants.{Strict};
 ghost use Rattle.cfb_format.specs.declared.version.Version.TheVariants.{V4};
 ghost use Rattle.cfb_format.specs.Names.{default_cases};
 ghost use Rattle.cfb_format.specs.Refused.{IsMemory};
 ghost use Rattle.cfb_mini_sectors.specs.State.{version_of};
+ghost use Rattle.cfb_agreement.specs.Files.{is_failed};
 ghost use Rattle.cfb_opening.specs.Opened.{IsOfOpening};
 ghost use Rattle.cfb_compound_file.specs.Opening.{CreatingRefused, IsCreatedWith, IsOfCreating, IsOpenedWith, OpeningWithRefused, permissive_options, strict_options};
 ghost use Rattle.cfb_compound_file.specs.Taken.{TakesOptions};
@@ -124,6 +125,8 @@ impl<A: Heap + Clone> OpenOptions<A> {
         ensures answers { IsTrue F.tells
             → MatchResult result (IsOpenedWith self (F.bytes medium) (F.failures medium))
             (OpeningWithRefused F.read_faults self (F.bytes medium)) }
+        ensures options { IfOk result (TakesOptions self) }
+        ensures unfailed { IfOk result (λ file. is_failed file ≡ false) }
         ensures kinds { IfErr result IsOfOpening }
     {
         laws::bytes_are_what_is_held();
@@ -141,6 +144,7 @@ impl<A: Heap + Clone> OpenOptions<A> {
             (IsCreatedWith V4 self (F.failures medium)) (CreatingRefused F.write_faults) }
         ensures version { IfOk result (λ file. version_of file.base ≡ V4) }
         ensures options { IfOk result (TakesOptions self) }
+        ensures unfailed { IfOk result (λ file. is_failed file ≡ false) }
         ensures kinds { IfErr result IsOfCreating }
     {
         self.create_as(alloc, Version::V4, medium)
@@ -158,6 +162,7 @@ impl<A: Heap + Clone> OpenOptions<A> {
             (IsCreatedWith version self (F.failures medium)) (CreatingRefused F.write_faults) }
         ensures version { IfOk result (λ file. version_of file.base ≡ version) }
         ensures options { IfOk result (TakesOptions self) }
+        ensures unfailed { IfOk result (λ file. is_failed file ≡ false) }
         ensures kinds { IfErr result IsOfCreating }
     {
         let letters = letters_of(&alloc, self.letters)?;
@@ -190,6 +195,8 @@ impl<F: ReadMedium, A: Heap + Clone> CompoundFile<F, A> {
         ensures answers { IsTrue F.tells → MatchResult result
             (IsOpenedWith permissive_options (F.bytes medium) (F.failures medium))
             (OpeningWithRefused F.read_faults permissive_options (F.bytes medium)) }
+        ensures options { IfOk result (TakesOptions permissive_options) }
+        ensures unfailed { IfOk result (λ file. is_failed file ≡ false) }
         ensures kinds { IfErr result IsOfOpening }
     {
         OpenOptions::new().open_with(alloc, medium)
@@ -201,6 +208,8 @@ impl<F: ReadMedium, A: Heap + Clone> CompoundFile<F, A> {
         ensures answers { IsTrue F.tells
             → MatchResult result (IsOpenedWith strict_options (F.bytes medium) (F.failures medium))
             (OpeningWithRefused F.read_faults strict_options (F.bytes medium)) }
+        ensures options { IfOk result (TakesOptions strict_options) }
+        ensures unfailed { IfOk result (λ file. is_failed file ≡ false) }
         ensures kinds { IfErr result IsOfOpening }
     {
         OpenOptions::new().strict().open_with(alloc, medium)
@@ -216,6 +225,8 @@ impl<F: Medium, A: Heap + Clone> CompoundFile<F, A> {
             → MatchResult result (IsCreatedWith V4 permissive_options (F.failures medium))
             (CreatingRefused F.write_faults) }
         ensures version { IfOk result (λ file. version_of file.base ≡ V4) }
+        ensures options { IfOk result (TakesOptions permissive_options) }
+        ensures unfailed { IfOk result (λ file. is_failed file ≡ false) }
         ensures kinds { IfErr result IsOfCreating }
     {
         OpenOptions::new().create_with(alloc, medium)
@@ -233,6 +244,8 @@ impl<F: Medium, A: Heap + Clone> CompoundFile<F, A> {
             → MatchResult result (IsCreatedWith version permissive_options (F.failures medium))
             (CreatingRefused F.write_faults) }
         ensures version { IfOk result (λ file. version_of file.base ≡ version) }
+        ensures options { IfOk result (TakesOptions permissive_options) }
+        ensures unfailed { IfOk result (λ file. is_failed file ≡ false) }
         ensures kinds { IfErr result IsOfCreating }
     {
         OpenOptions::new().create_as(alloc, version, medium)

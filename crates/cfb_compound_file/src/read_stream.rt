@@ -6,7 +6,7 @@ ghost use Rattle.cfb_agreement.specs.Files.{failures_of, is_failed};
 ghost use Rattle.cfb_format.specs.Refused.{CountsFailure};
 ghost use Rattle.cfb_rules.specs.Runs.{Closes};
 ghost use Rattle.cfb_stream_window.specs.Windows.{Suits, whence_of};
-ghost use Rattle.cfb_compound_file.specs.Buffering.{BuffersRead, BuffersRest};
+ghost use Rattle.cfb_compound_file.specs.Buffering.{BuffersRead, BuffersRest, BuffersSeek};
 ghost use Rattle.cfb_compound_file.specs.Stored.{kept_of, stored_of};
 ghost use Rattle.cfb_compound_file.specs.StreamAnswers.{GoesOn, IsStreamRefused, IsStreamRefusedBy, StreamRunsBy, StreamRunsOn, causes_of_reading, closing_of, run_in};
 
@@ -143,7 +143,7 @@ impl<'a, F: ReadMedium, A: Heap + Clone> ReadStream<'a, F, A> {
             → IfErr result (IsStreamRefusedBy (causes_of_reading (file_of self.old).now
             (file_of self.new).now) (open_of self.old) (seek (whence_of to)) (open_of self.new)) }
         ensures bound { (window_of self.new).bound ≡ (window_of self.old).bound }
-        ensures room { (window_of self.new).room ≡ (window_of self.old).room }
+        ensures buffers { BuffersSeek F.tells (open_of self.old) (open_of self.new) result to }
     {
         self.window.seek(self.file, self.entry, to)
     }

@@ -6,10 +6,12 @@ ghost use Rattle.std.specs.Io.BufRead.{DropsConsumable};
 ghost use Rattle.std.specs.Io.KnownBytes.{Keeps, ReadConsumes};
 ghost use Rattle.std.specs.Io.Seek.{SeekMoves};
 ghost use Rattle.cfb_std_streams.specs.Kinds.{StandsFor};
-ghost use Rattle.cfb_agreement.specs.Files.{is_failed};
+ghost use Rattle.cfb_agreement.specs.Files.{failures_of, is_failed};
 ghost use Rattle.cfb_stream_window.specs.Windows.{whence_of};
+ghost use Rattle.cfb_compound_file.specs.Buffering.{BuffersRead, BuffersSeek};
 ghost use Rattle.cfb_compound_file.specs.ReadStreams.{entry_of, file_of, open_of, window_of};
 ghost use Rattle.cfb_compound_file.specs.StdLending.{IsReadLendingRefused, keeps_to_read};
+ghost use Rattle.cfb_compound_file.specs.Stored.{kept_of};
 ghost use Rattle.cfb_compound_file.specs.StdStreams.{bytes_to_read, place_to_read, rest_to_read};
 ghost use Rattle.cfb_compound_file.specs.StreamAnswers.{GoesOn, IsStreamRefused, IsStreamRefusedBy, StreamRunsBy, StreamRunsOn, causes_of_reading};
 ghost use Rattle.cfb_rules.specs.StreamCalls.{consume, got, offset, read, ready, seek};
@@ -39,6 +41,13 @@ impl<'a, F: ReadMedium, A: Heap + Clone> Read for ReadStream<'a, F, A> {
             (IsStreamRefused (causes_of_reading (file_of self.old).now (file_of self.new).now)
             F.read_faults (open_of self.old) (read (length into.old)) (open_of self.new))) }
         ensures goes_on { GoesOn F.tells (open_of self.old) (open_of self.new) }
+        ensures kept { IsTrue F.tells
+            → kept_of (file_of self.new).now ≡ kept_of (file_of self.old).now }
+        ensures counts { IsTrue F.tells → OnOk result
+            (failures_of (file_of self.new).now ≡ failures_of (file_of self.old).now) }
+        ensures none { length into.old ≡ 0 → (file_of self.new).now ≡ (file_of self.old).now }
+        ensures buffers { BuffersRead F.tells (open_of self.old) (open_of self.new) result
+            (length into.old) }
     {
         match self.read(into) {
             Ok(count) => Ok(count),
@@ -78,6 +87,8 @@ impl<'a, F: ReadMedium, A: Heap + Clone> BufRead for ReadStream<'a, F, A> {
         ensures file { (file_of self.new).now ≡ (file_of self.old).now }
         ensures entry { entry_of self.new ≡ entry_of self.old }
         ensures runs { StreamRunsOn (open_of self.old) (consume amount) ready (open_of self.new) }
+        ensures bound { (window_of self.new).bound ≡ (window_of self.old).bound }
+        ensures room { (window_of self.new).room ≡ (window_of self.old).room }
     {
         self.consume(amount);
     }
@@ -106,6 +117,8 @@ impl<'a, F: ReadMedium, A: Heap + Clone> Seek for ReadStream<'a, F, A> {
         ensures refused { IsTrue F.tells → IfErr result
             (StandsFor (IsStreamRefusedBy (causes_of_reading (file_of self.old).now
             (file_of self.new).now) (open_of self.old) (seek (whence_of to)) (open_of self.new))) }
+        ensures bound { (window_of self.new).bound ≡ (window_of self.old).bound }
+        ensures buffers { BuffersSeek F.tells (open_of self.old) (open_of self.new) result to }
     {
         match self.seek(to) {
             Ok(at) => Ok(at),

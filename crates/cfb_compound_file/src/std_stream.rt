@@ -1,19 +1,23 @@
 //! A stream that is read and written, by std's traits. Each call is the stream's own, and is refused as it is, with the kind of `std_kind`.
 //! The stream still has to be closed: a loop that uses a reader or a writer up takes `&mut stream`.
-ghost use Rattle.std.specs.Prelude.{◌≡◌, ◌||◌, [], IfErr, IfOk, IfSome, IsTrue, None, OnOk, Some, false, length, take};
+ghost use Rattle.std.specs.Prelude.{◌≡◌, ◌+◌, ◌≤◌, ◌||◌, [], IfErr, IfOk, IfSome, IsTrue, None, OnOk, Some, false, length, min, take};
 ghost use Rattle.std.specs.Borrow.{sem};
 ghost use Rattle.std.specs.Io.{ReadsAtMost, StartsWith, WritesAtMost};
+ghost use Rattle.std.specs.IoError.{error_kind};
+ghost use Rattle.std.specs.declared.io.ErrorKind.TheVariants.{StorageFull};
 ghost use Rattle.std.specs.Io.BufRead.{DropsConsumable};
 ghost use Rattle.std.specs.Io.KnownBytes.{Keeps, ReadConsumes, WriteAppends};
 ghost use Rattle.std.specs.Io.Seek.{SeekMoves};
 ghost use Rattle.cfb_std_streams.specs.Kinds.{StandsFor};
-ghost use Rattle.cfb_agreement.specs.Files.{is_failed};
+ghost use Rattle.cfb_agreement.specs.Files.{FileState, failures_of, is_failed};
 ghost use Rattle.cfb_stream_window.specs.Windows.{whence_of};
 ghost use Rattle.cfb_path_changes.specs.Answers.{causes_of};
+ghost use Rattle.cfb_compound_file.specs.Buffering.{BuffersRead, BuffersSeek, BuffersWrite};
+ghost use Rattle.cfb_compound_file.specs.Stored.{kept_of};
 ghost use Rattle.cfb_compound_file.specs.Streams.{entry_of, file_of, open_of, window_of};
 ghost use Rattle.cfb_compound_file.specs.StdLending.{IsLendingRefused, IsLentFrom, keeps};
 ghost use Rattle.cfb_compound_file.specs.StdStreams.{bytes_in, place_in, rest_in};
-ghost use Rattle.cfb_compound_file.specs.StreamAnswers.{GoesOn, IsStreamRefused, StreamRunsOn};
+ghost use Rattle.cfb_compound_file.specs.StreamAnswers.{ClosesTree, GoesOn, IsStreamRefused, StreamRunsOn, stream_in};
 ghost use Rattle.cfb_rules.specs.StreamCalls.{consume, count, flush, got, offset, read, ready, seek, write};
 
 use crate::stream::Stream;
@@ -40,6 +44,13 @@ impl<'a, F: Medium, A: Heap + Clone> Read for Stream<'a, F, A> {
             (causes_of (file_of self.old).now (file_of self.new).now) (λ f. F.read_faults f
             || F.write_faults f) (open_of self.old) (read (length into.old)) (open_of self.new))) }
         ensures goes_on { GoesOn F.tells (open_of self.old) (open_of self.new) }
+        ensures counts { IsTrue F.tells → OnOk result
+            (failures_of (file_of self.new).now ≡ failures_of (file_of self.old).now) }
+        ensures calm { IsTrue F.tells → (window_of self.old).pending ≡ false
+            → kept_of (file_of self.new).now ≡ kept_of (file_of self.old).now }
+        ensures none { length into.old ≡ 0 → (file_of self.new).now ≡ (file_of self.old).now }
+        ensures buffers { BuffersRead F.tells (open_of self.old) (open_of self.new) result
+            (length into.old) }
     {
         match self.read(into) {
             Ok(count) => Ok(count),
@@ -81,6 +92,8 @@ impl<'a, F: Medium, A: Heap + Clone> BufRead for Stream<'a, F, A> {
         ensures file { (file_of self.new).now ≡ (file_of self.old).now }
         ensures entry { entry_of self.new ≡ entry_of self.old }
         ensures runs { StreamRunsOn (open_of self.old) (consume amount) ready (open_of self.new) }
+        ensures bound { (window_of self.new).bound ≡ (window_of self.old).bound }
+        ensures room { (window_of self.new).room ≡ (window_of self.old).room }
     {
         self.consume(amount);
     }
@@ -106,6 +119,11 @@ impl<'a, F: Medium, A: Heap + Clone> Seek for Stream<'a, F, A> {
             (causes_of (file_of self.old).now (file_of self.new).now) (λ f. F.read_faults f
             || F.write_faults f) (open_of self.old) (seek (whence_of to)) (open_of self.new))) }
         ensures goes_on { GoesOn F.tells (open_of self.old) (open_of self.new) }
+        ensures counts { IsTrue F.tells → OnOk result
+            (failures_of (file_of self.new).now ≡ failures_of (file_of self.old).now) }
+        ensures calm { (window_of self.old).pending ≡ false
+            → (file_of self.new).now ≡ (file_of self.old).now }
+        ensures buffers { BuffersSeek F.tells (open_of self.old) (open_of self.new) result to }
     {
         match self.seek(to) {
             Ok(at) => Ok(at),
@@ -126,6 +144,14 @@ impl<'a, F: Medium, A: Heap + Clone> Write for Stream<'a, F, A> {
             (causes_of (file_of self.old).now (file_of self.new).now) (λ f. F.read_faults f
             || F.write_faults f) (open_of self.old) (write bytes.now) (open_of self.new))) }
         ensures goes_on { GoesOn F.tells (open_of self.old) (open_of self.new) }
+        ensures counts { IsTrue F.tells → OnOk result
+            (failures_of (file_of self.new).now ≡ failures_of (file_of self.old).now) }
+        ensures none { length bytes.now ≡ 0 → (file_of self.new).now ≡ (file_of self.old).now }
+        ensures buffers { BuffersWrite F.tells
+            (open_of self.old) (open_of self.new) result (length bytes.now) }
+        ensures inside { IsTrue F.tells → (window_of self.old).pending ≡ false
+            → (window_of self.old).base + (window_of self.old).cursor + min 1 (length bytes.now)
+            ≤ (window_of self.old).size → IfErr result (λ e. error_kind e ≡ StorageFull → ⊥) }
     {
         match self.write(bytes) {
             Ok(count) => Ok(count),
@@ -141,6 +167,14 @@ impl<'a, F: Medium, A: Heap + Clone> Write for Stream<'a, F, A> {
             (IsStreamRefused (causes_of (file_of self.old).now (file_of self.new).now) (λ f.
             F.read_faults f || F.write_faults f) (open_of self.old) flush (open_of self.new))) }
         ensures goes_on { GoesOn F.tells (open_of self.old) (open_of self.new) }
+        ensures counts { IsTrue F.tells → OnOk result
+            (failures_of (file_of self.new).now ≡ failures_of (file_of self.old).now) }
+        ensures calm { IsTrue F.tells
+            → (window_of self.old).pending ≡ false → is_failed (file_of self.new).now ≡ false
+            → kept_of (file_of self.new).now ≡ kept_of (file_of self.old).now }
+        ensures tree { IsTrue F.tells → (first : FileState) → ClosesTree first
+            (entry_of self.old) (stream_in (open_of self.old)).content (file_of self.new).now }
+        ensures room { (window_of self.new).room ≡ (window_of self.old).room }
     {
         match self.flush() {
             Ok(()) => Ok(()),

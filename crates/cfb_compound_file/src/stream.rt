@@ -209,8 +209,8 @@ impl<'a, F: Medium, A: Heap + Clone> Stream<'a, F, A> {
         self.window.set_len(self.file, self.entry, len)
     }
 
-    /// Writes out what is kept back, and has the medium hand it on. `Medium`, and the file has failed then; with bytes kept back also
-    /// `Memory` and `Full`.
+    /// Writes out what is kept back, and has the medium hand it on; the bytes mean the tree with the stream's bytes then. `Medium`, and the
+    /// file has failed then; with bytes kept back also `Memory` and `Full`.
     pub fn flush(&mut self) -> Result<(), Error>
         ensures same_file { (file_of self.new).ghost_name ≡ (file_of self.old).ghost_name }
         ensures runs { IsTrue F.tells
@@ -225,9 +225,14 @@ impl<'a, F: Medium, A: Heap + Clone> Stream<'a, F, A> {
         ensures calm { IsTrue F.tells
             → (window_of self.old).pending ≡ false → is_failed (file_of self.new).now ≡ false
             → kept_of (file_of self.new).now ≡ kept_of (file_of self.old).now }
+        ensures tree { IsTrue F.tells → (first : FileState) → ClosesTree first
+            (entry_of self.old) (stream_in (open_of self.old)).content (file_of self.new).now }
         ensures room { (window_of self.new).room ≡ (window_of self.old).room }
     {
-        self.window.flush(self.file, self.entry)
+        let flushed = self.window.flush(self.file, self.entry);
+        // What the file keeps in memory is what its bytes say still.
+        let _is_failed = self.file.is_failed();
+        flushed
     }
 
     /// Writes out what is kept back, and ends the work on the stream. With nothing kept back only `Failed` comes; else also `Medium`,

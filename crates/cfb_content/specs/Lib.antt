@@ -3,4 +3,3 @@ pub mod Uses
 pub mod Laws
 pub mod Parts
 pub mod Along
-pub mod KeptChain

@@ -8,12 +8,10 @@ ghost use Rattle.cfb_mini_sectors.specs.State.{bytes_of, content_of, entries_of,
 ghost use Rattle.cfb_mini.specs.MiniSectors.{IsStill};
 ghost use Rattle.cfb_content.specs.Along.{IsByteAlong, IsCutBy, IsMiniByteAlong, IsThereAlong, IsThereAlongMinis};
 ghost use Rattle.cfb_content.specs.Contents.{TellsPlaces, len_of};
-ghost use Rattle.cfb_content.specs.KeptChain.{IsKeptChain};
 ghost use Rattle.cfb_content.specs.Parts.{HasFirst};
 
 use crate::in_minis::{fill_from_minis, there_in_minis};
 use crate::in_sectors::{cut_short, fill_from_sectors, there_in_sectors};
-use crate::listed::{ListedChain, take_chain};
 use cfb_alloc::alloc::Allocator;
 use cfb_format::consts::MINI_STREAM_CUTOFF;
 use cfb_format::error::Error;
@@ -85,11 +83,10 @@ fn there_along_minis<F: ReadMedium, A: Heap + Clone>(
     }
 }
 
-/// Reads a beginning of the bytes from `at` on of the chain from `start`, whose first `len` bytes are a stream. Its chain is kept where it was
-/// read. `InvalidData` exactly where a byte up to `at` can't be read; `Memory`; and `Medium` where the medium fails.
+/// Reads a beginning of the bytes from `at` on of the chain from `start`, whose first `len` bytes are a stream. Its chain is ended where it
+/// was read. `InvalidData` exactly where a byte up to `at` can't be read; `Memory`; and `Medium` where the medium fails.
 fn read_along<F: ReadMedium, A: Heap + Clone>(
     allocator: &mut Allocator<F, A>,
-    kept: &mut Option<ListedChain<A>>,
     start: u32,
     len: u64,
     at: u64,
@@ -97,8 +94,6 @@ fn read_along<F: ReadMedium, A: Heap + Clone>(
 ) -> Result<usize, Error>
     requires some { 0 < length into.old }
     requires inside { at + length into.old ≤ len }
-    requires kept_chain { IsKeptChain allocator.old.tables.fat kept.old }
-    ensures kept_chain { IsKeptChain allocator.new.tables.fat kept.new }
     ensures tables { allocator.new.tables ≡ allocator.old.tables }
     ensures kept { allocator.new.file ≡ record allocator.old.file { bytes = allocator.new.file.bytes; failures = allocator.new.file.failures } }
     ensures count { IfOk result (λ n. (0 < n) × (n ≤ length into.old)) }
@@ -112,17 +107,14 @@ fn read_along<F: ReadMedium, A: Heap + Clone>(
     ensures bytes { IsTrue F.tells → allocator.new.file.bytes ≡ allocator.old.file.bytes }
     ensures counts { IsTrue F.tells → CountsFailure F.read_faults result allocator.old.file.failures allocator.new.file.failures }
 {
-    let ids = take_chain(kept, allocator, start)?;
+    let ids = allocator.open_chain(start)?;
     let there = there_in_sectors(allocator, &ids, len);
     if at >= there {
         return Err(cut_short(len, there));
     }
     let served = (into.len() as u64).min(there - at) as usize;
     fill_from_sectors(allocator, &ids, at, &mut into[..served])?;
-    *kept = Some(ListedChain {
-        start,
-        sectors: ids,
-    });
+    allocator.end_chain(ids);
     Ok(served)
 }
 
@@ -163,7 +155,6 @@ fn read_along_minis<F: ReadMedium, A: Heap + Clone>(
 /// exactly where the byte there can't be read; `Memory`; and `Medium` where the medium fails.
 fn read_inside<F: ReadMedium, A: Heap + Clone>(
     mini: &mut MiniAllocator<F, A>,
-    kept: &mut Option<ListedChain<A>>,
     entry: u32,
     at: u64,
     into: &mut [u8],
@@ -171,8 +162,6 @@ fn read_inside<F: ReadMedium, A: Heap + Clone>(
     requires inside { entry < length (entries_of mini.old) }
     requires some { 0 < length into.old }
     requires fits { at + length into.old ≤ len_of mini.old entry }
-    requires kept_chain { IsKeptChain (tables_in mini.old).fat kept.old }
-    ensures kept_chain { IsKeptChain (tables_in mini.new).fat kept.new }
     ensures kept { IsStill mini.old mini.new }
     ensures count { IfOk result (λ n. (0 < n) × (n ≤ length into.old)) }
     ensures ok { IsTrue F.tells → TellsPlaces mini.old → IfOk result (λ n. take n into.new ≡ part (content_of mini.old (entry_at (entries_of mini.old) entry)) at n) }
@@ -189,24 +178,21 @@ fn read_inside<F: ReadMedium, A: Heap + Clone>(
 {
     let (start, len) = content_in(mini, entry);
     if len >= MINI_STREAM_CUTOFF as u64 {
-        return read_along(mini.allocator_mut(), kept, start, len, at, into);
+        return read_along(mini.allocator_mut(), start, len, at, into);
     }
     read_along_minis(mini, start, len, at, into)
 }
 
 /// Reads a beginning of what can be read of the stream of that entry from byte `at` on, as far as `into` has room, and answers how many
 /// bytes that is: none exactly where `into` is empty or `at` is at its end or past it. `InvalidData` exactly where the byte there can't be
-/// read; `Memory`; and `Medium` where the medium fails. A chain of sectors that was read is kept, so that it need not be walked again.
+/// read; `Memory`; and `Medium` where the medium fails. A chain of sectors that was read is ended, so that it need not be walked again.
 pub fn read_content<F: ReadMedium, A: Heap + Clone>(
     mini: &mut MiniAllocator<F, A>,
-    kept: &mut Option<ListedChain<A>>,
     entry: u32,
     at: u64,
     into: &mut [u8],
 ) -> Result<usize, Error>
     requires inside { entry < length (entries_of mini.old) }
-    requires kept_chain { IsKeptChain (tables_in mini.old).fat kept.old }
-    ensures kept_chain { IsKeptChain (tables_in mini.new).fat kept.new }
     ensures kept { IsStill mini.old mini.new }
     ensures count { IfOk result (λ n. n ≤ min (length into.old) (len_of mini.old entry - at)) }
     ensures some { IfOk result (λ n. 0 < min (length into.old) (len_of mini.old entry - at) → 0 < n) }
@@ -226,6 +212,6 @@ pub fn read_content<F: ReadMedium, A: Heap + Clone>(
         return Ok(0);
     }
     let wanted = (into.len() as u64).min(len - at) as usize;
-    let count = read_inside(mini, kept, entry, at, &mut into[..wanted])?;
+    let count = read_inside(mini, entry, at, &mut into[..wanted])?;
     Ok(count)
 }

@@ -8,11 +8,10 @@ ghost use Rattle.cfb_sectors.specs.Sectors.{IsRaised};
 ghost use Rattle.cfb_tables.specs.Refused.{ChangeRefused};
 ghost use Rattle.cfb_mini_sectors.specs.State.{IsChangeable, bytes_of, content_of, entries_of, table_of, tables_in};
 ghost use Rattle.cfb_content.specs.Contents.{IsNotChangeable, IsStreamOf, KeepsFixedHeader, KeepsOthers, StopsStillOrBegun, len_of};
-ghost use Rattle.cfb_content.specs.KeptChain.{IsKeptChain};
 
 use crate::in_minis::put_in_minis;
 use crate::in_sectors::put_in_sectors;
-use crate::listed::{ListedChain, take_whole_chain_in, whole_mini_chain_in};
+use crate::listed::{open_whole_chain_in, whole_mini_chain_in};
 use crate::reading::content_in;
 use cfb_format::consts::MINI_STREAM_CUTOFF;
 use cfb_format::error::Error;
@@ -23,19 +22,16 @@ use std::alloc::Allocator as Heap;
 /// Writes all of `bytes` over the content of the stream of that entry, from byte `at` on, inside its length.
 ///
 /// `InvalidData` where the stream's chain is none, or the file ends before a byte that is to be written, and `Memory`: then nothing has
-/// changed. After `Medium`, where the medium fails, no byte of another stream has changed. A chain of sectors that was written to is kept, so
+/// changed. After `Medium`, where the medium fails, no byte of another stream has changed. A chain of sectors that was written to is ended, so
 /// that it need not be walked again.
 pub fn write_content<F: Medium, A: Heap + Clone>(
     mini: &mut MiniAllocator<F, A>,
-    kept: &mut Option<ListedChain<A>>,
     entry: u32,
     at: u64,
     bytes: &[u8],
 ) -> Result<(), Error>
     requires stream { IsStreamOf mini.old entry }
     requires inside { at + length bytes.now ≤ len_of mini.old entry }
-    requires kept_chain { IsKeptChain (tables_in mini.old).fat kept.old }
-    ensures kept_chain { IsKeptChain (tables_in mini.new).fat kept.new }
     ensures rest { mini.new ≡ record mini.old { directory = record mini.old.directory { table = record (table_of mini.old) { file = (table_of mini.new).file } } } }
     ensures none { length bytes.now ≡ 0 → OnErr result ⊥ × (mini.new ≡ mini.old) }
     ensures content { IsTrue F.tells → (validation : Validation) → IsChangeable validation mini.old
@@ -53,15 +49,14 @@ pub fn write_content<F: Medium, A: Heap + Clone>(
         return Ok(());
     }
     let list = Vec::new(mini.heap().clone()?);
-    write_listed(mini, list, kept, entry, at, bytes)
+    write_listed(mini, list, entry, at, bytes)
 }
 
-/// `write_content` of one byte at least, with the stream's chain as it is kept or else in the list that is given, whatever that held: it asks
-/// for memory only where the list has too little room.
+/// `write_content` of one byte at least: a chain that is walked is walked in the list that is given, whatever that held, so that it asks for
+/// memory only where the list has too little room.
 pub fn write_listed<F: Medium, A: Heap>(
     mini: &mut MiniAllocator<F, A>,
     list: Vec<u32, A>,
-    kept: &mut Option<ListedChain<A>>,
     entry: u32,
     at: u64,
     bytes: &[u8],
@@ -69,8 +64,6 @@ pub fn write_listed<F: Medium, A: Heap>(
     requires stream { IsStreamOf mini.old entry }
     requires some { 0 < length bytes.now }
     requires inside { at + length bytes.now ≤ len_of mini.old entry }
-    requires kept_chain { IsKeptChain (tables_in mini.old).fat kept.old }
-    ensures kept_chain { IsKeptChain (tables_in mini.new).fat kept.new }
     ensures rest { mini.new ≡ record mini.old { directory = record mini.old.directory { table = record (table_of mini.old) { file = (table_of mini.new).file } } } }
     ensures content { IsTrue F.tells → (validation : Validation) → IsChangeable validation mini.old
         → OnOk result (content_of mini.new (entry_at (entries_of mini.old) entry) ≡ written (content_of mini.old (entry_at (entries_of mini.old) entry)) at bytes.now) }
@@ -85,12 +78,10 @@ pub fn write_listed<F: Medium, A: Heap>(
 {
     let (start, len) = content_in(mini, entry);
     if len >= MINI_STREAM_CUTOFF as u64 {
-        let ids = take_whole_chain_in(list, kept, mini.allocator(), start, len)?;
-        let put = put_in_sectors(mini.allocator_mut(), &ids, at, bytes);
-        *kept = Some(ListedChain {
-            start,
-            sectors: ids,
-        });
+        let allocator = mini.allocator_mut();
+        let ids = open_whole_chain_in(allocator, list, start, len)?;
+        let put = put_in_sectors(allocator, &ids, at, bytes);
+        allocator.end_chain(ids);
         return put;
     }
     let ids = whole_mini_chain_in(list, mini, start, len)?;

@@ -9,6 +9,7 @@ use Rattle.cfb_siblings.specs.Paths.{number_from}
 use Rattle.cfb_trees.proofs.PathNames.{same-from}
 use Rattle.cfb_mini_sectors.specs.State.{cases_of, entries_of}
 use Rattle.cfb_content.specs.Contents.{IsStreamOf, MovesContent}
+use Rattle.cfb_content.proofs.FixedHeader.{header-stays, header-then}
 use Rattle.cfb_content.proofs.Kept.{nothing-is-moved, others-kept-then}
 use Rattle.cfb_content.proofs.Outlines.{content-moves-then, moved-at, moved-is-outline, same-entries-moved}
 use Rattle.cfb_entry_changes.specs.Kept.{KeepsFound}
@@ -25,6 +26,7 @@ fills_none tells i file calm stream = record {
   moves = same-entries-moved file.base file.base i refl;
   holds = λ told holds. holds;
   others = λ told holds. nothing-is-moved i file.base;
+  header = λ told holds. header-stays file.base file.base refl;
   made = λ told holds made. made;
   none_free = λ told holds none. none;
   calm = λ told. refl;
@@ -42,6 +44,7 @@ fills_written tells i old new setting calm stream moves agrees changes full coun
   moves = moves;
   holds = λ told holds. agrees told holds calm;
   others = λ told holds. (changes told holds).others;
+  header = λ told holds. (changes told holds).header;
   made = λ told holds made. (changes told holds).made calm made;
   none_free = full;
   calm = counted;
@@ -56,6 +59,7 @@ fills_then tells i a b c p q = record {
   moves = content-moves-then a.base b.base c.base i p.moves q.moves;
   holds = λ told holds. q.holds told (p.holds told holds);
   others = λ told holds. others-kept-then i a.base b.base c.base p.setting.limits p.moves (p.others told holds) (q.others told (p.holds told holds));
+  header = λ told holds. header-then a.base b.base c.base p.setting.limits.version (p.header told holds) (q.header told (p.holds told holds));
   made = λ told holds made. q.made told (p.holds told holds) (p.made told holds made);
   none_free = λ told holds none. q.none_free told (p.holds told holds) (p.none_free told holds none);
   calm = λ told. q.calm told ∙ p.calm told;
@@ -82,6 +86,7 @@ fills_grow tells i old new stream f = record {
   outline = (stream.outline, moved-is-outline old.base new.base i stream.outline f.setting.limits.cases f.moves stream.is);
   stays = moved_found i old new f.setting f.moves;
   holds = f.holds;
+  header = f.header;
   made = f.made;
   none_free = f.none_free;
   calm = f.calm;

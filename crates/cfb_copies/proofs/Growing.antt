@@ -9,6 +9,8 @@ use Rattle.cfb_entries.specs.EntryList.{AreInOrder}
 use Rattle.cfb_tables.specs.Changes.{NoneFree}
 use Rattle.cfb_tables.specs.Tables.{TableState}
 use Rattle.cfb_mini_sectors.specs.State.{cases_of, entries_of, tables_in}
+use Rattle.cfb_content.specs.Contents.{KeepsFixedHeader}
+use Rattle.cfb_content.proofs.FixedHeader.{header-stays, header-then}
 use Rattle.cfb_entry_changes.specs.Kept.{KeepsFound}
 use Rattle.cfb_agreement.specs.Files.{Agrees, FileState, Holds, IsAsMade, SameSetting, failures_of, is_failed}
 use Rattle.cfb_copies.proofs.Settings.{setting_same, setting_then}
@@ -27,6 +29,7 @@ grows_none tells file calm outline = record {
       subst (λ (p : Outline). number_from (cases_of file.base) (entries_of file.base) 0 p names ≡ Some k)
       (IsOutline-unique (cases_of file.base) (entries_of file.base) before after was is) found;
   holds = λ told holds. holds;
+  header = λ told holds. header-stays file.base file.base refl;
   made = λ told holds made. made;
   none_free = λ told holds none. none;
   calm = λ told. refl;
@@ -35,14 +38,15 @@ grows_none tells file calm outline = record {
 -- one change of entries
 pub grows_by : (tells : Bool) (old new : FileState) → SameSetting old new → is_failed new ≡ false → HasOutline (cases_of old.base) (entries_of old.base)
     → HasOutline (cases_of new.base) (entries_of new.base) → KeepsFound old.base new.base
-    → (IsTrue tells → Holds old → Agrees new) → (IsTrue tells → Holds old → IsAsMade old.base → IsAsMade new.base) → StaysWithoutFree old new → (IsTrue tells → failures_of new ≡ failures_of old)
-    → GrowsTree tells old new
-grows_by tells old new setting calm was now stays agrees made full counted = record {
+    → (IsTrue tells → Holds old → Agrees new) → (IsTrue tells → KeepsFixedHeader old.base new.base) → (IsTrue tells → Holds old → IsAsMade old.base → IsAsMade new.base)
+    → StaysWithoutFree old new → (IsTrue tells → failures_of new ≡ failures_of old) → GrowsTree tells old new
+grows_by tells old new setting calm was now stays agrees header made full counted = record {
   setting = setting;
   unfailed = calm;
   outline = now;
   stays = stays;
   holds = λ told holds. agrees told holds calm;
+  header = λ told holds. header told;
   made = made;
   none_free = λ told holds. full;
   calm = counted;
@@ -60,6 +64,7 @@ grows_then tells a b c p q = record {
   outline = q.outline;
   stays = λ before after was is names k found. q.stays p.outline.0 after p.outline.1 is names k (p.stays before p.outline.0 was p.outline.1 names k found);
   holds = λ told holds. q.holds told (p.holds told holds);
+  header = λ told holds. header-then a.base b.base c.base p.setting.limits.version (p.header told holds) (q.header told (p.holds told holds));
   made = λ told holds made. q.made told (p.holds told holds) (p.made told holds made);
   none_free = λ told holds none. q.none_free told (p.holds told holds) (p.none_free told holds none);
   calm = λ told. q.calm told ∙ p.calm told;

@@ -9,6 +9,7 @@ pub mod Stored
 pub mod Prepared
 pub mod Filled
 pub mod Emptied
+pub mod Headers
 pub mod Adding
 pub mod Appended
 pub mod Joining

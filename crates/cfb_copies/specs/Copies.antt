@@ -1,8 +1,9 @@
 -- A copy of a file: when there is one, and what it is.
-use Rattle.std.specs.Prelude.{ℕ, ◌≡◌, ◌<◌, ◌⊎◌, true, false, List, All, Result, IsErrAnd, length, slice_index_or, ⊤}
+use Rattle.std.specs.Prelude.{ℕ, ◌≡◌, ◌<◌, ◌⊎◌, true, false, List, All, Result, IsErrAnd, length, slice_index, slice_index_or, ⊤}
 use Rattle.cfb_format.specs.declared.error.Error.{Error}
 use Rattle.cfb_format.specs.declared.error.Error.TheVariants.{AlreadyExists, Failed, Full, InvalidData, InvalidInput, Medium, Memory, NotFound, Unsound}
 use Rattle.cfb_format.specs.Bytes.{max_regular_sector}
+use Rattle.cfb_format.specs.Created.{created_bytes}
 use Rattle.cfb_format.specs.Full.{IsTooLarge}
 use Rattle.cfb_format.specs.Meaning.{Means}
 use Rattle.cfb_format.specs.Reading.{IsOutline, Outline}
@@ -14,6 +15,7 @@ use Rattle.cfb_places.specs.Laws.{IsWholeAt}
 use Rattle.cfb_places.specs.Parts.{part_at, parts_of}
 use Rattle.cfb_places.specs.Places.{places_of}
 use Rattle.cfb_tables.specs.Changes.{NoneFree}
+use Rattle.cfb_alloc.specs.Frame.{IsFixedHeaderByte}
 use Rattle.cfb_mini_sectors.specs.State.{bytes_of, cases_of, content_of, entries_of, tables_in, version_of}
 use Rattle.cfb_agreement.specs.Files.{FileState, Holds, IsAsMade, failures_of, is_failed}
 use Rattle.cfb_copies.specs.Steps.{IsCopyable, LeadTo}
@@ -69,11 +71,17 @@ pub record TakesAfter (room : ℕ) (source copy : FileState) : Type 0 where
   pub sound : copy.is_sound ≡ true
   pub unfailed : is_failed copy ≡ false
 
--- it is what its bytes say, and as a file that was made here is, and none of its sectors is free; so many calls of its medium have failed
+-- of its header the bytes that speak neither of tables nor of chains, and those behind it, are as in a file that was just made
+abbrev pub HasCreatedHeader : FileState → Type 0
+HasCreatedHeader file = (i : ℕ) → IsFixedHeaderByte (version_of file.base) i → slice_index (bytes_of file.base) i ≡ slice_index (created_bytes (version_of file.base)) i
+
+-- it is what its bytes say, and as a file that was made here is, header and all, and none of its sectors is free; so many calls of its medium
+-- have failed
 pub record IsMadeCopy (failures : ℕ) (copy : FileState) : Type 0 where
   pub holds : Holds copy
   pub made : IsAsMade copy.base
   pub none_free : NoneFree (tables_in copy.base).fat
+  pub header : HasCreatedHeader copy
   pub calm : failures_of copy ≡ failures
 
 -- its bytes mean the tree that those of the file mean

@@ -21,7 +21,7 @@ use Rattle.cfb_tables.specs.Changes.{NoneFree}
 use Rattle.cfb_trees.specs.Reached.{IsObject, IsReached}
 use Rattle.cfb_entries.specs.declared.fields.Fields.{Fields}
 use Rattle.cfb_mini_sectors.specs.State.{cases_of, entries_of, tables_in, version_of}
-use Rattle.cfb_content.specs.Contents.{IsStreamOf, KeepsOthers, MovesContent, len_of}
+use Rattle.cfb_content.specs.Contents.{IsStreamOf, KeepsFixedHeader, KeepsOthers, MovesContent, len_of}
 use Rattle.cfb_entry_changes.specs.Kept.{KeepsFound}
 use Rattle.cfb_agreement.specs.Files.{FileState, Holds, IsAsBefore, IsAsMade, SameSetting, failures_of, is_failed}
 
@@ -69,6 +69,7 @@ pub record FillsStream (tells : Bool) (entry : ℕ) (old new : FileState) : Type
   pub moves : MovesContent old.base new.base entry
   pub holds : IsTrue tells → Holds old → Holds new
   pub others : IsTrue tells → Holds old → KeepsOthers entry old.base new.base
+  pub header : IsTrue tells → Holds old → KeepsFixedHeader old.base new.base
   pub made : IsTrue tells → Holds old → IsAsMade old.base → IsAsMade new.base
   pub none_free : IsTrue tells → Holds old → StaysWithoutFree old new
   pub calm : IsTrue tells → failures_of new ≡ failures_of old
@@ -80,6 +81,7 @@ pub record GrowsTree (tells : Bool) (old new : FileState) : Type 0 where
   pub outline : HasOutline (cases_of new.base) (entries_of new.base)
   pub stays : KeepsFound old.base new.base
   pub holds : IsTrue tells → Holds old → Holds new
+  pub header : IsTrue tells → Holds old → KeepsFixedHeader old.base new.base
   pub made : IsTrue tells → Holds old → IsAsMade old.base → IsAsMade new.base
   pub none_free : IsTrue tells → Holds old → StaysWithoutFree old new
   pub calm : IsTrue tells → failures_of new ≡ failures_of old

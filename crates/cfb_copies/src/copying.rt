@@ -181,8 +181,9 @@ fn counted(error: Error) -> Error
     }
 }
 
-/// Copies the file into an empty medium: the copy has its version, its letters and its tree, and no sector without an owner. It may grow as
-/// far as there are numbers, and no buffer of its streams has more room than the greater of `buffer_limit` and 1024 bytes.
+/// Copies the file into an empty medium: the copy has its version, its letters and its tree, no sector without an owner, and the header of a
+/// created file where nobody reads it. It may grow as far as there are numbers, and no buffer of its streams has more room than the greater of
+/// `buffer_limit` and 1024 bytes.
 ///
 /// `Failed` exactly where the file failed earlier; `InvalidData` exactly where some stream of it can't be read to its end; `Full` exactly
 /// where no file of its version has room for its tree: nothing is written then. `Memory`, and `Medium` where one of the two media fails.

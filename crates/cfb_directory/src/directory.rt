@@ -13,9 +13,10 @@ ghost use Rattle.cfb_format.specs.Reading.{IsOutline, Outline, numbers};
 ghost use Rattle.cfb_format.specs.Refused.{CountsFailure, IsInvalidOrMemory};
 ghost use Rattle.cfb_format.specs.Siblings.{entry_at};
 ghost use Rattle.cfb_codecs.specs.EntryModel.{entries_of, entry_of, new_entry};
+ghost use Rattle.cfb_index.specs.Index.{CountsSteps};
 ghost use Rattle.cfb_outline.specs.Outlines.{AcceptsOutline, HasInside, IsReachedStorage};
 ghost use Rattle.cfb_siblings.specs.Children.{HasChildren, IsAbsent, IsChildNamed, KeepsBalance};
-ghost use Rattle.cfb_siblings.specs.Paths.{number_from};
+ghost use Rattle.cfb_siblings.specs.Paths.{number_at_path, number_from};
 ghost use Rattle.cfb_sectors.specs.Sectors.{IsMediumError, IsRaised};
 ghost use Rattle.cfb_tables.specs.Changes.{NoChain};
 ghost use Rattle.cfb_tables.specs.Clean.{IsUnnamed};
@@ -275,7 +276,34 @@ impl<F: ReadMedium, A: Heap> Directory<F, A> {
         ensures reached { (o : Outline) → IsOutline self.now.cases self.now.entries o
             → IfSome result (λ k. Contains (0 ∷ numbers o) k) }
     {
-        self.entries.find(names)
+        self.find_counted(names).0
+    }
+
+    /// The same, and how many steps it took: one for each name, up to the first that leads
+    /// nowhere, and each of them a look-up in the index of names.
+    pub fn find_counted(&self, names: &[&str]) -> (Option<u32>, u64)
+        ensures found { (o : Outline) → IsOutline self.now.cases self.now.entries o
+            → result.0 ≡ number_from self.now.cases self.now.entries 0 o (map (λ name.
+            chars name.now) names.now) }
+        ensures reached { (o : Outline) → IsOutline self.now.cases self.now.entries o
+            → IfSome result.0 (λ k. Contains (0 ∷ numbers o) k) }
+        ensures steps { result.1 ≤ length names.now }
+        ensures counted { (o : Outline) → IsOutline self.now.cases self.now.entries o
+            → CountsSteps (number_from self.now.cases self.now.entries 0 o) (map (λ name.
+            chars name.now) names.now) result.1 }
+    {
+        self.entries.find_counted(names)
+    }
+
+    /// The entry at a path from the root: `None` where a `..` leaves the root, and where nothing is
+    /// there. It takes no memory.
+    pub fn find_path(&self, path: &str) -> Option<u32>
+        ensures found { (o : Outline) → IsOutline self.now.cases self.now.entries o
+            → result ≡ number_at_path self.now.cases self.now.entries o (chars path.now) }
+        ensures reached { (o : Outline) → IsOutline self.now.cases self.now.entries o
+            → IfSome result (λ k. Contains (0 ∷ numbers o) k) }
+    {
+        self.entries.find_path(path)
     }
 
     /// The child of that name in the storage `parent`, or `None` where it has none (MS-CFB 2.6.4). It takes no memory.

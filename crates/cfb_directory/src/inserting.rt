@@ -290,7 +290,7 @@ fn make_room<F: Medium, A: Heap + Clone>(
 }
 
 /// Puts an entry that was prepared into a free slot, and writes the slots that changed. `Medium` where the medium fails.
-fn put<F: Medium, A: Heap>(
+fn put<F: Medium, A: Heap + Clone>(
     allocator: &mut Allocator<F, A>,
     sectors: &[u32],
     entries: &mut Entries<A>,

@@ -14,7 +14,8 @@ use Rattle.cfb_siblings.proofs.Tallies.{all-at, counted, present}
 use Rattle.cfb_trees.specs.Reached.{IsObject}
 use Rattle.cfb_entries.specs.EntryList.{AreInOrder, ListsFreeSlots, InsertsEntry, RemovesEntry, IsChildless}
 use Rattle.cfb_entries.proofs.FreeSlots.{last-free}
-use Rattle.cfb_entries.proofs.Contents.{reached-parent, put-in-order, put-free, left-in-order, left-free, in-middle, one-named}
+use Rattle.cfb_siblings.proofs.Alone.{one-named}
+use Rattle.cfb_entries.proofs.Contents.{reached-parent, put-in-order, put-free, left-in-order, left-free, in-middle}
 
 -- a name that an object may be given has its place in a slot
 pub valid-short : (name : List ℕ) → IsTrue (is_valid_name name) → length (utf16_units name) ≤ max_name_len
@@ -83,6 +84,10 @@ on-err (Err e) h = h
 pub either-way : {T E P Q R : Type 0} (r : Result T E) → OnOk r P → OnErr r Q → (P → R) → (Q → R) → R
 either-way (Ok x) p q f g = f p
 either-way (Err e) p q f g = g q
+
+pub three-or : {T E P Q S B R : Type 0} (r : Result T E) → OnOk r P → OnOk r Q → OnOk r S → OnErr r B → (P → Q → S → R) → (B → R) → R
+three-or (Ok x) p q s b f g = f p q s
+three-or (Err e) p q s b f g = g b
 
 -- one more number is listed
 pub listed-more : (free old new : List ℕ) (x y : ℕ) → new ≡ old ++ x ∷ [] → old ≡ free → y ≡ x → new ≡ free ++ y ∷ []

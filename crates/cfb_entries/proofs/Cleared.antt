@@ -1,5 +1,5 @@
 -- What the clearing of a storage makes of the entries and of the list of free slots.
-use Rattle.std.proofs.Common.{◌≡◌, ◌≢◌, inl, inr, ◌<◌, ◌≤◌, ℕ, List, [], ◌∷◌, ◌++◌, refl, sym, ◌∙◌, ap, subst, length, length-set, get_or-set_same, get_or-set_other, arith}
+use Rattle.std.proofs.Common.{◌≡◌, ◌≢◌, inl, inr, ◌+◌, ◌<◌, ◌≤◌, ℕ, List, [], ◌∷◌, ◌++◌, refl, sym, ◌∙◌, ap, subst, length, length-set, get_or-set_same, get_or-set_other, arith}
 use Rattle.std.specs.Prelude.{Contains, ◌%◌, slice_set}
 use Rattle.std.specs.List.{IsDistinct}
 use Rattle.std.proofs.lemmas.Bool.{cases_eq, cases_lt}
@@ -19,7 +19,7 @@ use Rattle.cfb_trees.specs.Reached.{IsReached}
 use Rattle.cfb_trees.proofs.Kept.{SameNode, children-kept, contents-kept, same-node}
 use Rattle.cfb_trees.proofs.Members.{below-once, reached-is-used, reached-is-within, reached-once}
 use Rattle.cfb_trees.proofs.Parents.{parent-kind, parent-links, root-len}
-use Rattle.cfb_trees.proofs.Recolored.{below-reached}
+use Rattle.cfb_trees.proofs.Reached.{below-reached}
 use Rattle.cfb_trees.proofs.Replaced.{Becomes, becomes}
 use Rattle.cfb_trees.proofs.Standing.{StandsAt, at-held, at-inner, at-within, stands-at}
 use Rattle.cfb_entries.specs.Clearing.{HasCleared}
@@ -83,7 +83,7 @@ module _ (cases : Cases) (old : List Entry) (o : Outline) (top : ℕ) (x : Outli
   once : (k : ℕ) → times_in k (0 ∷ numbers o) ≤ 1
   once = reached-once cases old o is
 
-  inside-reached : (k : ℕ) → Contains (numbers x) k → IsReached o k
+  pub inside-reached : (k : ℕ) → Contains (numbers x) k → IsReached o k
   inside-reached k m = below-reached o k (present k (numbers o) (omega (arith, at-within top x o standing k, counted k (numbers x) m)))
 
   pub inside-within : (k : ℕ) → Contains (numbers x) k → k < length old
@@ -103,7 +103,7 @@ module _ (cases : Cases) (old : List Entry) (o : Outline) (top : ℕ) (x : Outli
   module _ (new : List Entry) (did : HasCleared old new top (numbers x)) where
     -- ---- the same, where the slots are not free yet
 
-    abbrev mid : List Entry
+    abbrev pub mid : List Entry
     mid = slice_set old top (record (entry_at old top) { child = no_stream })
 
     mid-is : HasCleared old mid top []
@@ -115,14 +115,14 @@ module _ (cases : Cases) (old : List Entry) (o : Outline) (top : ℕ) (x : Outli
     mid-beside : (k : ℕ) → k ≢ top → entry_at mid k ≡ entry_at old k
     mid-beside k kt = mid-is.others_kept k kt (nowhere k)
 
-    mid-becomes : Becomes cases mid o x no_more
+    pub mid-becomes : Becomes cases mid o x no_more
     unfolding times_in
     mid-becomes = becomes cases old mid (omega (arith, mid-is.longer)) top x no_more (parent-kind old mid top mid-is.top_kept) (parent-links old mid top mid-is.top_kept)
         (none-below cases mid (entry_at mid top).child mid-is.none) tt
         o is (root-len old mid top mid-is.top_kept cases o x is standing (λ kp _. mid-beside 0 kp)) (λ k h kt out. same-node old mid k (mid-beside k kt))
         (λ k. omega (arith, once k)) standing
 
-    abbrev after : Outline
+    abbrev pub after : Outline
     after = mid-becomes.outline
 
     -- of what is reached now the entries are those of the one before
@@ -134,11 +134,11 @@ module _ (cases : Cases) (old : List Entry) (o : Outline) (top : ℕ) (x : Outli
       | inr kt ↦ did.others_kept k kt (outside k (numbers x) out) ∙ sym (mid-beside k kt)
     ]
 
-    apart-now : (k : ℕ) → 1 ≤ times_in k (0 ∷ numbers after) → times_in k (numbers x) ≡ 0
+    pub apart-now : (k : ℕ) → 1 ≤ times_in k (0 ∷ numbers after) → times_in k (numbers x) ≡ 0
     unfolding times_in
     apart-now k m = omega (arith, mid-becomes.counts k, once k, m, at-within top x o standing k)
 
-    now-is : IsOutline cases new after
+    pub now-is : IsOutline cases new after
     unfolding times_in
     now-is =
         let m : IsOutline cases mid after = mid-becomes.is in
@@ -151,6 +151,11 @@ module _ (cases : Cases) (old : List Entry) (o : Outline) (top : ℕ) (x : Outli
           contents = contents-kept cases mid new longer after (λ k h. node k (omega (arith, h))) m.contents;
           distinct = m.distinct;
         }
+
+    -- all is reached but what was in the storage
+    pub after-counts : (k : ℕ) → times_in k (numbers after) + times_in k (numbers x) ≡ times_in k (numbers o)
+    unfolding times_in
+    after-counts k = omega (arith, mid-becomes.counts k)
 
     -- ---- names and slots
 

@@ -1,24 +1,19 @@
 -- Names and kinds of entries under changes.
-use Rattle.std.proofs.Common.{◌≡◌, ◌≢◌, inl, inr, ℕ, ◌+◌, ◌≤◌, true, false, List, [], ◌∷◌, ◌++◌, length, refl, ap, sym, subst, ◌∙◌, arith, length-append, length-set}
+use Rattle.std.proofs.Common.{◌≡◌, ◌≢◌, inl, inr, ℕ, ◌+◌, ◌≤◌, List, [], ◌∷◌, ◌++◌, length, refl, ap, sym, subst, ◌∙◌, arith, length-append, length-set}
 use Rattle.std.specs.Prelude.{◌%◌, Contains, ◌⊎◌, replicate}
-use Rattle.std.specs.List.{AllByRecursion}
-use Rattle.std.specs.declared.cmp.Ordering.TheVariants.{Less}
 use Rattle.std.proofs.lemmas.Bool.{cases_eq, cases_lt}
 use Rattle.std.proofs.lemmas.List.{get_or_past, length-replicate}
 use Rattle.cfb_format.specs.declared.objtype.ObjType.TheVariants.{Unallocated}
 use Rattle.cfb_format.specs.Bytes.{no_stream}
-use Rattle.cfb_format.specs.Names.{Cases, name_cmp, utf16_units, max_name_len}
-use Rattle.cfb_format.specs.Tree.{is_same_name}
+use Rattle.cfb_format.specs.Names.{Cases, utf16_units, max_name_len}
 use Rattle.cfb_format.specs.DirectoryEntry.{Entry, unallocated_entry}
-use Rattle.cfb_format.specs.Siblings.{entry_at, RisesByName}
+use Rattle.cfb_format.specs.Siblings.{entry_at}
 use Rattle.cfb_format.specs.Reading.{Outline, IsOutline, numbers}
-use Rattle.cfb_format.proofs.TreeMap.{alike}
 use Rattle.cfb_format.proofs.Unique.{Below-unique, IsOutline-unique}
 use Rattle.cfb_outline.specs.Outlines.{IsReachedStorage}
 use Rattle.cfb_siblings.specs.Children.{HasChildren, HasInserted, HasRemoved, IsParent}
 use Rattle.cfb_siblings.specs.Painted.{times_in}
-use Rattle.cfb_siblings.proofs.Tallies.{hit-same, hit-cases, tally-append, all-at, counted, present, outside}
-use Rattle.cfb_siblings.proofs.NameFacts.{later-not-same}
+use Rattle.cfb_siblings.proofs.Tallies.{hit-same, tally-append, present, outside}
 use Rattle.cfb_siblings.specs.Laws.{grown_by}
 use Rattle.cfb_siblings.specs.Order.{steps_of}
 use Rattle.cfb_siblings.proofs.Grown.{entry-stays, length-grows, place-same}
@@ -69,33 +64,6 @@ pub free-outside : (cases : Cases) (entries : List Entry) (parent n : ℕ) → I
 free-outside cases entries parent n r u =
     let (list, h, m) = reached-is-parent cases entries r.outline parent r.is r.reached r.kind in
     (list, h, λ c. object-is-used (entry_at entries n) (m n c).1 u)
-
--- ---- one child has a name
-
-apart-names : (cases : Cases) (entries : List Entry) (name : List ℕ) (i k : ℕ) (list : List ℕ) → AllByRecursion (λ j. name_cmp cases (entry_at entries i).name (entry_at entries j).name ≡ Less) list
-    → 1 ≤ times_in k list → is_same_name cases name (entry_at entries k).name ≡ true → is_same_name cases name (entry_at entries i).name ≡ false
-apart-names cases entries name i k list a m s =
-    alike cases name (entry_at entries k).name (entry_at entries i).name s
-    ∙ later-not-same cases (entry_at entries i).name (entry_at entries k).name (all-at (λ j. name_cmp cases (entry_at entries i).name (entry_at entries j).name ≡ Less) list k a m)
-
-named-once : (cases : Cases) (entries : List Entry) (name list : List ℕ) (j k : ℕ) → RisesByName cases entries list → 1 ≤ times_in j list → 1 ≤ times_in k list
-    → is_same_name cases name (entry_at entries j).name ≡ true → is_same_name cases name (entry_at entries k).name ≡ true → j ≡ k
-unfolding times_in
-named-once cases entries name [] j k r m n e f = absurd (omega (arith, m))
-named-once cases entries name (i ∷ list) j k r m n e f = elim (hit-cases j i) [
-  | inl a ↦ elim (hit-cases k i) [
-    | inl b ↦ a ∙ sym b
-    | inr y ↦ absurd (let q : false ≡ true = sym (apart-names cases entries name i k list r.0 (omega (arith, n, y)) f) ∙ (ap (λ (z : ℕ). is_same_name cases name (entry_at entries z).name) (sym a) ∙ e) in cc)
-  ]
-  | inr z ↦ elim (hit-cases k i) [
-    | inl b ↦ absurd (let q : false ≡ true = sym (apart-names cases entries name i j list r.0 (omega (arith, m, z)) e) ∙ (ap (λ (w : ℕ). is_same_name cases name (entry_at entries w).name) (sym b) ∙ f) in cc)
-    | inr y ↦ named-once cases entries name list j k r.1 (omega (arith, m, z)) (omega (arith, n, y)) e f
-  ]
-]
-
-pub one-named : (cases : Cases) (entries : List Entry) (name list : List ℕ) (j k : ℕ) → RisesByName cases entries list → Contains list j → Contains list k
-    → is_same_name cases name (entry_at entries j).name ≡ true → is_same_name cases name (entry_at entries k).name ≡ true → j ≡ k
-one-named cases entries name list j k r m n e f = named-once cases entries name list j k r (counted j list m) (counted k list n) e f
 
 -- ---- an entry was put
 
@@ -148,7 +116,7 @@ module _ (cases : Cases) (old new : List Entry) (parent n freed : ℕ) (xs ys li
     ]
   ]
 
-  left-names : HaveShortNames old → HaveShortNames new
+  pub left-names : HaveShortNames old → HaveShortNames new
   left-names short k lt = elim (cases_eq k freed) [
     | inl e ↦ let q : (entry_at new k).name ≡ [] = ap (λ (j : ℕ). (entry_at new j).name) e ∙ ap (λ (x : Entry). x.name) h.freed_is in rw q (omega arith)
     | inr ne ↦ elim (others-left k ne) [

@@ -1,5 +1,5 @@
 -- Lists of numbers that stand in them once.
-use Rattle.std.proofs.Common.{◌≡◌, inl, inr, ℕ, zero, suc, ◌+◌, ◌-◌, ◌<◌, ◌≤◌, List, [], ◌∷◌, ◌++◌, ap, sym, subst, arith}
+use Rattle.std.proofs.Common.{◌≡◌, inl, inr, ℕ, zero, suc, ◌+◌, ◌-◌, ◌<◌, ◌≤◌, List, [], ◌∷◌, ◌++◌, ap, length, length-append, sym, subst, arith}
 use Rattle.std.specs.Prelude.{nat_eq, Contains, ◌⊎◌}
 use Rattle.std.specs.List.{IsDistinct}
 use Rattle.std.proofs.lemmas.Bool.{cases_eq}
@@ -37,6 +37,10 @@ with-next list from zero lt = absurd (omega (arith, lt))
 with-next list from (suc more) lt =
     let e : more ≡ suc more - 1 = omega arith in
     ap (λ (k : ℕ). with_numbers (list ++ (from + k) ∷ []) from k) e
+
+pub with-length : (more : ℕ) (list : List ℕ) (from : ℕ) → length (with_numbers list from more) ≡ length list + more
+with-length zero list from = omega arith
+with-length (suc more) list from = omega (arith, with-length more (list ++ (from + more) ∷ []) from, length-append list ((from + more) ∷ []))
 
 pub with-distinct : (more : ℕ) (list : List ℕ) (from : ℕ) → IsDistinct nat_eq list → ((k : ℕ) → Contains list k → from ≤ k → from + more ≤ k) → IsDistinct nat_eq (with_numbers list from more)
 with-distinct zero list from d above = d

@@ -4,3 +4,12 @@ pub mod Lent
 pub mod Contents
 pub mod Changed
 pub mod Cleared
+pub mod Found
+pub mod Covered
+pub mod Moves
+pub mod Removed
+pub mod Built
+pub mod ClearedTree
+pub mod Indexed
+pub mod Removal
+pub mod Emptied

@@ -1,4 +1,5 @@
 pub mod Clearing
+pub mod Covering
 pub mod EntryList
 pub mod Fields
 pub mod Insertions

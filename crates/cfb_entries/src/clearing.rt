@@ -1,16 +1,24 @@
 //! All that is in a storage, taken from a directory's entries at once.
-ghost use Rattle.std.specs.Prelude.{◌≡◌, ℕ, ◌<◌, ◌++◌, ◌∷◌, List, length, slice_set, Contains, IfOk, OnOk, OnErr};
+ghost use Rattle.std.specs.Prelude.{◌≡◌, ℕ, ◌<◌, ◌≤◌, ◌++◌, ◌∷◌, List, length, slice_set, vec_len, Contains, IfOk, OnOk, OnErr};
 ghost use Rattle.cfb_format.specs.Bytes.{no_stream};
 ghost use Rattle.cfb_format.specs.DirectoryEntry.{unallocated_entry};
+ghost use Rattle.cfb_format.specs.Reading.{Outline, numbers};
 ghost use Rattle.cfb_format.specs.Siblings.{entry_at};
 ghost use Rattle.cfb_codecs.specs.EntryModel.{entry_of, entries_of};
+ghost use Rattle.cfb_index.specs.Index.{HasSame};
+ghost use Rattle.cfb_outline.specs.Outlines.{HasInside, IsReachedStorage};
 ghost use Rattle.cfb_entries.specs.Clearing.{HasCleared};
+ghost use Rattle.cfb_entries.specs.Covering.{Covers};
+ghost use Rattle.cfb_entries.specs.EntryList.{HaveShortNames};
 
+use crate::indexing::{children_in, take_entries};
 use cfb_codecs::direntry::DirEntry;
+use cfb_codecs::path::CaseMapper;
 use cfb_codecs::timestamp::Timestamp;
 use cfb_format::color::Color;
 use cfb_format::consts::NO_STREAM;
 use cfb_format::objtype::ObjType;
+use cfb_index::index::NameIndex;
 use std::alloc::{AllocError, Allocator};
 use uuid::Uuid;
 
@@ -66,8 +74,10 @@ fn clear_entries<A: Allocator>(list: &mut [DirEntry<A>], top: u32, inside: &[u32
 /// Takes all that is in the storage `top`, the entries of the numbers `inside`, out of the list, and puts their slots behind the free
 /// ones. It answers the slots whose entries changed.
 pub(crate) fn clear_storage<A: Allocator + Clone>(
+    letters: &CaseMapper<A>,
     list: &mut Vec<DirEntry<A>, A>,
     free: &mut Vec<u32, A>,
+    index: &mut NameIndex<A>,
     heap: &A,
     top: u32,
     inside: &[u32],
@@ -75,17 +85,30 @@ pub(crate) fn clear_storage<A: Allocator + Clone>(
     requires top { top < length list.old.items }
     requires within { (k : ℕ) → Contains inside.now k → k < length list.old.items }
     requires apart { Contains inside.now top → ⊥ }
+    requires storage { IsReachedStorage letters.now (entries_of list.old.items) top }
+    requires all { (o : Outline)
+        → HasInside letters.now (entries_of list.old.items) top o → inside.now ≡ numbers o }
+    requires covers { Covers letters.now (entries_of list.old.items) index.old }
+    requires short { HaveShortNames (entries_of list.old.items) }
     ensures cleared { OnOk result ((HasCleared
         (entries_of list.old.items) (entries_of list.new.items) top inside.now)
         × (free.new.items ≡ free.old.items ++ inside.now)) }
+    ensures covered { OnOk result (Covers letters.now (entries_of list.new.items) index.new) }
+    ensures room { OnOk result (vec_len free.new ≤ index.new.room) }
     ensures touched { IfOk result (λ touched. touched.items ≡ top ∷ inside.now) }
     ensures refused { OnErr result ((list.new.items ≡ list.old.items)
-        × (free.new.items ≡ free.old.items)) }
+        × (free.new.items ≡ free.old.items)
+        × HasSame index.old index.new × (index.old.room ≤ index.new.room)) }
 {
     let mut touched = Vec::new(heap.clone()?);
     touched.push(top)?;
     touched.extend_from_slice(inside)?;
+    let Ok(children) = children_in(heap, list, &touched) else {
+        return Err(AllocError);
+    };
+    index.reserve(free.len() + inside.len())?;
     free.extend_from_slice(inside)?;
+    take_entries(index, letters, list, &children);
     clear_entries(list, top, inside);
     Ok(touched)
 }

@@ -7,10 +7,11 @@ ghost use Rattle.cfb_format.specs.Siblings.{entry_at};
 ghost use Rattle.cfb_format.specs.Reading.{Outline, IsOutline, numbers};
 ghost use Rattle.cfb_format.specs.Refused.{IsInvalidOrMemory};
 ghost use Rattle.cfb_codecs.specs.EntryModel.{entries_of, new_entry};
+ghost use Rattle.cfb_index.specs.Index.{CountsSteps};
 ghost use Rattle.cfb_outline.specs.Outlines.{AcceptsOutline, HasInside, IsReachedStorage};
 ghost use Rattle.cfb_siblings.specs.Children.{HasChildren, HasRedApart, IsAbsent, IsChildNamed, KeepsBalance};
 ghost use Rattle.cfb_siblings.specs.Laws.{grown_by};
-ghost use Rattle.cfb_siblings.specs.Paths.{number_from};
+ghost use Rattle.cfb_siblings.specs.Paths.{number_at_path, number_from};
 ghost use Rattle.cfb_siblings.specs.Touched.{Touches, TouchesFew, TouchesOnly};
 ghost use Rattle.cfb_format.specs.Full.{max_entries};
 ghost use Rattle.cfb_entries.specs.Clearing.{HasCleared};
@@ -18,11 +19,12 @@ ghost use Rattle.cfb_entries.specs.EntryList.{AreInOrder, HaveShortNames, Insert
 ghost use Rattle.cfb_entries.specs.Fields.{fields_in, entries_with_fields};
 ghost use Rattle.cfb_entries.specs.Insertions.{IsInsertionOf, name_in};
 
-use crate::changes::{remove_child, reserve_both};
+use crate::changes::{remove_child, reserve_all};
 use crate::clearing::clear_storage;
 use crate::fields::{Fields, change_fields};
 use crate::free::{free_slots, list_numbers, take_slot};
 use crate::fresh::append_fresh;
+use crate::indexing::{index_of, put_entry};
 use crate::insertion::{Insertion, insertion_of};
 use crate::names::have_short_names;
 use cfb_codecs::direntry::DirEntry;
@@ -31,8 +33,8 @@ use cfb_codecs::timestamp::Timestamp;
 use cfb_format::error::{Detail, Error};
 use cfb_format::objtype::ObjType;
 use cfb_format::validate::Validation;
+use cfb_index::index::NameIndex;
 use cfb_outline::outline::reached_entries;
-use cfb_siblings::find::{find_child, find_names};
 use cfb_siblings::insert::insert;
 use std::alloc::{AllocError, Allocator, Global};
 use std::marker::Model;
@@ -47,11 +49,14 @@ pub struct Entries<A: Allocator = Global> {
     list: Vec<DirEntry<A>, A>,
     // The slots that are free; the last one is taken first.
     free: Vec<u32, A>,
+    // The entries of the tree by their storage and name, with room for one more for each free slot.
+    index: NameIndex<A>,
 }
 
 impl<A: Allocator> Model for Entries<A> {
-    ghost use Rattle.std.specs.Prelude.{◌-◌, min, vec_len, vec_capacity};
+    ghost use Rattle.std.specs.Prelude.{◌-◌, ◌≤◌, min, vec_len, vec_capacity};
     ghost use Rattle.cfb_codecs.specs.EntryModel.{entries_of};
+    ghost use Rattle.cfb_entries.specs.Covering.{Covers};
     ghost use Rattle.cfb_entries.specs.EntryList.{EntryList, AreInOrder, ListsFreeSlots};
 
     ghost Value = { EntryList };
@@ -59,12 +64,14 @@ impl<A: Allocator> Model for Entries<A> {
     ghost view = { λ e. record {
       cases = e.letters;
       entries = entries_of e.list.items;
-      room = min (vec_capacity e.list
-          - vec_len e.list) (vec_capacity e.free - vec_len e.free);
+      room = min (e.index.room - vec_len e.free) (min (vec_capacity e.list
+          - vec_len e.list) (vec_capacity e.free - vec_len e.free));
     } };
 
     ghost invariant = { λ e. AreInOrder e.letters (entries_of e.list.items)
-        × ListsFreeSlots (entries_of e.list.items) e.free.items };
+        × ListsFreeSlots (entries_of e.list.items) e.free.items
+        × Covers e.letters (entries_of e.list.items) e.index
+        × (vec_len e.free ≤ e.index.room) };
 }
 
 impl<A: Allocator + Clone> Entries<A> {
@@ -93,12 +100,15 @@ impl<A: Allocator + Clone> Entries<A> {
         if !have_short_names(&list) {
             return Err(Error::InvalidData(Detail::text("directory entry with a long name")));
         }
-        let _ = reached_entries(heap.clone()?, &letters, &list, validation)?;
+        let mut reached = reached_entries(heap.clone()?, &letters, &list, validation)?;
+        reached.push(0)?;
         let free = free_slots(heap.clone()?, &list)?;
+        let index = index_of(heap, &letters, &list, &reached, free.len())?;
         Ok(Entries {
             letters,
             list,
             free,
+            index,
         })
     }
 
@@ -145,6 +155,7 @@ impl<A: Allocator + Clone> Entries<A> {
             &self.letters,
             &mut self.list,
             &mut self.free,
+            &mut self.index,
             heap,
             parent,
             name,
@@ -165,55 +176,15 @@ impl<A: Allocator + Clone> Entries<A> {
         ensures touched { IfOk result (λ touched. touched.items ≡ top ∷ inside.now) }
         ensures refused { OnErr result (self.new ≡ record self.old { room = self.new.room }) }
     {
-        clear_storage(&mut self.list, &mut self.free, heap, top, inside)
-    }
-}
-
-impl<A: Allocator> Entries<A> {
-    /// The letters by which names are compared.
-    pub fn letters(&self) -> &CaseMapper<A>
-        ensures { result.now ≡ self.now.cases }
-    {
-        &self.letters
-    }
-
-    /// The entries, by their numbers.
-    pub fn list(&self) -> &[DirEntry<A>]
-        ensures list { entries_of result.now ≡ self.now.entries }
-        ensures in_order { AreInOrder self.now.cases self.now.entries }
-    {
-        self.list.as_slice()
-    }
-
-    /// The entry that these names lead to from the root, which is entry 0: `None` where nothing is there. There is nothing in a
-    /// stream (MS-CFB 2.6.2). It takes no memory.
-    pub fn find(&self, names: &[&str]) -> Option<u32>
-        ensures found { (o : Outline) → IsOutline self.now.cases self.now.entries o
-            → result ≡ number_from self.now.cases self.now.entries 0 o (map (λ name.
-            chars name.now) names.now) }
-        ensures reached { (o : Outline) → IsOutline self.now.cases self.now.entries o
-            → IfSome result (λ k. Contains (0 ∷ numbers o) k) }
-    {
-        find_names(&self.letters, &self.list, names)
-    }
-
-    /// The child of that name in the storage `parent`, or `None` where it has none (MS-CFB 2.6.4). It takes no memory.
-    pub fn child_named(&self, parent: u32, name: &str) -> Option<u32>
-        requires parent { IsReachedStorage self.now.cases self.now.entries parent }
-        ensures found { (list : List ℕ) → HasChildren self.now.cases self.now.entries parent list
-            → MatchOption result (IsAbsent self.now.cases self.now.entries (chars name.now) list)
-            (λ k. IsChildNamed self.now.cases self.now.entries (chars name.now) list k) }
-        ensures reached { (o : Outline) → IsOutline self.now.cases self.now.entries o
-            → IfSome result (λ k. Contains (numbers o) k) }
-    {
-        find_child(&self.letters, &self.list, parent, name)
-    }
-
-    /// Whether an entry uses each slot.
-    pub fn is_full(&self) -> bool
-        ensures { result ≡ not (has_free self.now.entries) }
-    {
-        self.free.is_empty()
+        clear_storage(
+            &self.letters,
+            &mut self.list,
+            &mut self.free,
+            &mut self.index,
+            heap,
+            top,
+            inside,
+        )
     }
 
     /// Asks for the memory by which so many more entries can be appended. `AllocError` where it is refused.
@@ -222,20 +193,7 @@ impl<A: Allocator> Entries<A> {
         ensures no_less { self.old.room ≤ self.new.room }
         ensures room { OnOk result (count ≤ self.new.room) }
     {
-        reserve_both(&mut self.list, &mut self.free, count)
-    }
-
-    /// Appends entries that are not used, in memory that was asked for before. The lowest new slot is taken first.
-    pub fn grow(&mut self, fresh: Vec<DirEntry<A>, A>)
-        requires unused { entries_of fresh.items ≡ replicate (vec_len fresh) unallocated_entry }
-        requires room { vec_len fresh ≤ self.old.room }
-        requires few { length self.old.entries + vec_len fresh ≤ max_entries }
-        ensures cases { self.new.cases ≡ self.old.cases }
-        ensures grown { self.new.entries ≡ grown_by self.old.entries (vec_len fresh) }
-    {
-        let mut fresh = fresh;
-        list_numbers(&mut self.free, self.list.len(), fresh.len());
-        append_fresh(&mut self.list, &mut fresh);
+        reserve_all(&mut self.list, &mut self.free, &mut self.index, count)
     }
 
     /// Puts a new entry among the children of `parent`, and answers its number and the list of the slots whose entries changed,
@@ -271,7 +229,96 @@ impl<A: Allocator> Entries<A> {
         let slot = take_slot(&mut self.free);
         let entry = DirEntry::new(name, kind, moment);
         let touched = insert(&mut self.list, parent, slot, entry, place);
+        put_entry(&mut self.index, &self.letters, &self.list, parent, slot);
         (slot, touched)
+    }
+}
+
+impl<A: Allocator> Entries<A> {
+    /// The letters by which names are compared.
+    pub fn letters(&self) -> &CaseMapper<A>
+        ensures { result.now ≡ self.now.cases }
+    {
+        &self.letters
+    }
+
+    /// The entries, by their numbers.
+    pub fn list(&self) -> &[DirEntry<A>]
+        ensures list { entries_of result.now ≡ self.now.entries }
+        ensures in_order { AreInOrder self.now.cases self.now.entries }
+    {
+        self.list.as_slice()
+    }
+
+    /// The entry that these names lead to from the root, which is entry 0: `None` where nothing is there. There is nothing in a
+    /// stream (MS-CFB 2.6.2). It takes no memory.
+    pub fn find(&self, names: &[&str]) -> Option<u32>
+        ensures found { (o : Outline) → IsOutline self.now.cases self.now.entries o
+            → result ≡ number_from self.now.cases self.now.entries 0 o (map (λ name.
+            chars name.now) names.now) }
+        ensures reached { (o : Outline) → IsOutline self.now.cases self.now.entries o
+            → IfSome result (λ k. Contains (0 ∷ numbers o) k) }
+    {
+        self.find_counted(names).0
+    }
+
+    /// The same, and how many look-ups it took: one for each name, up to the first that leads
+    /// nowhere.
+    pub fn find_counted(&self, names: &[&str]) -> (Option<u32>, u64)
+        ensures found { (o : Outline) → IsOutline self.now.cases self.now.entries o
+            → result.0 ≡ number_from self.now.cases self.now.entries 0 o (map (λ name.
+            chars name.now) names.now) }
+        ensures reached { (o : Outline) → IsOutline self.now.cases self.now.entries o
+            → IfSome result.0 (λ k. Contains (0 ∷ numbers o) k) }
+        ensures steps { result.1 ≤ length names.now }
+        ensures counted { (o : Outline) → IsOutline self.now.cases self.now.entries o
+            → CountsSteps (number_from self.now.cases self.now.entries 0 o) (map (λ name.
+            chars name.now) names.now) result.1 }
+    {
+        self.index.find_names(&self.letters, names)
+    }
+
+    /// The entry at a path from the root: `None` where a `..` leaves the root, and where nothing is
+    /// there. It takes no memory.
+    pub fn find_path(&self, path: &str) -> Option<u32>
+        ensures found { (o : Outline) → IsOutline self.now.cases self.now.entries o
+            → result ≡ number_at_path self.now.cases self.now.entries o (chars path.now) }
+        ensures reached { (o : Outline) → IsOutline self.now.cases self.now.entries o
+            → IfSome result (λ k. Contains (0 ∷ numbers o) k) }
+    {
+        self.index.find_path(&self.letters, path)
+    }
+
+    /// The child of that name in the storage `parent`, or `None` where it has none (MS-CFB 2.6.4). It takes no memory.
+    pub fn child_named(&self, parent: u32, name: &str) -> Option<u32>
+        requires parent { IsReachedStorage self.now.cases self.now.entries parent }
+        ensures found { (list : List ℕ) → HasChildren self.now.cases self.now.entries parent list
+            → MatchOption result (IsAbsent self.now.cases self.now.entries (chars name.now) list)
+            (λ k. IsChildNamed self.now.cases self.now.entries (chars name.now) list k) }
+        ensures reached { (o : Outline) → IsOutline self.now.cases self.now.entries o
+            → IfSome result (λ k. Contains (numbers o) k) }
+    {
+        self.index.find(&self.letters, parent, name)
+    }
+
+    /// Whether an entry uses each slot.
+    pub fn is_full(&self) -> bool
+        ensures { result ≡ not (has_free self.now.entries) }
+    {
+        self.free.is_empty()
+    }
+
+    /// Appends entries that are not used, in memory that was asked for before. The lowest new slot is taken first.
+    pub fn grow(&mut self, fresh: Vec<DirEntry<A>, A>)
+        requires unused { entries_of fresh.items ≡ replicate (vec_len fresh) unallocated_entry }
+        requires room { vec_len fresh ≤ self.old.room }
+        requires few { length self.old.entries + vec_len fresh ≤ max_entries }
+        ensures cases { self.new.cases ≡ self.old.cases }
+        ensures grown { self.new.entries ≡ grown_by self.old.entries (vec_len fresh) }
+    {
+        let mut fresh = fresh;
+        list_numbers(&mut self.free, self.list.len(), fresh.len());
+        append_fresh(&mut self.list, &mut fresh);
     }
 
     /// Gives the entry of that number the fields that the closure makes of its own. The root's length stays whole mini sectors.

@@ -8,6 +8,7 @@ pub mod entries;
 pub mod fields;
 mod free;
 pub mod fresh;
+mod indexing;
 pub mod insertion;
 pub mod laws;
 mod names;

@@ -27,7 +27,7 @@ use Rattle.cfb_trees.proofs.Kept.{SameNode, children-kept, contents-kept, same-n
 use Rattle.cfb_trees.proofs.Members.{below-once, reached-is-within, reached-once, storage-is-no-stream}
 use Rattle.cfb_trees.proofs.Parents.{parent-kind, parent-links, root-len}
 use Rattle.cfb_trees.proofs.PathDown.{Down, down-number, number-down}
-use Rattle.cfb_trees.proofs.Recolored.{below-reached, root-is-reached, root-or-below}
+use Rattle.cfb_trees.proofs.Reached.{below-reached, root-is-reached, root-or-below}
 use Rattle.cfb_trees.proofs.Replaced.{Becomes, becomes}
 use Rattle.cfb_trees.proofs.Standing.{StandsAt, at-apart, at-held, at-inner, at-within, owned, stands, stands-at, stands-held, stands-inner, stands-kind}
 use Rattle.cfb_trees.specs.Balance.{StayBalanced}

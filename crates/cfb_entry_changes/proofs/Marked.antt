@@ -18,7 +18,7 @@ use Rattle.cfb_trees.specs.Reached.{IsReached}
 use Rattle.cfb_trees.proofs.Members.{root-is-no-stream, streams-are-by-kind}
 use Rattle.cfb_trees.proofs.PathNames.{same-from}
 use Rattle.cfb_trees.proofs.PathReached.{found-is-reached}
-use Rattle.cfb_trees.proofs.Recolored.{root-or-below}
+use Rattle.cfb_trees.proofs.Reached.{root-or-below}
 use Rattle.cfb_trees.proofs.Same.{fields-keep-outline, set-fields}
 use Rattle.cfb_entries.specs.Fields.{entry_with_fields}
 use Rattle.cfb_entries.specs.declared.fields.Fields.{Fields}

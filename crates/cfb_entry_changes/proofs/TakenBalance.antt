@@ -17,7 +17,7 @@ use Rattle.cfb_trees.specs.Reached.{IsReached}
 use Rattle.cfb_trees.proofs.Colored.{SamePaint}
 use Rattle.cfb_trees.proofs.Members.{below-once, no-root}
 use Rattle.cfb_trees.proofs.Parents.{links-child, links-kind}
-use Rattle.cfb_trees.proofs.Recolored.{below-reached, root-is-reached, root-or-below}
+use Rattle.cfb_trees.proofs.Reached.{below-reached, root-is-reached, root-or-below}
 use Rattle.cfb_trees.proofs.Standing.{at-apart, at-held, stands-at}
 use Rattle.cfb_trees.proofs.Streams.{child-reached}
 use Rattle.cfb_trees.proofs.Taken.{freed-counted, moved, taken-numbers}

@@ -2,11 +2,13 @@
 //! known to nobody, so no call here promises what its bytes mean.
 #![tactic(auto)]
 
-ghost use Rattle.std.specs.Prelude.{IfErr, IfOk, ◌≡◌};
+ghost use Rattle.std.specs.Prelude.{IfErr, IfOk, ◌≡◌, false};
 ghost use Rattle.cfb_format.specs.declared.version.Version.TheVariants.{V4};
 ghost use Rattle.cfb_mini_sectors.specs.State.{version_of};
+ghost use Rattle.cfb_agreement.specs.Files.{is_failed};
 ghost use Rattle.cfb_opening.specs.Opened.{IsOfOpening};
-ghost use Rattle.cfb_compound_file.specs.Opening.{IsOfCreating};
+ghost use Rattle.cfb_compound_file.specs.Opening.{IsOfCreating, permissive_options};
+ghost use Rattle.cfb_compound_file.specs.Taken.{TakesOptions};
 
 use cfb_compound_file::compound_file::CompoundFile;
 use cfb_files::file::{FileMedium, FileReadMedium};
@@ -23,7 +25,9 @@ pub fn open<R: Files<File = File>, A: Heap + Clone>(
     alloc: A,
     path: &str,
 ) -> Result<CompoundFile<FileReadMedium, A>, Error>
-    ensures { IfErr result IsOfOpening }
+    ensures options { IfOk result (TakesOptions permissive_options) }
+    ensures unfailed { IfOk result (λ file. is_failed file ≡ false) }
+    ensures kinds { IfErr result IsOfOpening }
 {
     let medium = FileReadMedium::open(rt, path)?;
     CompoundFile::open(alloc, medium)
@@ -37,7 +41,9 @@ pub fn open_rw<R: Files<File = File>, A: Heap + Clone>(
     alloc: A,
     path: &str,
 ) -> Result<CompoundFile<FileMedium, A>, Error>
-    ensures { IfErr result IsOfOpening }
+    ensures options { IfOk result (TakesOptions permissive_options) }
+    ensures unfailed { IfOk result (λ file. is_failed file ≡ false) }
+    ensures kinds { IfErr result IsOfOpening }
 {
     let medium = FileMedium::open(rt, path)?;
     CompoundFile::open(alloc, medium)
@@ -53,6 +59,8 @@ pub fn create<R: Files<File = File>, A: Heap + Clone>(
     path: &str,
 ) -> Result<CompoundFile<FileMedium, A>, Error>
     ensures version { IfOk result (λ file. version_of file.base ≡ V4) }
+    ensures options { IfOk result (TakesOptions permissive_options) }
+    ensures unfailed { IfOk result (λ file. is_failed file ≡ false) }
     ensures kinds { IfErr result IsOfCreating }
 {
     let medium = FileMedium::create(rt, path)?;

@@ -14,7 +14,7 @@ use Rattle.cfb_trees.proofs.Colored.{SamePaint}
 use Rattle.cfb_trees.proofs.Joined.{joined-numbers, kinds-stay}
 use Rattle.cfb_trees.proofs.Members.{below-once, reached-is-used}
 use Rattle.cfb_trees.proofs.Parents.{links-child}
-use Rattle.cfb_trees.proofs.Recolored.{below-reached, root-is-reached, root-or-below}
+use Rattle.cfb_trees.proofs.Reached.{below-reached, root-is-reached, root-or-below}
 use Rattle.cfb_trees.proofs.Standing.{at-apart, at-held, at-within, stands-at}
 use Rattle.cfb_objects.proofs.Balance.{balance-kept, nothing-hangs}
 use Rattle.cfb_insertion.specs.Balance.{InsertionKeepsBalance}

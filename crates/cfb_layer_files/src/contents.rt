@@ -55,7 +55,7 @@ fn resize<F: Medium, A: Heap + Clone>(
     if size > mini.version().stream_len_mask() {
         return Err(Error::InvalidInput(Detail::number("too long", size)));
     }
-    resize_content(mini, &mut None, entry, size)
+    resize_content(mini, entry, size)
 }
 
 /// Lets a stream grow to at most so many bytes, and gives its length then.
@@ -69,7 +69,7 @@ fn grow<F: Medium, A: Heap + Clone>(
     if wanted > mini.version().stream_len_mask() || wanted <= len {
         return Err(Error::InvalidInput(Detail::number("no such growth", wanted)));
     }
-    grow_content(mini, &mut None, entry, wanted)
+    grow_content(mini, entry, wanted)
 }
 
 /// Writes over a stream from a place on. `InvalidInput` where that goes past its end.
@@ -84,7 +84,7 @@ fn write<F: Medium, A: Heap + Clone>(
     if at > len || bytes.len() as u64 > len - at {
         return Err(Error::InvalidInput(Detail::number("past the end", at)));
     }
-    write_content(mini, &mut None, entry, at, bytes)
+    write_content(mini, entry, at, bytes)
 }
 
 /// Writes the bytes of a word.
@@ -106,7 +106,7 @@ fn read<F: Medium, A: Heap + Clone>(
     into: &mut [u8],
 ) -> Result<usize, Error> {
     let entry = stream_named(mini, name)?;
-    read_content(mini, &mut None, entry, at, into)
+    read_content(mini, entry, at, into)
 }
 
 /// What can be read of a stream from a place on.

@@ -19,7 +19,7 @@ ghost use Rattle.cfb_codecs.specs.EntryModel.{entry_of, new_entry};
 ghost use Rattle.cfb_codecs.specs.EntryModel.{entries_of as entries_in};
 ghost use Rattle.cfb_outline.specs.Outlines.{IsReachedStorage};
 ghost use Rattle.cfb_siblings.specs.Children.{HasChildren, IsAbsent, IsChildNamed, KeepsBalance};
-ghost use Rattle.cfb_siblings.specs.Paths.{number_from};
+ghost use Rattle.cfb_siblings.specs.Paths.{number_at_path, number_from};
 ghost use Rattle.cfb_sectors.specs.Sectors.{IsMediumError, IsRaised};
 ghost use Rattle.cfb_tables.specs.Changes.{AreDisjoint, IsNextOf, NoChain};
 ghost use Rattle.cfb_tables.specs.Clean.{IsUnnamed};
@@ -288,6 +288,18 @@ impl<F: ReadMedium, A: Heap> MiniAllocator<F, A> {
             → IfSome result (λ k. Contains (0 ∷ numbers o) k) }
     {
         self.directory.stream_id_for_name_chain(names)
+    }
+
+    /// The entry at a path from the root: `None` where a `..` leaves the root, and where nothing is
+    /// there. It takes no memory.
+    pub fn find_path(&self, path: &str) -> Option<u32>
+        ensures found { (o : Outline) → IsOutline (cases_of self.now) (entries_of self.now) o
+            → result
+            ≡ number_at_path (cases_of self.now) (entries_of self.now) o (chars path.now) }
+        ensures reached { (o : Outline) → IsOutline (cases_of self.now) (entries_of self.now) o
+            → IfSome result (λ k. Contains (0 ∷ numbers o) k) }
+    {
+        self.directory.find_path(path)
     }
 
     /// The child of that name in the storage `parent`, or `None` where it has none (MS-CFB 2.6.4). It takes no memory.

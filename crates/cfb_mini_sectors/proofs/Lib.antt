@@ -8,6 +8,7 @@ pub mod MiniPlaces
 pub mod MiniFrames
 pub mod PiecePlaces
 pub mod PieceWrites
+pub mod WordRuns
 pub mod MinifatNamed
 pub mod MinifatGrown
 pub mod BothGrown

@@ -1,20 +1,20 @@
 -- What writes of words of the MiniFAT and of mini sectors leave of the others (MS-CFB 2.4).
-use Rattle.std.proofs.Common.{◌≡◌, ◌≢◌, ◌≤◌, ◌<◌, ◌+◌, ◌-◌, ◌*◌, ◌/◌, ◌^◌, inl, inr, ℕ, List, refl, ap, sym, ◌∙◌, subst, length, replicate, arith}
+use Rattle.std.proofs.Common.{◌≡◌, ◌≤◌, ◌<◌, ◌+◌, ◌-◌, ◌*◌, ◌/◌, inl, inr, ℕ, List, refl, ap, sym, ◌∙◌, subst, length, replicate, arith}
 use Rattle.std.specs.Prelude.{slice_index, nat_eq, Contains}
 use Rattle.std.specs.List.{IsDistinct}
 use Rattle.std.proofs.lemmas.Bool.{cases_lt}
 use Rattle.std.proofs.lemmas.List.{get_or-replicate, length-replicate}
 use Rattle.std.proofs.lemmas.List.Elements.{Contains-get_or}
 use Rattle.cfb_format.specs.declared.version.Version.{Version}
-use Rattle.cfb_format.specs.Bytes.{byte_at, sector_len, word_at, words_per_sector}
+use Rattle.cfb_format.specs.Bytes.{byte_at, sector_len, words_per_sector}
 use Rattle.cfb_format.specs.Chain.{value}
 use Rattle.cfb_format.specs.Content.{mini_sector_len}
 use Rattle.cfb_format.specs.Medium.{ChangesOnlyBytes, part, written}
 use Rattle.cfb_format.proofs.ByteLemmas.{length-written, part_at, part_written}
 use Rattle.cfb_sectors.specs.Sectors.{SectorFile}
-use Rattle.cfb_sectors.specs.Words.{RangeStays, with_word}
+use Rattle.cfb_sectors.specs.Words.{RangeStays}
 use Rattle.cfb_sectors.proofs.SectorLemmas.{SectorStays_next, SectorStays_refl}
-use Rattle.cfb_sectors.proofs.WordLemmas.{length-with_word, word_apart, word_same, word_with_word}
+use Rattle.cfb_sectors.proofs.WordLemmas.{word_same}
 use Rattle.cfb_tables.specs.Tables.{TableState}
 use Rattle.cfb_alloc.specs.Agreement.{word_home, word_of}
 use Rattle.cfb_alloc.specs.Alloc.{AllocatorState}
@@ -77,27 +77,6 @@ among_after sectors a b c tables first second =
 pub record WordStands (v : Version) (bytes sectors table : List ℕ) (m : ℕ) : Type 0 where
   pub there : word_home v sectors m + 4 ≤ length bytes
   pub word : word_of v bytes sectors m ≡ value table m
-
-pub word_written : (v : Version) (bytes new sectors table : List ℕ) (m w : ℕ) → new ≡ with_word bytes (word_home v sectors m) w → w ≡ value table m → w < 2 ^ 32
-    → WordStands v new sectors table m
-word_written v bytes new sectors table m w is same fits = record {
-  there = let long : length new ≡ length (with_word bytes (word_home v sectors m) w) = ap (λ (b : List ℕ). length b) is in
-      omega (arith, long, length-with_word bytes (word_home v sectors m) w);
-  word = ap (λ (b : List ℕ). word_at b (word_home v sectors m)) is ∙ word_with_word bytes (word_home v sectors m) w fits ∙ same;
-}
-
--- another one is written
-pub word_still : (v : Version) (a b sectors table : List ℕ) (m n : ℕ) → IsDistinct nat_eq sectors → m / words_per_sector v < length sectors
-    → n / words_per_sector v < length sectors → m ≢ n → ChangesOnlyBytes (word_home v sectors n) 4 a b → WordStands v a sectors table m → WordStands v b sectors table m
-word_still v a b sectors table m n once lm ln ne change stands = record {
-  there = let low = stands.there in let longer = change.no_shorter in omega (arith, low, longer);
-  word = word_apart (word_home v sectors n) 4 (word_home v sectors m) a b change stands.there
-      (λ before. elim (homes_apart v sectors once m n ne (word_below v m (length sectors) lm) (word_below v n (length sectors) ln)) [
-        | inl low ↦ absurd (omega (arith, low, before))
-        | inr high ↦ high
-      ])
-      ∙ stands.word;
-}
 
 -- every other word stays
 pub other_word_stays : (v : Version) (sectors numbers a b : List ℕ) (count m : ℕ) → HaveWords v sectors count numbers → ChangesWords numbers v sectors a b

@@ -2,12 +2,12 @@
 ghost use Rattle.std.specs.Prelude.{◌≡◌, ◌↔◌, ℕ, ◌+◌, ◌-◌, ◌*◌, ◌/◌, ◌%◌, ◌^◌, ◌<◌, ◌≤◌, max, min, true, length, nat_eq, replicate, slice_index, take, drop, Contains, IsTrue, IsErrAnd, IfSome, IfNone, IfOk, IfErr, OnOk, OnErr};
 ghost use Rattle.std.specs.List.{IsDistinct};
 ghost use Rattle.cfb_format.specs.declared.validate.Validation.{Validation};
-ghost use Rattle.cfb_format.specs.Bytes.{sector_len, sector_start, words_per_sector};
+ghost use Rattle.cfb_format.specs.Bytes.{sector_len, sector_start, word_bytes, words_per_sector};
 ghost use Rattle.cfb_format.specs.Chain.{value};
 ghost use Rattle.cfb_format.specs.Content.{mini_sector_len};
 ghost use Rattle.cfb_format.specs.Medium.{ChangesOnlyBytes, part, written};
 ghost use Rattle.cfb_format.specs.Refused.{CountsFailure, IsInvalidData};
-ghost use Rattle.cfb_sectors.specs.Words.{RangeStays, with_word};
+ghost use Rattle.cfb_sectors.specs.Words.{RangeStays};
 ghost use Rattle.cfb_sectors.specs.Sectors.{IsMediumError, IsRaised, SectorStays};
 ghost use Rattle.cfb_alloc.specs.Agreement.{word_home, word_of};
 ghost use Rattle.cfb_alloc.specs.Alloc.{HoldsTables};
@@ -17,11 +17,18 @@ ghost use Rattle.cfb_mini_sectors.specs.Pieces.{AreZeros, ChangesMinis, ChangesW
 ghost use Rattle.cfb_soundness.specs.Places.{mini_start};
 
 use cfb_alloc::alloc::Allocator;
+use cfb_format::bytes::put_words;
 use cfb_format::consts::{FREE_SECTOR, MINI_SECTOR_LEN};
 use cfb_format::error::{Detail, Error};
 use cfb_format::medium::{Medium, ReadMedium};
 use cfb_format::version::Version;
+use cfb_table_words::stretch::stretch_at;
 use std::alloc::Allocator as Heap;
+
+/// How many bytes a sector has at most, and how many words (MS-CFB 2.2).
+const MAX_SECTOR_LEN: usize = 4096;
+
+const MAX_WORDS: usize = 1024;
 
 /// The sector with that index in a list, if there is one and it is among so many sectors of the file.
 fn sector_in(sectors: &[u32], index: usize, count: usize) -> Option<u32>
@@ -40,13 +47,13 @@ fn sector_in(sectors: &[u32], index: usize, count: usize) -> Option<u32>
 }
 
 /// Which of the MiniFAT's sectors has the word of that mini sector, and how far into it (MS-CFB 2.4).
-fn place_of_word(version: Version, number: u32) -> (usize, usize)
+fn place_of_word(version: Version, number: usize) -> (usize, usize)
     ensures index { result.0 ≡ number / words_per_sector version }
     ensures offset { result.1 ≡ 4 * (number % words_per_sector version) }
     ensures within { result.1 + 4 ≤ sector_len version }
 {
     let per = version.words_per_sector();
-    (number as usize / per, 4 * (number as usize % per))
+    (number / per, 4 * (number % per))
 }
 
 /// Whether these sectors have a word for that mini sector, in a sector of the file.
@@ -58,7 +65,7 @@ fn has_word<F: ReadMedium, A: Heap>(
     ensures { IsTrue result ↔ HasWord allocator.now.tables.version sectors.now
         (length allocator.now.tables.fat) number }
 {
-    let (index, _) = place_of_word(allocator.version(), number);
+    let (index, _) = place_of_word(allocator.version(), number as usize);
     sector_in(sectors, index, allocator.fat().len()).is_some()
 }
 
@@ -171,23 +178,32 @@ fn write_listed<F: Medium, A: Heap>(
     allocator.write_contiguous(sectors[index], offset, from)
 }
 
-/// The value of a mini sector, and FREE past the end (MS-CFB 2.4).
-fn value_of(table: &[u32], number: u32) -> u32
-    ensures value { result ≡ value table.now number }
-    ensures fits { result < 2 ^ 32 }
+/// The values of so many mini sectors from `first` on, in a row: FREE past the table's end (MS-CFB 2.4).
+fn values_from(table: &[u32], first: usize, count: usize) -> [u32; MAX_WORDS]
+    requires { count ≤ 1024 }
+    ensures values { (k : ℕ) → k < count → slice_index result k ≡ value table.now (first + k) }
+    ensures fit { (k : ℕ) → k < count → slice_index result k < 2 ^ 32 }
 {
-    table.get(number as usize).copied().unwrap_or(FREE_SECTOR)
+    let from = first.min(table.len());
+    let known = count.min(table.len() - from);
+    let mut values = [FREE_SECTOR; MAX_WORDS];
+    values[..known].copy_from_slice(&table[from..from + known]);
+    values
 }
 
-/// Writes the word of a mini sector at its home in the MiniFAT's sectors (MS-CFB 2.4). `Medium` where the medium fails.
-fn write_word<F: Medium, A: Heap>(
+/// Writes the words of mini sectors from `first` on, which stand in one of the MiniFAT's sectors, at their homes, by one write (MS-CFB
+/// 2.4). `Medium` where the medium fails.
+fn write_run<F: Medium, A: Heap>(
     allocator: &mut Allocator<F, A>,
     sectors: &[u32],
-    number: u32,
-    word: u32,
+    first: usize,
+    words: &[u32],
 ) -> Result<(), Error>
+    requires some { 0 < length words.now }
+    requires together { first % words_per_sector allocator.old.tables.version + length words.now
+        ≤ words_per_sector allocator.old.tables.version }
     requires known { HasWord allocator.old.tables.version sectors.now
-        (length allocator.old.tables.fat) number }
+        (length allocator.old.tables.fat) first }
     ensures tables { allocator.new.tables ≡ allocator.old.tables }
     ensures kept { allocator.new.file ≡ record allocator.old.file {
       len = allocator.new.file.len;
@@ -196,11 +212,11 @@ fn write_word<F: Medium, A: Heap>(
       begun = allocator.new.file.begun;
     } }
     ensures ok { IsTrue F.tells
-        → OnOk result (allocator.new.file.bytes ≡ with_word allocator.old.file.bytes
-        (word_home allocator.old.tables.version sectors.now number) word) }
+        → OnOk result (allocator.new.file.bytes ≡ written allocator.old.file.bytes
+        (word_home allocator.old.tables.version sectors.now first) (word_bytes words.now)) }
     ensures others { IsTrue F.tells
-        → ChangesOnlyBytes (word_home allocator.old.tables.version sectors.now number)
-        4 allocator.old.file.bytes allocator.new.file.bytes }
+        → ChangesOnlyBytes (word_home allocator.old.tables.version sectors.now first)
+        (4 * length words.now) allocator.old.file.bytes allocator.new.file.bytes }
     ensures among { IsTrue F.tells → WritesAmong sectors.now allocator.old allocator.new }
     ensures holds { IsTrue F.tells
         → (validation : Validation) → HoldsTables validation allocator.old
@@ -211,12 +227,15 @@ fn write_word<F: Medium, A: Heap>(
     ensures counts { IsTrue F.tells → CountsFailure
         F.write_faults result allocator.old.file.failures allocator.new.file.failures }
 {
-    let (index, offset) = place_of_word(allocator.version(), number);
-    write_listed(allocator, sectors, index, offset, &word.to_le_bytes())
+    let mut buffer = [0; MAX_SECTOR_LEN];
+    let end = put_words(&mut buffer, 0, words);
+    let (index, offset) = place_of_word(allocator.version(), first);
+    write_listed(allocator, sectors, index, offset, &buffer[..end])
 }
 
-/// Writes the words of these mini sectors at their homes in the MiniFAT's sectors, by one write each: their values in the table, and
-/// FREE past its end (MS-CFB 2.4). `Medium` where the medium fails: then some of them may be written.
+/// Writes the words of these mini sectors at their homes in the MiniFAT's sectors: their values in the table, and FREE past its end
+/// (MS-CFB 2.4). Those of numbers that follow each other are one write, as far as one sector has them. `Medium` where the medium fails:
+/// then some of them may be written.
 pub fn write_words<F: Medium, A: Heap>(
     allocator: &mut Allocator<F, A>,
     sectors: &[u32],
@@ -260,8 +279,13 @@ pub fn write_words<F: Medium, A: Heap>(
     ensures counts { IsTrue F.tells → CountsFailure
         F.write_faults result allocator.old.file.failures allocator.new.file.failures }
 {
-    for number in numbers {
-        write_word(allocator, sectors, *number, value_of(table, *number))?;
+    let version = allocator.version();
+    let mut done = 0;
+    while done < numbers.len() {
+        let run = stretch_at(version, numbers, done);
+        let values = values_from(table, run.first, run.count);
+        write_run(allocator, sectors, run.first, &values[..run.count])?;
+        done += run.count;
     }
     Ok(())
 }

@@ -143,7 +143,7 @@ impl<A: Allocator> MiniTable<A> {
         ensures ok { IfOk result (λ list. IsChain self.now.minifat start list.items) }
         ensures err { IfErr result (WalkRefused self.now.minifat start) }
     {
-        walk(alloc, &self.minifat, start)
+        walk(Vec::new(alloc), &self.minifat, start)
     }
 
     /// The last mini sector of the chain from `start`. `InvalidData` where there is no such chain and where it is empty.

@@ -1,5 +1,5 @@
 //! The header and the length of a file (MS-CFB 2.2).
-ghost use Rattle.std.specs.Prelude.{◌≡◌, ◌↔◌, ◌*◌, ◌≤◌, length, IsTrue, OnOk, IfOk, IfErr};
+ghost use Rattle.std.specs.Prelude.{◌≡◌, ◌↔◌, ◌*◌, ◌≤◌, false, length, IsTrue, OnOk, IfOk, IfErr};
 ghost use Rattle.cfb_format.specs.Bytes.{sector_len};
 ghost use Rattle.cfb_format.specs.Refused.{IsInvalidData};
 ghost use Rattle.cfb_reading.specs.PartRefused.{PartRefused};
@@ -85,6 +85,7 @@ pub(crate) fn open_sectors<F: ReadMedium>(
         → IfOk result (λ headed. AcceptsHead validation (F.bytes medium) headed.header) }
     ensures sectors { IsTrue F.tells → IfOk result (λ headed. headed.sectors
         ≡ unchanged_sectors headed.header.version (F.bytes medium) (F.failures medium)) }
+    ensures unfailed { IfOk result (λ headed. headed.sectors.begun ≡ false) }
     ensures err { IfErr result
         (PartRefused F.tells F.read_faults (AcceptsNoHead validation (F.bytes medium))) }
 {

@@ -1,9 +1,10 @@
 //! The directory and the mini sectors of a file, out of what was read of it (MS-CFB 2.4 and 2.6).
-ghost use Rattle.std.specs.Prelude.{◌≡◌, ◌↔◌, IsTrue, IfOk, IfErr};
+ghost use Rattle.std.specs.Prelude.{◌≡◌, ◌↔◌, false, IsTrue, IfOk, IfErr};
 ghost use Rattle.cfb_format.specs.declared.header.Header.{Header as HeaderOf};
 ghost use Rattle.cfb_format.specs.Header.{IfStrict};
 ghost use Rattle.cfb_format.specs.Reading.{IsStrictCount};
 ghost use Rattle.cfb_format.specs.Refused.{IsInvalidData};
+ghost use Rattle.cfb_mini_sectors.specs.State.{cases_of, table_of};
 ghost use Rattle.cfb_reading.specs.PartRefused.{PartRefused};
 ghost use Rattle.cfb_opening.specs.Acceptable.{IsRefused};
 ghost use Rattle.cfb_opening.specs.Known.{KnowsDirectory, KnowsWords};
@@ -72,6 +73,8 @@ fn open_directory<F: ReadMedium, A: Heap + Clone>(
         (F.failures medium) listed.header listed.directory listed.points_into_file) }
     ensures words { IsTrue F.tells → IfOk result (λ listed. KnowsWords
         (F.bytes medium) listed.header listed.directory.table.tables listed.minifat_words.items) }
+    ensures letters { IfOk result (λ listed. listed.directory.cases ≡ letters) }
+    ensures unfailed { IfOk result (λ listed. listed.directory.table.file.begun ≡ false) }
     ensures err { IfErr result
         (PartRefused F.tells F.read_faults (IsRefused validation letters (F.bytes medium))) }
 {
@@ -114,6 +117,8 @@ pub(crate) fn open_minis<F: ReadMedium, A: Heap + Clone>(
     ensures ok { IsTrue F.tells
         → IfOk result (λ minis. (h : HeaderOf) × KnowsMinis validation letters
         (F.bytes medium) (F.failures medium) h minis.mini minis.points_into_file) }
+    ensures letters { IfOk result (λ minis. cases_of minis.mini ≡ letters) }
+    ensures unfailed { IfOk result (λ minis. (table_of minis.mini).file.begun ≡ false) }
     ensures err { IfErr result
         (PartRefused F.tells F.read_faults (IsRefused validation letters (F.bytes medium))) }
 {

@@ -1,5 +1,7 @@
 //! Opening a compound file of any shape (MS-CFB 2.2 to 2.6).
-ghost use Rattle.std.specs.Prelude.{IsTrue, IfErr, MatchResult};
+ghost use Rattle.std.specs.Prelude.{◌≡◌, false, min, IsTrue, IfErr, IfOk, MatchResult};
+ghost use Rattle.cfb_format.specs.Bytes.{max_regular_sector};
+ghost use Rattle.cfb_mini_sectors.specs.State.{cases_of, table_of, tables_in};
 ghost use Rattle.cfb_opening.specs.Opened.{IsOfOpening, IsOpened, OpeningRefused};
 
 use crate::minis::{Minis, open_minis};
@@ -36,6 +38,10 @@ pub fn open_file<F: ReadMedium, A: Heap + Clone>(
     ensures answers { IsTrue F.tells → MatchResult result (λ opened.
         IsOpened validation letters max_sectors (F.bytes medium) (F.failures medium) opened.mini
         opened.is_sound) (OpeningRefused F.read_faults validation letters (F.bytes medium)) }
+    ensures letters { IfOk result (λ opened. cases_of opened.mini ≡ letters) }
+    ensures limit { IfOk result (λ opened. (tables_in opened.mini).max_sectors
+        ≡ min max_sectors max_regular_sector) }
+    ensures unfailed { IfOk result (λ opened. (table_of opened.mini).file.begun ≡ false) }
     ensures kinds { IfErr result IsOfOpening }
 {
     let Minis {

@@ -1,5 +1,5 @@
 //! All that is read of a file when it is opened (MS-CFB 2.2 to 2.6).
-ghost use Rattle.std.specs.Prelude.{IsTrue, IfOk, IfErr};
+ghost use Rattle.std.specs.Prelude.{◌≡◌, false, IsTrue, IfOk, IfErr};
 ghost use Rattle.cfb_format.specs.Names.{Cases};
 ghost use Rattle.cfb_codecs.specs.EntryModel.{entries_of};
 ghost use Rattle.cfb_reading.specs.PartRefused.{PartRefused};
@@ -40,6 +40,7 @@ pub(crate) fn read_parts<F: ReadMedium, A: Heap + Clone>(
     ensures ok { IsTrue F.tells → IfOk result (λ parts.
         KnowsParts validation (F.bytes medium) (F.failures medium) parts.header parts.allocator
         parts.points_into_file (entries_of parts.entries.items) parts.minifat_words.items) }
+    ensures unfailed { IfOk result (λ parts. parts.allocator.file.begun ≡ false) }
     ensures err { IfErr result (PartRefused F.tells F.read_faults ((cases : Cases)
         → IsRefused validation cases (F.bytes medium))) }
 {

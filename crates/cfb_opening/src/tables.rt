@@ -1,5 +1,5 @@
 //! The FAT and the DIFAT of a file (MS-CFB 2.3 and 2.5).
-ghost use Rattle.std.specs.Prelude.{IsTrue, IfOk, IfErr};
+ghost use Rattle.std.specs.Prelude.{◌≡◌, false, IsTrue, IfOk, IfErr};
 ghost use Rattle.cfb_format.specs.Names.{Cases};
 ghost use Rattle.cfb_reading.specs.PartRefused.{PartRefused};
 ghost use Rattle.cfb_opening.specs.Acceptable.{IsRefused};
@@ -33,6 +33,7 @@ pub(crate) fn open_tables<F: ReadMedium, A: Heap + Clone>(
 ) -> Result<Tabled<F, A>, Error>
     ensures ok { IsTrue F.tells → IfOk result (λ tabled. KnowsTables validation (F.bytes medium)
         (F.failures medium) tabled.header tabled.allocator tabled.points_into_file) }
+    ensures unfailed { IfOk result (λ tabled. tabled.allocator.file.begun ≡ false) }
     ensures err { IfErr result (PartRefused F.tells F.read_faults ((cases : Cases)
         → IsRefused validation cases (F.bytes medium))) }
 {

@@ -14,8 +14,8 @@ use cfb_format::consts::NO_STREAM;
 use cfb_format::error::Error;
 use std::alloc::Allocator;
 
-/// Appends the siblings that hang at a number, the greatest name first.
-fn push_siblings<A: Allocator>(
+/// Appends the siblings that hang at a number, the greatest name first. `Memory` where memory for them is refused.
+pub fn push_siblings<A: Allocator>(
     entries: &[DirEntry<A>],
     top: u32,
     stack: &mut Vec<u32, A>,

@@ -40,7 +40,7 @@ use Rattle.cfb_entry_changes.specs.Kept.{AllStayBalanced}
 use Rattle.cfb_sequences.specs.Laws.{all_added_at}
 use Rattle.cfb_sequences.proofs.Ways.{stream-is-in-the-way, way-is-free, way-is-there}
 use Rattle.cfb_volume.specs.Adding.{IsFirstAbsent}
-use Rattle.cfb_path_changes.specs.Answers.{IsBalancedFile, IsDoneBy, IsRefusedBy, IsRefusedInTurn, MeansTree, causes_of_call}
+use Rattle.cfb_path_changes.specs.Answers.{ForMemory, IsBalancedFile, IsDoneBy, IsRefusedBy, IsRefusedInTurn, MeansTree, causes_of_call}
 use Rattle.cfb_path_changes.specs.Calls.{CallAnswersInTurn}
 use Rattle.cfb_path_changes.specs.declared.placing.Creation.TheVariants.{NewStream}
 use Rattle.cfb_path_changes.specs.Finding.{LeadTo}
@@ -226,6 +226,16 @@ module _ (old : FileState) (path : List ℕ) (moment : ℕ) (names : List (List 
           ∙ leads_nowhere (cases_of old.base) (entries_of old.base) (take (passed + 1) names) (drop (passed + 1) names) 0 held.outline
           (way.leads.ends (more_left passed names rest name e) held.outline held.reads.outline)
 
+  -- where all are there no name is left
+  no_name_left : (tree : Tree) → MeansTree old tree → is_there (cases_of old.base) tree path ≡ true → length (drop passed names) ≡ 0
+  no_name_left tree means there = go (drop passed names) refl
+    where
+      go : (left : List (List ℕ)) → drop passed names ≡ left → length left ≡ 0
+      go [] e = refl
+      go (name ∷ more) e = absurd (
+          let more_names : 0 < length (drop passed names) = omega (arith, ap (λ (xs : List (List ℕ)). length xs) e) in
+          let w : true ≡ false = sym there ∙ not_all_there tree means more_names in cc)
+
   creating_missing : (tree : Tree) → kind_on (cases_of old.base) tree call ≡ creating → is_there (cases_of old.base) tree path ≡ false
   creating_missing tree creates = go (is_there (cases_of old.base) tree path) creates
     where
@@ -234,11 +244,11 @@ module _ (old : FileState) (path : List ℕ) (moment : ℕ) (names : List (List 
       go true e = let c : changing ≡ creating = e in cc
 
   pub all_done : is_failed new ≡ false → (IsAsMade old.base → IsAsMade new.base) → LeavesNoneFree old.base new.base → (IsBalancedFile old → IsBalancedFile new)
-      → root_len_of new.base ≡ root_len_of old.base → (0 < length (drop passed names) → IsFullForEntry old.base.directory → ⊥) → failures_of new ≡ failures_of old
+      → root_len_of new.base ≡ root_len_of old.base → (0 < length (drop passed names) → IsFullForEntry old.base.directory → ⊥) → (length (drop passed names) ≡ 0 → new ≡ old) → failures_of new ≡ failures_of old
       → ((before : List (List ℕ)) (o : Outline) → IsOutline (cases_of old.base) (entries_of old.base) o → number_from (cases_of old.base) (entries_of old.base) 0 o before ≡ Some k
       → BecomesTree (cases_of old.base) (bytes_of old.base) (bytes_of new.base) (all_added_at (cases_of old.base) moment (before ++ drop passed names)))
       → IsDoneBy old call done new
-  all_done ended made grows balanced root_len enough same_count becomes =
+  all_done ended made grows balanced root_len enough same same_count becomes =
       record {
         runs = runs_done all_rule path call (all_asks path moment) old new way.unfailed way.sound held setting ended names way.named allowed refl (inr root_len)
             (subst (λ (x : Tree). Means (cases_of old.base) (bytes_of new.base) x)
@@ -249,31 +259,33 @@ module _ (old : FileState) (path : List ℕ) (moment : ℕ) (names : List (List 
         balanced = λ _. balanced;
         spares = none_changed old new call keeps;
         room = λ tree means creates. enough (all_there tree means (creating_missing tree creates));
+        quiet = λ tree means there. same (no_name_left tree means there);
         calm = same_count;
       }
 
   pub all_refused : (reads writes : MediumFault → Bool) (e : Error) → StaysOrFails old new → 0 < length (drop passed names) → IsBreak (IsFullForEntry new.base.directory) e
       → CountsError writes (failures_of old) (failures_of new) e → IsRefusedInTurn (λ f. reads f || writes f) old call new e
   all_refused reads writes e stays some why counts =
-      refused_by_break (λ f. reads f || writes f) call refl old new way.unfailed setting stays (none_changed old new call keeps) header (StaysOrFails old new)
+      refused_by_break (λ f. reads f || writes f) call refl old new way.unfailed setting stays (none_changed old new call keeps) header
+      (λ tree means there. absurd (omega (arith, some, no_name_left tree means there))) (StaysOrFails old new)
       (IsFullForEntry new.base.directory)
       (λ full. (
         λ tree means. creating_lacks (causes_of_call old new) (kind_on (cases_of old.base) tree call)
             (ap (λ (b : Bool). if b then changing else creating) (not_all_there tree means some)) full,
         stays,
-      )) e why (counts_either reads writes (failures_of old) (failures_of new) e counts)
+      )) e why (λ memory. stays) (counts_either reads writes (failures_of old) (failures_of new) e counts)
 
   -- so the call answers
   pub all_answers : {T : Type 0} (reads writes : MediumFault → Bool) (r : Result T Error) → OnOk r (is_failed new ≡ false) → (IsAsMade old.base → OnOk r (IsAsMade new.base))
       → OnOk r (LeavesNoneFree old.base new.base) → OnOk r (AllStayBalanced old.base new.base) → OnOk r (root_len_of new.base ≡ root_len_of old.base)
-      → (0 < length (drop passed names) → OnOk r (IsFullForEntry old.base.directory → ⊥))
+      → (0 < length (drop passed names) → OnOk r (IsFullForEntry old.base.directory → ⊥)) → (length (drop passed names) ≡ 0 → OnOk r (new ≡ old))
       → OnOk r ((before : List (List ℕ)) (o : Outline) → IsOutline (cases_of old.base) (entries_of old.base) o → number_from (cases_of old.base) (entries_of old.base) 0 o before ≡ Some k
       → BecomesTree (cases_of old.base) (bytes_of old.base) (bytes_of new.base) (all_added_at (cases_of old.base) moment (before ++ drop passed names)))
       → OnErr r (StaysOrFails old new) → OnErr r (0 < length (drop passed names)) → IfErr r (IsBreak (IsFullForEntry new.base.directory))
       → CountsFailure writes r (failures_of old) (failures_of new) → CallAnswersInTurn (λ f. reads f || writes f) old call r new
-  all_answers reads writes (Ok x) ended made grows balanced root_len enough becomes stays some why counts =
-      all_done ended made grows (added_balanced old new held.outline held.reads.outline balanced) root_len enough counts becomes
-  all_answers reads writes (Err e) ended made grows balanced root_len enough becomes stays some why counts = all_refused reads writes e stays some why counts
+  all_answers reads writes (Ok x) ended made grows balanced root_len enough same becomes stays some why counts =
+      all_done ended made grows (added_balanced old new held.outline held.reads.outline balanced) root_len enough same counts becomes
+  all_answers reads writes (Err e) ended made grows balanced root_len enough same becomes stays some why counts = all_refused reads writes e stays some why counts
 
 -- names that lead on to nothing lead to a storage, where no stream is in the way
 pub way_is : (file : FileState) (path : List ℕ) (names : List (List ℕ)) (passed k : ℕ) → is_failed file ≡ false → file.is_sound ≡ true → names_of_path path ≡ Some names
@@ -316,11 +328,12 @@ refused_in_turn can_give file asked e why = record {
   order = why.order;
   balanced = why.balanced;
   spares = why.spares;
+  quiet = why.quiet;
   counts = why.counts;
 }
   where
-    kept : (e : Error) → HasReason (record (at_every_error (file ≡ file)) { medium = λ f. StaysOrFails file file; memory = StaysOrFails file file; full = file ≡ file }) e
-        → HasReason (record (at_every_error (file ≡ file)) { medium = λ f. StaysOrFails file file; memory = StaysOrFails file file; full = StaysOrFails file file }) e
+    kept : (e : Error) → HasReason (record (at_every_error (file ≡ file)) { medium = λ f. StaysOrFails file file; memory = ForMemory asked file file; full = file ≡ file }) e
+        → HasReason (record (at_every_error (file ≡ file)) { medium = λ f. StaysOrFails file file; memory = ForMemory asked file file; full = StaysOrFails file file }) e
     kept (NotFound d) s = s
     kept (AlreadyExists d) s = s
     kept (InvalidInput d) s = s

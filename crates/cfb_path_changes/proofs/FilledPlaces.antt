@@ -1,5 +1,5 @@
 -- A new object in its place.
-use Rattle.std.proofs.Common.{◌≡◌, ◌⊎◌, inl, inr, ℕ, List, ◌∷◌, Bool, Bor, false, sym, ◌∙◌, ap, subst}
+use Rattle.std.proofs.Common.{◌≡◌, ◌⊎◌, inl, inr, ℕ, List, ◌∷◌, Bool, Bor, true, false, sym, ◌∙◌, ap, subst}
 use Rattle.std.specs.Prelude.{◌||◌, Some, chars}
 use Rattle.cfb_format.specs.declared.error.Error.{Error}
 use Rattle.cfb_format.specs.declared.error.Error.TheVariants.{Full}
@@ -7,7 +7,7 @@ use Rattle.cfb_format.specs.declared.medium.MediumFault.{MediumFault}
 use Rattle.cfb_format.specs.declared.objtype.ObjType.{ObjType}
 use Rattle.cfb_format.specs.declared.objtype.ObjType.TheVariants.{Storage, Stream}
 use Rattle.cfb_format.specs.Reading.{IsOutline, Outline}
-use Rattle.cfb_format.specs.Refused.{CountsError, IsBreak}
+use Rattle.cfb_format.specs.Refused.{AfterMedium, CountsError, IsBreak}
 use Rattle.cfb_format.specs.Siblings.{entry_at}
 use Rattle.cfb_rules.specs.Calls.{done}
 use Rattle.cfb_rules.specs.Finding.{last_name, parent_names}
@@ -33,8 +33,8 @@ use Rattle.cfb_path_changes.specs.Place.{HasNewStream, IsPlace, IsPlaceOf, IsSom
 use Rattle.cfb_path_changes.specs.declared.placing.Place.{Place}
 use Rattle.cfb_path_changes.specs.declared.placing.Place.TheVariants.{Missing, There}
 use Rattle.cfb_path_changes.proofs.ReachedStreams.{reached_stream}
-use Rattle.cfb_path_changes.proofs.NewObjects.{added_done, creation_asks, emptied_done, moved_leads, nothing_there, path_leads, there_may_be_lost}
-use Rattle.cfb_path_changes.proofs.Refusing.{refused_by_break, unchanged_setting}
+use Rattle.cfb_path_changes.proofs.NewObjects.{added_done, creation_asks, creation_does, creation_for_memory, emptied_done, moved_leads, nothing_there, path_leads, there_may_be_lost}
+use Rattle.cfb_path_changes.proofs.Refusing.{after_memory, refused_by_break, unchanged_setting}
 use Rattle.cfb_path_changes.proofs.CallKinds.{creating_lacks, kind_missing}
 use Rattle.cfb_path_changes.proofs.Counting.{counts_either}
 use Rattle.cfb_path_changes.proofs.Balanced.{added_balanced}
@@ -79,12 +79,14 @@ module _ (what : Creation) (moment : ℕ) (old new : FileState) (place : Place) 
       emptied_done old new what moment path at.unfailed at.sound held setting ended at.names at.named k (there_of path at) now changes bytes same_count
 
   pub there_refused : (can_give : MediumFault → Bool) (e : Error) → SameSetting old new → StaysOrFails old new → ChangesOneContent k old new → (IsTooLongFor old.base k 0 → ⊥)
-      → IsBreak (IsTooLongFor old.base k 0 × (new ≡ old)) e → CountsError can_give (failures_of old) (failures_of new) e
+      → IsBreak (IsTooLongFor old.base k 0 × (new ≡ old)) e → AfterMedium (Unit {0}) (new ≡ old) e → CountsError can_give (failures_of old) (failures_of new) e
       → (path : List ℕ) → IsPlaceOf old what path place → IsRefusedBy can_give old (creation what moment path) new e
-  there_refused can_give e setting stays changes never why counts path at =
+  there_refused can_give e setting stays changes never why first counts path at =
       refused_by_break can_give (creation what moment path) (creation_asks what moment path).changes old new at.unfailed setting stays
       (one_spared_not old new (creation what moment path) k changes (there_may_be_lost old what moment path at.names k at.named (there_of path at))) changes.header
-      (new ≡ old) (IsTooLongFor old.base k 0 × (new ≡ old)) (λ full. absurd (never full.0)) e why counts
+      (λ tree means none. absurd (creation_does (cases_of old.base) tree what moment path none))
+      (new ≡ old) (IsTooLongFor old.base k 0 × (new ≡ old)) (λ full. absurd (never full.0)) e why
+      (λ memory. creation_for_memory old new what moment path (after_memory (Unit {0}) (new ≡ old) e first memory)) counts
 
 -- ---- where nothing is
 
@@ -138,12 +140,13 @@ module _ (what : Creation) (moment : ℕ) (old new : FileState) (place : Place) 
 
   pub missing_refused : (reads writes : MediumFault → Bool) (e : Error) → Holds old → SameSetting old new → StaysOrFails old new → KeepsStreams old.base new.base → KeepsFixedHeader old.base new.base
       → IsBreak (IsFullFile new × (new ≡ old)) e
-      → ChangeRefused ⊥ (IsFullForEntry old.base.directory → ⊥) (IsFullForEntry old.base.directory) (Unit {0}) e
+      → ChangeRefused ⊥ (IsFullForEntry old.base.directory → ⊥) (IsFullForEntry old.base.directory) (Unit {0}) e → AfterMedium (is_failed new ≡ true) (new ≡ old) e
       → CountsError writes (failures_of old) (failures_of new) e
       → (path : List ℕ) → IsPlaceOf old what path place → IsRefusedBy (λ f. reads f || writes f) old (creation what moment path) new e
-  missing_refused reads writes e held setting stays keeps header why reason counts path at =
+  missing_refused reads writes e held setting stays keeps header why reason stops counts path at =
       refused_by_break (λ f. reads f || writes f) (creation what moment path) (creation_asks what moment path).changes old new at.unfailed setting stays
-      (none_changed old new (creation what moment path) keeps) header (new ≡ old) (IsFullForEntry old.base.directory × (new ≡ old))
+      (none_changed old new (creation what moment path) keeps) header
+      (λ tree means none. absurd (creation_does (cases_of old.base) tree what moment path none)) (new ≡ old) (IsFullForEntry old.base.directory × (new ≡ old))
       (λ full. (
         λ tree means. creating_lacks (causes_of_call old new) (kind_on (cases_of old.base) tree (creation what moment path))
             (kind_missing (cases_of old.base) tree path what moment
@@ -152,4 +155,5 @@ module _ (what : Creation) (moment : ℕ) (old new : FileState) (place : Place) 
         full.1,
       )) e
       (lacks_entry (IsFullFile new) (IsFullForEntry old.base.directory → ⊥) (new ≡ old) e why reason)
+      (λ memory. creation_for_memory old new what moment path (after_memory (is_failed new ≡ true) (new ≡ old) e stops memory))
       (counts_either reads writes (failures_of old) (failures_of new) e counts)

@@ -31,7 +31,7 @@ use Rattle.cfb_agreement.proofs.ContentChanges.{content-becomes-tree}
 use Rattle.cfb_agreement.proofs.HeldBytes.{held-means-its-tree}
 use Rattle.cfb_volume.specs.Answers.{content_at}
 use Rattle.cfb_path_changes.specs.Adding.{IsMissing, IsThere, RulesSay, creation, kind_made, may_be_there}
-use Rattle.cfb_path_changes.specs.Answers.{IsBalancedFile, IsDoneBy, MeansTree, RunsOn, causes_of_call}
+use Rattle.cfb_path_changes.specs.Answers.{ForMemory, HasNothingToDo, IsBalancedFile, IsDoneBy, MeansTree, RunsOn, causes_of_call}
 use Rattle.cfb_path_changes.specs.declared.placing.Creation.{Creation}
 use Rattle.cfb_path_changes.specs.declared.placing.Creation.TheVariants.{EmptyStream, NewStorage, NewStream}
 use Rattle.cfb_path_changes.specs.Finding.{LeadTo, StandsAt}
@@ -60,6 +60,18 @@ creation_is_done : (cases : Cases) (root_len : ℕ) (tree : Tree) (what : Creati
 creation_is_done cases root_len tree EmptyStream moment path = refl
 creation_is_done cases root_len tree NewStream moment path = refl
 creation_is_done cases root_len tree NewStorage moment path = refl
+
+-- it never has nothing to do
+pub creation_does : (cases : Cases) (tree : Tree) (what : Creation) (moment : ℕ) (path : List ℕ) → HasNothingToDo cases tree (creation what moment path) → ⊥
+creation_does cases tree EmptyStream moment path none = none
+creation_does cases tree NewStream moment path none = none
+creation_does cases tree NewStorage moment path none = none
+
+-- where memory lacks nothing has changed
+pub creation_for_memory : (old new : FileState) (what : Creation) (moment : ℕ) (path : List ℕ) → new ≡ old → ForMemory (creation what moment path) old new
+creation_for_memory old new EmptyStream moment path same = same
+creation_for_memory old new NewStream moment path same = same
+creation_for_memory old new NewStorage moment path same = same
 
 -- ---- where it stands
 
@@ -163,6 +175,7 @@ module _ (old new : FileState) (what : Creation) (moment : ℕ) (path : List ℕ
     spares = one_spared_not old new (creation what moment path) k changes (there_may_be_lost old what moment path names k named at);
     room = λ tree means creates.
         absurd (let clash : emptying ≡ creating = sym (emptied_kind k at tree means) ∙ creates in cc);
+    quiet = λ tree means none. absurd (creation_does (cases_of old.base) tree what moment path none);
     calm = same_count;
   }
 
@@ -183,6 +196,7 @@ module _ (old new : FileState) (what : Creation) (moment : ℕ) (path : List ℕ
     balanced = λ _. balanced;
     spares = none_changed old new (creation what moment path) keeps;
     room = λ tree means creates. enough;
+    quiet = λ tree means none. absurd (creation_does (cases_of old.base) tree what moment path none);
     calm = same_count;
   }
 

@@ -9,10 +9,10 @@ use Rattle.cfb_format.specs.Medium.{Rises}
 use Rattle.cfb_format.specs.Names.{Cases}
 use Rattle.cfb_format.specs.Path.{names_of_path}
 use Rattle.cfb_format.specs.Reading.{IsOutline, Outline}
-use Rattle.cfb_format.specs.Refused.{CountsError, HasReason, IsBreak, IsMemory, RefusesInput, at_every_error}
+use Rattle.cfb_format.specs.Refused.{AfterMedium, CountsError, HasReason, IsBreak, IsMediumAnd, IsMemory, RefusesInput, at_every_error}
 use Rattle.cfb_format.specs.Tree.{Tree}
 use Rattle.cfb_rules.specs.CallRefusals.{refusal_of}
-use Rattle.cfb_rules.specs.Calls.{Call, refused}
+use Rattle.cfb_rules.specs.Calls.{Call, create_storage_all, refused, remove_storage_all, remove_stream}
 use Rattle.cfb_rules.specs.Refusal.{IsRefusal, Refusal, already_exists, failed_earlier, file_full, invalid_data, invalid_input, is_of_rules, medium_failed, not_found, not_sound, out_of_memory}
 use Rattle.cfb_rules.specs.Runs.{BlamesOneOf, MayBreak}
 use Rattle.cfb_rules.specs.Steps.{is_changing, kind_of, kind_on}
@@ -23,7 +23,7 @@ use Rattle.cfb_content.proofs.FixedHeader.{header-stays}
 use Rattle.cfb_agreement.specs.Changes.{StaysOrFails}
 use Rattle.cfb_agreement.specs.Files.{FileState, Holds, IsAsBefore, IsAsMade, SameSetting, failures_of, is_failed}
 use Rattle.cfb_agreement.proofs.Flags.{as-before-same, made-flagged}
-use Rattle.cfb_path_changes.specs.Answers.{IsBalancedFile, IsRefusedBy, IsRefusedLeaving, KeepsFileBalanced, MeansTree, RunsOn, StaysInOrder, causes_of_call}
+use Rattle.cfb_path_changes.specs.Answers.{ForMemory, IsBalancedFile, IsQuiet, IsRefusedBy, IsRefusedLeaving, KeepsFileBalanced, MeansTree, RunsOn, StaysInOrder, causes_of_call}
 use Rattle.cfb_path_changes.specs.Sparing.{SparesStreams}
 use Rattle.cfb_path_changes.specs.Wanted.{AsksAt}
 use Rattle.cfb_path_changes.proofs.CallKinds.{change_breaks}
@@ -56,13 +56,28 @@ stays_in_order file = record {
   grows = λ _ less. absurd (omega (arith, less));
 }
 
+-- where memory lacked before anything was written nothing has changed
+pub none_for_memory : (file : FileState) (call : Call) → ForMemory call file file
+none_for_memory file (create_storage_all path moment) = inl (unchanged file)
+none_for_memory file (remove_storage_all path) = inl (unchanged file)
+none_for_memory file (remove_stream path) = inl (unchanged file)
+none_for_memory file call = refl
+
+-- what holds after any error but the medium's holds where memory lacked
+pub after_memory : (broken kept : Type 0) (e : Error) → AfterMedium broken kept e → IsMemory e → kept
+after_memory broken kept e after is = subst (λ (x : Error). AfterMedium broken kept x) is after
+
+-- what is never refused for memory may say so much
+pub never_for_memory : (medium : MediumFault → Type 0) (left : Type 0) (e : Error) → IsMediumAnd medium e → IsMemory e → left
+never_for_memory medium left e only is = absurd (subst (λ (x : Error). IsMediumAnd medium x) is only)
+
 -- the medium is not blamed
 untouched : (can_give : MediumFault → Bool) (file : FileState) (call : Call) (e : Error) (refusal : Refusal) → IsRefusal refusal e → refusal ≢ medium_failed
     → RunsOn (causes_of_call file file) file call (refused refusal) file → IsRefusedBy can_give file call file e
-untouched can_give file call (NotFound d) refusal is calm runs = record { refusal = refusal; is = is; runs = runs; stays = refl; order = stays_in_order file; balanced = λ _ all. all; spares = spares_all file call; counts = refl }
-untouched can_give file call (AlreadyExists d) refusal is calm runs = record { refusal = refusal; is = is; runs = runs; stays = refl; order = stays_in_order file; balanced = λ _ all. all; spares = spares_all file call; counts = refl }
-untouched can_give file call (InvalidInput d) refusal is calm runs = record { refusal = refusal; is = is; runs = runs; stays = refl; order = stays_in_order file; balanced = λ _ all. all; spares = spares_all file call; counts = refl }
-untouched can_give file call (InvalidData d) refusal is calm runs = record { refusal = refusal; is = is; runs = runs; stays = refl; order = stays_in_order file; balanced = λ _ all. all; spares = spares_all file call; counts = refl }
+untouched can_give file call (NotFound d) refusal is calm runs = record { refusal = refusal; is = is; runs = runs; stays = refl; order = stays_in_order file; balanced = λ _ all. all; spares = spares_all file call; quiet = λ tree means none. refl; counts = refl }
+untouched can_give file call (AlreadyExists d) refusal is calm runs = record { refusal = refusal; is = is; runs = runs; stays = refl; order = stays_in_order file; balanced = λ _ all. all; spares = spares_all file call; quiet = λ tree means none. refl; counts = refl }
+untouched can_give file call (InvalidInput d) refusal is calm runs = record { refusal = refusal; is = is; runs = runs; stays = refl; order = stays_in_order file; balanced = λ _ all. all; spares = spares_all file call; quiet = λ tree means none. refl; counts = refl }
+untouched can_give file call (InvalidData d) refusal is calm runs = record { refusal = refusal; is = is; runs = runs; stays = refl; order = stays_in_order file; balanced = λ _ all. all; spares = spares_all file call; quiet = λ tree means none. refl; counts = refl }
 untouched can_give file call (Medium f) refusal is calm runs = absurd (calm (by_number refusal is))
   where
     by_number : (r : Refusal) → IsRefusal r (Medium f) → r ≡ medium_failed
@@ -75,10 +90,10 @@ untouched can_give file call (Medium f) refusal is calm runs = absurd (calm (by_
     by_number file_full e = absurd (omega (arith, e))
     by_number not_sound e = absurd (omega (arith, e))
     by_number failed_earlier e = absurd (omega (arith, e))
-untouched can_give file call Memory refusal is calm runs = record { refusal = refusal; is = is; runs = runs; stays = inl (unchanged file); order = stays_in_order file; balanced = λ _ all. all; spares = spares_all file call; counts = refl }
-untouched can_give file call Full refusal is calm runs = record { refusal = refusal; is = is; runs = runs; stays = refl; order = stays_in_order file; balanced = λ _ all. all; spares = spares_all file call; counts = refl }
-untouched can_give file call Unsound refusal is calm runs = record { refusal = refusal; is = is; runs = runs; stays = refl; order = stays_in_order file; balanced = λ _ all. all; spares = spares_all file call; counts = refl }
-untouched can_give file call Failed refusal is calm runs = record { refusal = refusal; is = is; runs = runs; stays = refl; order = stays_in_order file; balanced = λ _ all. all; spares = spares_all file call; counts = refl }
+untouched can_give file call Memory refusal is calm runs = record { refusal = refusal; is = is; runs = runs; stays = none_for_memory file call; order = stays_in_order file; balanced = λ _ all. all; spares = spares_all file call; quiet = λ tree means none. refl; counts = refl }
+untouched can_give file call Full refusal is calm runs = record { refusal = refusal; is = is; runs = runs; stays = refl; order = stays_in_order file; balanced = λ _ all. all; spares = spares_all file call; quiet = λ tree means none. refl; counts = refl }
+untouched can_give file call Unsound refusal is calm runs = record { refusal = refusal; is = is; runs = runs; stays = refl; order = stays_in_order file; balanced = λ _ all. all; spares = spares_all file call; quiet = λ tree means none. refl; counts = refl }
+untouched can_give file call Failed refusal is calm runs = record { refusal = refusal; is = is; runs = runs; stays = refl; order = stays_in_order file; balanced = λ _ all. all; spares = spares_all file call; quiet = λ tree means none. refl; counts = refl }
 
 module _ (rule : Cases → Tree → List (List ℕ) → Option Refusal) (path : List ℕ) (call : Call) (asks : AsksAt rule path call) (can_give : MediumFault → Bool) (file : FileState) where
   abbrev IsRefused : Error → Type 0
@@ -144,7 +159,7 @@ module _ (rule : Cases → Tree → List (List ℕ) → Option Refusal) (path : 
 -- ---- refusals by the medium, for memory or fullness
 
 module _ (can_give : MediumFault → Bool) (call : Call) (kind : is_changing (kind_of call) ≡ true) (old new : FileState) (calm : is_failed old ≡ false) (setting : SameSetting old new)
-    (stays : StaysOrFails old new) (spares : SparesStreams old call new) (header : KeepsFixedHeader old.base new.base) where
+    (stays : StaysOrFails old new) (spares : SparesStreams old call new) (header : KeepsFixedHeader old.base new.base) (quiet : IsQuiet old call new) where
   broken_order : StaysInOrder old new
   broken_order = record {
     setting = setting;
@@ -164,9 +179,9 @@ module _ (can_give : MediumFault → Bool) (call : Call) (kind : is_changing (ki
 
   module _ (left : Type 0) where
     broke : (e : Error) (refusal : Refusal) → IsRefusal refusal e → RunsOn (causes_of_call old new) old call (refused refusal) new
-        → HasReason (record (at_every_error (new ≡ old)) { medium = λ f. StaysOrFails old new; memory = StaysOrFails old new; full = left }) e
+        → HasReason (record (at_every_error (new ≡ old)) { medium = λ f. StaysOrFails old new; memory = ForMemory call old new; full = left }) e
         → CountsError can_give (failures_of old) (failures_of new) e → IsRefusedLeaving left can_give old call new e
-    broke e refusal is runs kept counts = record { refusal = refusal; is = is; runs = runs; stays = kept; order = broken_order; balanced = broken_balance; spares = spares; counts = counts }
+    broke e refusal is runs kept counts = record { refusal = refusal; is = is; runs = runs; stays = kept; order = broken_order; balanced = broken_balance; spares = spares; quiet = quiet; counts = counts }
 
     breaks_so : (refusal : Refusal) → BlamesOneOf (Rises (failures_of old) (failures_of new)) ⊤ ⊥ refusal → (tree : Tree) → MeansTree old tree
         → MayBreak (causes_of_call old new) (kind_on (cases_of old.base) tree call) refusal
@@ -174,16 +189,16 @@ module _ (can_give : MediumFault → Bool) (call : Call) (kind : is_changing (ki
 
     -- for want of an entry it is refused where it may be
     pub refused_by_break : (full : Type 0) → (full → ((tree : Tree) → MeansTree old tree → MayBreak (causes_of_call old new) (kind_on (cases_of old.base) tree call) file_full) × left)
-        → (e : Error) → IsBreak full e → CountsError can_give (failures_of old) (failures_of new) e → IsRefusedLeaving left can_give old call new e
-    refused_by_break full why (Medium f) is counts = broke (Medium f) medium_failed refl
+        → (e : Error) → IsBreak full e → (IsMemory e → ForMemory call old new) → CountsError can_give (failures_of old) (failures_of new) e → IsRefusedLeaving left can_give old call new e
+    refused_by_break full why (Medium f) is memory counts = broke (Medium f) medium_failed refl
         (broken_off call kind old calm (causes_of_call old new) new medium_failed (breaks_so medium_failed counts.rises) stays) stays counts
-    refused_by_break full why Memory is counts = broke Memory out_of_memory refl
-        (broken_off call kind old calm (causes_of_call old new) new out_of_memory (breaks_so out_of_memory tt) stays) stays counts
-    refused_by_break full why Full is counts = broke Full file_full refl
+    refused_by_break full why Memory is memory counts = broke Memory out_of_memory refl
+        (broken_off call kind old calm (causes_of_call old new) new out_of_memory (breaks_so out_of_memory tt) stays) (memory refl) counts
+    refused_by_break full why Full is memory counts = broke Full file_full refl
         (broken_off call kind old calm (causes_of_call old new) new file_full (why is).0 stays) (why is).1 counts
-    refused_by_break full why (NotFound d) is counts = absurd is
-    refused_by_break full why (AlreadyExists d) is counts = absurd is
-    refused_by_break full why (InvalidInput d) is counts = absurd is
-    refused_by_break full why (InvalidData d) is counts = absurd is
-    refused_by_break full why Unsound is counts = absurd is
-    refused_by_break full why Failed is counts = absurd is
+    refused_by_break full why (NotFound d) is memory counts = absurd is
+    refused_by_break full why (AlreadyExists d) is memory counts = absurd is
+    refused_by_break full why (InvalidInput d) is memory counts = absurd is
+    refused_by_break full why (InvalidData d) is memory counts = absurd is
+    refused_by_break full why Unsound is memory counts = absurd is
+    refused_by_break full why Failed is memory counts = absurd is

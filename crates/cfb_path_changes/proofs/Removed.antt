@@ -11,7 +11,7 @@ use Rattle.cfb_format.specs.Meaning.{Means}
 use Rattle.cfb_format.specs.Names.{Cases}
 use Rattle.cfb_format.specs.Path.{names_of_path}
 use Rattle.cfb_format.specs.Reading.{IsOutline, Outline}
-use Rattle.cfb_format.specs.Refused.{CountsError, CountsFailure, IsBreak}
+use Rattle.cfb_format.specs.Refused.{AfterMedium, CountsError, CountsFailure, IsBreak}
 use Rattle.cfb_format.specs.Siblings.{entry_at}
 use Rattle.cfb_format.specs.Tree.{Tree}
 use Rattle.cfb_rules.specs.CallChanges.{removed_at, tree_after}
@@ -33,7 +33,7 @@ use Rattle.cfb_entry_changes.specs.Kept.{AllStayBalancedBut}
 use Rattle.cfb_agreement.specs.Changes.{StaysOrFails}
 use Rattle.cfb_agreement.specs.Files.{FileState, Holds, IsAsMade, LeavesNoneFree, SameSetting, failures_of, is_failed}
 use Rattle.cfb_path_changes.proofs.Balanced.{taken_balanced}
-use Rattle.cfb_path_changes.specs.Answers.{IsDoneBy, IsRefusedBy}
+use Rattle.cfb_path_changes.specs.Answers.{ForMemory, HasNothingToDo, IsDoneBy, IsRefusedBy}
 use Rattle.cfb_path_changes.specs.Calls.{CallAnswers}
 use Rattle.cfb_path_changes.specs.declared.finding.Wanted.{Wanted}
 use Rattle.cfb_path_changes.specs.declared.finding.Wanted.TheVariants.{AnyObject, AnyStorage, AnyStream, EmptyStorage}
@@ -42,7 +42,7 @@ use Rattle.cfb_path_changes.specs.Sparing.{MayLose, SparesStreams}
 use Rattle.cfb_path_changes.specs.Wanted.{AsksFor, IsThereFor, is_wanted, wanted_refusal}
 use Rattle.cfb_path_changes.proofs.Doing.{means_was, runs_done, tree_was}
 use Rattle.cfb_path_changes.proofs.NewObjects.{path_leads}
-use Rattle.cfb_path_changes.proofs.Refusing.{RuleSays, refused_by_break}
+use Rattle.cfb_path_changes.proofs.Refusing.{RuleSays, after_memory, refused_by_break}
 use Rattle.cfb_path_changes.proofs.Wanting.{both, inner_is, root_at_none, wanted_allowed}
 
 -- ---- the calls
@@ -86,6 +86,13 @@ module _ (cases : Cases) (tree : Tree) (wanted : Wanted) (path : List ℕ) where
       by_wanted AnyStorage e = let c : emptying ≡ creating = e in cc
       by_wanted AnyStream e = let c : emptying ≡ creating = e in cc
       by_wanted EmptyStorage e = let c : changing ≡ creating = e in cc
+
+-- a removal never has nothing to do
+pub removal_does : (cases : Cases) (tree : Tree) (wanted : Wanted) (path : List ℕ) → HasNothingToDo cases tree (removal wanted path) → ⊥
+removal_does cases tree AnyObject path none = none
+removal_does cases tree AnyStorage path none = none
+removal_does cases tree AnyStream path none = none
+removal_does cases tree EmptyStorage path none = none
 
 -- ---- what is wanted has nothing in it
 
@@ -170,12 +177,25 @@ module _ (old : FileState) (wanted : Wanted) (path : List ℕ) (names : List (Li
         order = record { setting = setting; header = header; made = λ _. made; grows = λ _. grows };
         balanced = λ _. taken_balanced old new k o is balanced;
         spares = spared;
+        quiet = λ tree means_so none. absurd (removal_does (cases_of old.base) tree wanted path none);
         room = λ tree means_so creates. absurd (never_creates (cases_of old.base) tree wanted path creates);
         calm = same_count;
       }
 
-  pub removed_not : (can_give : MediumFault → Bool) (e : Error) → StaysOrFails old new → IsBreak ⊥ e → CountsError can_give (failures_of old) (failures_of new) e → IsRefusedBy can_give old call new e
-  removed_not can_give e stays why counts = refused_by_break can_give call asks.changes old new there.unfailed setting stays spared header (new ≡ old) ⊥ absurd e why counts
+  -- where memory lacked nothing has changed, if what was to go is a storage
+  none_taken : (w : Wanted) → is_of_one w ≡ true → is_wanted w (entry_at (entries_of old.base) k) ≡ true → StaysOrFails old new
+      → ((entry_at (entries_of old.base) k).obj_type ≢ Stream → new ≡ old) → ForMemory (removal w path) old new
+  none_taken AnyObject is_one is stays same = absurd (let w : false ≡ true = is_one in cc)
+  none_taken AnyStorage is_one is stays same = absurd (let w : false ≡ true = is_one in cc)
+  none_taken AnyStream is_one is stays same = stays
+  none_taken EmptyStorage is_one is stays same = same (λ stream.
+      let clash : Storage ≡ Stream = sym (inner_is (entry_at (entries_of old.base) k).obj_type (both _ _ is).0) ∙ stream in cc)
+
+  pub removed_not : (can_give : MediumFault → Bool) (e : Error) → StaysOrFails old new → ((entry_at (entries_of old.base) k).obj_type ≢ Stream → AfterMedium (Unit {0}) (new ≡ old) e)
+      → IsBreak ⊥ e → CountsError can_give (failures_of old) (failures_of new) e → IsRefusedBy can_give old call new e
+  removed_not can_give e stays first why counts = refused_by_break can_give call asks.changes old new there.unfailed setting stays spared header
+      (λ tree means none. absurd (removal_does (cases_of old.base) tree wanted path none)) (new ≡ old) ⊥ absurd e why
+      (λ memory. none_taken wanted one there.suits stays (λ kind. after_memory (Unit {0}) (new ≡ old) e (first kind) memory)) counts
 
   -- so the call answers
   pub removed_answers : {T : Type 0} (can_give : MediumFault → Bool) (r : Result T Error) (parent : ℕ) (name : List ℕ) → StandsIn old names k parent name
@@ -185,9 +205,10 @@ module _ (old : FileState) (wanted : Wanted) (path : List ℕ) (names : List (Li
       → number_from (cases_of old.base) (entries_of old.base) 0 o (parent_names (first ∷ rest)) ≡ Some parent
       → number_from (cases_of old.base) (entries_of old.base) 0 o (first ∷ rest) ≡ Some k → last_name (first ∷ rest) ≡ name
       → BecomesTree (cases_of old.base) (bytes_of old.base) (bytes_of new.base) (removed_at (cases_of old.base) (first ∷ rest)))
-      → OnErr r (StaysOrFails old new) → IfErr r (IsBreak ⊥) → CountsFailure can_give r (failures_of old) (failures_of new) → CallAnswers can_give old call r new
-  removed_answers can_give (Ok x) parent name at ended balanced made grows root_len becomes stays why counts = removed_done parent name at ended balanced made grows root_len counts becomes
-  removed_answers can_give (Err e) parent name at ended balanced made grows root_len becomes stays why counts = removed_not can_give e stays why counts
+      → OnErr r (StaysOrFails old new) → ((entry_at (entries_of old.base) k).obj_type ≢ Stream → IfErr r (AfterMedium (Unit {0}) (new ≡ old))) → IfErr r (IsBreak ⊥)
+      → CountsFailure can_give r (failures_of old) (failures_of new) → CallAnswers can_give old call r new
+  removed_answers can_give (Ok x) parent name at ended balanced made grows root_len becomes stays first why counts = removed_done parent name at ended balanced made grows root_len counts becomes
+  removed_answers can_give (Err e) parent name at ended balanced made grows root_len becomes stays first why counts = removed_not can_give e stays first why counts
 
 -- ---- all that is at a path
 
@@ -222,6 +243,7 @@ module _ (old : FileState) (path : List ℕ) (names : List (List ℕ)) (k : ℕ)
           order = record { setting = setting; header = header; made = λ _. made; grows = λ _. grows };
           balanced = λ _. taken_balanced old new k held.outline held.reads.outline balanced;
           spares = spared_beside;
+          quiet = λ tree means_so none. absurd (removal_does (cases_of old.base) tree AnyObject path none);
           room = λ tree means_so creates. absurd (never_creates (cases_of old.base) tree AnyObject path creates);
           calm = same_count;
         }
@@ -249,4 +271,5 @@ module _ (old : FileState) (path : List ℕ) (names : List (List ℕ)) (k : ℕ)
         → OnErr r (StaysOrFails old new) → IfErr r (IsBreak ⊥) → CountsFailure can_give r (failures_of old) (failures_of new) → CallAnswers can_give old call_all r new
     all_removed_answers can_give (Ok x) parent some none ended balanced made grows tree root stays why counts = all_removed ended balanced made grows counts (becomes_without parent some none tree root)
     all_removed_answers can_give (Err e) parent some none ended balanced made grows tree root stays why counts =
-        refused_by_break can_give call_all (all_asks path).changes old new there.unfailed setting stays spared_beside header (new ≡ old) ⊥ absurd e why counts
+        refused_by_break can_give call_all (all_asks path).changes old new there.unfailed setting stays spared_beside header
+        (λ tree means none. absurd (removal_does (cases_of old.base) tree AnyObject path none)) (new ≡ old) ⊥ absurd e why (λ memory. stays) counts

@@ -1,6 +1,6 @@
 -- Calls that set one field of an object.
 use Rattle.std.proofs.Common.{◌≡◌, ◌≢◌, inl, inr, ℕ, List, [], ◌∷◌, Bool, true, false, refl, sym, ◌∙◌, ap, subst, length, arith}
-use Rattle.std.specs.Prelude.{Option, Some, None, OnOk, not}
+use Rattle.std.specs.Prelude.{Option, Some, None, OnOk, not, option_and_then, unwrap_or}
 use Rattle.std.specs.Option.{option_map_or}
 use Rattle.std.proofs.lemmas.Bool.{cases_eq}
 use Rattle.cfb_format.specs.declared.objtype.ObjType.{ObjType}
@@ -12,11 +12,13 @@ use Rattle.cfb_format.specs.Names.{Cases}
 use Rattle.cfb_format.specs.Path.{names_of_path}
 use Rattle.cfb_format.specs.Reading.{IsOutline, Outline}
 use Rattle.cfb_format.specs.Siblings.{entry_at}
-use Rattle.cfb_format.specs.Tree.{StorageInfo, StreamInfo, Tree}
-use Rattle.cfb_format.proofs.Unique.{IsOutline-unique}
+use Rattle.cfb_format.specs.Tree.{Object, StorageInfo, StreamInfo, Tree}
+use Rattle.cfb_format.proofs.Unique.{IsOutline-unique, Means-unique}
 use Rattle.cfb_rules.specs.CallChanges.{fields_changed_at, same_stream, touched_at, tree_after}
-use Rattle.cfb_rules.specs.CallReplies.{reply_of}
+use Rattle.cfb_rules.specs.CallRefusals.{is_a_stream}
+use Rattle.cfb_rules.specs.CallReplies.{has_object, reply_of}
 use Rattle.cfb_rules.specs.Calls.{done}
+use Rattle.cfb_rules.specs.Finding.{object_at}
 use Rattle.cfb_outline.specs.Families.{is_stream_kind}
 use Rattle.cfb_siblings.specs.Paths.{number_from}
 use Rattle.cfb_trees.specs.Changes.{ButFields}
@@ -49,12 +51,14 @@ use Rattle.cfb_mini_sectors.specs.State.{content_of}
 use Rattle.cfb_content.specs.Contents.{KeepsFixedHeader}
 use Rattle.cfb_agreement.specs.Changes.{KeepsStreams, StaysOrFails}
 use Rattle.cfb_agreement.specs.Files.{IsAsMade, failures_of}
-use Rattle.cfb_path_changes.specs.Answers.{IsDoneBy, IsRefusedBy}
+use Rattle.cfb_agreement.proofs.HeldBytes.{held-means-its-tree}
+use Rattle.cfb_path_changes.specs.Answers.{ForMemory, HasNothingToDo, IsDoneBy, IsRefusedBy, MeansTree}
 use Rattle.cfb_path_changes.specs.Calls.{CallAnswers}
 use Rattle.cfb_path_changes.specs.Wanted.{IsThereFor, wanted_refusal}
+use Rattle.cfb_path_changes.proofs.Creation.{object_is, storage_is}
 use Rattle.cfb_path_changes.proofs.Counting.{counts_either}
 use Rattle.cfb_path_changes.proofs.Doing.{means_was, runs_done, tree_was}
-use Rattle.cfb_path_changes.proofs.Refusing.{RuleSays, refused_by_break, stays_in_order, unchanged_setting}
+use Rattle.cfb_path_changes.proofs.Refusing.{RuleSays, never_for_memory, refused_by_break, stays_in_order, unchanged_setting}
 use Rattle.cfb_path_changes.proofs.Sparing.{none_changed, spares_all}
 use Rattle.cfb_path_changes.proofs.Wanting.{inner_kind, root_at_none, split, wanted_allowed}
 
@@ -243,6 +247,34 @@ module _ (old : FileState) (field : NewField) (path : List ℕ) (names : List (L
       by_field (ModifiedTime moment) e = let w : changing ≡ creating = e in cc
       by_field (TouchedTime moment) e = let w : changing ≡ creating = e in cc
 
+  abbrev tree_here : Tree
+  tree_here = tree_from (entries_of old.base) (content_of old.base) held.outline
+
+  -- no stream stands there, whatever tree the bytes are said to mean
+  no_stream_here : entry_there.obj_type ≢ Stream → (tree : Tree) → MeansTree old tree → has_object (cases_of old.base) tree is_a_stream path ≡ true → ⊥
+  no_stream_here kind tree means is =
+      let o = held.outline in
+      let same : tree_here ≡ tree = Means-unique (cases_of old.base) (bytes_of old.base) tree_here tree (held-means-its-tree old o held held.reads.outline) (means there.unfailed) in
+      let none : has_object (cases_of old.base) tree_here is_a_stream path ≡ false =
+      ap (λ (x : Option (List (List ℕ))). option_map_or is_a_stream (option_and_then (object_at (cases_of old.base) tree_here) x) false) there.named
+      ∙ ap (λ (x : Option Object). option_map_or is_a_stream x false) (object_is old.base o held.reads.outline names (Some k) (there.leads o held.reads.outline))
+      ∙ ap not (storage_is old.base o held.reads.outline k kind) in
+      let clash : false ≡ true = sym none ∙ ap (λ (x : Tree). has_object (cases_of old.base) x is_a_stream path) same ∙ is in
+      cc
+
+  -- where there is such a field there is something to do
+  sets_something : takes_field entry_there.obj_type field ≡ true → (tree : Tree) → MeansTree old tree → HasNothingToDo (cases_of old.base) tree call → ⊥
+  sets_something takes tree means = by_field field refl takes
+    where
+      by_field : (f : NewField) → f ≡ field → takes_field entry_there.obj_type f ≡ true → HasNothingToDo (cases_of old.base) tree (setting_call f path) → ⊥
+      by_field (ClassId clsid) e has none = none
+      by_field (StateBits bits) e has none = none
+      by_field (CreatedTime moment) e has none = no_stream_here (no_stream_kind entry_there.obj_type has) tree means none
+      by_field (ModifiedTime moment) e has none = no_stream_here (no_stream_kind entry_there.obj_type has) tree means none
+      by_field (TouchedTime moment) e has (inl stream) = no_stream_here (inner_no_stream entry_there.obj_type has) tree means stream
+      by_field (TouchedTime moment) e has (inr root) = no_root_touched takes moment (sym e)
+          (ap (λ (x : Option (List (List ℕ))). unwrap_or x []) (sym there.named ∙ root))
+
   pub set_done : (new : FileState) → takes_field entry_there.obj_type field ≡ true → SameSetting old new → is_failed new ≡ false
       → entries_of new.base ≡ entries_with_fields (entries_of old.base) k (with_new_field (fields_in entry_there) field)
       → tables_in new.base ≡ tables_in old.base → (IsAsMade old.base → IsAsMade new.base) → KeepsStreams old.base new.base → KeepsFixedHeader old.base new.base
@@ -268,6 +300,7 @@ module _ (old : FileState) (field : NewField) (path : List ℕ) (names : List (L
         balanced = λ _. field_balanced old new k field inside same setting held.outline held.reads.outline;
         spares = none_changed old new call keeps;
         room = λ tree means creates. absurd (never_creates tree creates);
+        quiet = λ tree means_so none. absurd (sets_something takes tree means_so none);
         calm = same_count;
       }
 
@@ -311,16 +344,18 @@ module _ (old : FileState) (field : NewField) (path : List ℕ) (names : List (L
         balanced = λ _ all. all;
         spares = spares_all old call;
         room = λ tree means creates. absurd (never_creates tree creates);
+        quiet = λ tree means_so none. refl;
         calm = refl;
       }
 
   -- ---- refused
 
-  pub set_refused : (reads writes : MediumFault → Bool) (new : FileState) (e : Error) → SameSetting old new → StaysOrFails old new → KeepsStreams old.base new.base → KeepsFixedHeader old.base new.base
+  pub set_refused : (reads writes : MediumFault → Bool) (new : FileState) (e : Error) → takes_field entry_there.obj_type field ≡ true → SameSetting old new → StaysOrFails old new → KeepsStreams old.base new.base → KeepsFixedHeader old.base new.base
       → IsMediumAnd (λ fault. is_failed new ≡ true) e → CountsError writes (failures_of old) (failures_of new) e → IsRefusedBy (λ f. reads f || writes f) old call new e
-  set_refused reads writes new e setting stays keeps header why counts =
-      refused_by_break (λ f. reads f || writes f) call (setting_asks field path).changes old new there.unfailed setting stays (none_changed old new call keeps) header (new ≡ old) ⊥ absurd e
-      (medium_breaks e why) (counts_either reads writes (failures_of old) (failures_of new) e counts)
+  set_refused reads writes new e takes setting stays keeps header why counts =
+      refused_by_break (λ f. reads f || writes f) call (setting_asks field path).changes old new there.unfailed setting stays (none_changed old new call keeps) header
+      (λ tree means none. absurd (sets_something takes tree means none)) (new ≡ old) ⊥ absurd e
+      (medium_breaks e why) (never_for_memory (λ fault. is_failed new ≡ true) (ForMemory call old new) e why) (counts_either reads writes (failures_of old) (failures_of new) e counts)
     where
       medium_breaks : (e : Error) → IsMediumAnd (λ fault. is_failed new ≡ true) e → IsBreak ⊥ e
       medium_breaks (Medium f) w = tt
@@ -342,4 +377,4 @@ module _ (old : FileState) (field : NewField) (path : List ℕ) (names : List (L
       → OnErr r (StaysOrFails old new) → IfErr r (IsMediumAnd (λ fault. is_failed new ≡ true)) → CountsFailure writes r (failures_of old) (failures_of new)
       → CallAnswers (λ f. reads f || writes f) old call r new
   set_answers reads writes (Ok x) new takes setting tables keeps header ended same made becomes stays why counts = set_done new takes setting ended same tables made keeps header counts becomes
-  set_answers reads writes (Err e) new takes setting tables keeps header ended same made becomes stays why counts = set_refused reads writes new e setting stays keeps header why counts
+  set_answers reads writes (Err e) new takes setting tables keeps header ended same made becomes stays why counts = set_refused reads writes new e takes setting stays keeps header why counts

@@ -1,16 +1,20 @@
 -- What calls on a file answer, by the rules of calls.
-use Rattle.std.specs.Prelude.{◌≡◌, Bool, false}
+use Rattle.std.specs.Prelude.{◌≡◌, ◌⊎◌, [], Bool, true, false, Some}
 use Rattle.cfb_format.specs.declared.error.Error.{Error}
 use Rattle.cfb_format.specs.declared.medium.MediumFault.{MediumFault}
 use Rattle.cfb_format.specs.Bytes.{max_stream_len}
 use Rattle.cfb_format.specs.Meaning.{Means}
 use Rattle.cfb_format.specs.Medium.{Rises}
+use Rattle.cfb_format.specs.Names.{Cases}
+use Rattle.cfb_format.specs.Path.{names_of_path}
 use Rattle.cfb_format.specs.Refused.{CountsError, HasReason, at_every_error}
 use Rattle.cfb_format.specs.Tree.{Tree}
-use Rattle.cfb_rules.specs.Calls.{Call, Reply, refused}
+use Rattle.cfb_rules.specs.CallRefusals.{is_a_stream}
+use Rattle.cfb_rules.specs.CallReplies.{has_object}
+use Rattle.cfb_rules.specs.Calls.{Call, Reply, create_storage_all, refused, remove_storage_all, remove_stream, set_created_time, set_modified_time, touch}
 use Rattle.cfb_rules.specs.Refusal.{IsRefusal, Refusal}
 use Rattle.cfb_rules.specs.Runs.{CallRuns, Causes, Setting, TreeState}
-use Rattle.cfb_rules.specs.Steps.{creating, kind_on}
+use Rattle.cfb_rules.specs.Steps.{creating, is_there, kind_on}
 use Rattle.cfb_directory.specs.State.{IsFullForEntry}
 use Rattle.cfb_mini_sectors.specs.State.{bytes_of, cases_of, entries_of, root_len_of, version_of}
 use Rattle.cfb_content.specs.Contents.{KeepsFixedHeader}
@@ -74,6 +78,26 @@ pub record StaysInOrder (old new : FileState) : Type 0 where
 abbrev pub HasRoomFor : FileState → Call → Type 0
 HasRoomFor file call = (tree : Tree) → MeansTree file tree → kind_on (cases_of file.base) tree call ≡ creating → IsFullForEntry file.base.directory → ⊥
 
+-- in this tree the call has nothing to do: each storage on the way is there, a stream has no moments, or the root is not touched
+abbrev pub HasNothingToDo : Cases → Tree → Call → Type 0
+HasNothingToDo cases tree (create_storage_all path moment) = is_there cases tree path ≡ true
+HasNothingToDo cases tree (set_created_time path moment) = has_object cases tree is_a_stream path ≡ true
+HasNothingToDo cases tree (set_modified_time path moment) = has_object cases tree is_a_stream path ≡ true
+HasNothingToDo cases tree (touch path moment) = (has_object cases tree is_a_stream path ≡ true) ⊎ (names_of_path path ≡ Some [])
+HasNothingToDo cases tree call = ⊥
+
+-- a call that has nothing to do leaves the file as it is
+abbrev pub IsQuiet : FileState → Call → FileState → Type 0
+IsQuiet old call new = (tree : Tree) → MeansTree old tree → HasNothingToDo (cases_of old.base) tree call → new ≡ old
+
+-- Where memory lacks nothing has changed; a call of several changes, and one that gives bytes back before it takes an entry away, may have failed
+-- the file
+abbrev pub ForMemory : Call → FileState → FileState → Type 0
+ForMemory (create_storage_all path moment) old new = StaysOrFails old new
+ForMemory (remove_storage_all path) old new = StaysOrFails old new
+ForMemory (remove_stream path) old new = StaysOrFails old new
+ForMemory call old new = new ≡ old
+
 -- the call was done, no call of the medium failed, and the streams that it is not about stay
 pub record IsDoneBy (old : FileState) (call : Call) (reply : Reply) (new : FileState) : Type 0 where
   pub runs : RunsOn (causes_of_call old new) old call reply new
@@ -81,18 +105,20 @@ pub record IsDoneBy (old : FileState) (call : Call) (reply : Reply) (new : FileS
   pub balanced : KeepsFileBalanced old new
   pub spares : SparesStreams old call new
   pub room : HasRoomFor old call
+  pub quiet : IsQuiet old call new
   pub calm : failures_of new ≡ failures_of old
 
--- It was refused: by the rules, and then nothing has changed; since numbers lack, and then so much holds; or by the medium or for memory, and
--- then all is as before but the count of failures, or the file has failed
+-- It was refused: by the rules, and then nothing has changed; since numbers lack, and then so much holds; for memory; or by the medium, and then
+-- all is as before but the count of failures, or the file has failed
 pub record IsRefusedLeaving (full : Type 0) (can_give : MediumFault → Bool) (old : FileState) (call : Call) (new : FileState) (e : Error) : Type 0 where
   pub refusal : Refusal
   pub is : IsRefusal refusal e
   pub runs : RunsOn (causes_of_call old new) old call (refused refusal) new
-  pub stays : HasReason (record (at_every_error (new ≡ old)) { medium = λ f. StaysOrFails old new; memory = StaysOrFails old new; full = full }) e
+  pub stays : HasReason (record (at_every_error (new ≡ old)) { medium = λ f. StaysOrFails old new; memory = ForMemory call old new; full = full }) e
   pub order : StaysInOrder old new
   pub balanced : KeepsFileBalanced old new
   pub spares : SparesStreams old call new
+  pub quiet : IsQuiet old call new
   pub counts : CountsError can_give (failures_of old) (failures_of new) e
 
 -- where numbers lack nothing has changed

@@ -23,8 +23,8 @@ use std::alloc::Allocator as Heap;
 ///
 /// `Failed`; by the rules of calls: `InvalidInput` where the path leaves the root, its last name is not valid or the parent is a stream;
 /// `AlreadyExists` where something is there, as for the root; `NotFound` where there is no parent; and then `Unsound`; `Full` where no entry
-/// can be had. Nothing has changed then. `Memory`, and `Medium` where the medium fails: all but the count of failures is as before, or the
-/// file has failed.
+/// can be had; `Memory`. Nothing has changed then. `Medium` where the medium fails: all but the count of failures is as before, or the file
+/// has failed.
 pub fn create_storage<F: Medium, A: Heap + Clone>(
     volume: &mut Volume<F, A>,
     path: &str,

@@ -74,8 +74,8 @@ fn with_field(fields: Fields, field: NewField) -> Fields
 /// Sets a field of the object at this path; a moment of a stream is not set, nor is the root touched, and nothing changes then.
 ///
 /// `Failed`; by the rules of calls `InvalidInput` where the path leaves the root or leads to a stream that has no such field, `NotFound`
-/// where nothing is there; and then `Unsound`. Nothing has changed then. `Memory`, and `Medium` where the medium fails: all but the count
-/// of failures is as before, or the file has failed.
+/// where nothing is there; and then `Unsound`; `Memory`. Nothing has changed then. `Medium` where the medium fails: all but the count of
+/// failures is as before, or the file has failed.
 pub fn set_field<F: Medium, A: Heap + Clone>(
     volume: &mut Volume<F, A>,
     path: &str,

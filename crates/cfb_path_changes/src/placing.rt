@@ -112,8 +112,8 @@ pub fn place_at<'p, F: Medium, A: Heap + Clone>(
 /// Makes the object in its place, or empties the stream that is there, and answers the number of its entry. A storage has `moment` for both
 /// of its moments.
 ///
-/// `Full` where no entry can be had: nothing has changed then. `Memory`, and `Medium` where the medium fails: all but the count of failures
-/// is as before, or the file has failed.
+/// `Full` where no entry can be had, `Memory`: nothing has changed then. `Medium` where the medium fails: all but the count of failures is as
+/// before, or the file has failed.
 pub fn fill_place<F: Medium, A: Heap + Clone>(
     volume: &mut Volume<F, A>,
     place: Place<'_>,

@@ -52,8 +52,8 @@ fn remove_one<F: Medium, A: Heap + Clone>(
 /// Removes the storage at this path, in which nothing is.
 ///
 /// `Failed`; by the rules of calls: `InvalidInput` where the path leaves the root, for the root, a stream and a storage that is not empty;
-/// `NotFound` where nothing is there; and then `Unsound`. Nothing has changed then. `Memory`, and `Medium` where the medium fails: all but
-/// the count of failures is as before, or the file has failed.
+/// `NotFound` where nothing is there; and then `Unsound`; `Memory`. Nothing has changed then. `Medium` where the medium fails: all but the
+/// count of failures is as before, or the file has failed.
 pub fn remove_storage<F: Medium, A: Heap + Clone>(
     volume: &mut Volume<F, A>,
     path: &str,
@@ -68,7 +68,8 @@ pub fn remove_storage<F: Medium, A: Heap + Clone>(
 
 /// Removes the stream at this path, and gives its bytes back.
 ///
-/// It is refused as `remove_storage` is; `InvalidInput` is for the root and for a storage.
+/// It is refused as `remove_storage` is; `InvalidInput` is for the root and for a storage. Once its bytes are given back `Memory` may leave a
+/// file that has failed.
 pub fn remove_stream<F: Medium, A: Heap + Clone>(
     volume: &mut Volume<F, A>,
     path: &str,

@@ -25,7 +25,7 @@ still-begins version fat file_len start len size wanted l list list' some whole 
     let more = rounded-up-some version size some in
     ap first_or_end listed ∙ taken-first list wanted (omega (arith, more, is)) ∙ sym (begins fat start list whole.chain.follows)
 
-pub cut-is-kept : (version : Version) (fat fat' : List ℕ) (file_len start len size wanted l : ℕ) (list list' : List ℕ) → 0 < size
+cut-is-kept : (version : Version) (fat fat' : List ℕ) (file_len start len size wanted l : ℕ) (list list' : List ℕ) → 0 < size
     → IsWholeChain version fat file_len start len list → l ≡ sector_len version → wanted ≡ size / l + min 1 (size % l) → list' ≡ take wanted list
     → IsChain fat' (first_or_end list') list' → IsChain fat' start list'
 cut-is-kept version fat fat' file_len start len size wanted l list list' some whole l-is wanted-by listed chain' =

@@ -249,16 +249,6 @@ module _ (v : Validation) (old : MiniState) (i size count : ℕ) (list list' : L
     lies = grown-lies;
   })
 
--- it starts where it started
-pub grown-is-kept : (version : Version) (fat : List ℕ) (file_len start len count : ℕ) (list list' : List ℕ) (old new : TableState) → 4096 ≤ len
-    → IsWholeChain version fat file_len start len list → Lengthens count list list' old new → IsChain new.fat (first_or_end list') list' → IsChain new.fat start list'
-grown-is-kept version fat file_len start len count list list' old new large whole made now =
-    subst (λ n. IsChain new.fat n list') (sym (begins fat start list whole.chain.follows ∙ go list (whole.there 0 (omega (arith, large))).listed made.listed)) now
-  where
-    go : (xs : List ℕ) → 0 / sector_len version < length xs → list' ≡ xs ++ gained list list' → first_or_end xs ≡ first_or_end list'
-    go [] some is = absurd (omega (arith, some))
-    go (x ∷ xs) some is = sym (ap first_or_end is)
-
 -- ---- what the calls say of it
 
 -- tables that can't be changed are held in no mode

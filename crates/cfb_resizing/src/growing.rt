@@ -14,13 +14,12 @@ ghost use Rattle.cfb_mini_sectors.specs.State.{HoldsMini, IsChangeable, bytes_of
 ghost use Rattle.cfb_mini_sectors.specs.Steps.{IsTooFewFor, KeepsLimits};
 ghost use Rattle.cfb_mini.specs.MiniSectors.{IsStill};
 ghost use Rattle.cfb_content.specs.Contents.{AreAllUsed, IsNotChangeable, IsStreamOf, KeepsFixedHeader, KeepsOthers, MovesContent, SizesChain, len_of};
-ghost use Rattle.cfb_content.specs.KeptChain.{IsKeptChain};
 ghost use Rattle.cfb_content.specs.Laws.{LacksNumbersFor};
 ghost use Rattle.cfb_resizing.specs.Turning.{CannotGrow, KeepsAround, KeepsTablesTight, StopsOrIsFull};
 
 use crate::resizing::{resize_content, unplaced};
 use cfb_content::in_minis::whole_mini_chain;
-use cfb_content::listed::{ListedChain, take_whole_chain};
+use cfb_content::listed::whole_chain_len;
 use cfb_content::reading::content_in;
 use cfb_format::consts::{END_OF_CHAIN, FREE_SECTOR, MINI_SECTOR_LEN, MINI_STREAM_CUTOFF};
 use cfb_format::error::Error;
@@ -30,18 +29,15 @@ use cfb_mini_table::mini_table::max_len;
 use cfb_sectors::sector::SectorInit;
 use std::alloc::Allocator as Heap;
 
-/// How long a stream in sectors can become, at most `wanted`: as long as it is where not one byte more can be had. Its chain is kept.
+/// How long a stream in sectors can become, at most `wanted`: as long as it is where not one byte more can be had.
 fn len_in_sectors<F: ReadMedium, A: Heap + Clone>(
     mini: &MiniAllocator<F, A>,
-    kept: &mut Option<ListedChain<A>>,
     entry: u32,
     wanted: u64,
 ) -> Result<u64, Error>
     requires stream { IsStreamOf mini.now entry }
     requires large { mini_stream_cutoff ≤ len_of mini.now entry }
     requires longer { len_of mini.now entry < wanted }
-    requires kept_chain { IsKeptChain (tables_in mini.now).fat kept.old }
-    ensures kept_chain { IsKeptChain (tables_in mini.now).fat kept.new }
     ensures within { IfOk result (λ len. (len_of mini.now entry ≤ len) × (len ≤ wanted)) }
     ensures enough { IfOk result (λ len. LacksNumbersFor mini.now entry len → ⊥) }
     ensures none { IfOk result (λ len. len ≡ len_of mini.now entry → AreFullTables (tables_in mini.now)) }
@@ -50,12 +46,7 @@ fn len_in_sectors<F: ReadMedium, A: Heap + Clone>(
     let (start, len) = content_in(mini, entry);
     let allocator = mini.allocator();
     let sector_len = allocator.sector_len() as u64;
-    let ids = take_whole_chain(kept, allocator, start, len)?;
-    let have = ids.len();
-    *kept = Some(ListedChain {
-        start,
-        sectors: ids,
-    });
+    let have = whole_chain_len(allocator, start, len)?;
     let needed = wanted.div_ceil(sector_len) as usize;
     let more = allocator.takable(needed.saturating_sub(have));
     let most = (have.saturating_add(more) as u64).saturating_mul(sector_len);
@@ -107,14 +98,11 @@ fn len_in_minis<F: ReadMedium, A: Heap + Clone>(
 /// How long a stream can become, at most `wanted`: as long as it is where not one byte more can be had.
 fn grown_len<F: ReadMedium, A: Heap + Clone>(
     mini: &MiniAllocator<F, A>,
-    kept: &mut Option<ListedChain<A>>,
     entry: u32,
     wanted: u64,
 ) -> Result<u64, Error>
     requires stream { IsStreamOf mini.now entry }
     requires longer { len_of mini.now entry < wanted }
-    requires kept_chain { IsKeptChain (tables_in mini.now).fat kept.old }
-    ensures kept_chain { IsKeptChain (tables_in mini.now).fat kept.new }
     ensures within { IfOk result (λ len. (len_of mini.now entry ≤ len) × (len ≤ wanted)) }
     ensures enough { IfOk result (λ len. (validation : Validation) → HoldsMini validation mini.now → LacksNumbersFor mini.now entry len → ⊥) }
     ensures none { IfOk result (λ len. len ≡ len_of mini.now entry → CannotGrow mini.now entry) }
@@ -122,7 +110,7 @@ fn grown_len<F: ReadMedium, A: Heap + Clone>(
 {
     let (_, len) = content_in(mini, entry);
     if len >= MINI_STREAM_CUTOFF as u64 {
-        return len_in_sectors(mini, kept, entry, wanted);
+        return len_in_sectors(mini, entry, wanted);
     }
     let moved = len_once_moved(mini, wanted);
     if moved > 0 {
@@ -191,15 +179,12 @@ fn take_the_rest<F: Medium, A: Heap + Clone>(
 /// and the chain of a stream in sectors is kept as there.
 pub fn grow_content<F: Medium, A: Heap + Clone>(
     mini: &mut MiniAllocator<F, A>,
-    kept: &mut Option<ListedChain<A>>,
     entry: u32,
     wanted: u64,
 ) -> Result<u64, Error>
     requires stream { IsStreamOf mini.old entry }
     requires longer { len_of mini.old entry < wanted }
     requires limit { wanted ≤ max_stream_len (version_of mini.old) }
-    requires kept_chain { IsKeptChain (tables_in mini.old).fat kept.old }
-    ensures kept_chain { IsKeptChain (tables_in mini.new).fat kept.new }
     ensures len { IfOk result (λ len. (len_of mini.new entry ≡ len) × (len_of mini.old entry < len) × (len ≤ wanted)) }
     ensures entries { MovesContent mini.old mini.new entry }
     ensures content { IsTrue F.tells → (validation : Validation) → IsChangeable validation mini.old
@@ -226,14 +211,13 @@ pub fn grow_content<F: Medium, A: Heap + Clone>(
     if !mini.directory().is_placed() {
         return Err(unplaced(entry));
     }
-    let size = grown_len(mini, kept, entry, wanted)?;
+    let size = grown_len(mini, entry, wanted)?;
     // Neither table is longer than it may be: else `Full` would come for a length that is not too long.
     let _ = (mini.allocator().max_sectors(), mini.minifat_len());
     if size > len {
-        resize_content(mini, kept, entry, size)?;
+        resize_content(mini, entry, size)?;
         return Ok(size);
     }
-    *kept = None;
     take_the_rest(mini, entry)?;
     Err(Error::Full)
 }

@@ -18,7 +18,6 @@ ghost use Rattle.cfb_mini_sectors.specs.State.{HoldsMini, IsChangeable, bytes_of
 ghost use Rattle.cfb_mini_sectors.specs.Steps.{GrowsFor, IsNotHeld, IsTooFewFor, KeepsMini, KeepsSystem, SparesMini, system_sectors};
 ghost use Rattle.cfb_mini.specs.MiniSectors.{HasMiniSector};
 ghost use Rattle.cfb_content.specs.Contents.{IsNotChangeable, IsStreamOf, KeepsFixedHeader, KeepsOthers, len_of, mini_place_along};
-ghost use Rattle.cfb_content.specs.KeptChain.{IsKeptChain};
 ghost use Rattle.cfb_content.specs.Laws.{LacksNumbersFor};
 ghost use Rattle.cfb_content.specs.Parts.{IsThereInMinis, IsThereInSectors};
 ghost use Rattle.cfb_resizing.specs.Turning.{IsPaddedAlong, KeepsAround, KeepsTablesTight, StopsOrBegun, Turns};
@@ -26,22 +25,16 @@ ghost use Rattle.cfb_resizing.specs.Turning.{IsPaddedAlong, KeepsAround, KeepsTa
 use cfb_alloc::alloc::Allocator;
 use cfb_content::in_minis::{whole_mini_chain, zero_in_minis};
 use cfb_content::in_sectors::zero_in_sectors;
-use cfb_content::listed::{ListedChain, take_whole_chain};
+use cfb_content::listed::open_whole_chain;
 use cfb_content::reading::content_in;
-use cfb_format::consts::{END_OF_CHAIN, MINI_SECTOR_LEN};
+use cfb_format::consts::MINI_SECTOR_LEN;
 use cfb_format::error::{Detail, Error};
 use cfb_format::medium::{Medium, ReadMedium};
 use cfb_mini::mini_allocator::MiniAllocator;
 use cfb_mini_sectors::pieces::are_known_minis;
 use cfb_sectors::sector::SectorInit;
+use cfb_tables::ends::first_number;
 use std::alloc::Allocator as Heap;
-
-/// The first number of a list, or END.
-pub(crate) fn first_number(numbers: &[u32]) -> u32
-    ensures { result ≡ first_or_end numbers.now }
-{
-    numbers.first().copied().unwrap_or(END_OF_CHAIN)
-}
 
 /// Makes the chain of the listed sectors longer by what it lacks for so many bytes, and zeros of all behind its first `len` bytes: of the
 /// sectors that come, and of the old tail.
@@ -91,7 +84,6 @@ fn lengthen_in_sectors<F: Medium, A: Heap + Clone>(
 /// chain is kept.
 pub(crate) fn grow_in_sectors<F: Medium, A: Heap + Clone>(
     mini: &mut MiniAllocator<F, A>,
-    kept: &mut Option<ListedChain<A>>,
     entry: u32,
     size: u64,
 ) -> Result<u32, Error>
@@ -99,8 +91,6 @@ pub(crate) fn grow_in_sectors<F: Medium, A: Heap + Clone>(
     requires limit { size ≤ max_stream_len (version_of mini.old) }
     requires large { mini_stream_cutoff ≤ len_of mini.old entry }
     requires longer { len_of mini.old entry < size }
-    requires kept_chain { IsKeptChain (tables_in mini.old).fat kept.old }
-    ensures kept_chain { IsKeptChain (tables_in mini.new).fat kept.new }
     ensures turned { IsTrue F.tells → (validation : Validation) → IsChangeable validation mini.old → IfOk result (λ start. Turns mini.old mini.new entry size start) }
     ensures holds { IsTrue F.tells → (validation : Validation) → IsChangeable validation mini.old → OnOk result (HoldsMini validation mini.new) }
     ensures others { IsTrue F.tells → (validation : Validation) → IsChangeable validation mini.old → KeepsOthers entry mini.old mini.new }
@@ -115,12 +105,10 @@ pub(crate) fn grow_in_sectors<F: Medium, A: Heap + Clone>(
         → CountsFailure (λ f. F.read_faults f || F.write_faults f) result (table_of mini.old).file.failures (table_of mini.new).file.failures }
 {
     let (start, len) = content_in(mini, entry);
-    let mut ids = take_whole_chain(kept, mini.allocator(), start, len)?;
-    lengthen_in_sectors(mini.allocator_mut(), &mut ids, len, size)?;
-    *kept = Some(ListedChain {
-        start,
-        sectors: ids,
-    });
+    let allocator = mini.allocator_mut();
+    let mut ids = open_whole_chain(allocator, start, len)?;
+    lengthen_in_sectors(allocator, &mut ids, len, size)?;
+    allocator.end_chain(ids);
     Ok(start)
 }
 
@@ -128,7 +116,6 @@ pub(crate) fn grow_in_sectors<F: Medium, A: Heap + Clone>(
 /// they are kept as its chain.
 pub(crate) fn cut_in_sectors<F: Medium, A: Heap + Clone>(
     mini: &mut MiniAllocator<F, A>,
-    kept: &mut Option<ListedChain<A>>,
     entry: u32,
     size: u64,
 ) -> Result<u32, Error>
@@ -136,8 +123,6 @@ pub(crate) fn cut_in_sectors<F: Medium, A: Heap + Clone>(
     requires limit { size ≤ max_stream_len (version_of mini.old) }
     requires large { mini_stream_cutoff ≤ size }
     requires shorter { size < len_of mini.old entry }
-    requires kept_chain { IsKeptChain (tables_in mini.old).fat kept.old }
-    ensures kept_chain { IsKeptChain (tables_in mini.new).fat kept.new }
     ensures turned { IsTrue F.tells → (validation : Validation) → IsChangeable validation mini.old → IfOk result (λ start. Turns mini.old mini.new entry size start) }
     ensures holds { IsTrue F.tells → (validation : Validation) → IsChangeable validation mini.old → OnOk result (HoldsMini validation mini.new) }
     ensures others { IsTrue F.tells → (validation : Validation) → IsChangeable validation mini.old → KeepsOthers entry mini.old mini.new }
@@ -153,13 +138,11 @@ pub(crate) fn cut_in_sectors<F: Medium, A: Heap + Clone>(
         → CountsFailure (λ f. F.read_faults f || F.write_faults f) result (table_of mini.old).file.failures (table_of mini.new).file.failures }
 {
     let (start, len) = content_in(mini, entry);
-    let mut ids = take_whole_chain(kept, mini.allocator(), start, len)?;
     let wanted = size.div_ceil(mini.sector_len() as u64) as usize;
-    mini.allocator_mut().cut_listed(&mut ids, wanted)?;
-    *kept = Some(ListedChain {
-        start,
-        sectors: ids,
-    });
+    let allocator = mini.allocator_mut();
+    let mut ids = open_whole_chain(allocator, start, len)?;
+    allocator.cut_listed(&mut ids, wanted)?;
+    allocator.end_chain(ids);
     Ok(start)
 }
 

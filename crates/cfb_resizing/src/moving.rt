@@ -20,16 +20,14 @@ ghost use Rattle.cfb_mini_sectors.specs.State.{HoldsMini, IsChangeable, bytes_of
 ghost use Rattle.cfb_mini_sectors.specs.Steps.{IsNotHeld, IsTooFewAfterFor, IsZeroMini, SparesMini, system_sectors};
 ghost use Rattle.cfb_mini.specs.MiniSectors.{IsStill};
 ghost use Rattle.cfb_content.specs.Contents.{IsNotChangeable, IsStreamOf, KeepsFixedHeader, KeepsOthers, len_of, mini_place_along};
-ghost use Rattle.cfb_content.specs.KeptChain.{IsKeptChain};
 ghost use Rattle.cfb_content.specs.Laws.{LacksNumbersFor};
 ghost use Rattle.cfb_content.specs.Parts.{IsThereInMinis, IsThereInSectors, StandAlong};
 ghost use Rattle.cfb_resizing.specs.Turning.{CarriesToMinis, IsPaddedAlong, KeepsAround, KeepsTablesTight, StopsOrBegun, Turns};
 
-use crate::in_place::first_number;
 use cfb_alloc::alloc::Allocator;
 use cfb_content::in_minis::{get_from_minis, put_in_minis, whole_mini_chain};
 use cfb_content::in_sectors::{get_from_sectors, put_in_sectors};
-use cfb_content::listed::{ListedChain, take_whole_chain};
+use cfb_content::listed::whole_chain;
 use cfb_content::reading::content_in;
 use cfb_format::consts::MINI_SECTOR_LEN;
 use cfb_format::error::{Detail, Error};
@@ -37,6 +35,7 @@ use cfb_format::medium::{Medium, ReadMedium};
 use cfb_mini::mini_allocator::MiniAllocator;
 use cfb_mini_sectors::growing::lacks_for;
 use cfb_sectors::sector::SectorInit;
+use cfb_tables::ends::first_number;
 use std::alloc::Allocator as Heap;
 
 /// Whether all of these numbers are below this one.
@@ -175,10 +174,9 @@ fn taken_from_sectors<F: ReadMedium, A: Heap + Clone>(
     Ok(bytes)
 }
 
-/// Moves a beginning of a stream from sectors into mini sectors, and answers where it starts then: an empty one nowhere. No chain is kept.
+/// Moves a beginning of a stream from sectors into mini sectors, and answers where it starts then: an empty one nowhere.
 pub(crate) fn move_to_minis<F: Medium, A: Heap + Clone>(
     mini: &mut MiniAllocator<F, A>,
-    kept: &mut Option<ListedChain<A>>,
     entry: u32,
     size: u64,
 ) -> Result<u32, Error>
@@ -186,8 +184,6 @@ pub(crate) fn move_to_minis<F: Medium, A: Heap + Clone>(
     requires limit { size ≤ max_stream_len (version_of mini.old) }
     requires large { mini_stream_cutoff ≤ len_of mini.old entry }
     requires small { size < mini_stream_cutoff }
-    requires kept_chain { IsKeptChain (tables_in mini.old).fat kept.old }
-    ensures none { kept.new ≡ None }
     ensures turned { IsTrue F.tells → (validation : Validation) → IsChangeable validation mini.old → IfOk result (λ start. Turns mini.old mini.new entry size start) }
     ensures holds { IsTrue F.tells → (validation : Validation) → IsChangeable validation mini.old → OnOk result (HoldsMini validation mini.new) }
     ensures others { IsTrue F.tells → (validation : Validation) → IsChangeable validation mini.old → KeepsOthers entry mini.old mini.new }
@@ -206,7 +202,7 @@ pub(crate) fn move_to_minis<F: Medium, A: Heap + Clone>(
         → CountsFailure (λ f. F.read_faults f || F.write_faults f) result (table_of mini.old).file.failures (table_of mini.new).file.failures }
 {
     let (start, len) = content_in(mini, entry);
-    let old = take_whole_chain(kept, mini.allocator(), start, len)?;
+    let old = whole_chain(mini.allocator(), start, len)?;
     let count = size.div_ceil(MINI_SECTOR_LEN as u64) as usize;
     mini.reserve(count, old.len())?;
     if count > 0 {

@@ -11,11 +11,9 @@ ghost use Rattle.cfb_mini_sectors.specs.State.{HoldsMini, IsChangeable, bytes_of
 ghost use Rattle.cfb_mini_sectors.specs.Steps.{KeepsLimits};
 ghost use Rattle.cfb_mini.specs.MiniSectors.{IsStill};
 ghost use Rattle.cfb_content.specs.Contents.{AreAllUsed, IsNotChangeable, IsStreamOf, KeepsFixedHeader, KeepsOthers, MovesContent, SizesChain, len_of};
-ghost use Rattle.cfb_content.specs.KeptChain.{IsKeptChain};
 ghost use Rattle.cfb_resizing.specs.Turning.{KeepsTablesTight, StopsOrIsFull};
 
 use crate::growing::grow_content;
-use cfb_content::listed::ListedChain;
 use cfb_content::reading::content_in;
 use cfb_content::writing::{write_content, write_listed};
 use cfb_format::consts::{MINI_SECTOR_LEN, MINI_STREAM_CUTOFF};
@@ -47,15 +45,12 @@ fn list_for<F: ReadMedium, A: Heap + Clone>(
 /// that is: at least one. The refusals are those of `put_content`.
 fn append_content<F: Medium, A: Heap + Clone>(
     mini: &mut MiniAllocator<F, A>,
-    kept: &mut Option<ListedChain<A>>,
     entry: u32,
     bytes: &[u8],
 ) -> Result<usize, Error>
     requires stream { IsStreamOf mini.old entry }
     requires some { 0 < length bytes.now }
     requires limit { len_of mini.old entry + length bytes.now ≤ max_stream_len (version_of mini.old) }
-    requires kept_chain { IsKeptChain (tables_in mini.old).fat kept.old }
-    ensures kept_chain { IsKeptChain (tables_in mini.new).fat kept.new }
     ensures count { IfOk result (λ n. (0 < n) × (n ≤ length bytes.now)) }
     ensures len { IfOk result (λ n. len_of mini.new entry ≡ len_of mini.old entry + n) }
     ensures entries { MovesContent mini.old mini.new entry }
@@ -82,9 +77,9 @@ fn append_content<F: Medium, A: Heap + Clone>(
     let wanted = len + bytes.len() as u64;
     // Once the stream has grown memory is not to be wanted: it could not go back.
     let list = list_for(mini, entry, wanted)?;
-    let grown = grow_content(mini, kept, entry, wanted)?;
+    let grown = grow_content(mini, entry, wanted)?;
     let count = (grown - len) as usize;
-    write_listed(mini, list, kept, entry, len, &bytes[..count])?;
+    write_listed(mini, list, entry, len, &bytes[..count])?;
     Ok(count)
 }
 
@@ -97,7 +92,6 @@ fn append_content<F: Medium, A: Heap + Clone>(
 /// need not be walked again.
 pub fn put_content<F: Medium, A: Heap + Clone>(
     mini: &mut MiniAllocator<F, A>,
-    kept: &mut Option<ListedChain<A>>,
     entry: u32,
     at: u64,
     bytes: &[u8],
@@ -105,8 +99,6 @@ pub fn put_content<F: Medium, A: Heap + Clone>(
     requires stream { IsStreamOf mini.old entry }
     requires inside { at ≤ len_of mini.old entry }
     requires limit { at + length bytes.now ≤ max_stream_len (version_of mini.old) }
-    requires kept_chain { IsKeptChain (tables_in mini.old).fat kept.old }
-    ensures kept_chain { IsKeptChain (tables_in mini.new).fat kept.new }
     ensures count { IfOk result (λ n. n ≤ length bytes.now) }
     ensures some { 0 < length bytes.now → IfOk result (λ n. 0 < n) }
     ensures len { IfOk result (λ n. len_of mini.new entry ≡ max (len_of mini.old entry) (at + n)) }
@@ -135,9 +127,9 @@ pub fn put_content<F: Medium, A: Heap + Clone>(
     }
     let (_, len) = content_in(mini, entry);
     if at >= len {
-        return append_content(mini, kept, entry, bytes);
+        return append_content(mini, entry, bytes);
     }
     let count = (bytes.len() as u64).min(len - at) as usize;
-    write_content(mini, kept, entry, at, &bytes[..count])?;
+    write_content(mini, entry, at, &bytes[..count])?;
     Ok(count)
 }

@@ -18,13 +18,11 @@ ghost use Rattle.cfb_mini_sectors.specs.State.{HoldsMini, IsChangeable, bytes_of
 ghost use Rattle.cfb_mini_sectors.specs.Steps.{KeepsLimits, KeepsMini, KeepsSystem};
 ghost use Rattle.cfb_mini.specs.MiniSectors.{IsStill};
 ghost use Rattle.cfb_content.specs.Contents.{AreAllUsed, IsNotChangeable, IsStreamOf, IsTooLongFor, KeepsFixedHeader, KeepsOthers, MovesContent, SizesChain, WipesMinis, len_of};
-ghost use Rattle.cfb_content.specs.KeptChain.{IsKeptChain};
 ghost use Rattle.cfb_content.specs.Laws.{LacksNumbersFor};
 ghost use Rattle.cfb_resizing.specs.Turning.{KeepsAround, KeepsTablesTight, StopsOrBegun, Turns};
 
 use crate::in_place::{cut_in_minis, cut_in_sectors, grow_in_minis, grow_in_sectors};
 use crate::moving::{move_to_minis, move_to_sectors};
-use cfb_content::listed::ListedChain;
 use cfb_content::reading::content_in;
 use cfb_entries::fields::Fields;
 use cfb_format::consts::MINI_STREAM_CUTOFF;
@@ -52,14 +50,11 @@ pub(crate) fn unplaced(entry: u32) -> Error
 /// changed. The chain of a stream that stays in sectors is kept.
 pub fn resize_content<F: Medium, A: Heap + Clone>(
     mini: &mut MiniAllocator<F, A>,
-    kept: &mut Option<ListedChain<A>>,
     entry: u32,
     size: u64,
 ) -> Result<(), Error>
     requires stream { IsStreamOf mini.old entry }
     requires limit { size ≤ max_stream_len (version_of mini.old) }
-    requires kept_chain { IsKeptChain (tables_in mini.old).fat kept.old }
-    ensures kept_chain { IsKeptChain (tables_in mini.new).fat kept.new }
     ensures len { OnOk result (len_of mini.new entry ≡ size) }
     ensures none { size ≡ len_of mini.old entry → OnErr result ⊥ × (mini.new ≡ mini.old) }
     ensures entries { MovesContent mini.old mini.new entry }
@@ -106,22 +101,19 @@ pub fn resize_content<F: Medium, A: Heap + Clone>(
     }
     // Neither table is longer than it may be: else `Full` would come for a length that is not too long.
     let _ = (mini.allocator().max_sectors(), mini.minifat_len());
-    let start = turn(mini, kept, entry, size)?;
+    let start = turn(mini, entry, size)?;
     name_content(mini, entry, start, size)
 }
 
 /// Gives a stream another length than it has where its content lies, and answers where that starts then; the entry does not say so yet.
 fn turn<F: Medium, A: Heap + Clone>(
     mini: &mut MiniAllocator<F, A>,
-    kept: &mut Option<ListedChain<A>>,
     entry: u32,
     size: u64,
 ) -> Result<u32, Error>
     requires stream { IsStreamOf mini.old entry }
     requires limit { size ≤ max_stream_len (version_of mini.old) }
     requires differs { size ≢ len_of mini.old entry }
-    requires kept_chain { IsKeptChain (tables_in mini.old).fat kept.old }
-    ensures kept_chain { IsKeptChain (tables_in mini.new).fat kept.new }
     ensures turned { IsTrue F.tells → (validation : Validation) → IsChangeable validation mini.old → IfOk result (λ start. Turns mini.old mini.new entry size start) }
     ensures holds { IsTrue F.tells → (validation : Validation) → IsChangeable validation mini.old → OnOk result (HoldsMini validation mini.new) }
     ensures others { IsTrue F.tells → (validation : Validation) → IsChangeable validation mini.old → KeepsOthers entry mini.old mini.new }
@@ -147,15 +139,13 @@ fn turn<F: Medium, A: Heap + Clone>(
     let cutoff = MINI_STREAM_CUTOFF as u64;
     if len >= cutoff {
         if size > len {
-            return grow_in_sectors(mini, kept, entry, size);
+            return grow_in_sectors(mini, entry, size);
         }
         if size >= cutoff {
-            return cut_in_sectors(mini, kept, entry, size);
+            return cut_in_sectors(mini, entry, size);
         }
-        return move_to_minis(mini, kept, entry, size);
+        return move_to_minis(mini, entry, size);
     }
-    // Sectors of other chains change their use now.
-    *kept = None;
     if size >= cutoff {
         return move_to_sectors(mini, entry, size);
     }

@@ -29,8 +29,11 @@ pub fn refusal(e: Error) -> &'static str {
     REFUSALS.get(e.number() as usize).copied().unwrap_or("?")
 }
 
-/// Whether a word says this number, or behind `>` a lower one.
+/// Whether a word says this number, behind `>` a lower one, or behind `<` a greater one.
 fn says_number(word: &str, count: u64) -> bool {
+    if let Some(word) = word.strip_prefix("<") {
+        return number(word).is_some_and(|more| count < more);
+    }
     match word.strip_prefix(">") {
         Some(word) => number(word).is_some_and(|less| less < count),
         None => number(word) == Some(count),

@@ -96,11 +96,12 @@ pub fn fits(forms: &[Form], line: &Line<'_>) -> bool {
 
 /// Lines between sessions.
 #[rattlefmt::skip]
-pub const BETWEEN: [Form; 35] = [
+pub const BETWEEN: [Form; 36] = [
     Form { call: "create", parts: &[Part::Either("3", "4")] },
     Form { call: "keep", parts: &[] },
     Form { call: "back", parts: &[] },
     Form { call: "same", parts: &[] },
+    Form { call: "copy", parts: &[] },
     Form { call: "reads", parts: &[] },
     Form { call: "writes", parts: &[] },
     Form { call: "flushes", parts: &[] },

@@ -39,6 +39,9 @@ const QUESTIONS: [&str; 20] = [
     "end",
 ];
 
+/// Lines that give bytes to a stream, which may keep them back.
+const WRITES: [&str; 4] = ["put", "add", "write", "once"];
+
 /// Hears answers. Where a fault is planned, a call may be refused by it and is asked again, and where the file has failed then, all calls
 /// that change it or read from it answer so.
 #[derive(Drop)]
@@ -61,6 +64,8 @@ pub struct Judge<'h> {
     is_by_medium: bool,
     /// Whether it was one for want of memory that is to leave the file as it was.
     is_spared: bool,
+    /// Whether a stream may have kept bytes back.
+    pends: bool,
     /// What a call told in words.
     pub text: String,
 }
@@ -79,6 +84,7 @@ impl<'h> Judge<'h> {
             failed: 0,
             is_by_medium: false,
             is_spared: false,
+            pends: false,
             text: String::new(alloc),
         }
     }
@@ -90,6 +96,7 @@ impl<'h> Judge<'h> {
         self.failed = 0;
         self.is_by_medium = false;
         self.is_spared = false;
+        self.pends = false;
     }
 
     /// Hears that the file of a session was got at last, with its medium anew where it had been refused.
@@ -130,6 +137,7 @@ impl<'h> Judge<'h> {
     pub fn hears_of(&mut self, line: &Line<'_>, answer: Answer, spares: bool) -> bool {
         let was_spared = self.is_spared;
         self.is_spared = false;
+        self.pends = self.pends || is_one_of(&WRITES, line.call());
         if self.plan.is_calm() || !self.is_fault(&answer) {
             self.compare(line, answer, was_spared);
             return false;
@@ -184,14 +192,19 @@ impl<'h> Judge<'h> {
         }
     }
 
-    /// Whether a session over a fault went as it may: how often the medium went wrong, whether the file has failed, and whether the bytes
-    /// are those of the session without the fault.
-    pub fn ended_well(&self, failures: u64, is_failed: bool, is_whole: bool) -> bool {
+    /// Whether a session over a fault went as it may: how often the medium went wrong, how often it was written, whether the file has failed,
+    /// and whether the bytes are those of the session without the fault. Want of memory alone fails no file that was not written.
+    pub fn ended_well(&self, failures: u64, writes: u64, is_failed: bool, is_whole: bool) -> bool {
         if is_failed != (self.failed > 0) || !is_whole && !is_failed && self.refused < 2 {
             return false;
         }
         if self.plan.is_memory {
-            return self.refused < 2 && (is_failed || !self.is_by_medium);
+            let is_right = if is_failed {
+                writes > 0 || self.pends
+            } else {
+                !self.is_by_medium
+            };
+            return self.refused < 2 && is_right;
         }
         match failures {
             0 => self.refused == 0 && !is_failed,

@@ -1,7 +1,8 @@
-//! Long words, written short: `{5*ab}` stands for `ababababab`, and `{U+0000}` for the letter of this number.
+//! What repeats, written short: `{5*ab}` stands for `ababababab`, and `{3*a[7]}` for `a7a8a9`. `{U+0000}` stands for the letter of this number.
 
 use crate::lines::number_or_0;
 use std::alloc::{AllocError, Global};
+use std::fmt::Write;
 
 /// A text with all that is folded in it unfolded.
 pub fn unfolded(alloc: Global, text: &str) -> Result<String, AllocError> {
@@ -26,8 +27,20 @@ fn unfold(folded: &str, whole: &mut String) -> Result<(), AllocError> {
     let Some((count, run)) = folded.split_once("*") else {
         return whole.push_str(folded);
     };
-    for _turn in 0..number_or_0(count) {
-        whole.push_str(run)?;
+    for turn in 0..number_or_0(count) {
+        push_run(run, turn, whole)?;
+    }
+    Ok(())
+}
+
+/// Appends a run, in which each number in brackets is raised by this.
+fn push_run(run: &str, by: u64, whole: &mut String) -> Result<(), AllocError> {
+    let mut parts = run.split("[");
+    whole.push_str(parts.next().unwrap_or(""))?;
+    for part in parts {
+        let (digits, rest) = part.split_once("]").unwrap_or((part, ""));
+        write!(whole, "{}", number_or_0(digits).saturating_add(by))?;
+        whole.push_str(rest)?;
     }
     Ok(())
 }

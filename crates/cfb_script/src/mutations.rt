@@ -1,98 +1,17 @@
-//! Each byte of a file set to 0 and to 255 in turn: nothing hangs or breaks, and what is opened means the same when it is opened again.
+//! Each byte of a file set to 0 and to 255 in turn: nothing hangs or breaks, what is opened means the same when it is opened again and in a
+//! copy, and all of it goes at once.
 
-use cfb::{CompoundFile, Entry, Error, MemoryMedium, ReadMedium};
+use crate::telling::{says, tell_file};
+use cfb::{CompoundFile, Error, MemoryMedium};
 use cfb_rows::answers::Answer;
-use std::alloc::{Allocator, Global};
+use std::alloc::Global;
 
-/// Appends all that is told of an object.
-fn tell<A: Allocator>(entry: &Entry<A>, told: &mut Vec<u8>) -> Result<(), Error> {
-    told.extend_from_slice(entry.path().as_bytes())?;
-    told.extend_from_slice(entry.name().as_bytes())?;
-    told.extend_from_slice(entry.clsid().as_bytes())?;
-    told.push(u8::from(entry.is_stream()))?;
-    told.extend_from_slice(&entry.len().to_le_bytes())?;
-    told.extend_from_slice(&entry.state_bits().to_le_bytes())?;
-    told.extend_from_slice(&entry.created().value().to_le_bytes())?;
-    told.extend_from_slice(&entry.modified().value().to_le_bytes())?;
-    Ok(())
-}
-
-/// Appends what is told of an object, and its path to those of the streams where it is one.
-fn tell_entry<A: Allocator>(
+fn opened(
     alloc: Global,
-    entry: &Entry<A>,
-    paths: &mut Vec<String>,
-    told: &mut Vec<u8>,
-) -> Result<(), Error> {
-    tell(entry, told)?;
-    if entry.is_stream() {
-        paths.push(String::from_str(alloc, entry.path())?)?;
-    }
-    Ok(())
-}
-
-/// Appends what a file says of its objects, one behind the other, and the paths of its streams.
-fn tell_all<F: ReadMedium, A: Allocator + Clone>(
-    alloc: Global,
-    file: &CompoundFile<F, A>,
-    paths: &mut Vec<String>,
-    told: &mut Vec<u8>,
-) -> Result<(), Error> {
-    for entry in file.walk()? {
-        tell_entry(alloc, &entry, paths, told)?;
-    }
-    Ok(())
-}
-
-/// The number of a refusal, and 0 where there is none.
-fn number_of(done: Result<(), Error>) -> u8 {
-    match done {
-        Ok(()) => 0,
-        Err(e) => e.number(),
-    }
-}
-
-/// Appends all bytes of a stream, and the number of the refusal, or 0.
-fn tell_stream<F: ReadMedium, A: Allocator + Clone>(
-    file: &mut CompoundFile<F, A>,
-    path: &str,
-    told: &mut Vec<u8>,
-) -> Result<(), Error> {
-    let number = match file.open_read_stream(path) {
-        Ok(mut stream) => {
-            let read = stream.read_to_end(told);
-            let closed = stream.close();
-            match read {
-                Ok(_) => number_of(closed),
-                Err(e) => e.number(),
-            }
-        }
-        Err(e) => e.number(),
-    };
-    told.push(number)?;
-    Ok(())
-}
-
-/// Appends all that a file says of its objects, with what can be read of its streams, and whether it is sound.
-fn tell_file<F: ReadMedium, A: Allocator + Clone>(
-    alloc: Global,
-    file: &mut CompoundFile<F, A>,
-    told: &mut Vec<u8>,
-) -> Result<(), Error> {
-    let mut paths = Vec::new(alloc);
-    tell_all(alloc, file, &mut paths, told)?;
-    for path in &paths {
-        tell_stream(file, path, told)?;
-    }
-    told.push(u8::from(file.is_sound()))?;
-    Ok(())
-}
-
-fn opened<F: ReadMedium>(
-    alloc: Global,
-    medium: F,
+    bytes: &[u8],
     is_strict: bool,
-) -> Result<CompoundFile<F>, Error> {
+) -> Result<CompoundFile<MemoryMedium>, Error> {
+    let medium = MemoryMedium::from_bytes(Vec::from_slice(alloc, bytes)?);
     if is_strict {
         CompoundFile::open_strict(alloc, medium)
     } else {
@@ -100,62 +19,96 @@ fn opened<F: ReadMedium>(
     }
 }
 
-/// Opens a medium, and appends what its file says. Gives the medium back, with whether all was told.
-fn told_on<F: ReadMedium>(
-    alloc: Global,
-    medium: F,
-    is_strict: bool,
-    told: &mut Vec<u8>,
-) -> Result<(bool, F), Error> {
-    match opened(alloc, medium, is_strict) {
+/// Appends how long the mini stream of a file is, and whether it is sound.
+fn tell_state(file: &CompoundFile<MemoryMedium>, told: &mut Vec<u8>) -> Result<(), Error> {
+    told.extend_from_slice(&file.root_entry()?.len().to_le_bytes())?;
+    told.push(u8::from(file.is_sound()))?;
+    Ok(())
+}
+
+/// Appends all that the file of these bytes says in the permissive mode, and answers whether it was told. None: it is refused as it may be.
+fn tell_bytes(alloc: Global, bytes: &[u8], told: &mut Vec<u8>) -> Option<bool> {
+    match opened(alloc, bytes, false) {
         Ok(mut file) => {
             let is_told = tell_file(alloc, &mut file, told).is_ok();
-            Ok((is_told, file.into_inner()))
+            Some(is_told && tell_state(&file, told).is_ok())
         }
-        Err(e) => Err(e),
-    }
-}
-
-/// Opens a medium, and once more in the permissive mode, and appends what its file says each time. Whether all was told, and was opened again.
-fn told_twice<F: ReadMedium>(
-    alloc: Global,
-    medium: F,
-    is_strict: bool,
-    told: &mut Vec<u8>,
-    again: &mut Vec<u8>,
-) -> Result<bool, Error> {
-    match told_on(alloc, medium, is_strict, told) {
-        Ok((is_told, medium)) => match told_on(alloc, medium, false, again) {
-            Ok((is_told_again, _medium)) => Ok(is_told && is_told_again),
-            Err(_) => Ok(false),
-        },
-        Err(e) => Err(e),
-    }
-}
-
-/// Whether bytes that are opened in a mode mean the same when they are opened again. None: they are refused as they may be.
-fn meaning(alloc: Global, bytes: &[u8], is_strict: bool) -> Option<bool> {
-    let Ok(bytes) = Vec::from_slice(alloc, bytes) else {
-        return Some(false);
-    };
-    let mut told = Vec::new(alloc);
-    let mut again = Vec::new(alloc);
-    let medium = MemoryMedium::from_bytes(bytes);
-    match told_twice(alloc, medium, is_strict, &mut told, &mut again) {
-        Ok(is_told) => Some(is_told && told.as_slice() == again.as_slice()),
         Err(Error::InvalidData(_)) => None,
         Err(_) => Some(false),
     }
 }
 
-/// In how many modes these bytes are opened, and then mean the same when they are opened again. None: in one they do not.
+/// Whether a copy of a file says this. One of a file that is not sound may be refused, as a stream can't be read.
+fn is_copied(alloc: Global, file: &mut CompoundFile<MemoryMedium>, told: &[u8]) -> bool {
+    match file.copy_to(MemoryMedium::new(alloc)) {
+        Ok(mut copy) => says(alloc, &mut copy, told),
+        Err(Error::InvalidData(_)) => !file.is_sound(),
+        Err(_) => false,
+    }
+}
+
+/// Whether a file says this, and its copy the same of its objects.
+fn is_right(alloc: Global, file: &mut CompoundFile<MemoryMedium>, wanted: &[u8]) -> bool {
+    let mut told = Vec::new(alloc);
+    if tell_file(alloc, file, &mut told).is_err() {
+        return false;
+    }
+    let is_copied = is_copied(alloc, file, &told);
+    let is_told = tell_state(file, &mut told).is_ok();
+    is_copied && is_told && told.as_slice() == wanted
+}
+
+/// Whether the file of bytes that are opened in a mode says this, as its copy does, and all of it goes at once where it is sound. None: it is
+/// refused as it may be.
+fn works(alloc: Global, bytes: &[u8], is_strict: bool, wanted: &[u8]) -> Option<bool> {
+    match opened(alloc, bytes, is_strict) {
+        Ok(mut file) => {
+            let is_right = is_right(alloc, &mut file, wanted);
+            let is_sound = file.is_sound();
+            let removed = file.remove_storage_all("/");
+            let is_left = is_left(alloc, file.into_inner(), is_sound, removed);
+            Some(is_right && is_left)
+        }
+        Err(Error::InvalidData(_)) => None,
+        Err(_) => Some(false),
+    }
+}
+
+/// Whether a removal of all that is in a file may answer so, and has left this.
+fn is_left(
+    alloc: Global,
+    medium: MemoryMedium,
+    is_sound: bool,
+    removed: Result<(), Error>,
+) -> bool {
+    match removed {
+        Ok(()) => is_sound && has_root_alone(alloc, medium),
+        Err(Error::Unsound) => !is_sound,
+        Err(_) => false,
+    }
+}
+
+/// Whether the file on a medium is the root alone.
+fn has_root_alone(alloc: Global, medium: MemoryMedium) -> bool {
+    match CompoundFile::open(alloc, medium) {
+        Ok(file) => match file.walk() {
+            Ok(entries) => entries.count() == 1,
+            Err(_) => false,
+        },
+        Err(_) => false,
+    }
+}
+
+/// In how many modes these bytes are opened, and then mean the same in each, and can be worked with. None: in one they do not.
 fn modes_of(alloc: Global, bytes: &[u8]) -> Option<u64> {
+    let mut wanted = Vec::new(alloc);
+    let told = tell_bytes(alloc, bytes, &mut wanted);
     let mut count = 0u64;
     for is_strict in [false, true] {
-        match meaning(alloc, bytes, is_strict) {
-            Some(true) => count = count.saturating_add(1),
-            Some(false) => return None,
-            None => {}
+        match works(alloc, bytes, is_strict, &wanted) {
+            None if is_strict || told.is_none() => {}
+            Some(true) if told == Some(true) => count = count.saturating_add(1),
+            _ => return None,
         }
     }
     Some(count)

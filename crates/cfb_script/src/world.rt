@@ -1,5 +1,6 @@
 //! All rows, one behind the other.
 
+use crate::copies::{copied, copy_file};
 use crate::mutations::mutated;
 use crate::sessions::{Outcome, Settings, make, play_once};
 use cfb_media::media::Kind;
@@ -17,7 +18,7 @@ use std::alloc::Global;
 const MOST: u64 = 20000;
 
 /// How many places are guarded at most.
-const GUARDS: usize = 4;
+const GUARDS: usize = 6;
 
 /// From which place on so many bytes stay; where these are none, nothing is guarded.
 type Guard = (usize, usize);
@@ -194,6 +195,12 @@ fn answered(world: &mut World<'_>, line: &Line<'_>) -> Answer {
         "keep" => copied(&world.bytes, &mut world.kept),
         "back" => copied(&world.kept, &mut world.bytes),
         "same" => Answer::Flag(world.bytes.as_slice() == world.kept.as_slice()),
+        "copy" => copy_file(
+            world.judge.alloc,
+            world.judge.heap,
+            &world.plan,
+            &mut world.bytes,
+        ),
         "struck" => Answer::Count(world.struck),
         "reads" | "writes" | "flushes" => Answer::Count(count_of(&world.last, line.call())),
         "mutate" => mutated(
@@ -220,14 +227,6 @@ fn count_of(last: &Outcome, call: &str) -> u64 {
 /// The answer to a line that draws lists of commands.
 fn drawn(judge: &mut Judge<'_>, line: &Line<'_>) -> Answer {
     played_at_random(judge.alloc, judge.heap, line, &mut judge.text)
-}
-
-fn copied(from: &[u8], into: &mut Vec<u8>) -> Answer {
-    into.clear();
-    match into.extend_from_slice(from) {
-        Ok(()) => Answer::Done,
-        Err(_) => Answer::Refused(cfb::Error::Memory),
-    }
 }
 
 /// Plays a session as it is, and then with each fault that its line names, in turn. The bytes are those of the session as it is.
@@ -351,9 +350,12 @@ fn is_well(
         return may_be_refused(&world.judge, line);
     }
     are_kept(&world.guards, &world.bytes, after)
-        && world
-            .judge
-            .ended_well(outcome.failures, outcome.is_failed, after == whole)
+        && world.judge.ended_well(
+            outcome.failures,
+            outcome.writes,
+            outcome.is_failed,
+            after == whole,
+        )
 }
 
 /// Whether the guarded places have the same bytes before and after.

@@ -1,14 +1,17 @@
 //! An entry out of the children of a storage (MS-CFB 2.6.4): a node with at most one part below it
 //! is replaced by that, and in place of one with two its predecessor goes, whose entry then moves
 //! into the freed slot.
-ghost use Rattle.std.specs.Prelude.{◌≡◌, ℕ, ◌+◌, ◌*◌, ◌<◌, ◌≤◌, length, chars, IfOk, OnErr, OnOk, List, [], vec_len, vec_capacity, true};
-ghost use Rattle.cfb_siblings.specs.Children.{HasChildren, HasRedApart, IsAbsent, IsParent, KeepsBalance, Removes};
+ghost use Rattle.std.specs.Prelude.{◌≡◌, ℕ, ◌+◌, ◌*◌, ◌<◌, ◌≤◌, ◌++◌, ◌∷◌, length, chars, IfOk, OnErr, OnOk, List, [], vec_len, vec_capacity, true};
+ghost use Rattle.cfb_siblings.specs.Children.{HasChildren, HasRedApart, IsAbsent, IsChildNamed, IsParent, IsSomeChild, IsThin, KeepsBalance, Removes};
 ghost use Rattle.cfb_siblings.specs.Order.{Dir, HasDir};
 ghost use Rattle.cfb_siblings.specs.Painted.{Painted, bare, tree_numbers, occurs};
 ghost use Rattle.cfb_codecs.specs.EntryModel.{entries_of};
+ghost use Rattle.cfb_format.specs.Names.{Cases};
+ghost use Rattle.cfb_format.specs.Tree.{is_same_name};
 ghost use Rattle.cfb_format.specs.Siblings.{depth};
 ghost use Rattle.cfb_siblings.specs.Taking.{SpareAt, StandsInTree, TakenOut};
 ghost use Rattle.cfb_siblings.specs.Touched.{IsNear, Tells, Touches, TouchesFew, TouchesOnly};
+ghost use Rattle.cfb_siblings.specs.Way.{name_at};
 
 use crate::balance::restore;
 use crate::links::{PathStep, is_red_entry, last_step, links, only_part, relink, vacate};
@@ -41,9 +44,10 @@ fn spare<A: Allocator>(
     requires few { length (entries_of entries.now) ≤ NO_STREAM }
     requires small { (t : Painted)
         × StandsInTree (entries_of entries.now) path.old.items t n × ((k : ℕ) → occurs k t ≤ 1) }
-    ensures { IfOk result (λ m. (t : Painted)
+    ensures at { IfOk result (λ m. (t : Painted)
         → ((k : ℕ) → occurs k t ≤ 1) → StandsInTree (entries_of entries.now) path.old.items t n
         → SpareAt (entries_of entries.now) path.new.items t n m) }
+    ensures thin { IfOk result (λ m. IsThin (entries_of entries.now) n → m ≡ n) }
 {
     let (left, right) = links(entries, n);
     if left == NO_STREAM {
@@ -69,6 +73,34 @@ fn spare<A: Allocator>(
     Ok(m)
 }
 
+/// The slot that the removal of the child `n` of a storage frees: its own where at most one part
+/// hangs below it, else that of the child right before it, whose entry moves then. It takes no
+/// memory.
+pub fn freed_slot<A: Allocator>(entries: &[DirEntry<A>], n: u32) -> u32
+    requires few { length (entries_of entries.now) ≤ NO_STREAM }
+    requires child { IsSomeChild (entries_of entries.now) n }
+    ensures thin { IsThin (entries_of entries.now) n → result ≡ n }
+    ensures before { (IsThin (entries_of entries.now) n → ⊥)
+        → (cases : Cases) (parent : ℕ) (xs ys : List ℕ)
+        → HasChildren cases (entries_of entries.now) parent (xs ++ n ∷ ys)
+        → (zs : List ℕ) × (xs ≡ zs ++ result ∷ []) }
+{
+    let (left, right) = links(entries, n);
+    if left == NO_STREAM {
+        return n;
+    }
+    if right == NO_STREAM {
+        return n;
+    }
+    let mut m = left;
+    let mut next = right_link(entries, left);
+    while next != NO_STREAM {
+        m = next;
+        next = right_link(entries, m);
+    }
+    m
+}
+
 /// Takes the entry of that name out of the storage.
 fn take_out<A: Allocator>(
     alloc: A,
@@ -86,6 +118,10 @@ fn take_out<A: Allocator>(
         → Dir cases.now (entries_of entries.old) parent t
         → TakenOut cases.now (entries_of entries.old) (entries_of entries.new) parent
         (chars name.now) t gap.freed gap.path.items gap.link gap.red) }
+    ensures thin { IfOk result (λ gap. (t : Painted)
+        → Dir cases.now (entries_of entries.old) parent t → (n : ℕ) → 1 ≤ occurs n t
+        → is_same_name cases.now (chars name.now) (name_at (entries_of entries.old) n) ≡ true
+        → IsThin (entries_of entries.old) n → gap.freed ≡ n) }
     ensures told { OnOk result ((t : Painted)
         → Dir cases.now (entries_of entries.old) parent t → Tells
         (IsNear parent t) (entries_of entries.old) (entries_of entries.new) [] touched.new.items) }
@@ -117,7 +153,7 @@ fn take_out<A: Allocator>(
 
 /// Takes the child of that name, which is there, out of the storage `parent` (MS-CFB 2.6.4), and
 /// answers the slot that is free now: the child's own, or that of its predecessor, whose entry then
-/// stands in the child's. `touched` becomes the list of the slots whose entries changed, each of
+/// stands in the child's (`freed_slot` tells which). `touched` becomes the list of the slots whose entries changed, each of
 /// them once: at most eight more than the children's tree has levels.
 ///
 /// Children in balance stay so; also where they were not, no red child comes to stand under a red
@@ -142,6 +178,10 @@ pub fn remove<A: Allocator>(
         → HasChildren cases.now (entries_of entries.old) parent list
         → (after : List ℕ) × Removes cases.now (entries_of entries.old)
         (entries_of entries.new) parent (chars name.now) freed list after) }
+    ensures thin { IfOk result (λ freed. (list : List ℕ)
+        → HasChildren cases.now (entries_of entries.old) parent list → (n : ℕ)
+        → IsChildNamed cases.now (entries_of entries.old) (chars name.now) list n
+        → IsThin (entries_of entries.old) n → freed ≡ n) }
     ensures balanced { OnOk result
         (KeepsBalance (entries_of entries.old) (entries_of entries.new) parent) }
     ensures red_apart { OnOk result ((list : List ℕ)

@@ -1,5 +1,5 @@
 //! The buffered stream that is only read. Lengths and places are in bytes.
-ghost use Rattle.std.specs.Prelude.{◌≡◌, ◌+◌, ◌-◌, ◌<◌, ◌≤◌, ◌==◌, ◌⊎◌, ◌++◌, min, max, false, OnOk, OnErr, IfOk, IfErr, length, take, drop, Some, None};
+ghost use Rattle.std.specs.Prelude.{◌≡◌, ◌+◌, ◌-◌, ◌<◌, ◌≤◌, ◌==◌, ◌⊎◌, ◌++◌, min, max, ℕ, false, OnOk, OnErr, IfOk, IfErr, length, take, drop, Some, None};
 ghost use Rattle.cfb_format.specs.Refused.{IsMemory};
 ghost use Rattle.cfb_rules.specs.StreamCalls.{StreamStep, read, fill_buf, consume, seek, read_to_end, ask_len, ask_position, ask_is_empty, ready, got, offset, answered, opened};
 ghost use Rattle.cfb_stream_buffer.specs.Contents.{Stored, stream_setting_of, IsFitting};
@@ -228,6 +228,9 @@ impl<A: Allocator> ReadWindow<A> {
             → IfErr result (IsRefusedReading C.ReadContents content.now id self.old (seek (whence_of to)) content.now self.new) }
         ensures goes_on { IsOpen C.ReadContents content.now id self.old → GoesOn C.ReadContents content.now content.now id self.new }
         ensures sure { (C.stored content.now id).failed ≡ false → OnErr result (target_of self.old.size (self.old.base + self.old.cursor) to ≡ None) }
+        ensures stays { (at : ℕ) → target_of self.old.size (self.old.base + self.old.cursor) to ≡ Some at
+            → self.old.base ≤ at → at ≤ self.old.base + length self.old.filled
+            → (self.new.base ≡ self.old.base) × (self.new.filled ≡ self.old.filled) }
         ensures bound { self.new.bound ≡ self.old.bound }
         ensures room { self.new.room ≡ self.old.room }
     {
@@ -244,6 +247,8 @@ impl<A: Allocator> ReadWindow<A> {
     fn go(&mut self, at: u64)
         requires inside { at ≤ self.old.size }
         ensures went { (s : Stored) → LiesOver s self.old → WentTo at s self.old s self.new }
+        ensures stays { self.old.base ≤ at → at ≤ self.old.base + length self.old.filled
+            → (self.new.base ≡ self.old.base) × (self.new.filled ≡ self.old.filled) }
         ensures bound { self.new.bound ≡ self.old.bound }
         ensures room { self.new.room ≡ self.old.room }
     {

@@ -623,7 +623,7 @@ impl<A: Allocator> Lists<A> {
         ensures ok { IfOk result (λ list. IsChain self.now.state.fat start list.items) }
         ensures err { IfErr result (WalkRefused self.now.state.fat start) }
     {
-        walk(alloc, &self.fat, start)
+        walk(Vec::new(alloc), &self.fat, start)
     }
 
     /// The last sector of the chain from `start`. `InvalidData` where there is no such chain and where it is empty.
@@ -644,7 +644,7 @@ impl<A: Allocator> Lists<A> {
             (WalkRefused self.now.state.fat (value self.now.state.fat sector)) }
         ensures short { length self.now.state.fat ≤ max_regular_sector }
     {
-        walk(alloc, &self.fat, self.fat[sector as usize])
+        walk(Vec::new(alloc), &self.fat, self.fat[sector as usize])
     }
 
     /// Frees the chain from `start`, and gives the numbers that it had. `InvalidData` where there is no such chain, and

@@ -16,13 +16,18 @@ fn no_chain(sector: u32) -> Error
     Error::InvalidData(Detail::number("chain has no end", sector as u64))
 }
 
-/// The sectors of the chain that begins at `start`, in order (MS-CFB 2.3 and 2.4). `InvalidData` where the table has no
-/// such chain, as where it comes back to itself, and `Memory`.
-pub fn walk<A: Allocator>(alloc: A, table: &[u32], start: u32) -> Result<Vec<u32, A>, Error>
+/// The sectors of the chain that begins at `start`, in order (MS-CFB 2.3 and 2.4), in the list that is given, whatever it held:
+/// it asks for memory only where that has too little room. `InvalidData` where the table has no such chain, as where it comes
+/// back to itself, and `Memory`.
+pub fn walk<A: Allocator>(
+    mut list: Vec<u32, A>,
+    table: &[u32],
+    start: u32,
+) -> Result<Vec<u32, A>, Error>
     ensures ok { IfOk result (λ list. IsChain table.now start list.items) }
     ensures err { IfErr result (WalkRefused table.now start) }
 {
-    let mut list = Vec::new(alloc);
+    list.clear();
     let mut sector = start;
     while sector != END_OF_CHAIN {
         if sector > MAX_REGULAR_SECTOR

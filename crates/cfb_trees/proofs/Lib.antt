@@ -15,4 +15,5 @@ pub mod Taken
 pub mod Streams
 pub mod Same
 pub mod Colored
-pub mod Recolored
+pub mod Reached
+pub mod InStorages

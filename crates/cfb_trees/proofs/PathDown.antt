@@ -47,7 +47,7 @@ is-stream Stream = inl refl
 is-stream Root = inr (λ e. cc)
 
 -- a list of children has one of that name, or none
-look : (cases : Cases) (es : List Entry) (name : List ℕ) (list : List ℕ) → IsAbsent cases es name list ⊎ ((j : ℕ) × (1 ≤ times_in j list) × (is_same_name cases name (entry_at es j).name ≡ true))
+pub look : (cases : Cases) (es : List Entry) (name : List ℕ) (list : List ℕ) → IsAbsent cases es name list ⊎ ((j : ℕ) × (1 ≤ times_in j list) × (is_same_name cases name (entry_at es j).name ≡ true))
 unfolding times_in
 look cases es name [] = inl tt
 look cases es name (i ∷ list) = go (is_same_name cases name (entry_at es i).name) refl (look cases es name list)

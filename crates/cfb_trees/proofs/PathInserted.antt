@@ -59,13 +59,13 @@ module _ (cases : Cases) (old new : List Entry) (o : Outline) (is : IsOutline ca
     | inr nz ↦ ins.siblings_kept m (present m (xs ++ ys) (omega (arith, nz)))
   ]
 
-  same-kind : (m : ℕ) → Reached cases old o m → (entry_at new m).obj_type ≡ (entry_at old m).obj_type
+  pub same-kind : (m : ℕ) → Reached cases old o m → (entry_at new m).obj_type ≡ (entry_at old m).obj_type
   same-kind m r = elim (cases_eq m parent) [
     | inl e ↦ subst (λ (j : ℕ). (entry_at new j).obj_type ≡ (entry_at old j).obj_type) (sym e) (ap (λ (x : Entry). x.obj_type) ins.parent_kept)
     | inr ne ↦ ap (λ (x : Entry). x.obj_type) (kept m r ne)
   ]
 
-  same-name : (m : ℕ) → Reached cases old o m → (entry_at new m).name ≡ (entry_at old m).name
+  pub same-name : (m : ℕ) → Reached cases old o m → (entry_at new m).name ≡ (entry_at old m).name
   same-name m r = elim (cases_eq m parent) [
     | inl e ↦ subst (λ (j : ℕ). (entry_at new j).name ≡ (entry_at old j).name) (sym e) (ap (λ (x : Entry). x.name) ins.parent_kept)
     | inr ne ↦ ap (λ (x : Entry). x.name) (kept m r ne)
@@ -94,7 +94,7 @@ module _ (cases : Cases) (old new : List Entry) (o : Outline) (is : IsOutline ca
   unfolding times_in
   one-more k h = omega (arith, h, tally-append k xs ys, tally-append k xs (n ∷ ys))
 
-  step-kept : (m : ℕ) (name : List ℕ) (j : ℕ) → Reached cases old o m → Step cases old m name j → Reached cases old o j → Step cases new m name j
+  pub step-kept : (m : ℕ) (name : List ℕ) (j : ℕ) → Reached cases old o m → Step cases old m name j → Reached cases old o j → Step cases new m name j
   step-kept m name j r s rj = elim (cases_eq m parent) [
     | inl e ↦ record {
       storage = λ k. s.storage (sym (same-kind m r) ∙ k);
@@ -139,7 +139,7 @@ module _ (cases : Cases) (old new : List Entry) (o : Outline) (is : IsOutline ca
       ([], (name, ap (λ (l : List (List ℕ)). name ∷ l) q.0, e, sym (ap (λ (x : Entry). is_same_name cases name x.name) ins.entry_kept) ∙ s.named, sym q.1))
 
   -- a step that does not come to the new entry
-  step-back : (m : ℕ) (name : List ℕ) (j : ℕ) → Reached cases old o m → Step cases new m name j → (Step cases old m name j × Reached cases old o j) ⊎ ((j ≡ n) × (m ≡ parent))
+  pub step-back : (m : ℕ) (name : List ℕ) (j : ℕ) → Reached cases old o m → Step cases new m name j → (Step cases old m name j × Reached cases old o j) ⊎ ((j ≡ n) × (m ≡ parent))
   unfolding times_in
   step-back m name j r s = go (cases_eq m parent)
     where
@@ -176,7 +176,7 @@ module _ (cases : Cases) (old new : List Entry) (o : Outline) (is : IsOutline ca
 
   -- ---- the law
 
-  new-step : (name : List ℕ) → is_same_name cases name entry.name ≡ true → Step cases new parent name n
+  pub new-step : (name : List ℕ) → is_same_name cases name entry.name ≡ true → Step cases new parent name n
   unfolding times_in
   new-step name same = record {
     storage = λ k. storage (sym (same-kind parent at) ∙ k);

@@ -95,19 +95,19 @@ one-name cases es (i ∷ list) r a b m l e = elim (hit-cases a i) [
 
 -- ---- where an entry stands afterwards
 
-abbrev moved : ℕ → ℕ → ℕ → ℕ
+abbrev pub moved : ℕ → ℕ → ℕ → ℕ
 moved n freed k = if k == freed then n else k
 
-moved-freed : (n freed k : ℕ) → k ≡ freed → moved n freed k ≡ n
+pub moved-freed : (n freed k : ℕ) → k ≡ freed → moved n freed k ≡ n
 moved-freed n freed k e = if-true (k == freed) n k (eq-eqb k freed e)
 
-moved-other : (n freed k : ℕ) → k ≢ freed → moved n freed k ≡ k
+pub moved-other : (n freed k : ℕ) → k ≢ freed → moved n freed k ≡ k
 moved-other n freed k ne = if-false (k == freed) n k (ne_eqb k freed ne)
 
 module _ (cases : Cases) (old new : List Entry) (o : Outline) (is : IsOutline cases old o) (parent n freed : ℕ) (xs ys list : List ℕ)
     (rem : HasRemoved cases old new parent n freed xs ys list) (childless : (entry_at old n).child ≡ no_stream) (storage : (entry_at old parent).obj_type ≢ Stream)
     (at : Reached cases old o parent) where
-  abbrev to : ℕ → ℕ
+  abbrev pub to : ℕ → ℕ
   to k = moved n freed k
 
   -- the storage with its children
@@ -120,7 +120,7 @@ module _ (cases : Cases) (old new : List Entry) (o : Outline) (is : IsOutline ca
   owned : (k : ℕ) → 1 ≤ times_in k (xs ++ n ∷ ys) → 1 ≤ times_in k (siblings owner.inside)
   owned k m = subst (λ (l : List ℕ). 1 ≤ times_in k l) listed m
 
-  others : (k : ℕ) → times_in k (xs ++ n ∷ ys) ≡ hit k n + times_in k (xs ++ ys)
+  pub others : (k : ℕ) → times_in k (xs ++ n ∷ ys) ≡ hit k n + times_in k (xs ++ ys)
   unfolding times_in
   others k = omega (arith, tally-append k xs (n ∷ ys), tally-append k xs ys)
 
@@ -133,7 +133,7 @@ module _ (cases : Cases) (old new : List Entry) (o : Outline) (is : IsOutline ca
   not-taken : (k : ℕ) → 1 ≤ times_in k (xs ++ ys) → k ≢ n
   not-taken k m e = absurd (omega (arith, m, once-was k, others k, hit-same n, ap (λ (j : ℕ). hit j n) e))
 
-  freed-in : 1 ≤ times_in freed (xs ++ n ∷ ys)
+  pub freed-in : 1 ≤ times_in freed (xs ++ n ∷ ys)
   unfolding times_in
   freed-in = elim rem.freed_was [
     | inl e ↦ omega (arith, others freed, hit-same n, ap (λ (j : ℕ). hit j n) e)
@@ -210,7 +210,7 @@ module _ (cases : Cases) (old new : List Entry) (o : Outline) (is : IsOutline ca
     | inr ne ↦ ap (λ (x : Entry). x.obj_type) (kept m ne mn)
   ]
 
-  same-name : (m : ℕ) → m ≢ n → (entry_at new (to m)).name ≡ (entry_at old m).name
+  pub same-name : (m : ℕ) → m ≢ n → (entry_at new (to m)).name ≡ (entry_at old m).name
   same-name m mn = elim (cases_eq m parent) [
     | inl e ↦ subst (λ (j : ℕ). (entry_at new (to j)).name ≡ (entry_at old j).name) (sym e)
         (ap (λ (j : ℕ). (entry_at new j).name) parent-stays ∙ ap (λ (x : Entry). x.name) rem.parent_kept)
@@ -244,7 +244,7 @@ module _ (cases : Cases) (old new : List Entry) (o : Outline) (is : IsOutline ca
 
   -- ---- what was found is found in its place now
 
-  step-moved : (m : ℕ) (name : List ℕ) (j : ℕ) → Reached cases old o m → m ≢ n → Step cases old m name j → j ≢ n → Step cases new (to m) name (to j)
+  pub step-moved : (m : ℕ) (name : List ℕ) (j : ℕ) → Reached cases old o m → m ≢ n → Step cases old m name j → j ≢ n → Step cases new (to m) name (to j)
   step-moved m name j r mn s jn = elim (cases_eq m parent) [
     | inl e ↦
         let l : s.list ≡ xs ++ n ∷ ys = Below-unique cases old (entry_at old m).child s.list (xs ++ n ∷ ys) s.below (subst (λ (q : ℕ). Below cases old (entry_at old q).child (xs ++ n ∷ ys)) (sym e) rem.was.below) in
@@ -267,7 +267,7 @@ module _ (cases : Cases) (old new : List Entry) (o : Outline) (is : IsOutline ca
         }
   ]
 
-  down-moved : (path : List (List ℕ)) (m k : ℕ) → Reached cases old o m → m ≢ n → Down cases old m path k → k ≢ n → Down cases new (to m) path (to k)
+  pub down-moved : (path : List (List ℕ)) (m k : ℕ) → Reached cases old o m → m ≢ n → Down cases old m path k → k ≢ n → Down cases new (to m) path (to k)
   down-moved [] m k r mn d kn = ap to d
   down-moved (name ∷ names) m k r mn (j, s, d) kn =
       let jn : j ≢ n = λ e. kn (sym (down-ends cases old n k names childless (subst (λ (i : ℕ). Down cases old i names k) e d)).1) in
@@ -277,14 +277,14 @@ module _ (cases : Cases) (old new : List Entry) (o : Outline) (is : IsOutline ca
   -- ---- what is found was found
 
   -- where a step leads now, and where it led
-  record Back (m : ℕ) (name : List ℕ) (j' : ℕ) : Type 0 where
-    number : ℕ
-    step : Step cases old m name number
-    reached : Reached cases old o number
-    left : number ≢ n
-    is_now : j' ≡ to number
+  pub record Back (m : ℕ) (name : List ℕ) (j' : ℕ) : Type 0 where
+    pub number : ℕ
+    pub step : Step cases old m name number
+    pub reached : Reached cases old o number
+    pub left : number ≢ n
+    pub is_now : j' ≡ to number
 
-  step-back : (m : ℕ) (name : List ℕ) (j' : ℕ) → Reached cases old o m → m ≢ n → Step cases new (to m) name j' → Back m name j'
+  pub step-back : (m : ℕ) (name : List ℕ) (j' : ℕ) → Reached cases old o m → m ≢ n → Step cases new (to m) name j' → Back m name j'
   step-back m name j' r mn s = go (cases_eq m parent)
     where
       ne : (entry_at old m).obj_type ≢ Stream
@@ -319,7 +319,7 @@ module _ (cases : Cases) (old new : List Entry) (o : Outline) (is : IsOutline ca
           let out = away m w f j' mem in
           back j' mem (away-taken j' out) (sym (stays-outside j' out))
 
-  down-back : (path : List (List ℕ)) (m k' : ℕ) → Reached cases old o m → m ≢ n → Down cases new (to m) path k' → (k : ℕ) × Down cases old m path k × (k ≢ n) × (k' ≡ to k)
+  pub down-back : (path : List (List ℕ)) (m k' : ℕ) → Reached cases old o m → m ≢ n → Down cases new (to m) path k' → (k : ℕ) × Down cases old m path k × (k ≢ n) × (k' ≡ to k)
   down-back [] m k' r mn d = (m, refl, mn, sym d)
   down-back (name ∷ names) m k' r mn (j', s, d) =
       let b = step-back m name j' r mn s in
@@ -328,7 +328,7 @@ module _ (cases : Cases) (old new : List Entry) (o : Outline) (is : IsOutline ca
 
   -- ---- the law
 
-  not-root : (k : ℕ) → 1 ≤ times_in k (xs ++ n ∷ ys) → 0 ≢ k
+  pub not-root : (k : ℕ) → 1 ≤ times_in k (xs ++ n ∷ ys) → 0 ≢ k
   unfolding times_in
   not-root k m e =
       absurd (omega (

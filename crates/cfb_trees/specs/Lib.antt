@@ -1,5 +1,5 @@
 pub mod Reached
 pub mod Changes
 pub mod Paths
-pub mod Colors
 pub mod Balance
+pub mod Children

@@ -1,7 +1,6 @@
 //! What changes of entries keep of a directory's tree. None of these functions does anything: each
 //! has a law as its contract.
 ghost use Rattle.cfb_trees.specs.Changes.{FieldsKeepOutline, GrowthKeepsOutline, InsertionKeepsOutline, InsertionKeepsStreams, RemovalKeepsOutline, RemovalKeepsStreams};
-ghost use Rattle.cfb_trees.specs.Colors.{FieldsKeepColors, GrowthKeepsColors, InsertionKeepsColors, RemovalKeepsColors};
 ghost use Rattle.cfb_trees.specs.Reached.{ReachedIsObject, ReachedIsParent, ReachedIsUsed, ReachedIsWithin, StreamsAreByKind};
 
 /// What the tree reaches is an entry in use: the root, or a storage or a stream below it. Where it
@@ -14,28 +13,24 @@ pub fn reached_entries_are_in_use()
     ensures streams { StreamsAreByKind }
 {}
 
-/// A directory that grew by free slots has its tree and its colours.
+/// A directory that grew by free slots has its tree.
 pub fn growth_keeps_the_tree()
-    ensures outline { GrowthKeepsOutline }
-    ensures colors { GrowthKeepsColors }
+    ensures { GrowthKeepsOutline }
 {}
 
-/// A directory with other fields of one entry has its tree and its colours.
+/// A directory with other fields of one entry has its tree.
 pub fn fields_keep_the_tree()
-    ensures outline { FieldsKeepOutline }
-    ensures colors { FieldsKeepColors }
+    ensures { FieldsKeepOutline }
 {}
 
 /// After an insertion among the children of a storage the tree has one object more.
 pub fn insertion_keeps_the_tree()
     ensures outline { InsertionKeepsOutline }
     ensures streams { InsertionKeepsStreams }
-    ensures colors { InsertionKeepsColors }
 {}
 
 /// After a removal from the children of a storage the tree has one object less.
 pub fn removal_keeps_the_tree()
     ensures outline { RemovalKeepsOutline }
     ensures streams { RemovalKeepsStreams }
-    ensures colors { RemovalKeepsColors }
 {}

@@ -6,6 +6,7 @@ use Rattle.cfb_format.specs.Full.{IsFull}
 use Rattle.cfb_format.specs.Refused.{AfterMedium, IsBreak}
 use Rattle.cfb_tables.specs.Refused.{ChangeRefused}
 use Rattle.cfb_mini_sectors.specs.State.{MiniState, parts_of, tables_in}
+use Rattle.cfb_mini_sectors.specs.Steps.{StopsShort}
 use Rattle.cfb_resizing.specs.Turning.{StopsOrBegun, StopsOrIsFull}
 use Rattle.cfb_agreement.specs.Files.{FileState}
 use Rattle.cfb_volume.proofs.ContentSteps.{file_on}
@@ -56,3 +57,27 @@ file-after s mid file sound limit view e h = go e h
     go Full h = same h
     go Unsound h = same h
     go Failed h = same h
+
+-- whatever the error is
+pub after-any : (kept : Type 0) → kept → (e : Error) → AfterMedium (Unit {0}) kept e
+after-any kept is (NotFound d) = is
+after-any kept is (AlreadyExists d) = is
+after-any kept is (InvalidInput d) = is
+after-any kept is (InvalidData d) = is
+after-any kept is (Medium m) = tt
+after-any kept is Memory = is
+after-any kept is Full = is
+after-any kept is Unsound = is
+after-any kept is Failed = is
+
+-- where a step before it changed nothing, a step that stopped short has changed nothing
+pub after-none : (s mid new : MiniState) → mid ≡ s → (e : Error) → StopsShort mid new e → AfterMedium (Unit {0}) (new ≡ s) e
+after-none s mid new same (NotFound d) h = h ∙ same
+after-none s mid new same (AlreadyExists d) h = h ∙ same
+after-none s mid new same (InvalidInput d) h = h ∙ same
+after-none s mid new same (InvalidData d) h = h ∙ same
+after-none s mid new same (Medium m) h = tt
+after-none s mid new same Memory h = h ∙ same
+after-none s mid new same Full h = h ∙ same
+after-none s mid new same Unsound h = h ∙ same
+after-none s mid new same Failed h = h ∙ same

@@ -26,7 +26,7 @@ use Rattle.cfb_siblings.proofs.Tallies.{present}
 use Rattle.cfb_trees.specs.Reached.{IsReached}
 use Rattle.cfb_trees.proofs.Members.{reached-is-object, reached-is-used, streams-are-by-kind, used-is-within}
 use Rattle.cfb_trees.proofs.PathDown.{same-some}
-use Rattle.cfb_trees.proofs.Recolored.{below-reached, root-is-reached, root-or-below}
+use Rattle.cfb_trees.proofs.Reached.{below-reached, root-is-reached, root-or-below}
 use Rattle.cfb_trees.proofs.Standing.{reached-is-parent}
 use Rattle.cfb_objects.specs.Laws.{BecomesTree}
 use Rattle.cfb_mini_sectors.specs.State.{MiniState, bytes_of, cases_of, entries_of, tables_in}

@@ -30,7 +30,7 @@ impl<F: Medium, A: Heap + Clone> Volume<F, A> {
     ///
     /// `Full` where no entry can be had, `Memory`, and `Medium` where the medium fails: all but the
     /// count of failures is as before, or the file has failed. Where no entry could be had before,
-    /// nothing has changed but after `Medium`.
+    /// nothing has changed but after `Medium`. Of no names nothing changes.
     pub fn insert_all(
         &mut self,
         parent: u32,
@@ -75,6 +75,7 @@ impl<F: Medium, A: Heap + Clone> Volume<F, A> {
         ensures enough { 0 < length names.now
             → OnOk result (IsFullForEntry self.old.base.directory → ⊥) }
         ensures some { OnErr result (0 < length names.now) }
+        ensures quiet { length names.now ≡ 0 → OnOk result (self.new ≡ self.old) }
         ensures err { IsTrue F.tells → Holds self.old
             → IfErr result (IsBreak (IsFullForEntry self.new.base.directory)) }
         ensures counts { IsTrue F.tells

@@ -3,7 +3,7 @@ ghost use Rattle.std.specs.Prelude.{◌≡◌, ◌≢◌, ◌||◌, ◌&&◌, �
 ghost use Rattle.cfb_format.specs.declared.objtype.ObjType.TheVariants.{Stream};
 ghost use Rattle.cfb_format.specs.Reading.{IsOutline, Outline, numbers, stream_numbers};
 ghost use Rattle.cfb_format.specs.Siblings.{entry_at};
-ghost use Rattle.cfb_format.specs.Refused.{CountsFailure, IsBreak};
+ghost use Rattle.cfb_format.specs.Refused.{AfterMedium, CountsFailure, IsBreak};
 ghost use Rattle.cfb_outline.specs.Outlines.{HasInside, IsReachedStorage};
 ghost use Rattle.cfb_rules.specs.CallChanges.{removed_at};
 ghost use Rattle.cfb_rules.specs.Finding.{last_name, parent_names};
@@ -88,6 +88,8 @@ impl<F: Medium, A: Heap + Clone> Volume<F, A> {
         ensures agrees { IsTrue F.tells → Holds self.old → Agrees self.new }
         ensures ended { OnOk result (is_failed self.new ≡ false) }
         ensures refused { OnErr result (StaysOrFails self.old self.new) }
+        ensures stops { IfErr result (AfterMedium (is_failed self.new
+            ≡ true) (self.new ≡ self.old)) }
         ensures err { Holds self.old → IfErr result (IsBreak ⊥) }
         ensures counts { IsTrue F.tells
             → CountsFailure F.write_faults result (failures_of self.old) (failures_of self.new) }

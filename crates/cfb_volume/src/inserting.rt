@@ -103,8 +103,6 @@ impl<F: Medium, A: Heap + Clone> Volume<F, A> {
         ensures counts { IsTrue F.tells
             → CountsFailure F.write_faults result (failures_of self.old) (failures_of self.new) }
     {
-        // A new directory sector may be any free one.
-        self.kept = None;
         let number = self.mini.insert_dir_entry(parent, name, kind, moment)?;
         self.mini.end_change();
         Ok(number)

@@ -4,7 +4,7 @@ ghost use Rattle.cfb_format.specs.declared.objtype.ObjType.TheVariants.{Stream};
 ghost use Rattle.cfb_format.specs.declared.validate.Validation.{Validation};
 ghost use Rattle.cfb_format.specs.Bytes.{no_stream};
 ghost use Rattle.cfb_format.specs.Reading.{IsOutline, Outline, numbers};
-ghost use Rattle.cfb_format.specs.Refused.{CountsFailure, IsBreak};
+ghost use Rattle.cfb_format.specs.Refused.{AfterMedium, CountsFailure, IsBreak};
 ghost use Rattle.cfb_format.specs.Siblings.{entry_at};
 ghost use Rattle.cfb_outline.specs.Outlines.{IsReachedStorage};
 ghost use Rattle.cfb_rules.specs.CallChanges.{removed_at};
@@ -16,14 +16,12 @@ ghost use Rattle.cfb_mini_sectors.specs.State.{IsChangeable, bytes_of, cases_of,
 ghost use Rattle.cfb_mini_sectors.specs.Steps.{KeepsLimits};
 ghost use Rattle.cfb_mini.specs.MiniSectors.{IsStill};
 ghost use Rattle.cfb_content.specs.Contents.{KeepsFixedHeader, KeepsOthers, MovesContent, len_of};
-ghost use Rattle.cfb_content.specs.KeptChain.{IsKeptChain};
 ghost use Rattle.cfb_entry_changes.specs.Kept.{AllStayBalancedBut, FindsAllBut};
 ghost use Rattle.cfb_agreement.specs.Changes.{StaysOrFails};
 ghost use Rattle.cfb_agreement.specs.Files.{Agrees, Holds, IsAsMade, LeavesNoneFree, SameSetting, failures_of, is_failed};
 ghost use Rattle.cfb_volume.specs.Removing.{WasEmptied};
 
 use crate::volume::Volume;
-use cfb_content::listed::ListedChain;
 use cfb_format::error::Error;
 use cfb_format::medium::Medium;
 use cfb_format::objtype::ObjType;
@@ -34,13 +32,10 @@ use std::alloc::Allocator as Heap;
 /// Gives the content of a stream back; a storage has none. What was begun is not ended.
 fn empty_object<F: Medium, A: Heap + Clone>(
     mini: &mut MiniAllocator<F, A>,
-    kept: &mut Option<ListedChain<A>>,
     entry: u32,
 ) -> Result<(), Error>
     requires below { (o : Outline) → IsOutline (cases_of mini.old) (entries_of mini.old) o
         → Contains (numbers o) entry }
-    requires kept_chain { IsKeptChain (tables_in mini.old).fat kept.old }
-    ensures kept_chain { IsKeptChain (tables_in mini.new).fat kept.new }
     ensures emptied { IsTrue F.tells → OnOk result (WasEmptied mini.old mini.new entry) }
     ensures entries { MovesContent mini.old mini.new entry }
     ensures others { IsTrue F.tells → (v : Validation) → IsChangeable v mini.old
@@ -66,7 +61,7 @@ fn empty_object<F: Medium, A: Heap + Clone>(
         ObjType::Stream => {
             // The MiniFAT is no longer than it may be: else even no length would be too long.
             let _ = mini.minifat_len();
-            resize_content(mini, kept, entry, 0)?;
+            resize_content(mini, entry, 0)?;
             Ok(())
         }
         _ => Ok(()),
@@ -77,7 +72,8 @@ impl<F: Medium, A: Heap + Clone> Volume<F, A> {
     /// Takes the object `child` of that name, in which nothing is, out of the storage `parent`; a
     /// stream's bytes are given back before.
     ///
-    /// `Memory`, and `Medium` where the medium fails: all is as before, or the file has failed.
+    /// `Memory`, and `Medium` where the medium fails: all is as before, or the file has failed. Of a storage after `Memory` nothing has
+    /// changed.
     pub fn remove(&mut self, parent: u32, child: u32, name: &str) -> Result<(), Error>
         requires sound { self.old.is_sound ≡ true }
         requires unfailed { is_failed self.old ≡ false }
@@ -120,12 +116,14 @@ impl<F: Medium, A: Heap + Clone> Volume<F, A> {
         ensures ended { OnOk result (is_failed self.new ≡ false) }
         ensures refused { IsTrue F.tells → Holds self.old
             → OnErr result (StaysOrFails self.old self.new) }
+        ensures first { (entry_at (entries_of self.old.base) child).obj_type ≢ Stream
+            → IfErr result (AfterMedium Unit (self.new ≡ self.old)) }
         ensures err { IsTrue F.tells → Holds self.old → IfErr result (IsBreak ⊥) }
         ensures counts { IsTrue F.tells
             → CountsFailure (λ f. F.read_faults f || F.write_faults f) result (failures_of self.old)
             (failures_of self.new) }
     {
-        empty_object(&mut self.mini, &mut self.kept, child)?;
+        empty_object(&mut self.mini, child)?;
         self.mini.remove_dir_entry(parent, name)?;
         self.mini.end_change();
         Ok(())

@@ -30,7 +30,6 @@ ghost use Rattle.cfb_volume.specs.Answers.{content_at};
 use cfb_codecs::direntry::DirEntry;
 use cfb_codecs::path::CaseMapper;
 use cfb_codecs::timestamp::Timestamp;
-use cfb_content::listed::ListedChain;
 use cfb_content::reading::{read_content, readable_len};
 use cfb_format::error::Error;
 use cfb_format::medium::{Medium, ReadMedium};
@@ -39,7 +38,6 @@ use cfb_format::version::Version;
 use cfb_mini::mini_allocator::MiniAllocator;
 use cfb_resizing::putting::put_content;
 use cfb_resizing::resizing::resize_content;
-use cfb_siblings::find::find_path;
 use std::alloc::{Allocator as Heap, Global};
 use std::marker::Model;
 
@@ -47,23 +45,17 @@ use std::marker::Model;
 #[derive(Drop)]
 pub struct Volume<F: ReadMedium, A: Heap = Global> {
     pub(crate) mini: MiniAllocator<F, A>,
-    // The chain that was walked last.
-    pub(crate) kept: Option<ListedChain<A>>,
     is_sound: bool,
     buffer_limit: usize,
 }
 
 impl<F: ReadMedium, A: Heap> Model for Volume<F, A> {
-    ghost use Rattle.cfb_mini_sectors.specs.State.{tables_in};
-    ghost use Rattle.cfb_content.specs.KeptChain.{IsKeptChain};
     ghost use Rattle.cfb_agreement.specs.Files.{FileState};
 
     ghost Value = { FileState };
 
     ghost view = { λ v.
         record { base = v.mini; is_sound = v.is_sound; buffer_limit = v.buffer_limit } };
-
-    ghost invariant = { λ v. IsKeptChain (tables_in v.mini).fat v.kept };
 }
 
 impl<F: ReadMedium, A: Heap> Volume<F, A> {
@@ -74,7 +66,6 @@ impl<F: ReadMedium, A: Heap> Volume<F, A> {
     {
         Volume {
             mini,
-            kept: None,
             is_sound,
             buffer_limit,
         }
@@ -129,7 +120,6 @@ impl<F: ReadMedium, A: Heap> Volume<F, A> {
     {
         let Volume {
             mini,
-            kept: _,
             is_sound: _,
             buffer_limit: _,
         } = self;
@@ -165,7 +155,7 @@ impl<F: ReadMedium, A: Heap> Volume<F, A> {
             → IsOutline (cases_of self.now.base) (entries_of self.now.base) o
             → IfSome result (IsReached o) }
     {
-        find_path(self.mini.letters(), self.mini.entries(), path)
+        self.mini.find_path(path)
     }
 
     /// The number of the entry that these names lead to from the root: `None` where nothing is there. It takes no memory.
@@ -228,7 +218,7 @@ impl<F: ReadMedium, A: Heap + Clone> Volume<F, A> {
         ensures counts { IsTrue F.tells
             → CountsFailure F.read_faults result (failures_of self.old) (failures_of self.new) }
     {
-        read_content(&mut self.mini, &mut self.kept, entry, at, into)
+        read_content(&mut self.mini, entry, at, into)
     }
 }
 
@@ -297,7 +287,7 @@ impl<F: Medium, A: Heap + Clone> Volume<F, A> {
         ensures counts { IsTrue F.tells → CountsFailure (λ f. F.read_faults f
             || F.write_faults f) result (failures_of self.old) (failures_of self.new) }
     {
-        let count = put_content(&mut self.mini, &mut self.kept, entry, at, bytes)?;
+        let count = put_content(&mut self.mini, entry, at, bytes)?;
         self.mini.end_change();
         Ok(count)
     }
@@ -339,7 +329,7 @@ impl<F: Medium, A: Heap + Clone> Volume<F, A> {
     {
         // The MiniFAT is no longer than it may be: else there were lengths too long that take nothing.
         let _ = self.mini.minifat_len();
-        resize_content(&mut self.mini, &mut self.kept, entry, len)?;
+        resize_content(&mut self.mini, entry, len)?;
         self.mini.end_change();
         Ok(())
     }

@@ -1,28 +1,251 @@
-use crate::tool;
+//! Tests are lists of steps, which one function plays: a further row costs the prover nothing.
+use acts::{
+    Seen, damage, has_len, is_link, is_writable, make_old, note, set_mode, stays, stays_at,
+    stays_in_place,
+};
+use library::{Outcome, comes_of};
+use runs::{CONTENT, Run, SOUND_3, SOUND_4, are_told, is_each_broken, is_each_told, say};
 use std::alloc::{AllocError, Global};
-use std::fs::OpenOptions as FileOptions;
-use std::io::{Read, Write};
-use std::os::unix::fs::MetadataExt;
-use std::process::ExitCode;
+use std::os::unix::fs::symlink;
 use std::test::Fail;
-use std::time::UNIX_EPOCH;
 use std::{env, fs};
 
+mod acts;
 mod compacts;
 mod files;
+mod library;
 mod lists;
 mod opening;
-mod options;
 mod puts;
+mod runs;
 
-// A test makes what it owns and lends it to another function, since each way out of a function that
-// owns something has a proof of its own.
+/// A step of a test. A word or a name that begins with `@` is a file of the test's folder.
+enum Step<'a> {
+    /// Runs of the program, each of which answers as its row says.
+    Runs(&'a [Run<'a>]),
+    /// Runs of each of these words, with each of these inputs: the status, and what is told.
+    Each(&'a [&'a [&'a str]], &'a [&'a [u8]], u8, &'a [u8]),
+    /// Runs of each of these words whose input and output fail.
+    Broken(&'a [&'a [&'a str]]),
+    /// So many bytes become the content.
+    Content(usize),
+    /// The content has one byte more.
+    Longer(u8),
+    /// A line of `run` becomes the content, behind one that is refused: a word, and what the bytes
+    /// of a content from one place to another are.
+    Line(&'a str, usize, usize),
+    /// How many bytes are put into new files, and the lengths of these in both versions; 0 where it
+    /// is not said.
+    PutAnew(&'a [(usize, usize, usize)]),
+    /// The steps behind it are of the file with this name; those before are of `@f`.
+    At(&'a str),
+    /// It has this length.
+    Len(usize),
+    Absent,
+    /// It is noted: its bytes; its time, place and mode.
+    Note,
+    /// It is as it was noted.
+    Stays,
+    /// It has the place and the mode that were noted.
+    StaysInPlace,
+    /// It is as it was noted behind each of these runs.
+    StaysAt(&'a [Run<'a>]),
+    /// These runs answer so, unless the system lets this user write the file.
+    Unwritten(&'a [Run<'a>]),
+    /// Its time becomes the start of 1970.
+    Old,
+    /// It has the content as its bytes.
+    Filled,
+    /// Some of its bytes are set, and it is cut to a length.
+    Damage(&'a [(usize, u8)], usize),
+    Mode(u32),
+    /// It becomes a link to this.
+    Link(&'a str),
+    IsLink,
+    /// This comes of it where the library opens or makes it.
+    Comes(Outcome<'a>),
+}
 
-/// A folder of a test's own in the temporary folder. It goes by `leave`.
-fn enter(rt: &HostRuntime) -> Result<String, Fail> {
-    let temporary = env::temp_dir(rt)?;
+/// What stands between the steps of a test.
+#[derive(Drop)]
+struct World {
+    folder: String,
+    /// What the last run printed, and what it told.
+    out: Vec<u8>,
+    faults: Vec<u8>,
+    /// How many steps and runs there were.
+    steps: u32,
+    runs: u32,
+    /// The path of the file that steps are of.
+    path: String,
+    noted: Seen,
+    content: Vec<u8>,
+}
+
+impl World {
+    fn new(alloc: Global, folder: String) -> World {
+        World {
+            folder,
+            out: Vec::new(alloc),
+            faults: Vec::new(alloc),
+            steps: 0,
+            runs: 0,
+            path: String::new(alloc),
+            noted: (Vec::new(alloc), [0; 4]),
+            content: Vec::new(alloc),
+        }
+    }
+}
+
+/// Bytes that tell their places apart.
+fn byte_at(place: usize) -> u8 {
+    (place % 251) as u8
+}
+
+fn fill(bytes: &mut Vec<u8>, len: usize) -> bool {
+    bytes.clear();
+    for place in 0..len {
+        if bytes.push(byte_at(place)).is_err() {
+            return false;
+        }
+    }
+    true
+}
+
+/// The digit of a number below 16.
+fn digit_of(number: u8) -> u8 {
+    if number < 10 {
+        b'0' + number
+    } else {
+        number.saturating_add(b'a' - 10)
+    }
+}
+
+fn write_line(
+    line: &mut Vec<u8>,
+    word: &str,
+    (start, end): (usize, usize),
+) -> Result<(), AllocError> {
+    line.clear();
+    line.extend_from_slice(b"rm\t/none\n")?;
+    line.extend_from_slice(word.as_bytes())?;
+    line.extend_from_slice(b"\t/a\t")?;
+    for place in start..end {
+        let byte = byte_at(place);
+        line.extend_from_slice(&[digit_of(byte / 16), digit_of(byte % 16)])?;
+    }
+    line.extend_from_slice(b"\n")
+}
+
+#[rattlefmt::skip]
+const PUT_IN_3: &[Run<'static>] = &[
+    (&["create", "3", "@f"], b"", 0, b"", b""),
+    (&["put", "@f", "/a"], CONTENT, 0, b"", b""),
+    (&["cat", "@f", "a"], b"", 0, CONTENT, b""),
+    (&["check", "@f"], b"", 0, SOUND_3, b""),
+    (&["check", "@f", "strict"], b"", 0, SOUND_3, b""),
+];
+
+#[rattlefmt::skip]
+const PUT_IN_4: &[Run<'static>] = &[
+    (&["create", "4", "@f"], b"", 0, b"", b""),
+    (&["put", "@f", "/a"], CONTENT, 0, b"", b""),
+    (&["cat", "@f", "a"], b"", 0, CONTENT, b""),
+    (&["check", "@f"], b"", 0, SOUND_4, b""),
+    (&["check", "@f", "strict"], b"", 0, SOUND_4, b""),
+];
+
+/// Whether runs answer so, and the file has this length then, or any where that is 0.
+fn has_len_at(rt: &HostRuntime, world: &mut World, runs: &[Run<'_>], len: usize) -> bool {
+    are_told(rt, world, runs) && (len == 0 || has_len(rt, &world.path, len))
+}
+
+fn is_put_anew(rt: &HostRuntime, world: &mut World, lengths: &[(usize, usize, usize)]) -> bool {
+    for (len, in_3, in_4) in lengths {
+        if !fill(&mut world.content, *len)
+            || !has_len_at(rt, world, PUT_IN_3, *in_3)
+            || !has_len_at(rt, world, PUT_IN_4, *in_4)
+        {
+            return false;
+        }
+    }
+    true
+}
+
+fn go_to(world: &mut World, name: &str) -> bool {
+    world.path.clear();
+    say(&world.folder, name, &mut world.path).is_ok()
+}
+
+/// Whether a step of the file goes as it is to.
+fn is_file_so(rt: &HostRuntime, world: &mut World, step: &Step<'_>) -> bool {
+    let path = world.path.as_str();
+    match step {
+        Step::Len(len) => has_len(rt, path, *len),
+        Step::Absent => fs::read(rt, path).is_err(),
+        Step::Note => note(rt, world),
+        Step::Stays => stays(rt, world),
+        Step::StaysInPlace => stays_in_place(rt, world),
+        Step::StaysAt(runs) => stays_at(rt, world, runs),
+        Step::Unwritten(runs) => is_writable(rt, path) || are_told(rt, world, runs),
+        Step::Old => make_old(rt, path).is_ok(),
+        Step::Filled => fs::write(rt, path, world.content.as_slice()).is_ok(),
+        Step::Damage(changes, len) => damage(rt, path, changes, *len).is_ok(),
+        Step::Mode(mode) => set_mode(rt, path, *mode).is_ok(),
+        Step::Link(to) => symlink(rt, *to, path).is_ok(),
+        Step::IsLink => is_link(rt, path),
+        Step::Comes(outcome) => comes_of(rt, path, outcome),
+        _ => false,
+    }
+}
+
+/// Whether a step goes as it is to.
+fn is_done(rt: &HostRuntime, world: &mut World, step: &Step<'_>) -> bool {
+    match step {
+        Step::Runs(runs) => are_told(rt, world, runs),
+        Step::Each(all, inputs, status, told) => {
+            is_each_told(rt, world, all, inputs, (*status, told))
+        }
+        Step::Broken(all) => is_each_broken(rt, world, all),
+        Step::Content(len) => fill(&mut world.content, *len),
+        Step::Longer(byte) => world.content.push(*byte).is_ok(),
+        Step::Line(word, start, end) => {
+            write_line(&mut world.content, word, (*start, *end)).is_ok()
+        }
+        Step::PutAnew(lengths) => is_put_anew(rt, world, lengths),
+        Step::At(name) => go_to(world, name),
+        _ => is_file_so(rt, world, step),
+    }
+}
+
+fn are_done(rt: &HostRuntime, world: &mut World, steps: &[Step<'_>]) -> bool {
+    for step in steps {
+        world.steps = world.steps.saturating_add(1);
+        if !is_done(rt, world, step) {
+            return false;
+        }
+    }
+    true
+}
+
+/// Whether all steps go as they are to. The folder goes then.
+fn is_played(rt: &HostRuntime, world: &mut World, steps: &[Step<'_>]) -> bool {
+    let is_right = go_to(world, "@f") && are_done(rt, world, steps);
+    fs::remove_dir_all(rt, world.folder.as_str()).is_ok() && is_right
+}
+
+fn play_in(rt: &HostRuntime, world: &mut World, steps: &[Step<'_>]) -> Result<(), Fail> {
+    if is_played(rt, world, steps) {
+        return Ok(());
+    }
+    let (step, run) = (world.steps, world.runs);
+    Err(Fail::new(format_args!("step {step}, run {run}")))
+}
+
+/// A folder of its own in this one.
+fn folder_in(rt: &HostRuntime, temporary: &str) -> Result<String, Fail> {
     for number in 0u32..10000 {
-        let folder = format!(in rt.alloc(); "{}/cfbtool-{number}", temporary.display())?;
+        let folder = format!(in rt.alloc(); "{temporary}/cfbtool-{number}")?;
         if fs::create_dir(rt, folder.as_str()).is_ok() {
             return Ok(folder);
         }
@@ -30,165 +253,10 @@ fn enter(rt: &HostRuntime) -> Result<String, Fail> {
     Err(Fail::new("no folder of its own"))
 }
 
-fn leave(rt: &HostRuntime, folder: &str) -> Result<(), Fail> {
-    fs::remove_dir_all(rt, folder)?;
-    Ok(())
-}
-
-/// The path of a file in this folder.
-fn path_of(rt: &HostRuntime, folder: &str, name: &str) -> Result<String, Fail> {
-    Ok(format!(in rt.alloc(); "{folder}/{name}")?)
-}
-
-/// The bytes of a file in this folder, if it is there.
-fn bytes_of(rt: &HostRuntime, folder: &str, name: &str) -> Result<Option<Vec<u8>>, Fail> {
-    let path = path_of(rt, folder, name)?;
-    Ok(fs::read(rt, path.as_str()).ok())
-}
-
-fn is_there(rt: &HostRuntime, folder: &str, name: &str) -> Result<bool, Fail> {
-    let bytes = bytes_of(rt, folder, name)?;
-    Ok(bytes.is_some())
-}
-
-/// The length of a file in this folder; 0 where it is not there.
-fn len_of(rt: &HostRuntime, folder: &str, name: &str) -> Result<usize, Fail> {
-    let bytes = bytes_of(rt, folder, name)?;
-    Ok(bytes.map_or(0, |bytes| bytes.len()))
-}
-
-/// A word of a run: one that begins with `@` is a file of the folder.
-fn word_of(rt: &HostRuntime, folder: &str, word: &str) -> Result<String, Fail> {
-    match word.strip_prefix('@') {
-        Some(name) => path_of(rt, folder, name),
-        None => Ok(String::from_str(rt.alloc(), word)?),
-    }
-}
-
-fn words_of(rt: &HostRuntime, folder: &str, words: &[&str]) -> Result<Vec<String>, Fail> {
-    let mut given = Vec::new(rt.alloc());
-    for word in words {
-        given.push(word_of(rt, folder, word)?)?;
-    }
-    Ok(given)
-}
-
-/// One run of these words: the status, and what is told on standard error.
-fn run_over<R: Read, W: Write>(
-    rt: &HostRuntime,
-    folder: &str,
-    words: &[&str],
-    input: &mut R,
-    out: &mut W,
-) -> Result<(ExitCode, Vec<u8>), Fail> {
-    let given = words_of(rt, folder, words)?;
-    let mut faults = Vec::new(rt.alloc());
-    let status = tool(rt, given.as_slice(), input, out, &mut faults);
-    Ok((status, faults))
-}
-
-/// What a run answers: status, standard output and standard error.
-type Answer<'a> = (u8, &'a [u8], &'a [u8]);
-
-/// Whether a run of these words with this input answers this.
-fn tells(
-    rt: &HostRuntime,
-    folder: &str,
-    words: &[&str],
-    input: &[u8],
-    wanted: Answer<'_>,
-) -> Result<bool, Fail> {
-    let mut given = input;
-    let mut out = Vec::new(rt.alloc());
-    let (status, faults) = run_over(rt, folder, words, &mut given, &mut out)?;
-    let (number, printed, told) = wanted;
-    Ok(status == ExitCode::from(number) && out.as_slice() == printed && faults.as_slice() == told)
-}
-
-/// Words, standard input, status, standard output and standard error.
-type Run<'a> = (&'a [&'a str], &'a [u8], u8, &'a [u8], &'a [u8]);
-
-/// Does these runs in turn, up to the first that is not answered so.
-fn do_runs(rt: &HostRuntime, folder: &str, what: &str, runs: &[Run<'_>]) -> Result<(), Fail> {
-    for (number, (words, input, status, out, faults)) in runs.iter().enumerate() {
-        if !tells(rt, folder, words, input, (*status, out, faults))? {
-            return Err(Fail::new(format_args!("{what}: run {number}")));
-        }
-    }
-    Ok(())
-}
-
-/// Gives up where something does not hold.
-fn want(holds: bool, what: &str) -> Result<(), Fail> {
-    if holds {
-        Ok(())
-    } else {
-        Err(Fail::new(format_args!("not so: {what}")))
-    }
-}
-
-const WRONG_WORDS: &[u8] = b"cfbtool: wrong words\n";
-
-const MEDIUM_FAILED: &[u8] = b"cfbtool: medium failed\n";
-
-const OUT_OF_MEMORY: &[u8] = b"cfbtool: out of memory\n";
-
-const TARGET_EXISTS: &[u8] = b"cfbtool: target exists\n";
-
-const DONE: Answer<'static> = (0, b"", b"");
-
-const SOUND_3: &[u8] = b"version 3 sound\n";
-
-const SOUND_4: &[u8] = b"version 4 sound\n";
-
-/// A file in version 3, with a stream `/a`.
-const WITH_STREAM: [Run<'static>; 2] = [
-    (&["create", "3", "@f"], b"", 0, b"", b""),
-    (&["put", "@f", "/a"], b"abc", 0, b"", b""),
-];
-
-/// Bytes that tell their places apart.
-fn content(alloc: Global, len: usize) -> Result<Vec<u8>, AllocError> {
-    let mut bytes = Vec::new(alloc);
-    for place in 0..len {
-        bytes.push((place % 251) as u8)?;
-    }
-    Ok(bytes)
-}
-
-/// A file as the system has it: its bytes; its time, place and mode.
-type Seen = (Vec<u8>, [u64; 4]);
-
-fn seen(rt: &HostRuntime, path: &str) -> Result<Seen, Fail> {
-    let told = fs::metadata(rt, path)?;
-    let seconds = told.mtime().cast_unsigned();
-    let rest = told.mtime_nsec().cast_unsigned();
-    let bytes = fs::read(rt, path)?;
-    Ok((bytes, [seconds, rest, told.ino(), u64::from(told.mode())]))
-}
-
-/// Whether it is as it was seen before.
-fn is_seen(rt: &HostRuntime, path: &str, before: &Seen) -> Result<bool, Fail> {
-    let now = seen(rt, path)?;
-    Ok(now == *before)
-}
-
-/// Sets the time of a file to the start of 1970.
-fn make_old(rt: &HostRuntime, path: &str) -> Result<(), Fail> {
-    let file = FileOptions::new().write(true).open(rt, path)?;
-    file.set_modified(UNIX_EPOCH)?;
-    Ok(())
-}
-
-/// Sets bytes of the file, and cuts it to a length.
-fn damage(rt: &HostRuntime, path: &str, changes: &[(usize, u8)], len: usize) -> Result<(), Fail> {
-    let mut bytes = fs::read(rt, path)?;
-    for (place, byte) in changes {
-        if let Some(old) = bytes.get_mut(*place) {
-            *old = *byte;
-        }
-    }
-    bytes.truncate(len);
-    fs::write(rt, path, bytes.as_slice())?;
-    Ok(())
+/// Plays the steps in a folder of their own in the temporary folder.
+fn play(rt: &HostRuntime, steps: &[Step<'_>]) -> Result<(), Fail> {
+    let temporary = env::temp_dir(rt)?;
+    let folder = folder_in(rt, temporary.as_str())?;
+    let mut world = World::new(rt.alloc(), folder);
+    play_in(rt, &mut world, steps)
 }

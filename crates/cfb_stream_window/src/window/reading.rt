@@ -244,6 +244,9 @@ impl<A: Allocator> Window<A> {
             → OnErr result (target_of self.old.size (self.old.base + self.old.cursor) to ≡ None) }
         ensures held { (at : ℕ) → target_of self.old.size (self.old.base + self.old.cursor) to ≡ Some at
             → self.old.base ≤ at → at ≤ self.old.base + length self.old.filled → content.new ≡ content.old }
+        ensures stays { (at : ℕ) → target_of self.old.size (self.old.base + self.old.cursor) to ≡ Some at
+            → self.old.base ≤ at → at ≤ self.old.base + length self.old.filled
+            → (self.new.base ≡ self.old.base) × (self.new.filled ≡ self.old.filled) }
         ensures bound { self.new.bound ≡ self.old.bound }
         ensures room { self.new.room ≡ self.old.room }
         ensures around { C.tells content.old → IsWritten C.ReadContents C.Contents.own content.old content.new id result }
@@ -267,6 +270,8 @@ impl<A: Allocator> Window<A> {
         ensures ok { IsReady C.ReadContents content.old id self.old → OnOk result (WentTo at (C.stored content.old id) self.old (C.stored content.new id) self.new) }
         ensures calm { self.old.pending ≡ false → content.new ≡ content.old }
         ensures held { self.old.base ≤ at → at ≤ self.old.base + length self.old.filled → content.new ≡ content.old }
+        ensures stays { self.old.base ≤ at → at ≤ self.old.base + length self.old.filled
+            → (self.new.base ≡ self.old.base) × (self.new.filled ≡ self.old.filled) }
         ensures settles { IsReady C.ReadContents content.old id self.old → OnOk result (IsSettled (C.stored content.old id) self.old (C.stored content.new id)) }
         ensures refused { IsReady C.ReadContents content.old id self.old → IfErr result (IsLost (C.is_full content.new) (C.stored content.old id) self.old (C.stored content.new id)) }
         ensures pending { OnErr result (self.old.pending ≡ true) }

@@ -1,64 +1,24 @@
 //! Words of a run, and lines of its input.
-use super::{
-    DONE, Run, SOUND_3, SOUND_4, WITH_STREAM, WRONG_WORDS, bytes_of, content, do_runs, enter,
-    is_there, leave, len_of, path_of, tells, want,
-};
-use cfb::{CompoundFile, ReadMedium};
-use std::io::Write;
+use super::Step::{self, Absent, Comes, Content, Each, Len, Line, Note, Runs, Stays};
+use super::library::Outcome::Fields;
+use super::play;
+use super::runs::{CONTENT, NEW_3, Run, SOUND_3, SOUND_4, WITH_STREAM, WRONG_WORDS};
 use std::test::Fail;
 
 #[rattlefmt::skip]
-const WRONG: [&[&str]; 31] = [
-    &[],
-    &[""],
-    &["create"],
-    &["create", "3"],
-    &["create", "@f"],
-    &["create", "5", "@f"],
-    &["create", "03", "@f"],
-    &["create", "", "@f"],
-    &["create", "3", "@f", "/"],
-    &["Create", "3", "@f"],
-    &["ls"],
-    &["ls", "@f", "/", "/a"],
-    &["list", "@f"],
-    &["cat"],
-    &["cat", "@f"],
-    &["cat", "@f", "/a", "strict"],
-    &["put"],
-    &["put", "@f"],
-    &["put", "@f", "/a", "/b"],
-    &["put ", "@f", "/a"],
-    &["check"],
-    &["check", "@f", "stric"],
-    &["check", "@f", "Strict"],
-    &["check", "@f", ""],
-    &["check", "@f", "strict", "strict"],
-    &["compact"],
-    &["compact", "@f"],
-    &["compact", "@f", "@g", "@h"],
-    &["run"],
-    &["run", "@f", "@g"],
-    &["mkdir", "@f", "/s"],
+const WRONG: &[&[&str]] = &[
+    &[], &[""], &["create"], &["create", "3"], &["create", "@f"], &["create", "5", "@f"],
+    &["create", "03", "@f"], &["create", "", "@f"], &["create", "3", "@f", "/"],
+    &["Create", "3", "@f"], &["ls"], &["ls", "@f", "/", "/a"], &["list", "@f"], &["cat"],
+    &["cat", "@f"], &["cat", "@f", "/a", "strict"], &["put"], &["put", "@f"],
+    &["put", "@f", "/a", "/b"], &["put ", "@f", "/a"], &["check"], &["check", "@f", "stric"],
+    &["check", "@f", "Strict"], &["check", "@f", ""], &["check", "@f", "strict", "strict"],
+    &["compact"], &["compact", "@f"], &["compact", "@f", "@g", "@h"], &["run"],
+    &["run", "@f", "@g"], &["mkdir", "@f", "/s"],
 ];
 
-fn refuse_wrong_words(rt: &HostRuntime, folder: &str) -> Result<(), Fail> {
-    for words in &WRONG {
-        let is_told = tells(rt, folder, words, b"rm\t/a", (2, b"", WRONG_WORDS))?;
-        want(is_told, "wrong words are told")?;
-    }
-    want(!is_there(rt, folder, "f")?, "nothing is made")
-}
-
-#[test]
-fn wrong_words_do_nothing(rt: HostRuntime) -> Result<(), Fail> {
-    let folder = enter(&rt)?;
-    refuse_wrong_words(&rt, &folder)?;
-    leave(&rt, &folder)
-}
-
 #[rattlefmt::skip]
-const LISTS: [Run<'static>; 26] = [
+const LISTS: &[Run<'static>] = &[
     (&["create", "3", "@f"], b"", 0, b"", b""),
     (&["ls", "@f"], b"", 0, b"d 0 /\n", b""),
     (&["run", "@f"], b"mkdir\t/s\t0\nput\t/s/x\t616263\nrm\t/t\n", 1, b"ok\nok\nE1\n", b""),
@@ -87,99 +47,21 @@ const LISTS: [Run<'static>; 26] = [
     (&["ls", "@f"], b"", 0, b"d 0 /\n", b""),
 ];
 
-fn do_lists(rt: &HostRuntime, folder: &str) -> Result<(), Fail> {
-    do_runs(rt, folder, "lists", &LISTS)?;
-    want(
-        len_of(rt, folder, "f")? == 12288,
-        "the length of an empty file",
-    )
-}
-
-#[test]
-fn lists_of_commands(rt: HostRuntime) -> Result<(), Fail> {
-    let folder = enter(&rt)?;
-    do_lists(&rt, &folder)?;
-    leave(&rt, &folder)
-}
-
 /// What `run` takes for no commands.
 #[rattlefmt::skip]
-const NO_COMMANDS: [&[u8]; 36] = [
-    b"put\t/a\t61\nbits\t/a\tx",
-    b"\n",
-    b"rm\t/a\n\n",
-    b"\nrm\t/a",
-    b"rm\t/a\n \n",
-    b"rm",
-    b"rm /a",
-    b"rm\t/a\t",
-    b" rm\t/a",
-    b"RM\t/a",
-    b"cat\t/a",
-    b"mkdir\t/s",
-    b"mkdir\t/s\t",
-    b"mkdir\t/s\t0\t",
-    b"mkdir\t/s\t0\r\n",
-    b"mkdir\t/s\t+1",
-    b"mkdir\t/s\t-",
-    b"mkdir\t/s\t--1",
-    b"mkdir\t/s\t1.0",
-    b"mkdir\t/s\t 1",
-    b"mkdirs\t/s\t9223372036854775808",
-    b"touch\t/s\t-9223372036854775809",
-    b"bits\t/a\t4294967296",
-    b"bits\t/a\t-1",
-    b"bits\t/a\t0x1",
-    b"len\t/a\t18446744073709551616",
-    b"len\t/a\t",
-    b"put\t/a",
-    b"put\t/a\t6",
-    b"put\t/a\t6A",
-    b"put\t/a\t6g",
-    b"put\t/a\t61 62",
-    b"put\t/a\t61\r\n",
-    b"add\t/a\t616",
-    b"add\t/\xff\t61",
-    b"rm\t/a\n\xc3",
+const NO_COMMANDS: &[&[u8]] = &[
+    b"put\t/a\t61\nbits\t/a\tx", b"\n", b"rm\t/a\n\n", b"\nrm\t/a", b"rm\t/a\n \n", b"rm",
+    b"rm /a", b"rm\t/a\t", b" rm\t/a", b"RM\t/a", b"cat\t/a", b"mkdir\t/s", b"mkdir\t/s\t",
+    b"mkdir\t/s\t0\t", b"mkdir\t/s\t0\r\n", b"mkdir\t/s\t+1", b"mkdir\t/s\t-",
+    b"mkdir\t/s\t--1", b"mkdir\t/s\t1.0", b"mkdir\t/s\t 1", b"mkdirs\t/s\t9223372036854775808",
+    b"touch\t/s\t-9223372036854775809", b"bits\t/a\t4294967296", b"bits\t/a\t-1",
+    b"bits\t/a\t0x1", b"len\t/a\t18446744073709551616", b"len\t/a\t", b"put\t/a", b"put\t/a\t6",
+    b"put\t/a\t6A", b"put\t/a\t6g", b"put\t/a\t61 62", b"put\t/a\t61\r\n", b"add\t/a\t616",
+    b"add\t/\xff\t61", b"rm\t/a\n\xc3",
 ];
 
 /// The file that there is, and one that is not even looked for.
-fn refuse_texts(rt: &HostRuntime, folder: &str) -> Result<(), Fail> {
-    for text in &NO_COMMANDS {
-        let is_told = tells(rt, folder, &["run", "@f"], text, (2, b"", WRONG_WORDS))?
-            && tells(rt, folder, &["run", "@g"], text, (2, b"", WRONG_WORDS))?;
-        want(is_told, "no commands")?;
-    }
-    Ok(())
-}
-
-fn keep_file_at_texts(rt: &HostRuntime, folder: &str) -> Result<(), Fail> {
-    do_runs(rt, folder, "a stream", &WITH_STREAM)?;
-    let before = bytes_of(rt, folder, "f")?;
-    refuse_texts(rt, folder)?;
-    want(bytes_of(rt, folder, "f")? == before, "the file stays")
-}
-
-#[test]
-fn lines_that_are_no_commands_do_nothing(rt: HostRuntime) -> Result<(), Fail> {
-    let folder = enter(&rt)?;
-    keep_file_at_texts(&rt, &folder)?;
-    leave(&rt, &folder)
-}
-
-/// What is told of a storage: its bits, and when it was made and changed.
-type Fields = (u32, u64, u64);
-
-fn fields_in<F: ReadMedium>(file: &CompoundFile<F>, object: &str) -> Result<Fields, Fail> {
-    let told = file.entry(object)?;
-    let created = told.created().value();
-    Ok((told.state_bits(), created, told.modified().value()))
-}
-
-fn fields_of(rt: &HostRuntime, path: &str, object: &str) -> Result<Fields, Fail> {
-    let file = cfb::open(rt, rt.alloc(), path)?;
-    fields_in(&file, object)
-}
+const RUN: &[&[&str]] = &[&["run", "@f"], &["run", "@g"]];
 
 /// Numbers at the ends of what a line may say. The moments are those of 1970 and of a second after
 /// it, and the first and the last one.
@@ -191,74 +73,72 @@ const TO_1970: u64 = 116444736000000000;
 const SECOND: u64 = TO_1970 + 10000000;
 
 #[rattlefmt::skip]
-const SAID: [(&str, Fields); 4] = [
-    ("/a", (0, TO_1970, SECOND)),
-    ("/b", (u32::MAX, SECOND, SECOND)),
-    ("/c", (7, 0, 0)),
-    ("/c/d", (0, u64::MAX, u64::MAX)),
-];
-
-#[rattlefmt::skip]
-const WITH_FIELDS: [Run<'static>; 3] = [
+const WITH_FIELDS: &[Run<'static>] = &[
     (&["create", "4", "@f"], b"", 0, b"", b""),
     (&["run", "@f"], FIELDS, 0, b"ok\nok\nok\nok\nok\nok\nok\n", b""),
     (&["check", "@f", "strict"], b"", 0, SOUND_4, b""),
 ];
 
-fn say_numbers(rt: &HostRuntime, folder: &str, path: &str) -> Result<(), Fail> {
-    do_runs(rt, folder, "fields", &WITH_FIELDS)?;
-    for (object, fields) in &SAID {
-        want(fields_of(rt, path, object)? == *fields, object)?;
-    }
-    Ok(())
+const LINE_DONE: &[Run<'static>] = &[(&["run", "@f"], CONTENT, 1, b"E1\nok\n", b"")];
+
+#[rattlefmt::skip]
+const WRITTEN: &[Run<'static>] = &[
+    (&["cat", "@f", "/a"], b"", 0, CONTENT, b""),
+    (&["check", "@f", "strict"], b"", 0, SOUND_3, b""),
+];
+
+#[rattlefmt::skip]
+static NOTHING_DONE: &[Step<'static>] = &[
+    Each(WRONG, &[b"rm\t/a"], 2, WRONG_WORDS), Absent,
+];
+
+#[test]
+fn wrong_words_do_nothing(rt: HostRuntime) -> Result<(), Fail> {
+    play(&rt, NOTHING_DONE)
 }
+
+#[rattlefmt::skip]
+static LISTED: &[Step<'static>] = &[
+    Runs(LISTS), Len(12288),
+];
+
+#[test]
+fn lists_of_commands(rt: HostRuntime) -> Result<(), Fail> {
+    play(&rt, LISTED)
+}
+
+#[rattlefmt::skip]
+static FILE_LEFT: &[Step<'static>] = &[
+    Runs(WITH_STREAM), Note, Each(RUN, NO_COMMANDS, 2, WRONG_WORDS), Stays,
+];
+
+#[test]
+fn lines_that_are_no_commands_do_nothing(rt: HostRuntime) -> Result<(), Fail> {
+    play(&rt, FILE_LEFT)
+}
+
+#[rattlefmt::skip]
+static NUMBERS: &[Step<'static>] = &[
+    Runs(WITH_FIELDS),
+    Comes(Fields("/a", (0, TO_1970, SECOND))),
+    Comes(Fields("/b", (u32::MAX, SECOND, SECOND))),
+    Comes(Fields("/c", (7, 0, 0))),
+    Comes(Fields("/c/d", (0, u64::MAX, u64::MAX))),
+];
 
 #[test]
 fn lines_say_numbers(rt: HostRuntime) -> Result<(), Fail> {
-    let folder = enter(&rt)?;
-    let path = path_of(&rt, &folder, "f")?;
-    say_numbers(&rt, &folder, &path)?;
-    leave(&rt, &folder)
+    play(&rt, NUMBERS)
 }
 
-/// A line of `run`, behind one that is refused: a word, a path, and these bytes.
-fn write_line<W: Write>(line: &mut W, word: &str, bytes: &[u8]) -> Result<(), Fail> {
-    write!(line, "rm\t/none\n{word}\t/a\t")?;
-    for byte in bytes {
-        write!(line, "{byte:02x}")?;
-    }
-    writeln!(line)?;
-    Ok(())
-}
-
-fn is_line_done(rt: &HostRuntime, folder: &str, word: &str, bytes: &[u8]) -> Result<bool, Fail> {
-    let mut line = Vec::new(rt.alloc());
-    write_line(&mut line, word, bytes)?;
-    tells(rt, folder, &["run", "@f"], &line, (1, b"E1\nok\n", b""))
-}
-
-fn write_all_bytes(rt: &HostRuntime, folder: &str, all: &[u8]) -> Result<(), Fail> {
-    want(
-        tells(rt, folder, &["create", "3", "@f"], b"", DONE)?
-            && is_line_done(rt, folder, "put", all.get(..5000).unwrap_or(&[]))?
-            && is_line_done(rt, folder, "add", all.get(5000..).unwrap_or(&[]))?
-            && tells(rt, folder, &["cat", "@f", "/a"], b"", (0, all, b""))?
-            && tells(
-                rt,
-                folder,
-                &["check", "@f", "strict"],
-                b"",
-                (0, SOUND_3, b""),
-            )?,
-        "all bytes of a line",
-    )
-}
+#[rattlefmt::skip]
+static ALL_BYTES: &[Step<'static>] = &[
+    Runs(NEW_3), Line("put", 0, 5000), Runs(LINE_DONE), Line("add", 5000, 75000),
+    Runs(LINE_DONE), Content(75000), Runs(WRITTEN),
+];
 
 /// A line writes all of its bytes, of which one write takes a beginning.
 #[test]
 fn lines_write_all_bytes(rt: HostRuntime) -> Result<(), Fail> {
-    let folder = enter(&rt)?;
-    let all = content(rt.alloc(), 75000)?;
-    write_all_bytes(&rt, &folder, &all)?;
-    leave(&rt, &folder)
+    play(&rt, ALL_BYTES)
 }

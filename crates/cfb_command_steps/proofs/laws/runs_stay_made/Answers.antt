@@ -1,3 +1,4 @@
+use Rattle.cfb_command_steps.proofs.Idle.{runs_stay_idle}
 use Rattle.cfb_command_steps.proofs.Made as lemmas
 use Rattle.cfb_command_steps.proofs.laws.runs_stay_made.Goals as goal
 
@@ -6,3 +7,6 @@ returns-clause-made c = lemmas.runs_stay_made
 
 pub returns-clause-low : goal.returns-clause-low
 returns-clause-low c = lemmas.runs_stay_low
+
+pub returns-clause-idle : goal.returns-clause-idle
+returns-clause-idle c = runs_stay_idle

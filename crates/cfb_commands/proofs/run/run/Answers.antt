@@ -4,8 +4,10 @@ use Rattle.std.specs.Prelude.{◌||◌}
 use Rattle.cfb_commands.specs.declared.command.Command.{Command as TheCommand}
 use Rattle.cfb_commands.specs.Commands.{command_of, reply_of}
 use Rattle.cfb_commands.specs.Working.{RunsLegally}
+use Rattle.cfb_commands.specs.Failing.{IsAsked}
 use Rattle.cfb_commands.specs.Faults.{IsGiven}
 use Rattle.cfb_commands.specs.Kinds.{AreOfKinds, kind_of_command}
+use Rattle.cfb_commands.proofs.Failing.{once_failed, untouched}
 use Rattle.cfb_commands.proofs.Faults.{one_more_behind}
 use Rattle.cfb_commands.proofs.Fitting.{replied_more}
 use Rattle.cfb_commands.proofs.Runs.{runs_more, stays_made}
@@ -23,6 +25,8 @@ loop-command-preserved g c =
       kept = ap (take first) c.push_reserved.ensures.items ∙ take-append-le first c.loop-command.replies.items (c.run_one-reply.result ∷ []) least ∙ i.kept;
       of_kinds = replied_more c.args.commands.now c.loop-command.command-index c.command-item.result first c.loop-command.replies.items c.push_reserved.new.self.items
           c.run_one-reply.result c.loop-command-test.true c.command-item.is c.push_reserved.ensures.items least i.of_kinds c.run_one-reply.ensures.of_kind;
+      asked = one_more_behind IsAsked first c.loop-command.replies.items c.push_reserved.new.self.items c.run_one-reply.result c.push_reserved.ensures.items least i.asked
+          c.run_one-reply.ensures.asked;
       given = λ told. one_more_behind (IsGiven (λ f. g.F.ReadMedium.read_faults f || g.F.Medium.write_faults f)) first c.loop-command.replies.items c.push_reserved.new.self.items
           c.run_one-reply.result c.push_reserved.ensures.items least (i.given told) (c.run_one-reply.ensures.given told);
       runs = λ told. runs_more _ c.args.file.now c.loop-command.file c.run_one-reply.new.file c.args.commands.now c.loop-command.command-index c.command-item.result first
@@ -38,6 +42,14 @@ returns-clause-runs g c = λ told.
     subst (λ (commands : List (TheCommand g.row.A.Denot)). RunsLegally (λ f. g.F.ReadMedium.read_faults f || g.F.Medium.write_faults f) c.args.file.now (map command_of commands)
     (map reply_of (drop (length c.args.replies.now.items) c.loop-command.replies.items)) c.loop-command.file) (take_all c.loop-command.command-index c.args.commands.now c.loop-command-test.false)
     (c.loop-command.invariant.runs told)
+
+pub returns-clause-failed : goal.returns-clause-failed
+returns-clause-failed g c = λ told.
+    once_failed _ c.args.file.now c.loop-command.file _ _ (c.is_failed-is_failed.ensures.agrees told) (returns-clause-runs g c told)
+
+pub returns-clause-untouched : goal.returns-clause-untouched
+returns-clause-untouched g c = λ told.
+    untouched _ c.args.file.now c.loop-command.file _ _ (c.is_failed-is_failed.ensures.agrees told) (c.loop-command.invariant.runs told)
 
 pub returns-clause-of_kinds : goal.returns-clause-of_kinds
 returns-clause-of_kinds g c =

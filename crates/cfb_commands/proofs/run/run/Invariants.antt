@@ -1,6 +1,7 @@
 use Rattle.std.proofs.Common.{◌≡◌, ◌+◌, drop, length, map, take, vec_capacity}
 use Rattle.std.specs.Prelude.{◌||◌, All, IsTrue}
 use Rattle.cfb_commands.specs.Commands.{command_of, reply_of}
+use Rattle.cfb_commands.specs.Failing.{IsAsked}
 use Rattle.cfb_commands.specs.Faults.{IsGiven}
 use Rattle.cfb_commands.specs.Kinds.{AreOfKinds, kind_of_command}
 use Rattle.cfb_commands.specs.Working.{RunsLegally}
@@ -12,6 +13,7 @@ invariant-loop-command g l = record {
   room : vec_capacity l.replies ≡ vec_capacity l.fn.replies;
   kept : take (length l.fn.replies.items) l.replies.items ≡ l.fn.replies.items;
   of_kinds : AreOfKinds (map kind_of_command (take l.command-index l.commands)) (drop (length l.fn.replies.items) l.replies.items);
+  asked : All IsAsked (drop (length l.fn.replies.items) l.replies.items);
   given : IsTrue g.F.ReadMedium.tells → All (IsGiven (λ f. g.F.ReadMedium.read_faults f || g.F.Medium.write_faults f)) (drop (length l.fn.replies.items) l.replies.items);
   runs : IsTrue g.F.ReadMedium.tells
       → RunsLegally (λ f. g.F.ReadMedium.read_faults f || g.F.Medium.write_faults f) l.fn.file

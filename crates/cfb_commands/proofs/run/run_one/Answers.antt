@@ -222,3 +222,12 @@ returns-in-ReadStorage-clause-given g c = λ told. questions_given _ c.read_list
 
 pub returns-in-WalkStorage-clause-given : goal.returns-in-WalkStorage-clause-given
 returns-in-WalkStorage-clause-given g c = λ told. questions_given _ c.walk_list.result c.walk_list.ensures.kinds
+
+pub returns-in-Entry-clause-asked : goal.returns-in-Entry-clause-asked
+returns-in-Entry-clause-asked g c = c.entry.ensures.kinds
+
+pub returns-in-ReadStorage-clause-asked : goal.returns-in-ReadStorage-clause-asked
+returns-in-ReadStorage-clause-asked g c = c.read_list.ensures.kinds
+
+pub returns-in-WalkStorage-clause-asked : goal.returns-in-WalkStorage-clause-asked
+returns-in-WalkStorage-clause-asked g c = c.walk_list.ensures.kinds

@@ -8,6 +8,7 @@ use Rattle.cfb_agreement.specs.Files.{failures_of}
 use Rattle.cfb_copies.specs.Copies.{AreCopyable, AreReadable, CopyRefused, ListsObjects}
 use Rattle.cfb_copies.specs.Steps.{IsFaultOfEither}
 use Rattle.cfb_copies.proofs.Faults.{counted_counts, counted_refused, no_fault_counts, unprepared_refused}
+use Rattle.cfb_copies.proofs.Headers.{header_as_created}
 use Rattle.cfb_copies.proofs.Prepared.{refused_early}
 use Rattle.cfb_copies.proofs.copying.copy_volume.Goals as goal
 
@@ -66,6 +67,7 @@ returns-in-Ok-clause-made g c tells =
       holds = w.holds tells m.holds;
       made = w.made tells m.holds m.made;
       none_free = w.none_free tells m.holds m.none_free;
+      header = header_as_created c.in_ok-target.target c.fill.new.target m.holds w.setting.limits.version (w.header tells m.holds) m.header;
       calm = w.calm tells ∙ m.calm;
     }
 

@@ -1,4 +1,7 @@
-use Rattle.std.proofs.Common.{true, sym, subst}
+use Rattle.std.proofs.Common.{ℕ, List, true, ap, sym, ◌∙◌, subst}
+use Rattle.std.specs.Prelude.{slice_index}
+use Rattle.cfb_format.specs.declared.version.Version.{Version}
+use Rattle.cfb_format.specs.Created.{created_bytes}
 use Rattle.cfb_agreement.specs.Files.{FileState}
 use Rattle.cfb_copies.specs.Copies.{HasNoObjects, IsMadeCopy}
 use Rattle.cfb_copies.proofs.Emptied.{created_full, created_none}
@@ -12,6 +15,7 @@ returns-clause-made g c told =
       holds = m.holds told c.args.buffer_limit;
       made = m.made told;
       none_free = created_full file _ (m.holds told c.args.buffer_limit) (m.bytes told);
+      header = λ i fixed. ap (λ (bytes : List ℕ). slice_index bytes i) (m.bytes told) ∙ ap (λ (v : Version). slice_index (created_bytes v) i) (sym m.version);
       calm = m.calm told;
     })
 

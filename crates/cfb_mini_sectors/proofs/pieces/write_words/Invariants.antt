@@ -1,4 +1,4 @@
-use Rattle.std.proofs.Common.{◌≡◌, ◌<◌, ℕ, nat_eq, get_or}
+use Rattle.std.proofs.Common.{◌≡◌, ◌<◌, ◌≤◌, ◌-◌, ℕ, length, nat_eq, get_or}
 use Rattle.std.specs.Prelude.{Contains, IsTrue}
 use Rattle.std.specs.List.{IsDistinct}
 use Rattle.cfb_format.specs.declared.validate.Validation.{Validation}
@@ -9,8 +9,9 @@ use Rattle.cfb_mini_sectors.specs.Pieces.{ChangesWords, WritesAmong}
 use Rattle.cfb_mini_sectors.proofs.PieceWrites.{WordStands}
 use Rattle.cfb_mini_sectors.proofs.pieces.write_words.Given as goal
 
-abbrev pub invariant-loop-number : goal.invariant-loop-number
-invariant-loop-number g l = record {
+abbrev pub invariant-loop-done : goal.invariant-loop-done
+invariant-loop-done g l = record {
+  within : l.done ≤ length l.numbers;
   tables : l.allocator.tables ≡ l.fn.allocator.tables;
   kept : l.allocator.file ≡ record l.fn.allocator.file {
     len = l.allocator.file.len;
@@ -18,13 +19,16 @@ invariant-loop-number g l = record {
     failures = l.allocator.file.failures;
     begun = l.allocator.file.begun;
   };
-  words : IsTrue g.F.ReadMedium.tells → IsDistinct nat_eq l.sectors → (k : ℕ) → k < l.number-index
+  words : IsTrue g.F.ReadMedium.tells → IsDistinct nat_eq l.sectors → (k : ℕ) → k < l.done
       → WordStands l.fn.allocator.tables.version l.allocator.file.bytes l.sectors l.table (get_or l.numbers k 0);
   others : IsTrue g.F.ReadMedium.tells → ChangesWords l.numbers l.fn.allocator.tables.version l.sectors l.fn.allocator.file.bytes l.allocator.file.bytes;
   among : IsTrue g.F.ReadMedium.tells → WritesAmong l.sectors l.fn.allocator l.allocator;
   holds : IsTrue g.F.ReadMedium.tells → (validation : Validation) → HoldsTables validation l.fn.allocator
       → ((i : ℕ) → Contains l.sectors i → IsNoTableSector l.fn.allocator.tables i) → HoldsTables validation l.allocator;
-  begun : IsRaised (0 < l.number-index) l.fn.allocator.file l.allocator.file;
-  none : l.number-index ≡ 0 → l.allocator ≡ l.fn.allocator;
+  begun : IsRaised (0 < l.done) l.fn.allocator.file l.allocator.file;
+  none : l.done ≡ 0 → l.allocator ≡ l.fn.allocator;
   counts : IsTrue g.F.ReadMedium.tells → l.allocator.file.failures ≡ l.fn.allocator.file.failures;
 }
+
+abbrev pub decreases-loop-done : goal.decreases-loop-done
+decreases-loop-done g l = length l.numbers - l.done

@@ -7,6 +7,7 @@ use Rattle.cfb_format.specs.Chain.{IsChain}
 use Rattle.cfb_format.specs.Full.{max_entries}
 use Rattle.cfb_format.specs.Header.{IfStrict}
 use Rattle.cfb_format.specs.Reading.{IsStrictCount, Outline}
+use Rattle.cfb_alloc.specs.Alloc.{AllocatorState}
 use Rattle.cfb_codecs.specs.EntryModel.{entries_of, entry_of}
 use Rattle.cfb_entries.specs.EntryList.{HaveShortNames}
 use Rattle.cfb_outline.specs.Outlines.{AcceptsOutline}
@@ -83,3 +84,9 @@ returns-clause-words g c told =
     let e = c.in_ok-directory.ensures in
     words-stay c.args.validation c.args.letters bytes failures parts.header parts.allocator parts.points_into_file (entries_of parts.entries.items) parts.minifat_words.items
     (c.in_ok-header.ensures.ok told) d e.same.0 e.same.1 e.same.2 e.chain.0
+
+pub returns-clause-letters : goal.returns-clause-letters
+returns-clause-letters g c = c.in_ok-directory.ensures.same.1
+
+pub returns-clause-unfailed : goal.returns-clause-unfailed
+returns-clause-unfailed g c = ap (λ (a : AllocatorState). a.file.begun) c.in_ok-directory.ensures.same.0 ∙ c.in_ok-header.ensures.unfailed

@@ -1,4 +1,4 @@
-use Rattle.std.proofs.Common.{◌≡◌, ◌/◌, ℕ, List, length, subst}
+use Rattle.std.proofs.Common.{◌≡◌, ◌/◌, ◌∙◌, ℕ, List, length, ap, subst}
 use Rattle.std.specs.Prelude.{IsTrue}
 use Rattle.std.proofs.lemmas.Result.{err_from_is_err_and}
 use Rattle.cfb_format.specs.Content.{mini_sector_len}
@@ -6,6 +6,7 @@ use Rattle.cfb_format.specs.Full.{max_mini_sectors}
 use Rattle.cfb_format.specs.Header.{IfStrict}
 use Rattle.cfb_alloc.specs.Alloc.{AllocatorState}
 use Rattle.cfb_tables.specs.Tables.{AreSizes, sizes_of}
+use Rattle.cfb_directory.specs.State.{DirectoryState}
 use Rattle.cfb_mini_table.specs.MiniTable.{AcceptsMini}
 use Rattle.cfb_mini.specs.Changing.{AreMinifatSectors, root_len_in}
 use Rattle.cfb_opening.specs.Acceptable.{IsRefused}
@@ -47,3 +48,9 @@ returns-clause-ok g c told =
       minis-known v cases bytes failures h d listed.points_into_file (c.in_ok-header.ensures.ok told) words (c.in_ok-header.ensures.words told) c.words_make_the_minifat.ensures.table
           c.in_ok-mini.mini e.directory e.limit e.minifat e.sectors e.mini_stream e.accepted e.counted sizes,
     )
+
+pub returns-clause-letters : goal.returns-clause-letters
+returns-clause-letters g c = ap (λ (d : DirectoryState). d.cases) c.in_ok-mini.ensures.directory ∙ c.in_ok-header.ensures.letters
+
+pub returns-clause-unfailed : goal.returns-clause-unfailed
+returns-clause-unfailed g c = ap (λ (d : DirectoryState). d.table.file.begun) c.in_ok-mini.ensures.directory ∙ c.in_ok-header.ensures.unfailed

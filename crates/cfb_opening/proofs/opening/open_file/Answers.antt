@@ -1,5 +1,5 @@
-use Rattle.std.proofs.Common.{sym, subst}
-use Rattle.cfb_mini_sectors.specs.State.{MiniState}
+use Rattle.std.proofs.Common.{◌∙◌, ap, sym, subst}
+use Rattle.cfb_mini_sectors.specs.State.{MiniState, cases_of, table_of, tables_in}
 use Rattle.cfb_opening.specs.Opened.{IsOpened}
 use Rattle.cfb_opening.proofs.OpenedFile.{opened}
 use Rattle.cfb_opening.proofs.opening.open_file.Goals as goal
@@ -18,3 +18,12 @@ returns-clause-answers g c told =
     let exact = c.in_ok-is_sound.ensures.exact v cases bytes failures known.0 outline known.1 known.1.directory.outlined.outline in
     subst (λ (s : MiniState). IsOpened v cases max_sectors bytes failures s is_sound) (sym c.set_max_sectors.ensures)
     (opened v cases bytes failures known.0 minis.mini minis.points_into_file known.1 max_sectors is_sound exact)
+
+pub returns-clause-letters : goal.returns-clause-letters
+returns-clause-letters g c = ap (λ (s : MiniState). cases_of s) c.set_max_sectors.ensures ∙ c.in_ok-mini.ensures.letters
+
+pub returns-clause-limit : goal.returns-clause-limit
+returns-clause-limit g c = ap (λ (s : MiniState). (tables_in s).max_sectors) c.set_max_sectors.ensures
+
+pub returns-clause-unfailed : goal.returns-clause-unfailed
+returns-clause-unfailed g c = ap (λ (s : MiniState). (table_of s).file.begun) c.set_max_sectors.ensures ∙ c.in_ok-mini.ensures.unfailed

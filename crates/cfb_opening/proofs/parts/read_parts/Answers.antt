@@ -1,4 +1,4 @@
-use Rattle.std.proofs.Common.{◌≡◌, ◌≤◌, ◌*◌, ℕ, List, length, ◌∙◌, sym, subst}
+use Rattle.std.proofs.Common.{◌≡◌, ◌≤◌, ◌*◌, ℕ, List, length, ◌∙◌, ap, sym, subst}
 use Rattle.std.specs.Prelude.{IsTrue}
 use Rattle.std.proofs.lemmas.Result.{err_from_is_err_and}
 use Rattle.std.proofs.lemmas.List.{length-map}
@@ -6,6 +6,7 @@ use Rattle.cfb_format.specs.Bytes.{words_per_sector}
 use Rattle.cfb_format.specs.Chain.{IsChain}
 use Rattle.cfb_format.specs.Full.{max_entries}
 use Rattle.cfb_codecs.specs.EntryModel.{entries_of, entry_of}
+use Rattle.cfb_sectors.specs.Sectors.{SectorFile}
 use Rattle.cfb_alloc.specs.Alloc.{AllocatorState, IsMeasured}
 use Rattle.cfb_reading.specs.ReadDirectory.{FillsSlots, NoDirectory}
 use Rattle.cfb_reading.specs.ReadMinifat.{HasMinifatWords, NoMinifatWords}
@@ -74,3 +75,7 @@ returns-clause-ok g c told =
           (subst (λ (s : AllocatorState). length words.items ≡ length filled.0 * words_per_sector s.tables.version) same (sym words.ok.0 ∙ filled.2));
     } in
     subst (λ (s : AllocatorState). KnowsParts v bytes failures h s points entries words.items) (sym (c.in_ok-minifat_words.ensures.same told ∙ same)) known
+
+pub returns-clause-unfailed : goal.returns-clause-unfailed
+returns-clause-unfailed g c =
+    ap (λ (f : SectorFile). f.begun) c.in_ok-minifat_words.ensures.kept ∙ ap (λ (f : SectorFile). f.begun) c.in_ok-entries.ensures.kept ∙ c.in_ok-header.ensures.unfailed

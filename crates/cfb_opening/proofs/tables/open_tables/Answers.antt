@@ -1,4 +1,4 @@
-use Rattle.std.proofs.Common.{◌≡◌, ◌↔◌, ◌∙◌, List, ℕ, sym, subst}
+use Rattle.std.proofs.Common.{◌≡◌, ◌↔◌, ◌∙◌, List, ℕ, ap, sym, subst}
 use Rattle.std.specs.Prelude.{IsTrue}
 use Rattle.std.proofs.lemmas.Result.{err_from_is_err_and}
 use Rattle.cfb_sectors.specs.Sectors.{SectorFile}
@@ -92,3 +92,8 @@ returns-clause-ok g c told =
     (subst (λ (xs : List ℕ). IsTrue points ↔ PointsInto before.num_sectors words c.deref.result.now xs) c.deref-2.ensures.value c.in_ok-words.ensures.points)) in
     tables-known v bytes failures h accepted file (now ∙ same) list own difat words kept c.in_ok-allocator.allocator points into c.in_ok-allocator.ensures.file
     c.in_ok-allocator.ensures.tables c.in_ok-allocator.ensures.fat
+
+pub returns-clause-unfailed : goal.returns-clause-unfailed
+returns-clause-unfailed g c =
+    ap (λ (f : SectorFile). f.begun) c.in_ok-allocator.ensures.file ∙ ap (λ (f : SectorFile). f.begun) c.in_ok-words.ensures.kept ∙ ap (λ (f : SectorFile). f.begun) c.in_ok-fat_sectors.ensures.kept
+    ∙ c.in_ok-header.ensures.unfailed

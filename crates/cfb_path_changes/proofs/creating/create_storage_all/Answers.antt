@@ -51,7 +51,7 @@ returns-clause-does g c =
     let held = c.requires.agrees told way.unfailed in
     all_answers old (chars c.args.path.now) c.args.moment (names_of c.in_ok-names.names.items) c.in_ok-names.passed k way held new w.setting (w.others told held) (w.header told)
     g.F.ReadMedium.read_faults g.F.Medium.write_faults r w.ended (λ made. w.made told held made) w.grows w.balanced w.root_len
-    (subst (λ (n : ℕ). 0 < n → OnOk r (IsFullForEntry old.base.directory → ⊥)) count w.enough)
+    (subst (λ (n : ℕ). 0 < n → OnOk r (IsFullForEntry old.base.directory → ⊥)) count w.enough) (subst (λ (n : ℕ). n ≡ 0 → OnOk r (new ≡ old)) count w.quiet)
     (subst (λ (names : List (List ℕ)). OnOk r ((before : List (List ℕ)) (o : Outline) → IsOutline (cases_of old.base) (entries_of old.base) o → number_from (cases_of old.base) (entries_of old.base) 0 o before ≡ Some k
     → BecomesTree (cases_of old.base) (bytes_of old.base) (bytes_of new.base) (all_added_at (cases_of old.base) c.args.moment (before ++ names)))) left (w.tree told held))
     (w.refused told held) (subst (λ (n : ℕ). OnErr r (0 < n)) count w.some) (w.err told held) (w.counts told)

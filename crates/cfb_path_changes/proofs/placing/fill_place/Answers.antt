@@ -33,7 +33,7 @@ returns-in_err-resize-in-There-clause-refused g c =
     rw (p.1, p.2) (λ told.
     let held = c.requires.agrees told c.requires.place.1.unfailed in
     there_refused c.args.what c.args.moment c.args.volume.now c.resize.new.self c.args.place c.in-There.number c.in-There.is _ c.in_err-resize-in-There.field-0.0 e.setting
-    (c.in_err-resize-in-There.ensures.refused told held) (e.changes told held) (e.emptied held refl) (c.in_err-resize-in-There.ensures.err told held) (c.in_err-resize-in-There.ensures.counts told))
+    (c.in_err-resize-in-There.ensures.refused told held) (e.changes told held) (e.emptied held refl) (c.in_err-resize-in-There.ensures.err told held) (c.in_err-resize-in-There.ensures.first told refl) (c.in_err-resize-in-There.ensures.counts told))
 
 pub returns-in_ok-resize-in-There-clause-filled : goal.returns-in_ok-resize-in-There-clause-filled
 returns-in_ok-resize-in-There-clause-filled g c =
@@ -65,7 +65,7 @@ returns-in_err-number-in-Missing-clause-refused g c =
     rw (p.1, p.2) (λ told.
     let held = c.requires.agrees told c.requires.place.1.unfailed in
     missing_refused c.args.what c.args.moment c.args.volume.now c.insert.new.self c.args.place c.in-Missing.parent c.in-Missing.name c.in-Missing.is g.F.ReadMedium.read_faults g.F.Medium.write_faults
-    c.in_err-number-in-Missing.field-0.0 held c.insert.ensures.setting (why.refused told held) (c.insert.ensures.others told held) (c.insert.ensures.header told) (why.err told held) (why.reason held) (why.counts told))
+    c.in_err-number-in-Missing.field-0.0 held c.insert.ensures.setting (why.refused told held) (c.insert.ensures.others told held) (c.insert.ensures.header told) (why.err told held) (why.reason held) why.stops (why.counts told))
 
 pub returns-in_ok-number-in-Missing-clause-filled : goal.returns-in_ok-number-in-Missing-clause-filled
 returns-in_ok-number-in-Missing-clause-filled g c =

@@ -1,20 +1,24 @@
 use Rattle.std.proofs.Common.{refl, arith, ap, sym, subst, ◌∙◌}
 use Rattle.std.proofs.lemmas.Result.{err_from_is_err_and}
 use Rattle.cfb_format.specs.Bytes.{sector_len}
+use Rattle.cfb_format.specs.Chain.{IsChain}
 use Rattle.cfb_format.specs.Full.{rounded_up}
+use Rattle.cfb_tables.specs.Tables.{first_or_end}
 use Rattle.cfb_alloc.specs.Alloc.{AllocatorState}
 use Rattle.cfb_alloc.specs.ListedChain.{Shortens}
+use Rattle.cfb_mini_sectors.proofs.MiniStreams.{begins}
 use Rattle.cfb_content.proofs.Kept.{nothing-is-moved}
 use Rattle.cfb_content.proofs.Refusals.{refused-as}
 use Rattle.cfb_content.proofs.WholeStreams.{not-whole, whole-as}
 use Rattle.cfb_content.proofs.FixedHeader.{bytes-keep-header, table-keeps-header}
-use Rattle.cfb_resizing.proofs.CutShort.{cut-is-kept, cut-takes-few}
+use Rattle.cfb_resizing.proofs.CutShort.{cut-takes-few}
 use Rattle.cfb_resizing.proofs.Tightness.{shortened-tight}
 use Rattle.cfb_resizing.proofs.TurnedInSectors.{cut-has-all, cut-held, cut-keeps-tables, cut-spares-others, cut-turned, not-usable}
 use Rattle.cfb_resizing.proofs.in_place.cut_in_sectors.Goals as goal
 
 pub returns-in_err-ids-clause-others : goal.returns-in_err-ids-clause-others
-returns-in_err-ids-clause-others g c told v change = nothing-is-moved c.args.entry c.args.mini.now
+returns-in_err-ids-clause-others g c told v change =
+    rw (c.open_whole_chain.ensures.unchanged, c.allocator_mut-allocator.ensures.value) (nothing-is-moved c.args.entry c.args.mini.now)
 
 pub returns-in_err-ids-clause-err : goal.returns-in_err-ids-clause-err
 returns-in_err-ids-clause-err g c =
@@ -22,87 +26,91 @@ returns-in_err-ids-clause-err g c =
     let large = c.requires.large in
     let shorter = c.requires.shorter in
     rw (p.1, p.2) (refused-as _ _ _ _ _ _ _ _
-    (not-whole c.args.mini.now c.args.entry c.allocator.result.now c.content_in-start.result.0 c.content_in-start.result.1 c.allocator.ensures c.content_in-start.ensures.start
+    (not-whole c.args.mini.now c.args.entry c.allocator_mut-allocator.result.now c.content_in-start.result.0 c.content_in-start.result.1 c.allocator_mut-allocator.ensures.value c.content_in-start.ensures.start
     c.content_in-start.ensures.len c.requires.stream (omega (arith, large, shorter)))
     (λ u. u) (λ no. absurd no) (λ no. absurd no) c.in_err-ids.field-0.0 c.in_err-ids.ensures.err)
+
+pub cut_listed-requires : goal.cut_listed-requires
+cut_listed-requires g c =
+    let ids = c.in_ok-ids.ids.items in
+    let chain = c.in_ok-ids.ensures.whole.chain in
+    record {
+      chain = subst (λ (a : AllocatorState). IsChain a.tables.fat (first_or_end ids) ids) (sym c.open_whole_chain.ensures.unchanged)
+          (subst (λ n. IsChain c.allocator_mut-allocator.result.now.tables.fat n ids) (begins c.allocator_mut-allocator.result.now.tables.fat c.content_in-start.result.0 ids chain.follows) chain);
+    }
 
 pub returns-in_err-cut_listed-clause-others : goal.returns-in_err-cut_listed-clause-others
 returns-in_err-cut_listed-clause-others g c told v change =
     cut-spares-others c.args.mini.now c.args.entry c.args.size c.div_ceil-wanted.result c.content_in-start.result.0 c.content_in-start.result.1 c.sector_len.result
-    c.allocator.result.now c.allocator_mut.result.now c.cut_listed.new.self c.in_ok-ids.ids.items c.cut_listed.new.ids.items c.requires.stream c.requires.large c.requires.shorter
-    c.allocator.ensures c.allocator_mut.ensures.value c.content_in-start.ensures.start c.content_in-start.ensures.len c.in_ok-ids.ensures.whole c.sector_len.ensures c.div_ceil-wanted.ensures
+    c.allocator_mut-allocator.result.now c.open_whole_chain.new.allocator c.cut_listed.new.self c.in_ok-ids.ids.items c.cut_listed.new.ids.items c.requires.stream c.requires.large c.requires.shorter
+    c.allocator_mut-allocator.ensures.value (c.open_whole_chain.ensures.unchanged ∙ c.allocator_mut-allocator.ensures.value) c.content_in-start.ensures.start c.content_in-start.ensures.len c.in_ok-ids.ensures.whole c.sector_len.ensures c.div_ceil-wanted.ensures
     (c.cut_listed.ensures.spares told) v change
 
 pub returns-in_err-cut_listed-clause-err : goal.returns-in_err-cut_listed-clause-err
 returns-in_err-cut_listed-clause-err g c =
     let p = err_from_is_err_and c.from_residual-in_err-cut_listed.result c.from_residual-in_err-cut_listed.ensures.1 in
-    rw (p.1, p.2) (refused-as _ _ _ _ _ _ _ _ (not-usable c.args.mini.now c.allocator_mut.result.now c.allocator_mut.ensures.value) (λ no. absurd no) (λ no. absurd no) (λ u. u)
+    rw (p.1, p.2) (refused-as _ _ _ _ _ _ _ _ (not-usable c.args.mini.now c.open_whole_chain.new.allocator (c.open_whole_chain.ensures.unchanged ∙ c.allocator_mut-allocator.ensures.value)) (λ no. absurd no) (λ no. absurd no) (λ u. u)
     c.in_err-cut_listed.field-0.0 c.in_err-cut_listed.ensures.err)
 
 pub returns-clause-turned : goal.returns-clause-turned
 returns-clause-turned g c told v change =
     let held = cut-keeps-tables c.args.mini.now c.args.entry c.args.size c.div_ceil-wanted.result c.content_in-start.result.0 c.content_in-start.result.1 c.sector_len.result
-    c.allocator.result.now c.allocator_mut.result.now c.cut_listed.new.self c.in_ok-ids.ids.items c.cut_listed.new.ids.items c.requires.stream c.requires.large c.requires.shorter
-    c.allocator.ensures c.allocator_mut.ensures.value c.content_in-start.ensures.start c.content_in-start.ensures.len c.in_ok-ids.ensures.whole c.sector_len.ensures c.div_ceil-wanted.ensures
+    c.allocator_mut-allocator.result.now c.open_whole_chain.new.allocator c.cut_listed.new.self c.in_ok-ids.ids.items c.cut_listed.new.ids.items c.requires.stream c.requires.large c.requires.shorter
+    c.allocator_mut-allocator.ensures.value (c.open_whole_chain.ensures.unchanged ∙ c.allocator_mut-allocator.ensures.value) c.content_in-start.ensures.start c.content_in-start.ensures.len c.in_ok-ids.ensures.whole c.sector_len.ensures c.div_ceil-wanted.ensures
     (λ w. c.in_ok-cut_listed.ensures.holds told w) v change in
-    cut-turned c.args.mini.now c.args.entry c.args.size c.div_ceil-wanted.result c.content_in-start.result.0 c.content_in-start.result.1 c.sector_len.result
-    c.allocator.result.now c.allocator_mut.result.now c.cut_listed.new.self c.in_ok-ids.ids.items c.cut_listed.new.ids.items c.requires.stream c.requires.large c.requires.shorter
-    c.allocator.ensures c.allocator_mut.ensures.value c.content_in-start.ensures.start c.content_in-start.ensures.len c.in_ok-ids.ensures.whole c.sector_len.ensures c.div_ceil-wanted.ensures
-    c.in_ok-cut_listed.ensures.shortened (c.cut_listed.ensures.changes told) v change held c.cut_listed.ensures.chain
+    rw c.end_chain.ensures (cut-turned c.args.mini.now c.args.entry c.args.size c.div_ceil-wanted.result c.content_in-start.result.0 c.content_in-start.result.1 c.sector_len.result
+    c.allocator_mut-allocator.result.now c.open_whole_chain.new.allocator c.cut_listed.new.self c.in_ok-ids.ids.items c.cut_listed.new.ids.items c.requires.stream c.requires.large c.requires.shorter
+    c.allocator_mut-allocator.ensures.value (c.open_whole_chain.ensures.unchanged ∙ c.allocator_mut-allocator.ensures.value) c.content_in-start.ensures.start c.content_in-start.ensures.len c.in_ok-ids.ensures.whole c.sector_len.ensures c.div_ceil-wanted.ensures
+    c.in_ok-cut_listed.ensures.shortened (c.cut_listed.ensures.changes told) v change held c.cut_listed.ensures.chain)
 
 pub returns-clause-holds : goal.returns-clause-holds
 returns-clause-holds g c told v change =
     let held = cut-keeps-tables c.args.mini.now c.args.entry c.args.size c.div_ceil-wanted.result c.content_in-start.result.0 c.content_in-start.result.1 c.sector_len.result
-    c.allocator.result.now c.allocator_mut.result.now c.cut_listed.new.self c.in_ok-ids.ids.items c.cut_listed.new.ids.items c.requires.stream c.requires.large c.requires.shorter
-    c.allocator.ensures c.allocator_mut.ensures.value c.content_in-start.ensures.start c.content_in-start.ensures.len c.in_ok-ids.ensures.whole c.sector_len.ensures c.div_ceil-wanted.ensures
+    c.allocator_mut-allocator.result.now c.open_whole_chain.new.allocator c.cut_listed.new.self c.in_ok-ids.ids.items c.cut_listed.new.ids.items c.requires.stream c.requires.large c.requires.shorter
+    c.allocator_mut-allocator.ensures.value (c.open_whole_chain.ensures.unchanged ∙ c.allocator_mut-allocator.ensures.value) c.content_in-start.ensures.start c.content_in-start.ensures.len c.in_ok-ids.ensures.whole c.sector_len.ensures c.div_ceil-wanted.ensures
     (λ w. c.in_ok-cut_listed.ensures.holds told w) v change in
-    cut-held c.args.mini.now c.args.entry c.args.size c.div_ceil-wanted.result c.content_in-start.result.0 c.content_in-start.result.1 c.sector_len.result
-    c.allocator.result.now c.allocator_mut.result.now c.cut_listed.new.self c.in_ok-ids.ids.items c.cut_listed.new.ids.items c.requires.stream c.requires.large c.requires.shorter
-    c.allocator.ensures c.allocator_mut.ensures.value c.content_in-start.ensures.start c.content_in-start.ensures.len c.in_ok-ids.ensures.whole c.sector_len.ensures c.div_ceil-wanted.ensures
-    c.in_ok-cut_listed.ensures.shortened (c.cut_listed.ensures.changes told) v change held (c.cut_listed.ensures.spares told)
+    rw c.end_chain.ensures (cut-held c.args.mini.now c.args.entry c.args.size c.div_ceil-wanted.result c.content_in-start.result.0 c.content_in-start.result.1 c.sector_len.result
+    c.allocator_mut-allocator.result.now c.open_whole_chain.new.allocator c.cut_listed.new.self c.in_ok-ids.ids.items c.cut_listed.new.ids.items c.requires.stream c.requires.large c.requires.shorter
+    c.allocator_mut-allocator.ensures.value (c.open_whole_chain.ensures.unchanged ∙ c.allocator_mut-allocator.ensures.value) c.content_in-start.ensures.start c.content_in-start.ensures.len c.in_ok-ids.ensures.whole c.sector_len.ensures c.div_ceil-wanted.ensures
+    c.in_ok-cut_listed.ensures.shortened (c.cut_listed.ensures.changes told) v change held (c.cut_listed.ensures.spares told))
 
 pub returns-clause-others : goal.returns-clause-others
 returns-clause-others g c told v change =
-    cut-spares-others c.args.mini.now c.args.entry c.args.size c.div_ceil-wanted.result c.content_in-start.result.0 c.content_in-start.result.1 c.sector_len.result
-    c.allocator.result.now c.allocator_mut.result.now c.cut_listed.new.self c.in_ok-ids.ids.items c.cut_listed.new.ids.items c.requires.stream c.requires.large c.requires.shorter
-    c.allocator.ensures c.allocator_mut.ensures.value c.content_in-start.ensures.start c.content_in-start.ensures.len c.in_ok-ids.ensures.whole c.sector_len.ensures c.div_ceil-wanted.ensures
-    (c.cut_listed.ensures.spares told) v change
+    rw c.end_chain.ensures (cut-spares-others c.args.mini.now c.args.entry c.args.size c.div_ceil-wanted.result c.content_in-start.result.0 c.content_in-start.result.1 c.sector_len.result
+    c.allocator_mut-allocator.result.now c.open_whole_chain.new.allocator c.cut_listed.new.self c.in_ok-ids.ids.items c.cut_listed.new.ids.items c.requires.stream c.requires.large c.requires.shorter
+    c.allocator_mut-allocator.ensures.value (c.open_whole_chain.ensures.unchanged ∙ c.allocator_mut-allocator.ensures.value) c.content_in-start.ensures.start c.content_in-start.ensures.len c.in_ok-ids.ensures.whole c.sector_len.ensures c.div_ceil-wanted.ensures
+    (c.cut_listed.ensures.spares told) v change)
 
 pub returns-clause-tight : goal.returns-clause-tight
 returns-clause-tight g c =
-    shortened-tight c.args.mini.now c.cut_listed.new.self c.div_ceil-wanted.result c.in_ok-ids.ids.items c.cut_listed.new.ids.items
-    (subst (λ (a : AllocatorState). Shortens c.div_ceil-wanted.result c.in_ok-ids.ids.items c.cut_listed.new.ids.items a.tables c.cut_listed.new.self.tables) c.allocator_mut.ensures.value
-    c.in_ok-cut_listed.ensures.shortened)
+    rw c.end_chain.ensures (shortened-tight c.args.mini.now c.cut_listed.new.self c.div_ceil-wanted.result c.in_ok-ids.ids.items c.cut_listed.new.ids.items
+    (subst (λ (a : AllocatorState). Shortens c.div_ceil-wanted.result c.in_ok-ids.ids.items c.cut_listed.new.ids.items a.tables c.cut_listed.new.self.tables) (c.open_whole_chain.ensures.unchanged ∙ c.allocator_mut-allocator.ensures.value)
+    c.in_ok-cut_listed.ensures.shortened))
 
 pub returns-clause-enough : goal.returns-clause-enough
 returns-clause-enough g c =
     cut-has-all c.args.mini.now c.args.entry c.args.size c.in_ok-ids.ids.items c.requires.large c.requires.shorter
-    (whole-as c.args.mini.now c.args.entry c.allocator.result.now c.content_in-start.result.0 c.content_in-start.result.1 c.in_ok-ids.ids.items c.allocator.ensures
+    (whole-as c.args.mini.now c.args.entry c.allocator_mut-allocator.result.now c.content_in-start.result.0 c.content_in-start.result.1 c.in_ok-ids.ids.items c.allocator_mut-allocator.ensures.value
     c.content_in-start.ensures.start c.content_in-start.ensures.len c.in_ok-ids.ensures.whole)
 
 pub returns-clause-few : goal.returns-clause-few
 returns-clause-few g c list chain =
     let large = c.requires.large in
-    let same = ap (λ (a : AllocatorState). sector_len a.tables.version) c.allocator.ensures in
-    let few = cut-takes-few c.allocator.result.now.tables.version c.allocator.result.now.tables.fat c.cut_listed.new.self.tables.fat c.allocator.result.now.file.len
+    let same = ap (λ (a : AllocatorState). sector_len a.tables.version) c.allocator_mut-allocator.ensures.value in
+    let few = cut-takes-few c.allocator_mut-allocator.result.now.tables.version c.allocator_mut-allocator.result.now.tables.fat c.cut_listed.new.self.tables.fat c.allocator_mut-allocator.result.now.file.len
     c.content_in-start.result.0 c.content_in-start.result.1 c.args.size c.div_ceil-wanted.result c.sector_len.result c.in_ok-ids.ids.items c.cut_listed.new.ids.items list
     (omega (arith, large)) (omega (arith, c.requires.shorter, c.content_in-start.ensures.len)) c.in_ok-ids.ensures.whole (c.sector_len.ensures ∙ sym same) c.div_ceil-wanted.ensures
-    c.in_ok-cut_listed.ensures.shortened.listed c.cut_listed.ensures.chain chain in
+    c.in_ok-cut_listed.ensures.shortened.listed c.cut_listed.ensures.chain
+    (subst (λ (a : AllocatorState). IsChain a.tables.fat c.content_in-start.result.0 list) c.end_chain.ensures chain) in
     few ∙ ap (rounded_up c.args.size) same
 
-pub returns-clause-kept_chain : goal.returns-clause-kept_chain
-returns-clause-kept_chain g c =
-    let large = c.requires.large in
-    let same = ap (λ (a : AllocatorState). sector_len a.tables.version) c.allocator.ensures in
-    cut-is-kept c.allocator.result.now.tables.version c.allocator.result.now.tables.fat c.cut_listed.new.self.tables.fat c.allocator.result.now.file.len
-    c.content_in-start.result.0 c.content_in-start.result.1 c.args.size c.div_ceil-wanted.result c.sector_len.result c.in_ok-ids.ids.items c.cut_listed.new.ids.items
-    (omega (arith, large)) c.in_ok-ids.ensures.whole (c.sector_len.ensures ∙ sym same) c.div_ceil-wanted.ensures c.in_ok-cut_listed.ensures.shortened.listed c.cut_listed.ensures.chain
-
 pub returns-in_err-ids-clause-header : goal.returns-in_err-ids-clause-header
-returns-in_err-ids-clause-header g c told = bytes-keep-header c.args.mini.now c.args.mini.now refl
+returns-in_err-ids-clause-header g c told =
+    rw (c.open_whole_chain.ensures.unchanged, c.allocator_mut-allocator.ensures.value) (bytes-keep-header c.args.mini.now c.args.mini.now refl)
 
 pub returns-in_err-cut_listed-clause-header : goal.returns-in_err-cut_listed-clause-header
-returns-in_err-cut_listed-clause-header g c told = table-keeps-header _ c.args.mini.now c.allocator_mut.result.now c.cut_listed.new.self c.allocator_mut.ensures.value (c.cut_listed.ensures.spares told)
+returns-in_err-cut_listed-clause-header g c told = table-keeps-header _ c.args.mini.now c.open_whole_chain.new.allocator c.cut_listed.new.self (c.open_whole_chain.ensures.unchanged ∙ c.allocator_mut-allocator.ensures.value) (c.cut_listed.ensures.spares told)
 
 pub returns-clause-header : goal.returns-clause-header
-returns-clause-header g c told = table-keeps-header _ c.args.mini.now c.allocator_mut.result.now c.cut_listed.new.self c.allocator_mut.ensures.value (c.cut_listed.ensures.spares told)
+returns-clause-header g c told =
+    rw c.end_chain.ensures (table-keeps-header _ c.args.mini.now c.open_whole_chain.new.allocator c.cut_listed.new.self (c.open_whole_chain.ensures.unchanged ∙ c.allocator_mut-allocator.ensures.value) (c.cut_listed.ensures.spares told))

@@ -1,4 +1,3 @@
-use Rattle.cfb_trees.proofs.Recolored.{insertion-keeps-colors}
 use Rattle.cfb_trees.proofs.Joined.{insertion-keeps-outline}
 use Rattle.cfb_trees.proofs.Streams.{insertion-keeps-streams}
 use Rattle.cfb_trees.proofs.laws.insertion_keeps_the_tree.Goals as goal
@@ -8,6 +7,3 @@ returns-clause-outline c = insertion-keeps-outline
 
 pub returns-clause-streams : goal.returns-clause-streams
 returns-clause-streams c = insertion-keeps-streams
-
-pub returns-clause-colors : goal.returns-clause-colors
-returns-clause-colors c = insertion-keeps-colors

@@ -1,4 +1,3 @@
-use Rattle.cfb_trees.proofs.Recolored.{removal-keeps-colors}
 use Rattle.cfb_trees.proofs.Taken.{removal-keeps-outline}
 use Rattle.cfb_trees.proofs.Streams.{removal-keeps-streams}
 use Rattle.cfb_trees.proofs.laws.removal_keeps_the_tree.Goals as goal
@@ -8,6 +7,3 @@ returns-clause-outline c = removal-keeps-outline
 
 pub returns-clause-streams : goal.returns-clause-streams
 returns-clause-streams c = removal-keeps-streams
-
-pub returns-clause-colors : goal.returns-clause-colors
-returns-clause-colors c = removal-keeps-colors

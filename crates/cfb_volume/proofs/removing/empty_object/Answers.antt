@@ -5,7 +5,7 @@ use Rattle.cfb_format.specs.declared.validate.Validation.{Validation}
 use Rattle.cfb_format.specs.DirectoryEntry.{Entry}
 use Rattle.cfb_entries.specs.EntryList.{AreInOrder}
 use Rattle.cfb_trees.proofs.Members.{reached-is-within}
-use Rattle.cfb_trees.proofs.Recolored.{below-reached}
+use Rattle.cfb_trees.proofs.Reached.{below-reached}
 use Rattle.cfb_mini_sectors.specs.State.{HoldsMini, cases_of, entries_of}
 use Rattle.cfb_content.specs.Contents.{IsNotChangeable, IsStreamOf, IsTooLongFor}
 use Rattle.cfb_content.proofs.FixedHeader.{bytes-keep-header}
@@ -61,7 +61,6 @@ pub returns-in_default : goal.returns-in_default
 returns-in_default g c =
     let s = c.args.mini.now in
     record {
-      kept_chain = c.requires.kept_chain;
       emptied = λ told. none-emptied s c.args.entry (λ e. c.in_default.not-Stream (ap (λ (x : Entry). x.obj_type) c.dir_entry.ensures ∙ e));
       entries = same-entries-moved s s c.args.entry refl;
       others = λ told v change. nothing-is-moved c.args.entry s;

@@ -59,15 +59,17 @@ returns-in_err-list-clause-others g c told = others_unchanged c.self.view_is c.a
 pub write_taken-requires-clause-placed : goal.write_taken-requires-clause-placed
 write_taken-requires-clause-placed g c =
     placed_reserved c.deref.result.now c.deref.ensures.value c.self.view_is (taken_reserved c.reserve.ensures.unchanged c.in_ok-list.ensures.taken)
-    c.reserve_sectors.new.self c.len.result c.reserve_sectors.ensures c.len.ensures.len c.self.invariant
+    c.reserve_sectors.new.self c.len.result c.reserve_sectors.ensures c.len.ensures.len c.self.invariant.0
 
 pub write_taken-requires-clause-more : goal.write_taken-requires-clause-more
 write_taken-requires-clause-more g c = shown_below c.deref.result.now c.deref.ensures.value c.self.view_is (taken_reserved c.reserve.ensures.unchanged c.in_ok-list.ensures.taken)
 
 pub invariant_of-self-in_err-write_taken : goal.invariant_of-self-in_err-write_taken
-invariant_of-self-in_err-write_taken g c =
-    placed_written c.deref.result.now c.deref.ensures.value c.self.view_is (taken_reserved c.reserve.ensures.unchanged c.in_ok-list.ensures.taken)
-    c.reserve_sectors.new.self c.write_taken.new.sectors c.len.result c.reserve_sectors.ensures c.write_taken.ensures.kept c.len.ensures.len c.self.invariant
+invariant_of-self-in_err-write_taken g c = (
+  placed_written c.deref.result.now c.deref.ensures.value c.self.view_is (taken_reserved c.reserve.ensures.unchanged c.in_ok-list.ensures.taken)
+      c.reserve_sectors.new.self c.write_taken.new.sectors c.len.result c.reserve_sectors.ensures c.write_taken.ensures.kept c.len.ensures.len c.self.invariant.0,
+  tt,
+)
 
 pub returns-in_err-write_taken-clause-others : goal.returns-in_err-write_taken-clause-others
 returns-in_err-write_taken-clause-others g c told =
@@ -75,9 +77,11 @@ returns-in_err-write_taken-clause-others g c told =
     c.reserve_sectors.new.self c.write_taken.new.sectors c.len.result c.reserve_sectors.ensures (c.write_taken.ensures.changes told)
 
 pub invariant_of-self-2 : goal.invariant_of-self-2
-invariant_of-self-2 g c =
-    placed_written c.deref.result.now c.deref.ensures.value c.self.view_is (taken_reserved c.reserve.ensures.unchanged c.in_ok-list.ensures.taken)
-    c.reserve_sectors.new.self c.write_taken.new.sectors c.len.result c.reserve_sectors.ensures c.write_taken.ensures.kept c.len.ensures.len c.self.invariant
+invariant_of-self-2 g c = (
+  placed_written c.deref.result.now c.deref.ensures.value c.self.view_is (taken_reserved c.reserve.ensures.unchanged c.in_ok-list.ensures.taken)
+      c.reserve_sectors.new.self c.write_taken.new.sectors c.len.result c.reserve_sectors.ensures c.write_taken.ensures.kept c.len.ensures.len c.self.invariant.0,
+  tt,
+)
 
 pub returns-clause-filled : goal.returns-clause-filled
 returns-clause-filled g c told validation h i m =

@@ -21,7 +21,7 @@ returns-in_err-sector-clause-err g c =
 pub write_taken-requires-clause-placed : goal.write_taken-requires-clause-placed
 write_taken-requires-clause-placed g c =
     placed_reserved (c.in_ok-sector.sector ∷ []) refl c.self.view_is c.in_ok-sector.ensures.taken
-    c.reserve_sectors.new.self c.len.result c.reserve_sectors.ensures c.len.ensures.len c.self.invariant
+    c.reserve_sectors.new.self c.len.result c.reserve_sectors.ensures c.len.ensures.len c.self.invariant.0
 
 pub write_taken-requires-clause-places : goal.write_taken-requires-clause-places
 write_taken-requires-clause-places g c =
@@ -29,9 +29,11 @@ write_taken-requires-clause-places g c =
     places_known (c.in_ok-sector.sector ∷ []) refl c.self.view_is c.in_ok-sector.ensures.taken c.in_ok-before.before.fats c.in_ok-before.before.difats e.ok.0 e.ok.1 e.sizes
 
 pub invariant_of-self-in_err-write_taken : goal.invariant_of-self-in_err-write_taken
-invariant_of-self-in_err-write_taken g c =
-    placed_written (c.in_ok-sector.sector ∷ []) refl c.self.view_is c.in_ok-sector.ensures.taken
-    c.reserve_sectors.new.self c.write_taken.new.sectors c.len.result c.reserve_sectors.ensures c.write_taken.ensures.kept c.len.ensures.len c.self.invariant
+invariant_of-self-in_err-write_taken g c = (
+  placed_written (c.in_ok-sector.sector ∷ []) refl c.self.view_is c.in_ok-sector.ensures.taken
+      c.reserve_sectors.new.self c.write_taken.new.sectors c.len.result c.reserve_sectors.ensures c.write_taken.ensures.kept c.len.ensures.len c.self.invariant.0,
+  tt,
+)
 
 pub returns-in_err-write_taken-clause-others : goal.returns-in_err-write_taken-clause-others
 returns-in_err-write_taken-clause-others g c told =
@@ -39,9 +41,11 @@ returns-in_err-write_taken-clause-others g c told =
     c.reserve_sectors.new.self c.write_taken.new.sectors c.len.result c.reserve_sectors.ensures (c.write_taken.ensures.changes told)
 
 pub invariant_of-self-2 : goal.invariant_of-self-2
-invariant_of-self-2 g c =
-    placed_written (c.in_ok-sector.sector ∷ []) refl c.self.view_is c.in_ok-sector.ensures.taken
-    c.reserve_sectors.new.self c.write_taken.new.sectors c.len.result c.reserve_sectors.ensures c.write_taken.ensures.kept c.len.ensures.len c.self.invariant
+invariant_of-self-2 g c = (
+  placed_written (c.in_ok-sector.sector ∷ []) refl c.self.view_is c.in_ok-sector.ensures.taken
+      c.reserve_sectors.new.self c.write_taken.new.sectors c.len.result c.reserve_sectors.ensures c.write_taken.ensures.kept c.len.ensures.len c.self.invariant.0,
+  tt,
+)
 
 pub returns-clause-enough : goal.returns-clause-enough
 returns-clause-enough g c few = c.in_ok-sector.ensures.enough (subst (λ (a : AllocatorState). IsTooFew a.tables 1) (sym c.self.view_is) few)

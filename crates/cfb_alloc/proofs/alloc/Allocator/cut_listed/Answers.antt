@@ -4,7 +4,7 @@ use Rattle.cfb_tables.specs.Clean.{IsUnnamed}
 use Rattle.cfb_tables.specs.Listed.{ends_of}
 use Rattle.cfb_tables.specs.Tables.{first_or_end}
 use Rattle.cfb_alloc.specs.Frame.{Spares}
-use Rattle.cfb_alloc.proofs.FrameLemmas.{changes_refl}
+use Rattle.cfb_table_words.proofs.FrameLemmas.{changes_refl}
 use Rattle.cfb_alloc.proofs.Spared.{spares_refl}
 use Rattle.cfb_alloc.proofs.ListedLemmas.{shortened_none, left_chain}
 use Rattle.cfb_alloc.proofs.alloc.Allocator.cut_listed.Goals as goal

@@ -6,7 +6,7 @@ use Rattle.cfb_format.specs.Refused.{CountsFailure}
 use Rattle.cfb_sectors.specs.Sectors.{SectorFile}
 use Rattle.cfb_alloc.specs.Alloc.{AllocatorState}
 use Rattle.cfb_tables.specs.Tables.{HasTaken, first_or_end}
-use Rattle.cfb_alloc.proofs.Answering.{on_ok}
+use Rattle.cfb_table_words.proofs.Answering.{on_ok}
 use Rattle.cfb_tables.specs.Listed.{EndsChain, ends_of, gained}
 use Rattle.cfb_alloc.specs.ListedChain.{Lengthens}
 use Rattle.cfb_alloc.proofs.AllocLemmas.{others_refl, others_unchanged, others_written, placed_reserved, placed_written, touched_below, shown_below, shown_taken, fats_apart_shown, clean_taken, fats_known, difats_known, held_counted}
@@ -45,12 +45,14 @@ returns-in_err-extend_listed-clause-others g c told = others_unchanged c.self.vi
 pub write_taken-requires-clause-placed : goal.write_taken-requires-clause-placed
 write_taken-requires-clause-placed g c =
     placed_reserved (gained c.args.ids.now.items c.extend_listed.new.list.items) refl c.self.view_is c.in_ok-extend_listed.ensures.taken
-    c.reserve_sectors.new.self c.len.result c.reserve_sectors.ensures c.len.ensures.len c.self.invariant
+    c.reserve_sectors.new.self c.len.result c.reserve_sectors.ensures c.len.ensures.len c.self.invariant.0
 
 pub invariant_of-self-2 : goal.invariant_of-self-2
-invariant_of-self-2 g c =
-    placed_written (gained c.args.ids.now.items c.extend_listed.new.list.items) refl c.self.view_is c.in_ok-extend_listed.ensures.taken
-    c.reserve_sectors.new.self c.write_taken.new.sectors c.len.result c.reserve_sectors.ensures c.write_taken.ensures.kept c.len.ensures.len c.self.invariant
+invariant_of-self-2 g c = (
+  placed_written (gained c.args.ids.now.items c.extend_listed.new.list.items) refl c.self.view_is c.in_ok-extend_listed.ensures.taken
+      c.reserve_sectors.new.self c.write_taken.new.sectors c.len.result c.reserve_sectors.ensures c.write_taken.ensures.kept c.len.ensures.len c.self.invariant.0,
+  tt,
+)
 
 pub write_taken-requires-clause-touched : goal.write_taken-requires-clause-touched
 write_taken-requires-clause-touched g c =

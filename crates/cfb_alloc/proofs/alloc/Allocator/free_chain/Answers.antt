@@ -1,15 +1,16 @@
 use Rattle.std.proofs.Common.{refl, arith, ap, sym, subst, [], ◌++◌, ℕ, List}
 use Rattle.std.specs.Prelude.{Contains}
 use Rattle.cfb_format.specs.Chain.{IsChain}
-use Rattle.cfb_alloc.specs.Alloc.{AllocatorState, HoldsTables, HoldsBut}
+use Rattle.cfb_alloc.specs.Alloc.{AllocatorState, HoldsTables}
+use Rattle.cfb_table_words.specs.Holding.{HoldsBut}
 use Rattle.cfb_tables.specs.Clean.{IsClean, IsUnnamed}
 use Rattle.cfb_sectors.specs.Sectors.{SectorFile}
-use Rattle.cfb_alloc.proofs.Answering.{on_ok}
+use Rattle.cfb_table_words.proofs.Answering.{on_ok}
 use Rattle.cfb_tables.proofs.ChainLemmas.{chain_of, members-busy}
 use Rattle.cfb_alloc.proofs.EmptyChain.{none_freed}
 use Rattle.cfb_alloc.proofs.ChainView.{chain_found}
 use Rattle.cfb_tables.proofs.CleanLemmas.{freed-clean}
-use Rattle.cfb_alloc.proofs.FrameLemmas.{changes_refl}
+use Rattle.cfb_table_words.proofs.FrameLemmas.{changes_refl}
 use Rattle.cfb_alloc.proofs.FreeingLemmas.{nothing_said, placed_changed, changes_said, freed_holds}
 use Rattle.cfb_alloc.proofs.Spared.{spares_refl, spares_unchanged, freed_written}
 use Rattle.cfb_alloc.proofs.alloc.Allocator.free_chain.Goals as goal
@@ -26,7 +27,7 @@ returns-in_err-freed-clause-changes g c told = nothing_said c.args.self.now c.se
 pub write_values-requires-clause-placed : goal.write_values-requires-clause-placed
 write_values-requires-clause-placed g c =
     placed_changed c.self.inside.tables c.free.new.self c.free.ensures.rest c.in_ok-freed.ensures.freed.same_length c.self.inside.sectors c.self.inside.sectors
-    refl refl c.self.invariant
+    refl refl c.self.invariant.0
 
 pub write_values-requires-clause-below : goal.write_values-requires-clause-below
 write_values-requires-clause-below g c i m =
@@ -37,9 +38,11 @@ write_values-requires-clause-below g c i m =
 
 pub invariant_of-self-2 : goal.invariant_of-self-2
 invariant_of-self-2 g c =
-    let kept = c.write_values.ensures.kept in
-    placed_changed c.self.inside.tables c.free.new.self c.free.ensures.rest c.in_ok-freed.ensures.freed.same_length c.self.inside.sectors c.write_values.new.sectors
-    (ap (λ (f : SectorFile). f.version) kept) (ap (λ (f : SectorFile). f.num_sectors) kept) c.self.invariant
+    let kept = c.write_values.ensures.kept in (
+      placed_changed c.self.inside.tables c.free.new.self c.free.ensures.rest c.in_ok-freed.ensures.freed.same_length c.self.inside.sectors c.write_values.new.sectors
+          (ap (λ (f : SectorFile). f.version) kept) (ap (λ (f : SectorFile). f.num_sectors) kept) c.self.invariant.0,
+      tt,
+    )
 
 pub returns-clause-holds : goal.returns-clause-holds
 returns-clause-holds g c told validation h unnamed =
@@ -85,4 +88,4 @@ returns-clause-spares g c told list chain =
     freed_written [] c.in_ok-freed.freed.items list c.args.start s2 c.self.view_is e.ok
     (subst (λ (a : AllocatorState). IsChain a.tables.fat c.args.start list) (sym c.self.view_is) chain)
     (record { given = e.freed; rest = c.free.ensures.rest })
-    (changes_said t0 t c.free.ensures.rest c.args.self.now s0 s2.bytes c.self.view_is c.self.invariant (c.write_values.ensures.changes told))
+    (changes_said t0 t c.free.ensures.rest c.args.self.now s0 s2.bytes c.self.view_is c.self.invariant.0 (c.write_values.ensures.changes told))

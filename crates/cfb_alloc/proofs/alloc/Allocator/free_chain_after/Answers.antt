@@ -3,15 +3,16 @@ use Rattle.std.specs.Prelude.{Contains}
 use Rattle.std.proofs.lemmas.Result.{err_from_is_err_and}
 use Rattle.cfb_format.specs.declared.version.Version.{Version}
 use Rattle.cfb_format.specs.Chain.{value, IsChain}
-use Rattle.cfb_alloc.specs.Alloc.{AllocatorState, ChangesSectors, HoldsTables, HoldsBut}
+use Rattle.cfb_alloc.specs.Alloc.{AllocatorState, HoldsTables}
+use Rattle.cfb_table_words.specs.Holding.{ChangesSectors, HoldsBut}
 use Rattle.cfb_tables.specs.Changes.{GivesBack}
 use Rattle.cfb_tables.specs.Clean.{IsClean}
 use Rattle.cfb_sectors.specs.Sectors.{SectorFile}
 use Rattle.cfb_tables.specs.Tables.{TableState, GivesBackChain}
-use Rattle.cfb_alloc.proofs.Answering.{all_ok, on_ok}
+use Rattle.cfb_table_words.proofs.Answering.{all_ok, on_ok}
 use Rattle.cfb_tables.proofs.ChainLemmas.{members-busy}
 use Rattle.cfb_tables.proofs.CleanLemmas.{cut-clean}
-use Rattle.cfb_alloc.proofs.FrameLemmas.{changes_refl, changes_trans}
+use Rattle.cfb_table_words.proofs.FrameLemmas.{changes_refl, changes_trans}
 use Rattle.cfb_alloc.proofs.FreeingLemmas.{nothing_said, placed_changed, changes_said, cut_holds, no_next-no_chain, invalid_changed, breaks_back, breaks_by_medium}
 use Rattle.cfb_alloc.proofs.Spared.{spares_refl, spares_unchanged, freed_written}
 use Rattle.cfb_alloc.proofs.alloc.Allocator.free_chain_after.Goals as goal
@@ -37,7 +38,7 @@ returns-in_err-freed-clause-changes g c told = nothing_said c.args.self.now c.se
 pub write_values-requires-clause-placed : goal.write_values-requires-clause-placed
 write_values-requires-clause-placed g c =
     placed_changed c.self.inside.tables c.free_after.new.self c.free_after.ensures.rest c.in_ok-freed.ensures.cut.same_length c.self.inside.sectors c.self.inside.sectors
-    refl refl c.self.invariant
+    refl refl c.self.invariant.0
 
 pub write_values-requires-clause-below : goal.write_values-requires-clause-below
 write_values-requires-clause-below g c i m =
@@ -49,23 +50,27 @@ write_values-requires-clause-below g c i m =
 
 pub invariant_of-self-in_err-write_values : goal.invariant_of-self-in_err-write_values
 invariant_of-self-in_err-write_values g c =
-    let kept = c.write_values.ensures.kept in
-    placed_changed c.self.inside.tables c.free_after.new.self c.free_after.ensures.rest c.in_ok-freed.ensures.cut.same_length c.self.inside.sectors c.write_values.new.sectors
-    (ap (λ (f : SectorFile). f.version) kept) (ap (λ (f : SectorFile). f.num_sectors) kept) c.self.invariant
+    let kept = c.write_values.ensures.kept in (
+      placed_changed c.self.inside.tables c.free_after.new.self c.free_after.ensures.rest c.in_ok-freed.ensures.cut.same_length c.self.inside.sectors c.write_values.new.sectors
+          (ap (λ (f : SectorFile). f.version) kept) (ap (λ (f : SectorFile). f.num_sectors) kept) c.self.invariant.0,
+      tt,
+    )
 
 pub write_values-requires-2-clause-placed : goal.write_values-requires-2-clause-placed
 write_values-requires-2-clause-placed g c =
     let kept = c.write_values.ensures.kept in
     placed_changed c.self.inside.tables c.free_after.new.self c.free_after.ensures.rest c.in_ok-freed.ensures.cut.same_length c.self.inside.sectors c.write_values.new.sectors
-    (ap (λ (f : SectorFile). f.version) kept) (ap (λ (f : SectorFile). f.num_sectors) kept) c.self.invariant
+    (ap (λ (f : SectorFile). f.version) kept) (ap (λ (f : SectorFile). f.num_sectors) kept) c.self.invariant.0
 
 pub invariant_of-self-2 : goal.invariant_of-self-2
 invariant_of-self-2 g c =
     let one = c.write_values.ensures.kept in
-    let two = c.write_values-2.ensures.kept in
-    placed_changed c.self.inside.tables c.free_after.new.self c.free_after.ensures.rest c.in_ok-freed.ensures.cut.same_length c.self.inside.sectors c.write_values-2.new.sectors
-    (ap (λ (f : SectorFile). f.version) two ∙ ap (λ (f : SectorFile). f.version) one) (ap (λ (f : SectorFile). f.num_sectors) two ∙ ap (λ (f : SectorFile). f.num_sectors) one)
-    c.self.invariant
+    let two = c.write_values-2.ensures.kept in (
+      placed_changed c.self.inside.tables c.free_after.new.self c.free_after.ensures.rest c.in_ok-freed.ensures.cut.same_length c.self.inside.sectors c.write_values-2.new.sectors
+          (ap (λ (f : SectorFile). f.version) two ∙ ap (λ (f : SectorFile). f.version) one) (ap (λ (f : SectorFile). f.num_sectors) two ∙ ap (λ (f : SectorFile). f.num_sectors) one)
+          c.self.invariant.0,
+      tt,
+    )
 
 pub returns-clause-holds : goal.returns-clause-holds
 returns-clause-holds g c told validation h =
@@ -91,7 +96,7 @@ returns-clause-changes g c told =
     let t = c.free_after.new.self in
     let second = subst (λ (v : Version). ChangesSectors t.fat_sectors v s1.bytes s2.bytes) (ap (λ (f : SectorFile). f.version) c.write_values.ensures.kept)
     (c.write_values-2.ensures.changes told) in
-    changes_said c.self.inside.tables t c.free_after.ensures.rest c.args.self.now s0 s2.bytes c.self.view_is c.self.invariant
+    changes_said c.self.inside.tables t c.free_after.ensures.rest c.args.self.now s0 s2.bytes c.self.view_is c.self.invariant.0
     (changes_trans t.fat_sectors s0.version s0.bytes s1.bytes s2.bytes (c.write_values.ensures.changes told) second)
 
 -- the chain is cut in memory
@@ -142,7 +147,7 @@ returns-in_err-write_values-clause-spares g c told list chain =
     freed_written (x ∷ []) c.in_ok-freed.freed.items list (value t0.fat x) s1 c.self.view_is e.ok
     (subst (λ (a : AllocatorState). IsChain a.tables.fat (value a.tables.fat x) list) (sym c.self.view_is) chain)
     (record { given = e.cut; rest = c.free_after.ensures.rest })
-    (changes_said t0 t c.free_after.ensures.rest c.args.self.now s0 s1.bytes c.self.view_is c.self.invariant (c.write_values.ensures.changes told))
+    (changes_said t0 t c.free_after.ensures.rest c.args.self.now s0 s1.bytes c.self.view_is c.self.invariant.0 (c.write_values.ensures.changes told))
 
 pub returns-clause-spares : goal.returns-clause-spares
 returns-clause-spares g c told list chain =
@@ -158,5 +163,5 @@ returns-clause-spares g c told list chain =
     freed_written (x ∷ []) c.in_ok-freed.freed.items list (value t0.fat x) s2 c.self.view_is e.ok
     (subst (λ (a : AllocatorState). IsChain a.tables.fat (value a.tables.fat x) list) (sym c.self.view_is) chain)
     (record { given = e.cut; rest = c.free_after.ensures.rest })
-    (changes_said t0 t c.free_after.ensures.rest c.args.self.now s0 s2.bytes c.self.view_is c.self.invariant
+    (changes_said t0 t c.free_after.ensures.rest c.args.self.now s0 s2.bytes c.self.view_is c.self.invariant.0
     (changes_trans t.fat_sectors s0.version s0.bytes s1.bytes s2.bytes (c.write_values.ensures.changes told) second))

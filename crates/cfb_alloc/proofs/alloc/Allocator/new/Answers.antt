@@ -4,7 +4,8 @@ use Rattle.std.specs.Prelude.{take}
 use Rattle.std.specs.Vec.{vec_len}
 use Rattle.cfb_format.specs.declared.version.Version.{Version}
 use Rattle.cfb_format.specs.Fat.{fat_value}
-use Rattle.cfb_alloc.specs.Alloc.{IsPlaced, AreListed}
+use Rattle.cfb_alloc.specs.Alloc.{AreListed}
+use Rattle.cfb_table_words.specs.Holding.{IsPlaced}
 use Rattle.cfb_tables.specs.ReadFat.{AcceptsFat}
 use Rattle.cfb_format.specs.declared.validate.Validation.{Validation}
 use Rattle.cfb_tables.specs.Tables.{AreSizes}
@@ -44,10 +45,12 @@ invariant_of-result g c =
     (c.are_listed.ensures.listed c.if-not-are_listed.false) in
     let fat = fat_len c.args.validation c.num_sectors-count.result c.args.words.items c.deref-3.result.now c.deref-4.result.now c.in_ok-fat.fat.items c.in_ok-fat.ensures.ok in
     let tables = c.in_ok-tables.ensures.ok in
-    let count : c.args.sectors.num_sectors ≡ length c.in_ok-fat.fat.items = sym (fat ∙ c.num_sectors-count.ensures.count) in
-    subst (IsPlaced c.args.sectors) (sym tables) (record {
-      same_version = sym c.version-version.ensures;
-      count = count;
-      fats = λ i m. let lt = l.fats i m in omega (arith, lt, count);
-      difats = λ i m. let lt = l.difats i m in omega (arith, lt, count);
-    })
+    let count : c.args.sectors.num_sectors ≡ length c.in_ok-fat.fat.items = sym (fat ∙ c.num_sectors-count.ensures.count) in (
+      subst (IsPlaced c.args.sectors) (sym tables) (record {
+        same_version = sym c.version-version.ensures;
+        count = count;
+        fats = λ i m. let lt = l.fats i m in omega (arith, lt, count);
+        difats = λ i m. let lt = l.difats i m in omega (arith, lt, count);
+      }),
+      tt,
+    )

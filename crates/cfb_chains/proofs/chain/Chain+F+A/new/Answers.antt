@@ -2,4 +2,4 @@ use Rattle.cfb_alloc.proofs.ChainView.{chain_found}
 use Rattle.cfb_chains.proofs.chain.Chain+F+A.new.Goals as goal
 
 pub invariant_of-result-clause-chained : goal.invariant_of-result-clause-chained
-invariant_of-result-clause-chained g c = chain_found _ _ _ c.in_ok-ids.ensures.ok
+invariant_of-result-clause-chained g c = rw c.open_chain.ensures.unchanged (chain_found _ _ _ c.in_ok-ids.ensures.ok)

@@ -1,5 +1,5 @@
-use Rattle.std.proofs.Common.{sym, subst, refl, ◌∙◌, true}
-use Rattle.cfb_agreement.specs.Files.{FileState, Holds}
+use Rattle.std.proofs.Common.{ap, sym, subst, refl, ◌∙◌, true}
+use Rattle.cfb_agreement.specs.Files.{FileState, Holds, is_failed}
 use Rattle.cfb_compound_file.specs.Opening.{IsCreatedWith, Options}
 use Rattle.cfb_compound_file.specs.Taken.{TakesOptions}
 use Rattle.cfb_compound_file.proofs.options.OpenOptions.create_as.Goals as goal
@@ -34,3 +34,6 @@ returns-clause-options g c =
     subst (λ (file : FileState). TakesOptions c.args.self file) (sym c.new-volume.ensures)
     (subst (λ (o : Options). TakesOptions o (record { base = c.in_ok-mini.mini; is_sound = true; buffer_limit = inside.max_buffer_size })) c.self.view_is
     (record { letters = made.letters ∙ c.in_ok-letters.ensures.ok; limit = made.limit; buffer_limit = refl }))
+
+pub returns-clause-unfailed : goal.returns-clause-unfailed
+returns-clause-unfailed g c = ap (λ (file : FileState). is_failed file) c.new-volume.ensures ∙ c.in_ok-mini.ensures.ended

@@ -1,8 +1,9 @@
-use Rattle.std.proofs.Common.{sym, subst, refl}
+use Rattle.std.proofs.Common.{ap, sym, subst, refl, ◌∙◌}
 use Rattle.cfb_format.specs.Names.{Cases}
-use Rattle.cfb_agreement.specs.Files.{FileState, Holds}
+use Rattle.cfb_agreement.specs.Files.{FileState, Holds, is_failed}
 use Rattle.cfb_opening.specs.Opened.{IsOpened}
 use Rattle.cfb_compound_file.specs.Opening.{IsOpenedWith, Options}
+use Rattle.cfb_compound_file.specs.Taken.{TakesOptions}
 use Rattle.cfb_compound_file.proofs.MadeFiles.{opened-with, options_of}
 use Rattle.cfb_compound_file.proofs.options.OpenOptions.open_with.Goals as goal
 
@@ -22,3 +23,14 @@ returns-clause-answers g c told =
     subst (λ (file : FileState). IsOpenedWith c.args.self bytes failures file) (sym c.new-volume.ensures)
     (subst (λ (o : Options). IsOpenedWith o bytes failures (record { base = mini; is_sound = is_sound; buffer_limit = inside.max_buffer_size })) c.self.view_is
     (opened-with options bytes failures (record { base = mini; is_sound = is_sound; buffer_limit = inside.max_buffer_size }) c.bytes_are_what_is_held.ensures.sound opened refl))
+
+pub returns-clause-options : goal.returns-clause-options
+returns-clause-options g c =
+    let inside = c.self.inside in
+    let opened = c.in_ok-opened in
+    subst (λ (file : FileState). TakesOptions c.args.self file) (sym c.new-volume.ensures)
+    (subst (λ (o : Options). TakesOptions o (record { base = opened.opened.mini; is_sound = opened.opened.is_sound; buffer_limit = inside.max_buffer_size })) c.self.view_is
+    (record { letters = opened.ensures.letters ∙ c.in_ok-letters.ensures.ok; limit = opened.ensures.limit; buffer_limit = refl }))
+
+pub returns-clause-unfailed : goal.returns-clause-unfailed
+returns-clause-unfailed g c = ap (λ (file : FileState). is_failed file) c.new-volume.ensures ∙ c.in_ok-opened.ensures.unfailed

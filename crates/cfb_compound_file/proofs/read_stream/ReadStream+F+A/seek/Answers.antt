@@ -1,4 +1,5 @@
-use Rattle.cfb_compound_file.proofs.StreamCalls.{refused_as}
+use Rattle.std.proofs.Common.{refl}
+use Rattle.cfb_compound_file.proofs.StreamCalls.{refused_as, settles_none}
 use Rattle.cfb_compound_file.proofs.read_stream.ReadStream+F+A.seek.Goals as goal
 
 pub invariant_of-self : goal.invariant_of-self
@@ -9,3 +10,12 @@ returns-clause-runs g c = λ told. c.seek.ensures.runs (record { told = told; su
 
 pub returns-clause-refused : goal.returns-clause-refused
 returns-clause-refused g c = λ told. refused_as _ _ c.seek.result (c.seek.ensures.refused (record { told = told; suits = c.args.self.now.is_open told })) (λ e why. why.rules)
+
+pub returns-clause-buffers : goal.returns-clause-buffers
+returns-clause-buffers g c = record {
+  held = λ _ _ _ _. refl;
+  stays = c.seek.ensures.stays;
+  sure = λ _ unfailed. c.seek.ensures.sure unfailed;
+  room = c.seek.ensures.room;
+  settles = λ _. settles_none _ _ c.args.self.now.window c.seek.result refl;
+}

@@ -22,3 +22,9 @@ returns-in-Err-clause-bytes g c =
 
 pub returns-in-Err-clause-refused : goal.returns-in-Err-clause-refused
 returns-in-Err-clause-refused g c = λ told. (c.in-Err.error, c.std_error.ensures, c.in-Err.ensures.refused told)
+
+pub returns-in-Ok-clause-buffers : goal.returns-in-Ok-clause-buffers
+returns-in-Ok-clause-buffers g c = let b = c.in-Ok.ensures.buffers in record { held = b.held; grown = b.grown; straight = b.straight; lean = b.lean; settles = b.settles }
+
+pub returns-in-Err-clause-buffers : goal.returns-in-Err-clause-buffers
+returns-in-Err-clause-buffers g c = let b = c.in-Err.ensures.buffers in record { held = b.held; grown = b.grown; straight = b.straight; lean = b.lean; settles = b.settles }

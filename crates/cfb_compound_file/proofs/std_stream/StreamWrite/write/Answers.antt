@@ -1,4 +1,17 @@
+use Rattle.std.proofs.Common.{sym, ◌∙◌}
+use Rattle.cfb_compound_file.proofs.StdStreams.{full_alone}
 use Rattle.cfb_compound_file.proofs.std_stream.StreamWrite.write.Goals as goal
 
 pub returns-in-Err-clause-refused : goal.returns-in-Err-clause-refused
 returns-in-Err-clause-refused g c = λ told. (c.in-Err.error, c.std_error.ensures, c.in-Err.ensures.refused told)
+
+pub returns-in-Ok-clause-buffers : goal.returns-in-Ok-clause-buffers
+returns-in-Ok-clause-buffers g c = let b = c.in-Ok.ensures.buffers in
+    record { held = b.held; calm = b.calm; keeps_back = b.keeps_back; straight = b.straight; lean = b.lean; settles = b.settles }
+
+pub returns-in-Err-clause-buffers : goal.returns-in-Err-clause-buffers
+returns-in-Err-clause-buffers g c = let b = c.in-Err.ensures.buffers in
+    record { held = b.held; calm = b.calm; keeps_back = b.keeps_back; straight = b.straight; lean = b.lean; settles = b.settles }
+
+pub returns-in-Err-clause-inside : goal.returns-in-Err-clause-inside
+returns-in-Err-clause-inside g c = λ told calm inside kind. c.in-Err.ensures.inside told calm inside (full_alone c.in-Err.error (sym c.std_error.ensures ∙ kind))

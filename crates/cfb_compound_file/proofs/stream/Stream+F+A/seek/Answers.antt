@@ -20,4 +20,4 @@ pub returns-clause-counts : goal.returns-clause-counts
 returns-clause-counts g c = λ told. (c.seek.ensures.around told).counts
 
 pub returns-clause-buffers : goal.returns-clause-buffers
-returns-clause-buffers g c = record { held = c.seek.ensures.held; sure = c.seek.ensures.sure; room = c.seek.ensures.room; settles = λ told. c.seek.ensures.settles (record { told = told; suits = c.args.self.now.is_open told }) }
+returns-clause-buffers g c = record { held = c.seek.ensures.held; stays = c.seek.ensures.stays; sure = c.seek.ensures.sure; room = c.seek.ensures.room; settles = λ told. c.seek.ensures.settles (record { told = told; suits = c.args.self.now.is_open told }) }

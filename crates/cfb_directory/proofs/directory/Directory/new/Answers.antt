@@ -3,6 +3,8 @@ use Rattle.std.proofs.lemmas.Bool.{eqb-true}
 use Rattle.std.proofs.lemmas.List.{nil_from_length}
 use Rattle.std.proofs.lemmas.Result.{err_from_is_err_and}
 use Rattle.cfb_format.specs.Bytes.{entries_per_sector}
+use Rattle.cfb_format.specs.DirectoryEntry.{Entry}
+use Rattle.cfb_siblings.proofs.Held.{entries-length}
 use Rattle.cfb_format.proofs.Unique.{IsChain-unique}
 use Rattle.cfb_codecs.proofs.Refusals.{refusal_follows}
 use Rattle.cfb_directory.proofs.DirectoryRefusals.{walk_invalid}
@@ -36,3 +38,11 @@ returns-in_err-entries-clause-refused g c =
 
 pub invariant_of-result : goal.invariant_of-result
 invariant_of-result g c = least-kept c.deref.result.now c.in_ok-sectors.sectors.items c.least_above-above.result (sym c.deref.ensures.value) (c.least_above-above.ensures [] least-of-none)
+
+pub returns-clause-count : goal.returns-clause-count
+returns-clause-count g c =
+    let per : c.dir_entries_per_sector-per.result ≡ entries_per_sector c.args.allocator.tables.version = c.dir_entries_per_sector-per.ensures ∙ ap entries_per_sector c.version.ensures in
+    let long : c.len-2.result ≡ length c.in_ok-sectors.sectors.items = omega (arith, c.len-2.ensures, c.in_ok-sectors.sectors.ok.0) in
+    let all : length c.in_ok-entries.entries.entries ≡ c.len.result =
+    omega (arith, ap (λ (es : List Entry). length es) c.in_ok-entries.ensures.ok.1, entries-length c.args.entries.items, c.args.entries.ok.0, c.len.ensures) in
+    all ∙ c.if-len-per.false ∙ ap (λ n. n * c.dir_entries_per_sector-per.result) long ∙ ap (λ n. length c.in_ok-sectors.sectors.items * n) per

@@ -1,23 +1,28 @@
-use Rattle.std.proofs.Common.{◌≡◌, ◌∙◌, ap}
+use Rattle.std.proofs.Common.{◌≡◌, ap}
+use Rattle.std.specs.Prelude.{chars}
 use Rattle.cfb_codecs.specs.EntryModel.{entries_of}
-use Rattle.cfb_entries.specs.EntryList.{EntryList}
-use Rattle.cfb_entries.proofs.Contents.{reached-parent, reached-by}
+use Rattle.cfb_entries.specs.Covering.{Covers}
+use Rattle.cfb_entries.specs.EntryList.{AreInOrder, EntryList}
+use Rattle.cfb_entries.proofs.Found.{answer-reached, child-answer}
 use Rattle.cfb_entries.proofs.entries.Entries.child_named.Goals as goal
 
-pub find_child-requires-clause-stands : goal.find_child-requires-clause-stands
-find_child-requires-clause-stands g c =
-    let cases : c.self.inside.letters ≡ c.args.self.now.cases = ap (λ (e : EntryList). e.cases) c.self.view_is in
-    let entries : entries_of c.deref.result.now ≡ c.args.self.now.entries = ap entries_of c.deref.ensures.value ∙ ap (λ (e : EntryList). e.entries) c.self.view_is in
-    rw (cases, entries) (reached-parent c.args.self.now.cases c.args.self.now.entries c.args.parent c.requires.parent)
-
 pub returns-clause-found : goal.returns-clause-found
-returns-clause-found g c =
-    let cases : c.self.inside.letters ≡ c.args.self.now.cases = ap (λ (e : EntryList). e.cases) c.self.view_is in
-    let entries : entries_of c.deref.result.now ≡ c.args.self.now.entries = ap entries_of c.deref.ensures.value ∙ ap (λ (e : EntryList). e.entries) c.self.view_is in
-    rw (cases, entries) at c.find_child.ensures.named
+returns-clause-found g c list h =
+    let s = c.self.inside in
+    let now = c.args.self.now in
+    let cases : s.letters ≡ now.cases = ap (λ (e : EntryList). e.cases) c.self.view_is in
+    let entries : entries_of s.list.items ≡ now.entries = ap (λ (e : EntryList). e.entries) c.self.view_is in
+    let a : AreInOrder now.cases now.entries = rw (cases, entries) at c.self.invariant.0 in
+    let covers : Covers now.cases now.entries s.index = rw (cases, entries) at c.self.invariant.2 in
+    let r = c.requires.parent in
+    child-answer now.cases now.entries r.outline r.is a.names s.index covers c.args.parent (chars c.args.name.now) c.find.result (rw cases at c.find.ensures) r.reached r.kind list h
 
 pub returns-clause-reached : goal.returns-clause-reached
 returns-clause-reached g c o is =
-    let cases : c.self.inside.letters ≡ c.args.self.now.cases = ap (λ (e : EntryList). e.cases) c.self.view_is in
-    let entries : entries_of c.deref.result.now ≡ c.args.self.now.entries = ap entries_of c.deref.ensures.value ∙ ap (λ (e : EntryList). e.entries) c.self.view_is in
-    (rw (cases, entries) at c.find_child.ensures.reached) o is (reached-by c.args.self.now.cases c.args.self.now.entries c.args.parent o c.requires.parent is) c.requires.parent.kind
+    let s = c.self.inside in
+    let now = c.args.self.now in
+    let cases : s.letters ≡ now.cases = ap (λ (e : EntryList). e.cases) c.self.view_is in
+    let entries : entries_of s.list.items ≡ now.entries = ap (λ (e : EntryList). e.entries) c.self.view_is in
+    let a : AreInOrder now.cases now.entries = rw (cases, entries) at c.self.invariant.0 in
+    let covers : Covers now.cases now.entries s.index = rw (cases, entries) at c.self.invariant.2 in
+    answer-reached now.cases now.entries o is a.names s.index covers c.args.parent (chars c.args.name.now) c.find.result (rw cases at c.find.ensures)

@@ -5,6 +5,7 @@ use Rattle.cfb_format.specs.DirectoryEntry.{Entry}
 use Rattle.cfb_format.specs.Siblings.{entry_at}
 use Rattle.cfb_entries.specs.EntryList.{EntryList}
 use Rattle.cfb_entries.specs.Fields.{fields_in, entries_with_fields}
+use Rattle.cfb_entries.proofs.Covered.{fields-covered}
 use Rattle.cfb_entries.proofs.Lent.{written-back}
 use Rattle.cfb_entries.proofs.Contents.{fields-in-order, fields-free}
 use Rattle.cfb_entries.proofs.entries.Entries.set_fields.Goals as goal
@@ -22,7 +23,12 @@ invariant_of-self g c =
     let after = subst (λ (es : List Entry). g.W.FnOnce.post c.args.change (fields_in (entry_at es c.args.number), tt) f) (old ∙ entries) post in
     let whole : c.args.number ≡ 0 → f.stream_len % 64 ≡ 0 =
     λ e. c.requires.root_len e f (subst (λ (n : ℕ). g.W.FnOnce.post c.args.change (fields_in (entry_at c.args.self.now.entries n), tt) f) e after) in
-    rw changed (fields-in-order (entries_of s.list.items) c.args.number f s.letters whole c.self.invariant.0, fields-free (entries_of s.list.items) c.args.number f s.free.items c.self.invariant.1)
+    rw changed (
+      fields-in-order (entries_of s.list.items) c.args.number f s.letters whole c.self.invariant.0,
+      fields-free (entries_of s.list.items) c.args.number f s.free.items c.self.invariant.1,
+      fields-covered s.letters (entries_of s.list.items) c.args.number f s.index whole c.self.invariant.0 c.self.invariant.2,
+      c.self.invariant.3,
+    )
 
 pub returns-clause-changed : goal.returns-clause-changed
 returns-clause-changed g c =

@@ -1,8 +1,9 @@
-use Rattle.std.proofs.Common.{◌≡◌, ℕ, List, refl, sym, ap, subst}
+use Rattle.std.proofs.Common.{◌≡◌, ℕ, List, true, refl, sym, ap, subst}
 use Rattle.std.specs.Prelude.{Contains, Some}
 use Rattle.std.proofs.lemmas.Result.{err_from_is_err_and}
 use Rattle.cfb_format.specs.declared.validate.Validation.TheVariants.{Permissive, Strict}
 use Rattle.cfb_format.specs.Reading.{IsOutline, Outline, numbers, stream_numbers}
+use Rattle.cfb_format.specs.Refused.{AfterMedium}
 use Rattle.cfb_outline.specs.Outlines.{HasInside, IsReachedStorage}
 use Rattle.cfb_siblings.specs.Paths.{number_from}
 use Rattle.cfb_tables.specs.Refused.{ChangeRefused}
@@ -14,11 +15,11 @@ use Rattle.cfb_mini_sectors.specs.Steps.{KeepsMini, StopsShort}
 use Rattle.cfb_content.specs.Contents.{KeepsFixedHeader, len_of}
 use Rattle.cfb_content.proofs.FixedHeader.{spared-keeps-header}
 use Rattle.cfb_agreement.specs.Changes.{KeepsStreams}
-use Rattle.cfb_agreement.specs.Files.{Agrees, FileState, Holds, IsAsMade}
+use Rattle.cfb_agreement.specs.Files.{Agrees, FileState, Holds, IsAsMade, is_failed}
 use Rattle.cfb_entry_changes.specs.Clearing.{ClearsStorage}
 use Rattle.cfb_volume.specs.Clearing.{emptied_at}
 use Rattle.cfb_volume.proofs.ClearedStorages.{clear-break, clear-holds, clear-made, clear-tree, clearing-ended, clears-storage}
-use Rattle.cfb_volume.proofs.InsertedObjects.{ended, header-ended, insert-keeps-streams, refused-agrees, same-file, streams-ended}
+use Rattle.cfb_volume.proofs.InsertedObjects.{ended, header-ended, insert-keeps-streams, refused-agrees, refused-stops, same-file, streams-ended}
 use Rattle.cfb_volume.proofs.volume.Volume.clear.Goals as goal
 
 pub clear-requires-clause-all : goal.clear-requires-clause-all
@@ -49,6 +50,16 @@ returns-in_err-clear-clause-err g c holds =
     let p = err_from_is_err_and c.from_residual.result c.from_residual.ensures.1 in
     rw (p.1, p.2) (clear-break old c.requires.sound holds c.in_err-clear.field-0.0
     (subst (λ (f : FileState). ChangeRefused (IsDirectoryNotHeld f.base.directory) (Unit {0}) ⊥ (Unit {0}) c.in_err-clear.field-0.0) c.self.view_is c.in_err-clear.ensures.err))
+
+pub returns-in_err-clear-clause-stops : goal.returns-in_err-clear-clause-stops
+returns-in_err-clear-clause-stops g c =
+    let old = c.args.self.now in
+    let mid = c.clear.new.self in
+    let p = err_from_is_err_and c.from_residual.result c.from_residual.ensures.1 in
+    let stops = subst (λ (f : FileState). StopsShort f.base mid c.in_err-clear.field-0.0) c.self.view_is c.in_err-clear.ensures.refused in
+    rw (p.1, p.2) (subst (λ (f : FileState). AfterMedium (is_failed f ≡ true) (f ≡ old) c.in_err-clear.field-0.0)
+    (same-file c.self.inside.mini mid mid c.self.inside.is_sound c.self.inside.buffer_limit old c.self.view_is refl)
+    (refused-stops old mid c.in_err-clear.field-0.0 stops))
 
 -- ---- cleared
 

@@ -4,7 +4,7 @@ use Rattle.cfb_format.specs.DirectoryEntry.{Entry}
 use Rattle.cfb_format.specs.Siblings.{entry_at}
 use Rattle.cfb_entries.specs.EntryList.{AreInOrder}
 use Rattle.cfb_trees.proofs.Members.{reached-is-within}
-use Rattle.cfb_trees.proofs.Recolored.{below-reached}
+use Rattle.cfb_trees.proofs.Reached.{below-reached}
 use Rattle.cfb_mini_sectors.specs.State.{cases_of, entries_of}
 use Rattle.cfb_content.specs.Contents.{len_of}
 use Rattle.cfb_agreement.specs.Files.{FileState}

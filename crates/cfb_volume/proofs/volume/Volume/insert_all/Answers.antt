@@ -12,6 +12,7 @@ pub loop-name-init : goal.loop-name-init
 loop-name-init g c = record {
   adds = adds-none g.F.ReadMedium.tells c.args.moment c.args.parent (map (λ name. chars name.now) c.args.names.now) c.args.self.now c.requires.unfailed c.requires.parent c.requires.absent;
   first = λ none. refl;
+  none = λ none. refl;
   room = λ (some : false ≡ true). absurd (let w : false ≡ true = some in cc);
 }
 
@@ -88,6 +89,7 @@ loop-name-preserved g c =
           (at_drop_more (map (λ name. chars name.now)) c.args.names.now c.loop-name.name-index (record { ref_ptr = (0, 0); now = [] }) c.loop-name-test.true)
           w.setting w.ended (reached-storage new c.in-Ok.number c.entries-entries.ensures.in_order w.named w.is_kind) w.childless w.tree w.found w.stays w.still w.balanced w.root_len w.enough w.others w.header w.made w.grows w.no_shorter w.stays_full w.agrees w.counts;
       first = λ (none : true ≡ false). absurd (let w : true ≡ false = none in cc);
+      none = λ none. absurd (omega (arith, none, c.loop-name-test.true));
       room = λ some. room-then g.F.ReadMedium.tells c.args.moment c.args.parent c.loop-name.node (map (λ name. chars name.now) c.args.names.now)
           (map (λ name. chars name.now) (drop c.loop-name.name-index c.args.names.now)) c.args.self.now c.loop-name.self i.adds w.enough;
     }
@@ -122,6 +124,9 @@ returns-clause-enough g c some =
     adds-room g.F.ReadMedium.tells c.args.moment c.args.parent c.loop-name.node (map (λ name. chars name.now) c.args.names.now) (map (λ name. chars name.now) (drop c.loop-name.name-index c.args.names.now))
     c.args.self.now c.loop-name.self c.loop-name.invariant.adds (at_drop_all (map (λ name. chars name.now)) c.args.names.now c.loop-name.name-index c.loop-name-test.false)
     (omega (arith, some, length-map c.args.names.now (λ name. chars name.now)))
+
+pub returns-clause-quiet : goal.returns-clause-quiet
+returns-clause-quiet g c none = c.loop-name.invariant.none none
 
 pub returns-clause-made : goal.returns-clause-made
 returns-clause-made g c = c.loop-name.invariant.adds.made

@@ -13,7 +13,6 @@ use Rattle.cfb_volume.proofs.volume.Volume.read.Goals as goal
 pub read_content-requires : goal.read_content-requires
 read_content-requires g c = record {
   inside = subst (λ (f : FileState). c.args.entry < length (entries_of f.base)) (sym c.self.view_is) c.requires.inside;
-  kept_chain = c.self.invariant;
 }
 
 pub returns-clause-same : goal.returns-clause-same

@@ -1,4 +1,4 @@
-use Rattle.std.proofs.Common.{◌≡◌, ◌≢◌, ◌⊎◌, ◌∷◌, ℕ, List, false, true, refl, sym, ap, subst, chars}
+use Rattle.std.proofs.Common.{◌≡◌, ◌≢◌, ◌⊎◌, ◌∷◌, ℕ, List, Bool, false, true, refl, sym, ap, subst, chars}
 use Rattle.std.specs.Prelude.{IsTrue}
 use Rattle.std.proofs.lemmas.Result.{err_from_is_err_and}
 use Rattle.cfb_format.specs.declared.objtype.ObjType.TheVariants.{Stream}
@@ -19,10 +19,17 @@ use Rattle.cfb_entry_changes.specs.Kept.{AllStayBalancedBut, FindsAllBut}
 use Rattle.cfb_agreement.specs.Changes.{StaysOrFails}
 use Rattle.cfb_agreement.specs.Files.{Agrees, FileState, Holds, IsAsMade}
 use Rattle.cfb_volume.specs.Removing.{WasEmptied}
+use Rattle.cfb_volume.proofs.ContentSteps.{file_on}
 use Rattle.cfb_volume.proofs.InsertedObjects.{ended, header-ended, same-file}
+use Rattle.cfb_volume.proofs.Refusals.{after-any, after-none, file-after}
 use Rattle.cfb_volume.proofs.RemovedObjects.{WasRemoved, child-stays, empty-break, others-ended, others-then, remove-balanced, remove-finds, remove-holds, remove-keeps-root, remove-made, remove-tree, stays-agrees, stays-by, stays-then, storage-stays, was-removed}
 use Rattle.cfb_volume.proofs.volume.Volume.remove.Goals as goal
 use Rattle.cfb_volume.proofs.volume.Volume.remove.Goals.{After-remove_dir_entry, In_ok-remove_dir_entry}
+
+-- what is no stream by the file is none by the layers below it
+not-stream : (s : MiniState) (old : FileState) (sound : Bool) (limit : ℕ) (child : ℕ) → file_on sound limit s ≡ old
+    → (entry_at (entries_of old.base) child).obj_type ≢ Stream → (entry_at (entries_of s) child).obj_type ≢ Stream
+not-stream s old sound limit child view kind = subst (λ (f : FileState). (entry_at (entries_of f.base) child).obj_type ≢ Stream) (sym view) kind
 
 -- ---- the object was not emptied
 
@@ -42,6 +49,17 @@ returns-in_err-empty_object-clause-err g c told holds =
     let e = ap (λ (f : FileState). f.base) c.self.view_is in
     let p = err_from_is_err_and c.from_residual.result c.from_residual.ensures.1 in
     rw (p.1, p.2) (c.in_err-empty_object.ensures.err told Permissive (subst (λ (m : MiniState). IsChangeable Permissive m) (sym e) (holds.sound c.requires.sound)))
+
+-- a storage is as it was
+pub returns-in_err-empty_object-clause-first : goal.returns-in_err-empty_object-clause-first
+returns-in_err-empty_object-clause-first g c kind =
+    let old = c.args.self.now in
+    let s = c.self.inside.mini in
+    let mid = c.empty_object.new.mini in
+    let p = err_from_is_err_and c.from_residual.result c.from_residual.ensures.1 in
+    let same = c.empty_object.ensures.none (not-stream s old c.self.inside.is_sound c.self.inside.buffer_limit c.args.child c.self.view_is kind) in
+    rw (p.1, p.2) (file-after s mid old c.self.inside.is_sound c.self.inside.buffer_limit c.self.view_is c.in_err-empty_object.field-0.0
+    (after-any (mid ≡ s) same c.in_err-empty_object.field-0.0))
 
 -- ---- the entry is there still
 
@@ -97,6 +115,17 @@ returns-in_err-remove_dir_entry-clause-err g c told holds =
     let emptied = subst (λ (m : MiniState). WasEmptied m mid c.args.child) e (c.in_ok-empty_object.ensures.emptied told) in
     rw (p.1, p.2) (empty-break (IsDirectoryNotHeld mid.directory) ⊥ (λ none. none Permissive (emptied.holds Permissive (holds.sound c.requires.sound)).held.directory) (λ z. z)
     c.in_err-remove_dir_entry.field-0.0 c.in_err-remove_dir_entry.ensures.err)
+
+pub returns-in_err-remove_dir_entry-clause-first : goal.returns-in_err-remove_dir_entry-clause-first
+returns-in_err-remove_dir_entry-clause-first g c kind =
+    let old = c.args.self.now in
+    let s = c.self.inside.mini in
+    let mid = c.empty_object.new.mini in
+    let new = c.remove_dir_entry.new.self in
+    let p = err_from_is_err_and c.from_residual-in_err-remove_dir_entry.result c.from_residual-in_err-remove_dir_entry.ensures.1 in
+    let same = c.empty_object.ensures.none (not-stream s old c.self.inside.is_sound c.self.inside.buffer_limit c.args.child c.self.view_is kind) in
+    rw (p.1, p.2) (file-after s new old c.self.inside.is_sound c.self.inside.buffer_limit c.self.view_is c.in_err-remove_dir_entry.field-0.0
+    (after-none s mid new same c.in_err-remove_dir_entry.field-0.0 c.in_err-remove_dir_entry.ensures.refused))
 
 -- the contents of the other streams stay
 pub returns-in_err-remove_dir_entry-clause-others : goal.returns-in_err-remove_dir_entry-clause-others

@@ -4,7 +4,7 @@ use Rattle.std.proofs.lemmas.Result.{err_from_is_err_and}
 use Rattle.cfb_format.specs.declared.medium.MediumFault.{MediumFault}
 use Rattle.cfb_outline.specs.Outlines.{IsReachedStorage}
 use Rattle.cfb_entries.specs.EntryList.{AreInOrder}
-use Rattle.cfb_trees.proofs.Recolored.{below-reached}
+use Rattle.cfb_trees.proofs.Reached.{below-reached}
 use Rattle.cfb_mini_sectors.specs.State.{cases_of, entries_of}
 use Rattle.cfb_agreement.specs.Files.{FileState, failures_of}
 use Rattle.cfb_content.proofs.FixedHeader.{header-then}

@@ -1,0 +1,16 @@
+pub mod TableWords
+pub mod Listed
+pub mod AgreementLemmas
+pub mod Answering
+pub mod DifatEntries
+pub mod DifatHeader
+pub mod DifatLemmas
+pub mod DifatLinked
+pub mod DifatWalk
+pub mod DifatWords
+pub mod FrameLemmas
+pub mod GrowthLemmas
+pub mod HeldLemmas
+pub mod RunWords
+pub mod Stretches
+pub mod StrictLemmas

@@ -1,0 +1,4 @@
+pub mod Agreement
+pub mod Difat
+pub mod Holding
+pub mod Stretches

@@ -1,0 +1,7 @@
+//! The tables of a file as its bytes hold them, and what has changed in them written to the sectors that hold them
+//! (MS-CFB 2.2, 2.3 and 2.5).
+#![tactic(auto)]
+
+pub mod agreement;
+pub mod stretch;
+pub mod writing;

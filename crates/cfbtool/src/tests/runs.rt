@@ -1,0 +1,207 @@
+//! Runs of the program.
+use super::World;
+use crate::tool;
+use std::alloc::{AllocError, Global};
+use std::io;
+use std::io::{ErrorKind, Read, Write};
+use std::process::ExitCode;
+
+/// Words, standard input, status, standard output and standard error. A word that begins with `@`
+/// is a file of the folder. What is to be told without the end of a line is the beginning of it.
+pub(super) type Run<'a> = (&'a [&'a str], &'a [u8], u8, &'a [u8], &'a [u8]);
+
+/// Stands for the content, as input and as what is printed.
+pub(super) const CONTENT: &[u8] = b"(content)";
+
+pub(super) const WRONG_WORDS: &[u8] = b"cfbtool: wrong words\n";
+
+pub(super) const MEDIUM_FAILED: &[u8] = b"cfbtool: medium failed\n";
+
+const OUT_OF_MEMORY: &[u8] = b"cfbtool: out of memory\n";
+
+pub(super) const TARGET_EXISTS: &[u8] = b"cfbtool: target exists\n";
+
+pub(super) const SOUND_3: &[u8] = b"version 3 sound\n";
+
+pub(super) const SOUND_4: &[u8] = b"version 4 sound\n";
+
+/// A new file in version 3.
+pub(super) const NEW_3: &[Run<'static>] = &[(&["create", "3", "@f"], b"", 0, b"", b"")];
+
+/// The same, with a stream `/a`.
+#[rattlefmt::skip]
+pub(super) const WITH_STREAM: &[Run<'static>] = &[
+    (&["create", "3", "@f"], b"", 0, b"", b""),
+    (&["put", "@f", "/a"], b"abc", 0, b"", b""),
+];
+
+/// The same, with the content in it.
+#[rattlefmt::skip]
+pub(super) const NEW_WITH_CONTENT: &[Run<'static>] = &[
+    (&["create", "3", "@f"], b"", 0, b"", b""),
+    (&["put", "@f", "/a"], CONTENT, 0, b"", b""),
+];
+
+/// Appends what a word stands for: one that begins with `@` is a file of the folder that has this
+/// name, and `@` alone the folder.
+pub(super) fn say(folder: &str, word: &str, text: &mut String) -> Result<(), AllocError> {
+    if let [b'@', name @ ..] = word.as_bytes() {
+        text.push_str(folder)?;
+        text.push_str("/")?;
+        if name.is_empty() {
+            return Ok(());
+        }
+    }
+    text.push_str(word)
+}
+
+fn word_of(alloc: Global, folder: &str, word: &str) -> Result<String, AllocError> {
+    let mut text = String::new(alloc);
+    say(folder, word, &mut text)?;
+    Ok(text)
+}
+
+fn words_of(alloc: Global, folder: &str, words: &[&str]) -> Result<Vec<String>, AllocError> {
+    let mut given = Vec::new(alloc);
+    for word in words {
+        given.push(word_of(alloc, folder, word)?)?;
+    }
+    Ok(given)
+}
+
+/// One run of these words: the status.
+fn status_of<R: Read, W: Write>(
+    rt: &HostRuntime,
+    folder: &str,
+    words: &[&str],
+    input: &mut R,
+    out: &mut W,
+    faults: &mut Vec<u8>,
+) -> Result<ExitCode, AllocError> {
+    let given = words_of(rt.alloc(), folder, words)?;
+    Ok(tool(rt, given.as_slice(), input, out, faults))
+}
+
+/// What a row names, or the content.
+fn bytes_of<'a>(row: &'a [u8], content: &'a [u8]) -> &'a [u8] {
+    if row == CONTENT { content } else { row }
+}
+
+fn is_line(told: &[u8], wanted: &[u8]) -> bool {
+    told == wanted || !wanted.is_empty() && !wanted.ends_with(b"\n") && told.starts_with(wanted)
+}
+
+/// Whether a run answers as its row says.
+pub(super) fn is_told(rt: &HostRuntime, world: &mut World, run: &Run<'_>) -> bool {
+    let (words, input, status, out, faults) = *run;
+    world.runs = world.runs.saturating_add(1);
+    world.out.clear();
+    world.faults.clear();
+    let (folder, content) = (world.folder.as_str(), world.content.as_slice());
+    let mut given = bytes_of(input, content);
+    let answered = status_of(
+        rt,
+        folder,
+        words,
+        &mut given,
+        &mut world.out,
+        &mut world.faults,
+    );
+    answered == Ok(ExitCode::from(status))
+        && world.out.as_slice() == bytes_of(out, &world.content)
+        && is_line(&world.faults, faults)
+}
+
+/// Whether runs answer so, one behind the other.
+pub(super) fn are_told(rt: &HostRuntime, world: &mut World, runs: &[Run<'_>]) -> bool {
+    for run in runs {
+        if !is_told(rt, world, run) {
+            return false;
+        }
+    }
+    true
+}
+
+/// Whether runs of these words, with each of these inputs, print nothing and answer so.
+fn is_told_at_each(
+    rt: &HostRuntime,
+    world: &mut World,
+    words: &[&str],
+    inputs: &[&[u8]],
+    (status, faults): (u8, &[u8]),
+) -> bool {
+    for input in inputs {
+        if !is_told(rt, world, &(words, input, status, b"", faults)) {
+            return false;
+        }
+    }
+    true
+}
+
+/// The same of each of these words.
+pub(super) fn is_each_told(
+    rt: &HostRuntime,
+    world: &mut World,
+    all: &[&[&str]],
+    inputs: &[&[u8]],
+    answer: (u8, &[u8]),
+) -> bool {
+    for words in all {
+        if !is_told_at_each(rt, world, words, inputs, answer) {
+            return false;
+        }
+    }
+    true
+}
+
+/// A reader or writer that fails in this way.
+#[derive(Drop)]
+struct Broken(ErrorKind);
+
+impl Read for Broken {
+    fn read(&mut self, _buf: &mut [u8]) -> io::Result<usize> {
+        Err(io::Error::from(self.0))
+    }
+}
+
+impl Write for Broken {
+    fn write(&mut self, _buf: &[u8]) -> io::Result<usize> {
+        Err(io::Error::from(self.0))
+    }
+
+    fn flush(&mut self) -> io::Result<()> {
+        Ok(())
+    }
+}
+
+/// Whether a run whose input and output fail in this way is refused with this line.
+fn breaks(
+    rt: &HostRuntime,
+    world: &mut World,
+    words: &[&str],
+    (kind, line): (ErrorKind, &[u8]),
+) -> bool {
+    world.faults.clear();
+    let (mut input, mut out) = (Broken(kind), Broken(kind));
+    let answered = status_of(
+        rt,
+        &world.folder,
+        words,
+        &mut input,
+        &mut out,
+        &mut world.faults,
+    );
+    answered == Ok(ExitCode::from(1)) && world.faults.as_slice() == line
+}
+
+/// Whether it is so of each of these words, as a fault of the medium and for want of memory.
+pub(super) fn is_each_broken(rt: &HostRuntime, world: &mut World, all: &[&[&str]]) -> bool {
+    for words in all {
+        if !breaks(rt, world, words, (ErrorKind::Other, MEDIUM_FAILED))
+            || !breaks(rt, world, words, (ErrorKind::OutOfMemory, OUT_OF_MEMORY))
+        {
+            return false;
+        }
+    }
+    true
+}
