@@ -116,10 +116,11 @@ moved-is-balanced old new i limits moves stream = all-stay-balanced (cases_of ol
     (balanced (subst (λ (p : Outline). IsReached p k) (sym same) there) (λ e. kind (ap (λ (x : Entry). x.obj_type) (moved-at old new i k moves) ∙ e))))
 
 pub content-keeps-made : ContentKeepsMade
-content-keeps-made i old new limits moves stream made change used exact snug = record {
+content-keeps-made i old new limits moves stream made change used exact snug snug_mini = record {
   changeable = change;
   used = used;
   exact = exact;
   snug = snug;
+  snug_mini = snug_mini;
   balanced = moved-is-balanced old new i limits moves stream made.balanced;
 }

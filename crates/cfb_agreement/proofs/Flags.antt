@@ -66,6 +66,12 @@ module _ (s : MiniState) (n : ℕ) (b : Bool) where
     snug = λ k at.
         let fits = m.snug k (record { outline = at.outline; is = at.is; reached = at.reached }) in
         record { sectors = fits.sectors; mini_sectors = fits.mini_sectors };
+    snug_mini = record {
+      measured = m.snug_mini.measured;
+      minifat = m.snug_mini.minifat;
+      mini_stream = m.snug_mini.mini_stream;
+      start = m.snug_mini.start;
+    };
     balanced = m.balanced;
   }
 

@@ -1,5 +1,5 @@
 -- Changes of one stream's content, one after the other, are one.
-use Rattle.std.proofs.Common.{◌≡◌, ◌≤◌, inl, inr, ℕ, Bool, true, false, refl, sym, ◌∙◌, subst, length, arith}
+use Rattle.std.proofs.Common.{◌≡◌, ◌<◌, ◌≤◌, inl, inr, ℕ, Bool, true, false, refl, sym, ◌∙◌, subst, length, arith}
 use Rattle.std.proofs.lemmas.Bool.{cases_lt}
 use Rattle.cfb_tables.specs.Changes.{NoneFree}
 use Rattle.cfb_mini_sectors.specs.State.{MiniState, tables_in}
@@ -9,8 +9,8 @@ use Rattle.cfb_content.proofs.FixedHeader.{bytes-keep-header, header-then}
 use Rattle.cfb_content.proofs.Kept.{nothing-is-moved, others-kept-then}
 use Rattle.cfb_content.proofs.Outlines.{content-moves-then, same-entries-moved}
 use Rattle.cfb_agreement.specs.Changes.{ChangesOneContent}
-use Rattle.cfb_agreement.specs.Files.{FileState, LeavesNoneFree, SameSetting, failures_of, is_failed}
-use Rattle.cfb_agreement.specs.Laws.{AsBeforeIsNone, ContentsInTurn, SameContentIsNone, with_flags}
+use Rattle.cfb_agreement.specs.Files.{FileState, GrowsTightly, SameSetting, failures_of, is_failed}
+use Rattle.cfb_agreement.specs.Laws.{AsBeforeIsNone, ContentsInTurn, OneChangeKeepsRest, RestIsKeptInTurn, SameContentIsNone, with_flags}
 use Rattle.cfb_agreement.proofs.Flags.{as-before-same, flagged, made-flagged}
 
 limits-then : (a b c : MiniState) → KeepsLimits a b → KeepsLimits b c → KeepsLimits a c
@@ -60,11 +60,16 @@ calm-before : (a b : Bool) → (a ≡ true → b ≡ true) → b ≡ false → a
 calm-before false b stays calm = refl
 calm-before true b stays calm = absurd (let w : true ≡ false = sym (stays refl) ∙ calm in cc)
 
-none-free-then : (a b c : MiniState) → LeavesNoneFree a b → LeavesNoneFree b c → length (tables_in b).fat ≤ length (tables_in c).fat
-    → (NoneFree (tables_in b).fat → NoneFree (tables_in c).fat) → LeavesNoneFree a c
-none-free-then a b c first second no_shorter stays longer = elim (cases_lt (length (tables_in b).fat) (length (tables_in c).fat)) [
-  | inl more ↦ second more
-  | inr same ↦ stays (first (omega (arith, longer, same, no_shorter)))
+grows-then : (a b c : MiniState) → (tables_in b).max_sectors ≡ (tables_in a).max_sectors → GrowsTightly a b → GrowsTightly b c → length (tables_in b).fat ≤ length (tables_in c).fat
+    → (length (tables_in a).fat < length (tables_in b).fat → length (tables_in c).fat ≡ length (tables_in b).fat → NoneFree (tables_in b).fat → NoneFree (tables_in c).fat)
+    → GrowsTightly a c
+grows-then a b c limit first second no_shorter stays longer = elim (cases_lt (length (tables_in b).fat) (length (tables_in c).fat)) [
+  | inl more ↦ let now = second more in (now.0, (let within = now.1 in omega (arith, within, limit)))
+  | inr most ↦
+      let before : length (tables_in a).fat < length (tables_in b).fat = omega (arith, longer, most, no_shorter) in
+      let then' = first before in
+      let within = then'.1 in
+      (stays before (omega (arith, most, no_shorter)) then'.0, omega (arith, within, most))
 ]
 
 pub contents-in-turn : ContentsInTurn
@@ -74,8 +79,22 @@ contents-in-turn i old mid new p q failed no_shorter stays = record {
   others = others-kept-then i old.base mid.base new.base p.setting.limits p.entries p.others q.others;
   header = header-then old.base mid.base new.base p.setting.limits.version p.header q.header;
   made = λ calm made. q.made calm (p.made (before calm) made);
-  grows = λ calm. none-free-then old.base mid.base new.base (p.grows (before calm)) (q.grows calm) (no_shorter calm) (stays calm);
+  grows = λ calm. grows-then old.base mid.base new.base p.setting.limits.max_sectors (p.grows (before calm)) (q.grows calm) (no_shorter calm) (stays calm);
 }
   where
     before : is_failed new ≡ false → is_failed mid ≡ false
     before calm = calm-before (is_failed mid) (is_failed new) failed calm
+
+-- ---- any number of them
+
+pub one-change-keeps-rest : OneChangeKeepsRest
+one-change-keeps-rest i old new k = record { setting = k.setting; entries = k.entries; others = k.others; header = k.header; made = k.made }
+
+pub rest-then : RestIsKeptInTurn
+rest-then i old mid new p q failed = record {
+  setting = setting-then old mid new p.setting q.setting;
+  entries = content-moves-then old.base mid.base new.base i p.entries q.entries;
+  others = others-kept-then i old.base mid.base new.base p.setting.limits p.entries p.others q.others;
+  header = header-then old.base mid.base new.base p.setting.limits.version p.header q.header;
+  made = λ calm made. q.made calm (p.made (calm-before (is_failed mid) (is_failed new) failed calm) made);
+}

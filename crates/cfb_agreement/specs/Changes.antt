@@ -9,19 +9,27 @@ use Rattle.cfb_format.specs.Tree.{Tree}
 use Rattle.cfb_rules.specs.CallChanges.{storage_added_at, stream_added_at}
 use Rattle.cfb_mini_sectors.specs.State.{MiniState, cases_of, entries_of}
 use Rattle.cfb_content.specs.Contents.{KeepsContent, KeepsFixedHeader, KeepsOthers, MovesContent}
-use Rattle.cfb_agreement.specs.Files.{FileState, IsAsBefore, IsAsMade, LeavesNoneFree, SameSetting, is_failed}
+use Rattle.cfb_agreement.specs.Files.{FileState, IsAsBefore, IsAsMade, GrowsTightly, SameSetting, is_failed}
 
 -- ---- the content of one stream
 
 -- of the file the content of this one stream may have changed, and nothing else, not even bytes of the header that nobody reads; a file that
--- was as made is so again, unless it failed; and where sectors were appended none is free then
+-- was as made is so again, unless it failed; and where sectors were appended none is free then, and the limit is kept
 pub record ChangesOneContent (entry : ℕ) (old new : FileState) : Type 0 where
   pub setting : SameSetting old new
   pub entries : MovesContent old.base new.base entry
   pub others : KeepsOthers entry old.base new.base
   pub header : KeepsFixedHeader old.base new.base
   pub made : is_failed new ≡ false → IsAsMade old.base → IsAsMade new.base
-  pub grows : is_failed new ≡ false → LeavesNoneFree old.base new.base
+  pub grows : is_failed new ≡ false → GrowsTightly old.base new.base
+
+-- the same of any number of such changes, one after the other: sectors may have become free behind those that were appended
+pub record KeepsAllButContent (entry : ℕ) (old new : FileState) : Type 0 where
+  pub setting : SameSetting old new
+  pub entries : MovesContent old.base new.base entry
+  pub others : KeepsOthers entry old.base new.base
+  pub header : KeepsFixedHeader old.base new.base
+  pub made : is_failed new ≡ false → IsAsMade old.base → IsAsMade new.base
 
 -- ---- a new object
 

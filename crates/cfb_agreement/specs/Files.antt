@@ -1,5 +1,5 @@
 -- What a file keeps in memory, and when that is what its bytes say.
-use Rattle.std.specs.Prelude.{ℕ, ◌≡◌, ◌<◌, Bool, true, false, length}
+use Rattle.std.specs.Prelude.{ℕ, ◌≡◌, ◌<◌, ◌≤◌, Bool, true, false, length}
 use Rattle.cfb_format.specs.declared.header.Header.{Header}
 use Rattle.cfb_format.specs.declared.validate.Validation.TheVariants.{Permissive, Strict}
 use Rattle.cfb_format.specs.Full.{IsFull}
@@ -9,7 +9,7 @@ use Rattle.cfb_tables.specs.Changes.{NoneFree}
 use Rattle.cfb_tables.specs.Tables.{AreExactTables}
 use Rattle.cfb_trees.specs.Balance.{AreAllBalanced}
 use Rattle.cfb_mini_sectors.specs.State.{IsChangeable, MiniState, bytes_of, cases_of, entries_of, parts_of, reading_of, table_of, tables_in, version_of}
-use Rattle.cfb_mini_sectors.specs.Steps.{KeepsLimits}
+use Rattle.cfb_mini_sectors.specs.Steps.{IsSnugMini, KeepsLimits}
 use Rattle.cfb_mini.specs.MiniSectors.{IsStill}
 use Rattle.cfb_content.specs.Contents.{AreAllUsed, AreSnug, TellsPlaces}
 
@@ -47,13 +47,14 @@ Agrees file = is_failed file ≡ false → Holds file
 -- ---- files that were made here
 
 -- what creation gives and each success keeps: the bytes are sound, and such as strict opening takes; each sector and each mini sector is
--- free or has an owner; the tables are as long as the file needs, and each stream's chain as long as its length needs; and the siblings of
--- each storage are in balance
+-- free or has an owner; the tables are as long as the file needs, and each stream's chain as long as its length needs, and so are the chains
+-- of the MiniFAT and of the mini stream for the mini sectors that there are; and the siblings of each storage are in balance
 pub record IsAsMade (s : MiniState) : Type 0 where
   pub changeable : IsChangeable Strict s
   pub used : AreAllUsed s
   pub exact : AreExactTables (tables_in s)
   pub snug : AreSnug s
+  pub snug_mini : IsSnugMini s
   pub balanced : AreAllBalanced (cases_of s) (entries_of s)
 
 -- ---- what stays
@@ -71,9 +72,9 @@ pub record IsAsBefore (old new : FileState) : Type 0 where
   pub is_sound : new.is_sound ≡ old.is_sound
   pub buffer_limit : new.buffer_limit ≡ old.buffer_limit
 
--- where a sector was appended none is free
-abbrev pub LeavesNoneFree : MiniState → MiniState → Type 0
-LeavesNoneFree old new = length (tables_in old).fat < length (tables_in new).fat → NoneFree (tables_in new).fat
+-- where a sector was appended none is free, and there are no more of them than the limit allows
+abbrev pub GrowsTightly : MiniState → MiniState → Type 0
+GrowsTightly old new = length (tables_in old).fat < length (tables_in new).fat → NoneFree (tables_in new).fat × (length (tables_in new).fat ≤ (tables_in old).max_sectors)
 
 -- ---- fullness
 

@@ -1,5 +1,5 @@
 -- What follows from what a file keeps.
-use Rattle.std.specs.Prelude.{ℕ, ◌≡◌, ◌≤◌, ◌↔◌, List, Bool, true, false, length, Some}
+use Rattle.std.specs.Prelude.{ℕ, ◌≡◌, ◌<◌, ◌≤◌, ◌↔◌, List, Bool, true, false, length, Some}
 use Rattle.cfb_format.specs.declared.validate.Validation.TheVariants.{Permissive, Strict}
 use Rattle.cfb_format.specs.Full.{HasExactTablesFile}
 use Rattle.cfb_format.specs.Meaning.{Means}
@@ -15,10 +15,10 @@ use Rattle.cfb_objects.specs.Laws.{BecomesTree}
 use Rattle.cfb_objects.specs.Objects.{tree_from}
 use Rattle.cfb_mini_sectors.specs.Held.{with_table}
 use Rattle.cfb_mini_sectors.specs.State.{IsChangeable, MiniState, bytes_of, cases_of, content_of, entries_of, table_of, tables_in}
-use Rattle.cfb_mini_sectors.specs.Steps.{KeepsLimits}
+use Rattle.cfb_mini_sectors.specs.Steps.{IsSnugMini, KeepsLimits}
 use Rattle.cfb_content.specs.Contents.{AreAllUsed, AreSnug, IsStreamOf, KeepsOthers, MovesContent}
 use Rattle.cfb_agreement.specs.Files.{FileState, Holds, IsAsBefore, IsAsMade, SameSetting, failures_of, is_failed}
-use Rattle.cfb_agreement.specs.Changes.{ChangesOneContent}
+use Rattle.cfb_agreement.specs.Changes.{ChangesOneContent, KeepsAllButContent}
 
 -- ---- what is held
 
@@ -83,7 +83,7 @@ ContentBecomesTree = (old new : FileState) (i : ℕ) (o : Outline) (names : List
 -- a file that was made here is so again, where the tables and the chains are in order: the balance is kept
 abbrev pub ContentKeepsMade : Type 0
 ContentKeepsMade = (i : ℕ) (old new : MiniState) → KeepsLimits old new → MovesContent old new i → IsStreamOf old i → IsAsMade old
-    → IsChangeable Strict new → AreAllUsed new → AreExactTables (tables_in new) → AreSnug new → IsAsMade new
+    → IsChangeable Strict new → AreAllUsed new → AreExactTables (tables_in new) → AreSnug new → IsSnugMini new → IsAsMade new
 
 -- the entry is a stream's still
 abbrev pub ContentKeepsStream : Type 0
@@ -97,11 +97,21 @@ SameContentIsNone = (i : ℕ) (file : FileState) → ChangesOneContent i file fi
 abbrev pub AsBeforeIsNone : Type 0
 AsBeforeIsNone = (i : ℕ) (old new : FileState) → IsAsBefore old new → ChangesOneContent i old new
 
--- one change after the other, where the file gets no shorter by the second and, if it gets no longer, none becomes free; and a file that
--- failed stays failed
+-- one change after the other, where the file gets no shorter by the second and, if the first appended sectors and the second none, none
+-- becomes free by it; and a file that failed stays failed
 abbrev pub ContentsInTurn : Type 0
 ContentsInTurn = (i : ℕ) (old mid new : FileState) → ChangesOneContent i old mid → ChangesOneContent i mid new
     → (is_failed mid ≡ true → is_failed new ≡ true)
     → (is_failed new ≡ false → length (tables_in mid.base).fat ≤ length (tables_in new.base).fat)
-    → (is_failed new ≡ false → NoneFree (tables_in mid.base).fat → NoneFree (tables_in new.base).fat)
+    → (is_failed new ≡ false → length (tables_in old.base).fat < length (tables_in mid.base).fat
+    → length (tables_in new.base).fat ≡ length (tables_in mid.base).fat → NoneFree (tables_in mid.base).fat → NoneFree (tables_in new.base).fat)
     → ChangesOneContent i old new
+
+-- one change leaves alone what any number of them does
+abbrev pub OneChangeKeepsRest : Type 0
+OneChangeKeepsRest = (i : ℕ) (old new : FileState) → ChangesOneContent i old new → KeepsAllButContent i old new
+
+-- and what they leave alone, others after them do too
+abbrev pub RestIsKeptInTurn : Type 0
+RestIsKeptInTurn = (i : ℕ) (old mid new : FileState) → KeepsAllButContent i old mid → KeepsAllButContent i mid new
+    → (is_failed mid ≡ true → is_failed new ≡ true) → KeepsAllButContent i old new

@@ -1,5 +1,5 @@
 //! What follows from what a file keeps. None of these functions does anything: each has a law as its contract.
-ghost use Rattle.cfb_agreement.specs.Laws.{AsBeforeIsNone, AsBeforeIsSame, AsMadeIsInOrder, AsMadeIsLow, ChangeableIsHeld, ContentBecomesTree, ContentKeepsMade, ContentKeepsStream, ContentsInTurn, FlagsAreNotMade, FlagsAreNotRead, HeldMeansItsTree, SameContentIsNone, SoundIsExact};
+ghost use Rattle.cfb_agreement.specs.Laws.{AsBeforeIsNone, AsBeforeIsSame, AsMadeIsInOrder, AsMadeIsLow, ChangeableIsHeld, ContentBecomesTree, ContentKeepsMade, ContentKeepsStream, ContentsInTurn, FlagsAreNotMade, FlagsAreNotRead, HeldMeansItsTree, OneChangeKeepsRest, RestIsKeptInTurn, SameContentIsNone, SoundIsExact};
 
 /// What holds does not hang on whether a change was begun, nor on the count of failures.
 pub fn flags_are_not_read()
@@ -33,9 +33,12 @@ pub fn changed_content_is_meant()
     ensures made { ContentKeepsMade }
 {}
 
-/// Changes of one stream's content, one after the other, are one.
+/// Changes of one stream's content, one after the other, are one where none that appends sectors is followed by one that frees some and
+/// appends none; and however many they are, nothing else of the file changes.
 pub fn content_changes_compose()
     ensures none { SameContentIsNone }
     ensures as_before { AsBeforeIsNone }
     ensures in_turn { ContentsInTurn }
+    ensures rest { OneChangeKeepsRest }
+    ensures rest_in_turn { RestIsKeptInTurn }
 {}

@@ -1,5 +1,5 @@
 -- The allocator's state after sectors were taken, and what stays then.
-use Rattle.std.proofs.Common.{refl, inl, inr, ◌≡◌, ◌≢◌, ◌⊎◌, ℕ, ◌<◌, ◌≤◌, Bool, true, ne_eqb, List, [], ◌∷◌, ◌++◌, length, sym, ◌∙◌, ap, subst, arith}
+use Rattle.std.proofs.Common.{refl, inl, inr, ◌≡◌, ◌≢◌, ◌⊎◌, ℕ, ◌<◌, ◌≤◌, Bool, true, ne_eqb, List, [], ◌∷◌, ◌++◌, length, drop, sym, ◌∙◌, ap, subst, arith}
 use Rattle.std.specs.Prelude.{Contains, if◌then◌else◌}
 use Rattle.std.proofs.lemmas.List.Elements.{Contains-append_left, Contains-append_right, Contains-append_cases}
 use Rattle.cfb_format.specs.declared.error.Error.{Error}
@@ -9,6 +9,7 @@ use Rattle.cfb_format.specs.Bytes.{end_of_chain, free_sector}
 use Rattle.cfb_format.specs.Chain.{value, IsChain}
 use Rattle.cfb_format.specs.declared.validate.Validation.{Validation}
 use Rattle.cfb_alloc.specs.Alloc.{AllocatorState, HoldsTables, OthersStay}
+use Rattle.cfb_table_words.specs.Agreement.{KeepsSectors}
 use Rattle.cfb_table_words.specs.Holding.{HoldsBut, IsPlaced, ChangesSectors, IsOtherHeaderByte}
 use Rattle.cfb_tables.specs.Changes.{AreDisjoint}
 use Rattle.cfb_tables.specs.Clean.{IsClean}
@@ -18,7 +19,7 @@ use Rattle.cfb_alloc.specs.Broken.{BreaksOff}
 use Rattle.cfb_sectors.specs.Sectors.{SectorFile, SectorStays, IsMediumError}
 use Rattle.cfb_tables.specs.Tables.{TableState, HasTaken, TakesFor, AreSizes, sizes_of, ending}
 use Rattle.cfb_tables.proofs.CleanLemmas.{taken-clean}
-use Rattle.cfb_table_words.proofs.GrowthLemmas.{fats_apart_more}
+use Rattle.cfb_table_words.proofs.GrowthLemmas.{fats_apart_more, old_fats_kept}
 use Rattle.cfb_tables.proofs.Members.{value-below}
 use Rattle.cfb_sectors.proofs.SectorLemmas.{SectorStays_refl}
 
@@ -145,6 +146,12 @@ others_unchanged {a} {s0} {t0} view t same =
     subst (λ (z : AllocatorState). OthersStay z (record { file = s0; tables = t })) view
     (subst (λ (z : TableState). OthersStay (record { file = s0; tables = t0 }) (record { file = s0; tables = z })) (sym same) (others_refl (record { file = s0; tables = t0 })))
 
+-- and so do the FAT sectors
+pub fats_unchanged : {a : AllocatorState} {s0 : SectorFile} {t0 : TableState} → record { file = s0; tables = t0 } ≡ a
+    → KeepsSectors a.tables.version a.tables.fat_sectors a.file.bytes s0.bytes
+fats_unchanged {a} {s0} {t0} view =
+    subst (λ (z : AllocatorState). KeepsSectors z.tables.version z.tables.fat_sectors z.file.bytes s0.bytes) view (λ i m. SectorStays_refl t0.version i s0.bytes)
+
 -- a call's state was `a`; it took sectors, and `shown` are those that it hands on to be written
 module _ {a : AllocatorState} {s0 : SectorFile} {t0 t : TableState} {touched more : List ℕ} (shown : List ℕ) (same : shown ≡ more)
     (view : record { file = s0; tables = t0 } ≡ a) (taken : HasTaken t0 t touched more) where
@@ -204,3 +211,16 @@ module _ {a : AllocatorState} {s0 : SectorFile} {t0 t : TableState} {touched mor
   pub clean_taken : (validation : Validation) → HoldsTables validation a → (start : ℕ) → IsChain t.fat start (touched ++ more) → length touched ≤ 1 → IsClean t.fat
   clean_taken validation h start chain few =
       taken-clean t0 t touched more start taken chain few (subst (λ (z : AllocatorState). IsClean z.tables.fat) (sym view) h.clean)
+
+  -- the FAT sectors there were stay while the new table sectors and the new sectors are written
+  pub fats_kept_shown : (validation : Validation) → HoldsTables validation a → (fats : ℕ) → fats ≡ length a.tables.fat_sectors → (s1 : SectorFile) (b : List ℕ) (count : ℕ)
+      → s1 ≡ record s0 { num_sectors = count } → ChangesSectors (drop fats t.fat_sectors ++ t.difat_sectors ++ shown) t.version s1.bytes b
+      → KeepsSectors a.tables.version a.tables.fat_sectors a.file.bytes b
+  fats_kept_shown validation h fats known s1 b count reserved change =
+      let bytes : s1.bytes ≡ s0.bytes = ap (λ (f : SectorFile). f.bytes) reserved in
+      let kept : KeepsSectors t0.version t0.fat_sectors s0.bytes b =
+      old_fats_kept validation t0 t touched more taken s0 (held_before validation h) fats t0.version s0.bytes b (fats_known fats known)
+      (subst (λ (v : Version). ChangesSectors (drop fats t.fat_sectors ++ t.difat_sectors ++ more) v s0.bytes b) taken.same_version
+      (subst (λ (xs : List ℕ). ChangesSectors (drop fats t.fat_sectors ++ t.difat_sectors ++ xs) t.version s0.bytes b) same
+      (subst (λ (xs : List ℕ). ChangesSectors (drop fats t.fat_sectors ++ t.difat_sectors ++ shown) t.version xs b) bytes change))) in
+      subst (λ (z : AllocatorState). KeepsSectors z.tables.version z.tables.fat_sectors z.file.bytes b) view kept

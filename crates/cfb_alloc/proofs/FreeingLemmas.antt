@@ -16,6 +16,7 @@ use Rattle.cfb_table_words.specs.Holding.{HoldsBut, IsPlaced, ChangesSectors}
 use Rattle.cfb_tables.specs.Changes.{ChangesOnlyValues, GivesBack, IsNextOf, NoChain}
 use Rattle.cfb_tables.specs.Clean.{IsClean}
 use Rattle.cfb_tables.specs.Refused.{TableRefused, ChangeRefused}
+use Rattle.cfb_format.specs.Refused.{AfterMedium}
 use Rattle.cfb_alloc.specs.Broken.{BreaksOff}
 use Rattle.cfb_sectors.specs.Sectors.{SectorFile, IsMediumError}
 use Rattle.cfb_tables.specs.Tables.{TableState}
@@ -54,17 +55,25 @@ invalid_changed why invalid memory full medium (Medium m) f r = absurd r
 invalid_changed why invalid memory full medium Unsound f r = absurd r
 invalid_changed why invalid memory full medium Failed f r = absurd r
 
+broke_by_medium : (broken kept : Type 0) (e : Error) → IsMediumError e → broken → AfterMedium broken kept e
+broke_by_medium broken kept (Medium m) is b = b
+broke_by_medium broken kept (InvalidData d) is b = absurd (omega (arith, is))
+broke_by_medium broken kept Memory is b = absurd (omega (arith, is))
+broke_by_medium broken kept Full is b = absurd (omega (arith, is))
+broke_by_medium broken kept (NotFound d) is b = absurd (omega (arith, is))
+broke_by_medium broken kept (AlreadyExists d) is b = absurd (omega (arith, is))
+broke_by_medium broken kept (InvalidInput d) is b = absurd (omega (arith, is))
+broke_by_medium broken kept Unsound is b = absurd (omega (arith, is))
+broke_by_medium broken kept Failed is b = absurd (omega (arith, is))
+
+-- what the medium alone can refuse was made though it broke off
+pub made_though : {T : Type 0} (r : Result T Error) (broken kept : Type 0) → IfErr r IsMediumError → broken → IfErr r (AfterMedium broken kept)
+made_though (Ok x) broken kept is b = tt
+made_though (Err e) broken kept is b = broke_by_medium broken kept e is b
+
 pub breaks_by_medium : (made : TableState → TableState → Type 0) (old new : AllocatorState) (e : Error) → IsMediumError e → new.file.begun ≡ true → made old.tables new.tables
     → BreaksOff made old new e
-breaks_by_medium made old new (Medium f) is begun m = (begun, m)
-breaks_by_medium made old new (InvalidData d) is begun m = absurd (omega (arith, is))
-breaks_by_medium made old new Memory is begun m = absurd (omega (arith, is))
-breaks_by_medium made old new Full is begun m = absurd (omega (arith, is))
-breaks_by_medium made old new (NotFound d) is begun m = absurd (omega (arith, is))
-breaks_by_medium made old new (AlreadyExists d) is begun m = absurd (omega (arith, is))
-breaks_by_medium made old new (InvalidInput d) is begun m = absurd (omega (arith, is))
-breaks_by_medium made old new Unsound is begun m = absurd (omega (arith, is))
-breaks_by_medium made old new Failed is begun m = absurd (omega (arith, is))
+breaks_by_medium made old new e is begun m = broke_by_medium ((new.file.begun ≡ true) × made old.tables new.tables) (new ≡ old) e is (begun, m)
 
 -- a change that the medium alone can refuse broke off when it was begun and made in memory
 pub breaks_back : {T : Type 0} (r : Result T Error) (made : TableState → TableState → Type 0) (old new : AllocatorState) → IfErr r IsMediumError

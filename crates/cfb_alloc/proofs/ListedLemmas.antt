@@ -1,10 +1,11 @@
 -- A chain whose sectors the caller has listed, as it grows and is cut over a medium.
-use Rattle.std.proofs.Common.{◌≡◌, ◌≢◌, ◌⊎◌, inl, inr, ℕ, zero, suc, ◌-◌, ◌<◌, ◌≤◌, List, [], ◌∷◌, ◌++◌, length, take, drop, refl, sym, ◌∙◌, ap, subst, arith, append-nil, append_assoc, length-take}
-use Rattle.std.specs.Prelude.{Contains, Some, slice_get}
+use Rattle.std.proofs.Common.{◌≡◌, ◌≢◌, ◌⊎◌, inl, inr, ℕ, zero, suc, ◌+◌, ◌-◌, ◌<◌, ◌≤◌, List, [], ◌∷◌, ◌++◌, length, take, drop, refl, sym, ◌∙◌, ap, subst, arith, append-nil, append_assoc, length-take}
+use Rattle.std.specs.Prelude.{Contains, Some, slice_get, slice_index}
+use Rattle.std.proofs.Math.Seq.{drop-cons}
 use Rattle.std.proofs.Transfers.{drop-appended}
-use Rattle.std.proofs.lemmas.Bool.{cases_eq}
+use Rattle.std.proofs.lemmas.Bool.{cases_eq, cases_lt}
 use Rattle.std.proofs.lemmas.Option.{slice_get_within, get_or_from_slice_get}
-use Rattle.std.proofs.lemmas.List.{take_all, length-drop, take-append-drop, nil_from_length}
+use Rattle.std.proofs.lemmas.List.{take_all, take_more, length-drop, take-append-drop, nil_from_length}
 use Rattle.std.proofs.lemmas.List.Elements.{Contains-append_left, Contains-append_right}
 use Rattle.cfb_format.specs.declared.error.Error.{Error}
 use Rattle.cfb_format.specs.declared.validate.Validation.{Validation}
@@ -16,16 +17,16 @@ use Rattle.cfb_tables.specs.Clean.{IsClean, IsUnnamed}
 use Rattle.cfb_tables.specs.Listed.{EndsChain, ends_of, gained, last_or_end}
 use Rattle.cfb_tables.specs.Refused.{ChangeRefused, NextRefused}
 use Rattle.cfb_tables.specs.Tables.{TableState, HasTaken, TablesGiveBack, AreSizes, ending, first_or_end, sizes_of}
-use Rattle.cfb_tables.proofs.ChainLemmas.{members-busy, follows-values}
+use Rattle.cfb_tables.proofs.ChainLemmas.{chain_of, follows-rest, follows-values, members-busy}
 use Rattle.cfb_tables.proofs.CleanLemmas.{freed-clean, cut-clean}
-use Rattle.cfb_tables.proofs.ListedLemmas.{end_chain, ended_alone, ended_regular, ending_other, gained_is, last_is, last_alone, last_split, what_is_left-ends, what_is_left-is-chain}
+use Rattle.cfb_tables.proofs.ListedLemmas.{chain_ends, end_chain, ended_alone, ended_regular, ending_other, gained_is, last_pushed, last_split, rest-is, what_is_left-ends, what_is_left-is-chain}
 use Rattle.cfb_tables.proofs.Members.{Contains-nil, Contains-one}
 use Rattle.cfb_tables.proofs.PreparedLemmas.{chain-one}
 use Rattle.cfb_tables.proofs.TakenLemmas.{taken-none, taken-nothing}
 use Rattle.cfb_alloc.specs.Alloc.{AllocatorState}
 use Rattle.cfb_table_words.specs.Holding.{HoldsBut, ChangesSectors}
 use Rattle.cfb_alloc.specs.Frame.{Spares}
-use Rattle.cfb_alloc.specs.ListedChain.{Lengthens, Shortens}
+use Rattle.cfb_alloc.specs.ListedChain.{CanShorten, Lengthens, Shortens, from_last_of}
 use Rattle.cfb_alloc.proofs.AllocLemmas.{next_refused, refused-less}
 use Rattle.cfb_alloc.proofs.FreeingLemmas.{changed_holds}
 use Rattle.cfb_alloc.proofs.Frames.{spares-less}
@@ -187,9 +188,97 @@ module _ (t0 t : TableState) (rest : t ≡ record t0 { fat = t.fat }) (ids : Lis
       let back = subst (λ (z : AllocatorState). TablesGiveBack (ends_of (take left ids)) (drop left ids) z.tables t) view (record { given = cut; rest = rest }) in
       spares-less touched ids a new (λ i m. cut_members t0.fat ids left i c fewer m) (freed_spares a new (ends_of (take left ids)) (drop left ids) back change)
 
+-- ---- cuts of a list that is a chain only from the last one on that is left
+
+-- a place in a list: what is before it, the one there and what is behind
+split_at : (ids : List ℕ) (k : ℕ) → k < length ids → ids ≡ take k ids ++ slice_index ids k ∷ drop (suc k) ids
+split_at ids k inside = sym (take-append-drop k ids) ∙ ap (λ (z : List ℕ). take k ids ++ z) (drop-cons ids k 0 inside)
+
+-- a list that is a chain can be cut to any length
+pub can_shorten : (table ids : List ℕ) (left : ℕ) → IsChain table (first_or_end ids) ids → CanShorten left table ids
+can_shorten table ids left c = record { ends = chain_ends table (first_or_end ids) ids c; chain = behind left }
+  where
+    behind : (left : ℕ) → left < length ids → IsChain table (first_or_end (from_last_of left ids)) (from_last_of left ids)
+    behind zero fewer = c
+    behind (suc k) fewer =
+        let inside : k < length ids = omega (arith, fewer) in
+        let x = slice_index ids k in
+        let tail : drop (suc k - 1) ids ≡ x ∷ drop (suc k) ids = (let e : suc k - 1 ≡ k = omega arith in ap (λ n. drop n ids) e) ∙ drop-cons ids k 0 inside in
+        let follows = follows-rest table (first_or_end ids) (take k ids) x (drop (suc k) ids)
+        (subst (λ (z : List ℕ). IsChain table (first_or_end ids) z) (split_at ids k inside) c).follows in
+        subst (λ (z : List ℕ). IsChain table (first_or_end z) z) (sym tail) (chain_of table x (x ∷ drop (suc k) ids) follows)
+
+-- what is cut of a list is what is cut of its part from the last one on that is left
+module _ (ids : List ℕ) (left from : ℕ) (shown : List ℕ) (is : from ≡ left - 1) (fewer : left < length ids) (same : shown ≡ drop from ids) where
+  shown_from : shown ≡ from_last_of left ids
+  shown_from = same ∙ ap (λ n. drop n ids) is
+
+  pub tail_parts : (ends_of (take (left - from) shown) ≡ ends_of (take left ids)) × (drop (left - from) shown ≡ drop left ids)
+  tail_parts = (
+    ap (λ (z : List ℕ). ends_of (take (left - from) z)) shown_from ∙ (let e : left - from ≡ left - (left - 1) = omega (arith, is) in ap (λ n. ends_of (take n (from_last_of left ids))) e)
+        ∙ (parts left fewer).0,
+    ap (λ (z : List ℕ). drop (left - from) z) shown_from ∙ (let e : left - from ≡ left - (left - 1) = omega (arith, is) in ap (λ n. drop n (from_last_of left ids)) e)
+        ∙ (parts left fewer).1,
+  )
+    where
+      parts : (left : ℕ) → left < length ids → (ends_of (take (left - (left - 1)) (from_last_of left ids)) ≡ ends_of (take left ids))
+          × (drop (left - (left - 1)) (from_last_of left ids) ≡ drop left ids)
+      parts zero fewer = (refl, refl)
+      parts (suc k) fewer =
+          let inside : k < length ids = omega (arith, fewer) in
+          let x = slice_index ids k in
+          let one : suc k - (suc k - 1) ≡ 1 = omega arith in
+          let tail : drop (suc k - 1) ids ≡ x ∷ drop (suc k) ids = (let e : suc k - 1 ≡ k = omega arith in ap (λ n. drop n ids) e) ∙ drop-cons ids k 0 inside in
+          let kept : take (suc k) ids ≡ take k ids ++ x ∷ [] = (let e : suc k ≡ k + 1 = omega arith in ap (λ n. take n ids) e) ∙ take_more ids k 0 inside in (
+            (λ j. ends_of (take (one j) (tail j))) ∙ ap ending (last_pushed [] x) ∙ sym (ap ending (ap last_or_end kept ∙ last_pushed (take k ids) x)),
+            (λ j. drop (one j) (tail j)),
+          )
+
+  tail_chain : (table : List ℕ) → CanShorten left table ids → IsChain table (first_or_end shown) shown
+  tail_chain table can = subst (λ (z : List ℕ). IsChain table (first_or_end z) z) (sym shown_from) (can.chain fewer)
+
+  tail_fewer : left - from < length shown
+  tail_fewer = let size = ap (λ (z : List ℕ). length z) same in let len = length-drop from ids in omega (arith, size, len, is, fewer)
+
+  tail_members : (i : ℕ) → Contains shown i → Contains ids i
+  tail_members i m =
+      subst (λ (z : List ℕ). Contains z i) (take-append-drop from ids) (Contains-append_right (take from ids) (drop from ids) i (subst (λ (z : List ℕ). Contains z i) same m))
+
+  tail_first : left - from ≡ 0 → (left ≡ 0) × (first_or_end ids ≡ first_or_end shown)
+  tail_first none =
+      let start : from ≡ 0 = omega (arith, none, is) in
+      (omega (arith, none, is), sym (ap first_or_end (same ∙ ap (λ n. drop n ids) start)))
+
+  tail_given : (t t' : TableState) → TablesGiveBack (ends_of (take (left - from) shown)) (drop (left - from) shown) t t'
+      → TablesGiveBack (ends_of (take left ids)) (drop left ids) t t'
+  tail_given t t' given = subst (λ (z : List ℕ). TablesGiveBack (ends_of (take left ids)) z t t') tail_parts.1
+      (subst (λ (z : List ℕ). TablesGiveBack z (drop (left - from) shown) t t') tail_parts.0 given)
+
+-- the same of a slice from there on
+pub record CutsTail (ids : List ℕ) (left from : ℕ) (shown : List ℕ) : Type 0 where
+  pub chain : (table : List ℕ) → CanShorten left table ids → IsChain table (first_or_end shown) shown
+  pub fewer : left - from < length shown
+  pub members : (i : ℕ) → Contains shown i → Contains ids i
+  pub first : left - from ≡ 0 → (left ≡ 0) × (first_or_end ids ≡ first_or_end shown)
+  pub shortens : (t t' : TableState) → TablesGiveBack (ends_of (take (left - from) shown)) (drop (left - from) shown) t t'
+      → (ids' : List ℕ) → ids' ≡ take left ids → Shortens left ids ids' t t'
+
+pub cuts_tail : (ids listed : List ℕ) (left from : ℕ) → listed ≡ ids → from ≡ left - 1 → left < length ids
+    → CutsTail ids left from (take (length listed - from) (drop from listed))
+cuts_tail ids listed left from all is fewer =
+    let shown = take (length listed - from) (drop from listed) in
+    let same : shown ≡ drop from ids = rest-is listed from ∙ ap (λ (z : List ℕ). drop from z) all in
+    record {
+      chain = tail_chain ids left from shown is fewer same;
+      fewer = tail_fewer ids left from shown is fewer same;
+      members = tail_members ids left from shown is fewer same;
+      first = tail_first ids left from shown is fewer same;
+      shortens = λ t t' given ids' is_left. record { listed = is_left; given_back = tail_given ids left from shown is fewer same t t' given };
+    }
+
 -- where all are left nothing is given back
-pub shortened_none : (t : TableState) (ids : List ℕ) (left : ℕ) → IsChain t.fat (first_or_end ids) ids → length ids ≤ left → Shortens left ids ids t t
-shortened_none t ids left c all =
+pub shortened_none : (t : TableState) (ids : List ℕ) (left : ℕ) → EndsChain t.fat ids → length ids ≤ left → Shortens left ids ids t t
+shortened_none t ids left ends all =
     let same : take left ids ≡ ids = take_all left ids all in
     let len = length-drop left ids in
     let none : drop left ids ≡ [] = nil_from_length (drop left ids) (omega (arith, len, all)) in
@@ -198,7 +287,7 @@ shortened_none t ids left c all =
       given_back = record {
         given = record {
           same_length = refl;
-          ended = λ i m. ended ids c i (subst (λ (z : List ℕ). Contains (ends_of z) i) same m);
+          ended = λ i m. ended i (subst (λ (z : List ℕ). Contains (ends_of z) i) same m);
           free = λ i m. absurd (Contains-nil i (subst (λ (z : List ℕ). Contains z i) none m));
           only = λ i out. refl;
         };
@@ -206,13 +295,16 @@ shortened_none t ids left c all =
       };
     }
   where
-    ended : (list : List ℕ) → IsChain t.fat (first_or_end list) list → (i : ℕ) → Contains (ends_of list) i → value t.fat i ≡ end_of_chain
-    ended [] c i m = absurd (Contains-nil i m)
-    ended (x ∷ list) c i m =
-        let some : 0 < length (x ∷ list) = omega arith in
-        let last = last_or_end (x ∷ list) in
-        let is : last ≡ i = Contains-one last i (subst (λ (z : List ℕ). Contains z i) (last_alone t.fat x (x ∷ list) c some) m) in
-        ap (value t.fat) (sym is) ∙ (last_is t.fat x (x ∷ list) c some).0
+    ended : (i : ℕ) → Contains (ends_of ids) i → value t.fat i ≡ end_of_chain
+    ended i m = elim (cases_lt 0 (length ids)) [
+      | inl some ↦ elim (cases_eq (last_or_end ids) end_of_chain) [
+        | inl e ↦ absurd (Contains-nil i (subst (λ (z : List ℕ). Contains z i) (ap ending e) m))
+        | inr ne ↦ ap (value t.fat) (sym (Contains-one (last_or_end ids) i (subst (λ (z : List ℕ). Contains z i) (ending_other (last_or_end ids) ne) m))) ∙ ends some
+      ]
+      | inr none ↦
+          let empty : ids ≡ [] = nil_from_length ids (omega (arith, none)) in
+          absurd (Contains-nil i (subst (λ (z : List ℕ). Contains (ends_of z) i) empty m))
+    ]
 
 -- what is left of a listed chain is a chain
 pub left_chain : (old new ids ids' : List ℕ) (left : ℕ) → IsChain old (first_or_end ids) ids → GivesBack (ends_of (take left ids)) (drop left ids) old new → ids' ≡ take left ids

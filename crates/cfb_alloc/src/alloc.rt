@@ -1,10 +1,12 @@
 //! The allocator of sectors: chains are begun, extended, cut and freed (MS-CFB 2.3 and 2.5).
-ghost use Rattle.std.specs.Prelude.{◌≡◌, ◌≢◌, ◌↔◌, ℕ, List, [], ◌∷◌, max, min, length, true, false, IsTrue, IfOk, IfErr, IfSome, OnOk, OnErr, take, drop, ◌++◌, ◌⊎◌, ◌+◌, ◌-◌, ◌<◌, ◌≤◌, Contains, IsErrAnd, MatchResult, vec_len};
+ghost use Rattle.std.specs.Prelude.{◌≡◌, ◌≢◌, ◌↔◌, ℕ, List, [], ◌∷◌, max, min, length, true, false, IsTrue, IfOk, IfErr, IfSome, OnOk, OnErr, take, drop, ◌++◌, ◌⊎◌, ◌+◌, ◌-◌, ◌*◌, ◌<◌, ◌≤◌, Contains, IsErrAnd, MatchResult, vec_len};
 ghost use Rattle.cfb_format.specs.declared.validate.Validation.{Validation};
 ghost use Rattle.cfb_format.specs.Bytes.{sector_len, max_regular_sector, end_of_chain};
 ghost use Rattle.cfb_format.specs.Chain.{IsChain, value};
 ghost use Rattle.cfb_format.specs.Refused.{CountsFailure, IsInvalidData};
 ghost use Rattle.cfb_alloc.specs.Alloc.{AreListed, HoldsTables, IsUsable, OthersStay};
+ghost use Rattle.cfb_table_words.specs.Agreement.{KeepsSectors};
+ghost use Rattle.cfb_table_words.specs.Along.{AreFilledFrom};
 ghost use Rattle.cfb_table_words.specs.Holding.{ChangesSectors, IsPlaced, IsFilled};
 ghost use Rattle.cfb_tables.specs.ReadFat.{AcceptsFat, AcceptsNoFat};
 ghost use Rattle.cfb_tables.specs.Changes.{IsNextOf, NoChain};
@@ -15,7 +17,7 @@ ghost use Rattle.cfb_tables.specs.Room.{IsTooFewAfter};
 ghost use Rattle.cfb_sectors.specs.Words.{with_word};
 ghost use Rattle.cfb_alloc.specs.Frame.{Spares, LieAmong, LieOutside, table_sectors};
 ghost use Rattle.cfb_alloc.specs.HeaderWords.{header_word_place};
-ghost use Rattle.cfb_alloc.specs.ListedChain.{Lengthens, Shortens, ListBreaksOff};
+ghost use Rattle.cfb_alloc.specs.ListedChain.{CanShorten, Lengthens, Shortens, ListBreaksOff};
 ghost use Rattle.cfb_tables.specs.Tables.{HasTaken, TakesFor, Extended, ExtendsFrom, GivesBackChain, TablesGiveBack, AreSizes, IsTooFew, ending, first_or_end, sizes_of, tables_of};
 ghost use Rattle.cfb_tables.specs.Clean.{IsUnnamed};
 ghost use Rattle.cfb_sectors.specs.Sectors.{IsMediumError, IsRaised, OtherSectorsStay, place_in_sector, sectors_end};
@@ -402,6 +404,7 @@ impl<F: Medium, A: Heap> Allocator<F, A> {
             &[],
             &[sector],
             init,
+            &[],
         )?;
         Ok(sector)
     }
@@ -449,6 +452,63 @@ impl<F: Medium, A: Heap> Allocator<F, A> {
         ensures counts { IsTrue F.tells
             → CountsFailure F.write_faults result self.old.file.failures self.new.file.failures }
     {
+        self.extend_listed_from(ids, count, init, &[])
+    }
+
+    /// Adds so many sectors as `extend_listed` does, and gives them these bytes, one sector after the other, in place of what fresh ones
+    /// hold; behind the bytes they hold what `init` says. No sector is written twice. The bytes come before the words that chain the
+    /// sectors: where the medium fails, the FAT sectors that were there have not changed, or the new sectors hold all of it.
+    ///
+    /// It appends their numbers to the list. The listed ones need be no chain: where they are one, the list is the chain again.
+    /// Where none is to be added nothing changes. It asks for memory before anything changes, and for none where `reserve` asked
+    /// for it and the list has room.
+    ///
+    /// `InvalidData` where the FAT sectors do not cover the file, and where the last listed one is no sector of it or its chain goes
+    /// on, `Full` where there are too few numbers, and `Memory`: then nothing has changed. After `Medium`, where the medium fails, the
+    /// tables in memory have all of the sectors and so has the list, and of the file's bytes no sector in use has changed but the
+    /// table sectors.
+    pub fn extend_listed_from(
+        &mut self,
+        ids: &mut Vec<u32, A>,
+        count: usize,
+        init: SectorInit,
+        from: &[u8],
+    ) -> Result<(), Error>
+        requires fits { length from.now ≤ count * sector_len self.old.tables.version }
+        ensures chain { IsChain self.old.tables.fat (first_or_end ids.old.items) ids.old.items
+            → IsChain self.new.tables.fat (first_or_end ids.new.items) ids.new.items }
+        ensures behind { OnOk result
+            (IsChain self.new.tables.fat (first_or_end (ends_of ids.old.items
+            ++ gained ids.old.items ids.new.items)) (ends_of ids.old.items
+            ++ gained ids.old.items ids.new.items)) }
+        ensures ends { OnOk result (EndsChain self.old.tables.fat ids.old.items) }
+        ensures lengthened { OnOk result
+            (Lengthens count ids.old.items ids.new.items self.old.tables self.new.tables) }
+        ensures none { count ≡ 0 → (self.new ≡ self.old) × (ids.new.items ≡ ids.old.items) }
+        ensures put { IsTrue F.tells
+            → (validation : Validation) → HoldsTables validation self.old
+            → OnOk result (AreFilledFrom self.new.tables.version
+            init from.now self.new.file.bytes (gained ids.old.items ids.new.items)) }
+        ensures ordered { IsTrue F.tells
+            → (validation : Validation) → HoldsTables validation self.old
+            → IfErr result (λ _. AreFilledFrom self.new.tables.version
+            init from.now self.new.file.bytes (gained ids.old.items ids.new.items)
+            ⊎ KeepsSectors self.old.tables.version
+            self.old.tables.fat_sectors self.old.file.bytes self.new.file.bytes) }
+        ensures holds { IsTrue F.tells → (validation : Validation)
+            → HoldsTables validation self.old → OnOk result (HoldsTables validation self.new) }
+        ensures others { IsTrue F.tells → OthersStay self.old self.new }
+        ensures spares { IsTrue F.tells → Spares (ends_of ids.old.items) self.old self.new }
+        ensures enough { OnOk result (IsTooFew self.old.tables count → ⊥) }
+        ensures begun { OnOk result (IsRaised (0 < count) self.old.file self.new.file) }
+        ensures refused { IfErr result
+            (ListBreaksOff (Lengthens count) ids.old.items ids.new.items self.old self.new) }
+        ensures err { IfErr result (ChangeRefused ((IsUsable self.old.tables → ⊥)
+            ⊎ (EndsChain self.old.tables.fat ids.old.items → ⊥)) (IsTooFew self.old.tables count
+            → ⊥) (IsTooFew self.old.tables count) Unit) }
+        ensures counts { IsTrue F.tells
+            → CountsFailure F.write_faults result self.old.file.failures self.new.file.failures }
+    {
         let before = self.usable_sizes()?;
         self.check_end(ids)?;
         if count == 0 {
@@ -465,6 +525,7 @@ impl<F: Medium, A: Heap> Allocator<F, A> {
             &ids[len.saturating_sub(1)..len],
             &ids[len..],
             init,
+            from,
         )
     }
 
@@ -495,14 +556,16 @@ impl<F: Medium, A: Heap> Allocator<F, A> {
         )
     }
 
-    /// Leaves so many sectors of the chain that has just the listed ones, frees the ones behind them, and takes them off the list. It
-    /// asks for no memory and walks no chain. Where there are no more than so many nothing changes.
+    /// Leaves so many of the listed sectors, frees the ones behind them, and takes them off the list. The listed ones need be a chain
+    /// only from the last one on that is left: where all of them are one, what is left is one again. It asks for no memory and walks
+    /// no chain. Where there are no more than so many nothing changes.
     ///
     /// `InvalidData` where the FAT sectors do not cover the file: then nothing has changed. After `Medium`, where the medium fails, the
     /// chain is cut in memory and so is the list, and of the file's bytes the FAT sectors alone have changed.
     pub fn cut_listed(&mut self, ids: &mut Vec<u32, A>, left: usize) -> Result<(), Error>
-        requires chain { IsChain self.old.tables.fat (first_or_end ids.old.items) ids.old.items }
-        ensures chain { IsChain self.new.tables.fat (first_or_end ids.new.items) ids.new.items }
+        requires chain { CanShorten left self.old.tables.fat ids.old.items }
+        ensures chain { IsChain self.old.tables.fat (first_or_end ids.old.items) ids.old.items
+            → IsChain self.new.tables.fat (first_or_end ids.new.items) ids.new.items }
         ensures shortened { OnOk result
             (Shortens left ids.old.items ids.new.items self.old.tables self.new.tables) }
         ensures none { length ids.old.items ≤ left
@@ -525,7 +588,8 @@ impl<F: Medium, A: Heap> Allocator<F, A> {
             return Ok(());
         }
         self.usable_sizes()?;
-        let freed = self.free_behind(ids, left);
+        let from = left.saturating_sub(1);
+        let freed = self.free_behind(&ids[from..], left - from);
         ids.truncate(left);
         freed
     }
@@ -684,6 +748,7 @@ impl<F: Medium, A: Heap + Clone> Allocator<F, A> {
             &[last],
             &[sector],
             init,
+            &[],
         )?;
         Ok(sector)
     }
@@ -819,7 +884,15 @@ impl<F: Medium, A: Heap + Clone> Allocator<F, A> {
         self.tables.reserve(count)?;
         let list = self.tables.take_by(self.heap.clone()?, count)?;
         self.sectors.reserve_sectors(self.tables.len() as u32);
-        write_taken(&mut self.sectors, &self.tables, before, &[], &list, init)?;
+        write_taken(
+            &mut self.sectors,
+            &self.tables,
+            before,
+            &[],
+            &list,
+            init,
+            &[],
+        )?;
         Ok(list)
     }
 
@@ -865,6 +938,7 @@ impl<F: Medium, A: Heap + Clone> Allocator<F, A> {
             &[last],
             &list,
             init,
+            &[],
         )?;
         Ok(list)
     }

@@ -5,6 +5,8 @@
 #[cfg(test)]
 mod files;
 #[cfg(test)]
+mod growths;
+#[cfg(test)]
 mod listed;
 #[cfg(test)]
 mod pieces;

@@ -1,4 +1,4 @@
-//! Vectors of the codecs, printed texts, tests of the media and of the calls that take memory, and
+//! Vectors of the codecs, printed texts, tests of the media, files among them, and of the calls that take memory, and
 //! whole reads and writes at media in memory.
 #![tactic(auto)]
 
@@ -6,6 +6,8 @@
 mod bytes;
 #[cfg(test)]
 mod entries;
+#[cfg(test)]
+mod files;
 #[cfg(test)]
 mod media;
 #[cfg(test)]

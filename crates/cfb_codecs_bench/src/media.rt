@@ -21,7 +21,7 @@ fn dots(alloc: Global) -> Result<MemoryMedium, AllocError>
 
 /// A call at a medium, and what it answers: `w` writes these bytes here, `W` all of them, `r` reads as
 /// many and finds a beginning of them, `f` flushes, and `l` asks for the length.
-type Call = (u8, u64, &'static [u8], Result<usize, MediumFault>);
+pub type Call = (u8, u64, &'static [u8], Result<usize, MediumFault>);
 
 /// How many bytes are read, and 99 where they are not these.
 fn read_bytes<F: ReadMedium>(medium: &mut F, at: u64, bytes: &[u8]) -> Result<usize, MediumFault> {
@@ -57,7 +57,7 @@ fn answer<F: Medium>(medium: &mut F, (call, at, bytes, _): &Call) -> Result<usiz
 }
 
 /// How many calls answer as they should, up to the first that does not.
-fn right_calls<F: Medium>(medium: &mut F, calls: &[Call]) -> usize {
+pub fn right_calls<F: Medium>(medium: &mut F, calls: &[Call]) -> usize {
     for (i, call) in calls.iter().enumerate() {
         if answer(medium, call) != call.3 {
             return i;

@@ -1,6 +1,6 @@
 -- Calls on an open stream and its closing, as steps of a run.
 use Rattle.std.proofs.Common.{◌≡◌, ℕ, Bool, true, false, List, refl, sym, ap, subst}
-use Rattle.std.specs.Prelude.{MatchBool, Option, ⊤, if◌then◌else◌}
+use Rattle.std.specs.Prelude.{MatchBool, Option, ⊤, ◌&&◌, if◌then◌else◌}
 use Rattle.cfb_format.specs.declared.medium.MediumFault.{MediumFault}
 use Rattle.cfb_format.specs.Tree.{Tree}
 use Rattle.cfb_rules.specs.Lists.{ClosingStep, LacksFor, StreamCallStep, causes_between, names_at}
@@ -13,23 +13,31 @@ use Rattle.cfb_agreement.specs.Files.{Agrees, FileState, SameSetting, is_failed}
 use Rattle.cfb_stream_window.specs.Windows.{Runs}
 use Rattle.cfb_path_changes.specs.Answers.{MeansTree, setting_of, state_with}
 use Rattle.cfb_path_changes.specs.Finding.{StandsAt}
-use Rattle.cfb_compound_file.specs.Stored.{KeepsRest}
+use Rattle.cfb_compound_file.specs.Stored.{ChangesInTurn, ChangesStream, KeepsRest}
 use Rattle.cfb_compound_file.specs.StreamAnswers.{OpenStream, closed_tree, run_in, stream_in}
-use Rattle.cfb_command_steps.specs.Promised.{IsClosedOf, IsOpenSince, IsWorkedOn, StreamKeeps, causes_on, promised}
+use Rattle.cfb_command_steps.specs.Promised.{IsClosedOf, IsOpenSince, IsWorkedOn, StreamKeeps, causes_on, may_come_second, promised}
+use Rattle.cfb_compound_file.proofs.StreamCalls.{at_once}
 use Rattle.cfb_command_steps.specs.Seen.{seen_as, standing_at}
 use Rattle.cfb_command_steps.proofs.Before.{same_before, seen_before, setting_same, setting_then, still_named}
 
 -- ---- a call on a stream
 
+-- with nothing kept back, and by a call that never comes second, there is one change
+once_by : (pending second : Bool) (entry : ℕ) (old new : FileState) (k : ChangesInTurn entry old new) → (pending ≡ false → k.between ≡ old) → (second ≡ false → ChangesStream entry old new)
+    → (pending && second) ≡ false → ChangesStream entry old new
+once_by true second entry old new k calm once single = once single
+once_by false second entry old new k calm once single = subst (λ (z : FileState). ChangesStream entry z new) (calm refl) k.second
+
 module _ (can_give : MediumFault → Bool) (first opened : FileState) (path : List ℕ) (old new : OpenStream) (tree : Tree) (same : SameSetting first opened) (since : IsOpenSince opened path old) where
   setting : SameSetting first old.file
   setting = setting_then first opened old.file same since.rest.setting
 
-  keeps : (call : StreamCall) (reply : StreamReply) → IsWorkedOn old call reply new → StreamKeeps (names_at path) old.file new.file
+  keeps : (call : StreamCall) (reply : StreamReply) → IsWorkedOn old call reply new → StreamKeeps (names_at path) ((stream_in old).pending && may_come_second call) old.file new.file
   keeps call reply w = record {
     entry = old.entry;
     stands = still_named opened old.file old.entry path since.rest since.stands;
     changes = w.goes_on.changes refl;
+    once = once_by old.window.pending (may_come_second call) old.entry old.file new.file (w.goes_on.changes refl) (w.goes_on.calm refl) w.once;
     rest = w.goes_on.rest refl;
   }
 
@@ -124,6 +132,6 @@ closing_step can_give first opened path old new tree closing same agrees means s
         closed = closed_as first opened new path tree (stream_in old) same;
         stays = λ nothing calm. seen_before old.file new tree after (same_before old.file new (c.calm nothing));
         counted = c.counted;
-        kept = record { entry = old.entry; stands = still_named opened old.file old.entry path since.rest since.stands; changes = c.changes; rest = c.rest };
+        kept = record { entry = old.entry; stands = still_named opened old.file old.entry path since.rest since.stands; changes = at_once old.entry old.file new c.changes; once = λ _. c.changes; rest = c.rest };
       },
     )

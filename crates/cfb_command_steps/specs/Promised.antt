@@ -1,5 +1,5 @@
 -- What the calls on a file promise of it, each for itself.
-use Rattle.std.specs.Prelude.{ℕ, ◌≡◌, Bool, List, Option, Some, true, false}
+use Rattle.std.specs.Prelude.{ℕ, ◌≡◌, ◌&&◌, Bool, List, Option, Some, length, nat_le, true, false}
 use Rattle.cfb_format.specs.declared.error.Error.{Error}
 use Rattle.cfb_format.specs.declared.medium.MediumFault.{MediumFault}
 use Rattle.cfb_rules.specs.Calls.{Call, Reply, create_storage_all, done, entries, flag, one_entry, refused}
@@ -7,12 +7,12 @@ use Rattle.cfb_rules.specs.Lists.{Deed, LeavesFile, by_call, by_closing, by_stre
 use Rattle.cfb_rules.specs.Refusal.{IsRefusal, Refusal, medium_failed}
 use Rattle.cfb_rules.specs.Runs.{Causes, Closes}
 use Rattle.cfb_rules.specs.Steps.{CallKind, asking, asking_freely, changing, creating, emptying, flushing, kind_of, opening, opening_to_read}
-use Rattle.cfb_rules.specs.StreamCalls.{StreamCall, StreamReply, set_len}
+use Rattle.cfb_rules.specs.StreamCalls.{StreamCall, StreamReply, ask_is_empty, ask_len, ask_position, consume, fill_buf, flush, read, read_to_end, seek, set_len, write}
 use Rattle.cfb_agreement.specs.Files.{FileState, IsAsBefore, failures_of, is_failed}
 use Rattle.cfb_path_changes.specs.Answers.{Answers, IsDoneBy, IsRefusedBy, IsRefusedInTurn, causes_of}
 use Rattle.cfb_path_changes.specs.Finding.{LeadTo, StandsAt}
-use Rattle.cfb_compound_file.specs.Stored.{ChangesStream, KeepsRest}
-use Rattle.cfb_compound_file.specs.StreamAnswers.{ClosesTree, GoesOn, OpenStream, StreamRunsBy, causes_of_len, run_in, stream_in}
+use Rattle.cfb_compound_file.specs.Stored.{ChangesInTurn, ChangesStream, KeepsRest}
+use Rattle.cfb_compound_file.specs.StreamAnswers.{ClosesTree, GoesOnInTurn, OpenStream, StreamRunsBy, causes_of_len, run_in, stream_in}
 use Rattle.cfb_command_steps.specs.Seen.{Standing}
 
 -- ---- calls by path
@@ -58,11 +58,27 @@ module _ (can_give : MediumFault → Bool) where
 
 -- ---- calls on a stream
 
--- of the file the content of the stream at these names may have changed, and nothing else, by this call and since any earlier state
-pub record StreamKeeps (names : List (List ℕ)) (old new : FileState) : Type 0 where
+-- a call that, with bytes kept back, may write them out as a change of its own: a long write, and a change of the length
+abbrev pub may_come_second : StreamCall → Bool
+may_come_second (read wanted) = false
+may_come_second fill_buf = false
+may_come_second (consume amount) = false
+may_come_second read_to_end = false
+may_come_second (write bytes) = nat_le 65536 (length bytes)
+may_come_second (seek whence) = false
+may_come_second (set_len len) = true
+may_come_second flush = false
+may_come_second ask_len = false
+may_come_second ask_position = false
+may_come_second ask_is_empty = false
+
+-- of the file the content of the stream at these names may have changed, and nothing else, by this call and since any earlier state: by one
+-- change, or where it may be so by two in turn
+pub record StreamKeeps (names : List (List ℕ)) (twice : Bool) (old new : FileState) : Type 0 where
   pub entry : ℕ
   pub stands : LeadTo old names (Some entry)
-  pub changes : ChangesStream entry old new
+  pub changes : ChangesInTurn entry old new
+  pub once : twice ≡ false → ChangesStream entry old new
   pub rest : (first : FileState) → KeepsRest entry first old → KeepsRest entry first new
 
 -- the open stream was opened at this path in a file as it was then, of which nothing but its content has changed since
@@ -81,7 +97,8 @@ pub record IsWorkedOn (old : OpenStream) (call : StreamCall) (reply : StreamRepl
   pub runs : StreamRunsBy (causes_on old.entry call old.file new.file) old call reply new
   pub stays : LeavesFile (stream_in old) call reply → is_failed new.file ≡ false → IsAsBefore old.file new.file
   pub counted : stream_reply_blame medium_failed reply ≡ 0 → failures_of new.file ≡ failures_of old.file
-  pub goes_on : GoesOn true old new
+  pub goes_on : GoesOnInTurn true old new
+  pub once : may_come_second call ≡ false → ChangesStream old.entry old.file new.file
 
 -- a stream that was opened in a file as it was then was closed so
 pub record IsClosedOf (opened : FileState) (old : OpenStream) (closing : Option Refusal) (new : FileState) : Type 0 where
@@ -97,5 +114,5 @@ pub record IsClosedOf (opened : FileState) (old : OpenStream) (closing : Option 
 -- what is promised of a file by what was done to it; the medium can give these faults
 abbrev pub promised : (MediumFault → Bool) → Standing → Deed → Standing → Type 0
 promised can_give old (by_call call reply) new = CallKeeps can_give old.file call reply new.file
-promised can_give old (by_stream_call names s call reply t) new = StreamKeeps names old.file new.file
-promised can_give old (by_closing names s closing) new = StreamKeeps names old.file new.file
+promised can_give old (by_stream_call names s call reply t) new = StreamKeeps names (s.pending && may_come_second call) old.file new.file
+promised can_give old (by_closing names s closing) new = StreamKeeps names false old.file new.file

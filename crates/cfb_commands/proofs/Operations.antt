@@ -1,5 +1,6 @@
 -- What the calls of an open stream answer, as a run needs it.
-use Rattle.std.proofs.Common.{◌≡◌, ◌∙◌, ◌≤◌, ◌-◌, ℕ, Bool, true, false, refl, sym, ap, subst, inl, inr, min}
+use Rattle.std.proofs.Common.{◌≡◌, ◌∙◌, ◌<◌, ◌≤◌, ◌-◌, ℕ, Bool, true, false, refl, sym, ap, arith, subst, inl, inr, min, nat_le}
+use Rattle.std.proofs.lemmas.Bool.Decides.{nat_tests}
 use Rattle.std.specs.Prelude.{IfErr, IfOk, IsTrue, Result, Ok, Err}
 use Rattle.cfb_format.specs.declared.error.Error.{Error}
 use Rattle.cfb_format.specs.declared.medium.MediumFault.{MediumFault}
@@ -10,9 +11,11 @@ use Rattle.cfb_rules.specs.StreamCalls.{StreamCall, StreamReply, not_done, read}
 use Rattle.cfb_agreement.specs.Files.{IsAsBefore, failures_of, is_failed}
 use Rattle.cfb_stream_buffer.specs.Contents.{stream_setting_of}
 use Rattle.cfb_stream_window.specs.Windows.{Runs}
-use Rattle.cfb_compound_file.specs.StreamAnswers.{GoesOn, IsStreamRefused, OpenStream, StreamRunsBy, run_in, stored_in, stream_in}
+use Rattle.cfb_compound_file.specs.StreamAnswers.{GoesOn, GoesOnInTurn, IsStreamRefused, OpenStream, StreamRunsBy, run_in, stored_in, stream_in}
 use Rattle.cfb_compound_file.proofs.StoredStreams.{nothing_changes}
-use Rattle.cfb_command_steps.specs.Promised.{IsWorkedOn, causes_on}
+use Rattle.cfb_compound_file.proofs.StreamCalls.{goes_at_once}
+use Rattle.cfb_compound_file.specs.Stored.{ChangesStream}
+use Rattle.cfb_command_steps.specs.Promised.{IsWorkedOn, causes_on, may_come_second}
 use Rattle.cfb_command_steps.proofs.Before.{same_before, stayed}
 use Rattle.cfb_command_steps.proofs.Calls.{uncounted}
 use Rattle.cfb_commands.specs.Commands.{refusal_of, stream_answer}
@@ -22,10 +25,24 @@ use Rattle.cfb_commands.proofs.Lending.{failed_runs, lends, memory_runs, runs_le
 
 -- ---- a call that was served, or refused
 
-pub goes_told : (tells : Bool) (old new : OpenStream) → IsTrue tells → GoesOn tells old new → GoesOn true old new
-goes_told tells old new told g = record { entry = g.entry; bound = g.bound; changes = λ _. g.changes told; rest = λ _. g.rest told }
+-- the stream goes on: by one change, or by two where the call may come second
+abbrev pub GoesBy : OpenStream → StreamCall → OpenStream → Type 0
+GoesBy old call new = GoesOnInTurn true old new × (may_come_second call ≡ false → ChangesStream old.entry old.file new.file)
 
-module _ (old : OpenStream) (call : StreamCall) (new : OpenStream) (goes : GoesOn true old new) where
+pub goes_told : (tells : Bool) (old : OpenStream) (call : StreamCall) (new : OpenStream) → IsTrue tells → GoesOn tells old new → GoesBy old call new
+goes_told tells old call new told g = (goes_at_once true old new (record { entry = g.entry; bound = g.bound; changes = λ _. g.changes told; rest = λ _. g.rest told }), λ _. g.changes told)
+
+-- a write or a change of the length
+pub comes_told : (tells : Bool) (old : OpenStream) (call : StreamCall) (new : OpenStream) → IsTrue tells → GoesOnInTurn tells old new
+    → (may_come_second call ≡ false → ChangesStream old.entry old.file new.file) → GoesBy old call new
+comes_told tells old call new told g once =
+    (record { entry = g.entry; bound = g.bound; changes = λ _. g.changes told; calm = λ _. g.calm told; settles = λ _. g.settles told; rest = λ _. g.rest told }, once)
+
+-- a write of fewer bytes
+pub short_write : (n : ℕ) → nat_le 65536 n ≡ false → n < 65536
+short_write n short = grind (arith, nat_tests)
+
+module _ (old : OpenStream) (call : StreamCall) (new : OpenStream) (goes : GoesBy old call new) where
   -- what is left alone where the call has nothing to write
   abbrev pub IsQuiet : Type 0
   IsQuiet = may_leave_failed (stream_in old).pending (work_of (stream_in old) call) ≡ false → IsAsBefore old.file new.file
@@ -39,7 +56,8 @@ module _ (old : OpenStream) (call : StreamCall) (new : OpenStream) (goes : GoesO
       | inr none ↦ quiet none
     ];
     counted = λ none. counts;
-    goes_on = goes;
+    goes_on = goes.0;
+    once = goes.1;
   }
 
   pub refused_on : (can_give : MediumFault → Bool) (e : Error) → IsStreamRefused (causes_on old.entry call old.file new.file) can_give old call new e
@@ -48,7 +66,8 @@ module _ (old : OpenStream) (call : StreamCall) (new : OpenStream) (goes : GoesO
     runs = subst (λ (r : Refusal). StreamRunsBy (causes_on old.entry call old.file new.file) old call (not_done r) new) (known why.rules.0 e why.rules.1) why.rules.2;
     stays = λ leaves calm. stayed old.file new.file why.stays calm;
     counted = λ none. uncounted can_give (failures_of old.file) (failures_of new.file) (refusal_of e) e (refusal_is e) why.counts none;
-    goes_on = goes;
+    goes_on = goes.0;
+    once = goes.1;
   }
 
   module _ {T : Type 0} (answer : T → StreamReply) (serves : (x : T) → is_served (answer x) ≡ true) (can_give : MediumFault → Bool) where
@@ -60,7 +79,7 @@ module _ (old : OpenStream) (call : StreamCall) (new : OpenStream) (goes : GoesO
 
 -- ---- a call that leaves all as it is
 
-pub goes_nowhere : (s : OpenStream) → GoesOn true s s
+goes_nowhere : (s : OpenStream) → GoesOn true s s
 goes_nowhere s = record { entry = refl; bound = refl; changes = λ _. nothing_changes s.entry s.file; rest = λ _ first k. k }
 
 pub left_alone : (s : OpenStream) (call : StreamCall) (reply : StreamReply) → StreamRunsBy (causes_on s.entry call s.file s.file) s call reply s → IsWorkedOn s call reply s
@@ -68,7 +87,8 @@ left_alone s call reply runs = record {
   runs = runs;
   stays = λ leaves calm. same_before s.file s.file refl;
   counted = λ none. refl;
-  goes_on = goes_nowhere s;
+  goes_on = (goes_told true s call s refl (goes_nowhere s)).0;
+  once = λ _. nothing_changes s.entry s.file;
 }
 
 module _ (s : OpenStream) (call : StreamCall) where
@@ -92,6 +112,7 @@ shorter old new reply wanted less is inside w = record {
   stays = w.stays;
   counted = w.counted;
   goes_on = w.goes_on;
+  once = λ _. w.once refl;
 }
 
 -- ---- nothing is lent

@@ -19,7 +19,7 @@ use Rattle.cfb_agreement.proofs.ContentChanges.{content-becomes-tree}
 use Rattle.cfb_agreement.proofs.InTurn.{same-content-is-none}
 use Rattle.cfb_volume.specs.Answers.{content_at}
 use Rattle.cfb_path_changes.specs.Answers.{MeansTree}
-use Rattle.cfb_compound_file.specs.Stored.{ChangesStream, KeepsRest}
+use Rattle.cfb_compound_file.specs.Stored.{KeepsAllButStream, KeepsRest}
 use Rattle.cfb_path_changes.specs.Finding.{StandsAt}
 use Rattle.cfb_compound_file.specs.StreamAnswers.{ClosesTree, closed_tree}
 
@@ -42,7 +42,7 @@ calm_before : (a b : Bool) → (a ≡ true → b ≡ true) → b ≡ false → a
 calm_before false b stays calm = refl
 calm_before true b stays calm = absurd (let w : true ≡ false = sym (stays refl) ∙ calm in cc)
 
-pub rest_then : (i : ℕ) (old new first : FileState) → ChangesStream i old new → KeepsRest i first old → KeepsRest i first new
+pub rest_then : (i : ℕ) (old new first : FileState) → KeepsAllButStream i old new → KeepsRest i first old → KeepsRest i first new
 rest_then i old new first c k = record {
   stream = k.stream;
   setting = setting_then first old new k.setting c.content.setting;

@@ -1,7 +1,9 @@
 -- What reading and changing one stream of a file comes to for the layer of buffered streams.
-use Rattle.std.proofs.Common.{◌≡◌, ◌<◌, ◌≤◌, ◌+◌, ◌-◌, ◌++◌, inl, inr, ℕ, Bool, true, false, List, [], refl, sym, ◌∙◌, ap, subst, length, take, drop, max, replicate, arith, length-take, append-nil}
+use Rattle.std.proofs.Common.{◌≡◌, ◌<◌, ◌≤◌, ◌+◌, ◌-◌, ◌++◌, ◌⊎◌, inl, inr, ℕ, Bool, true, false, List, [], refl, sym, ◌∙◌, ap, subst, length, take, drop, max, replicate, arith, length-take, append-nil}
 use Rattle.std.proofs.Math.Logic.{∥∥₁_elim, ∥∥₁_map}
 use Rattle.std.proofs.Math.Bridge.{le_prop}
+use Rattle.std.proofs.lemmas.Bool.{cases_lt}
+use Rattle.std.proofs.lemmas.List.{take_all}
 use Rattle.std.specs.Prelude.{Result, Ok, Err, IfOk, IfErr, OnOk, OnErr, if◌then◌else◌}
 use Rattle.cfb_format.specs.declared.error.Error.{Error}
 use Rattle.cfb_format.specs.declared.error.Error.TheVariants.{NotFound, AlreadyExists, InvalidInput, InvalidData, Medium, Memory, Full, Unsound, Failed}
@@ -12,6 +14,7 @@ use Rattle.cfb_format.specs.DirectoryEntry.{Entry}
 use Rattle.cfb_format.specs.Names.{Cases}
 use Rattle.cfb_format.specs.Reading.{IsOutline, stream_numbers}
 use Rattle.cfb_tables.specs.Changes.{NoneFree}
+use Rattle.cfb_tables.specs.Tables.{TableState}
 use Rattle.cfb_tables.specs.Owners.{tally}
 use Rattle.cfb_tables.proofs.Counts.{in-tally, tally-in}
 use Rattle.cfb_rules.specs.StreamCalls.{resized}
@@ -25,13 +28,12 @@ use Rattle.cfb_agreement.specs.Changes.{ChangesOneContent, StaysOrFails}
 use Rattle.cfb_agreement.specs.Files.{Agrees, FileState, Holds, IsAsBefore, SameSetting, failures_of, is_failed}
 use Rattle.cfb_agreement.specs.Laws.{with_flags}
 use Rattle.cfb_agreement.proofs.Flags.{as-before-same, flags-not-read}
-use Rattle.cfb_agreement.proofs.InTurn.{contents-in-turn, same-content-is-none}
+use Rattle.cfb_agreement.proofs.InTurn.{one-change-keeps-rest, rest-then, same-content-is-none}
 use Rattle.cfb_volume.specs.Answers.{content_at}
 use Rattle.cfb_format.specs.Refused.{IsBreak}
 use Rattle.cfb_stream_buffer.specs.Contents.{Fails, KeptOrFailed, WritesPart, laid, stored_after_resize, stored_after_write}
-use Rattle.cfb_compound_file.specs.Flags.{flags_change_nothing}
-use Rattle.cfb_compound_file.specs.Stored.{ChangesStream, kept_of, stored_of}
-use Rattle.cfb_path_changes.proofs.Stopping.{stops_no_shorter}
+use Rattle.cfb_compound_file.specs.Flags.{flags_are_tight, flags_change_nothing, reads_are_tight, reads_keep, still_is_tight}
+use Rattle.cfb_compound_file.specs.Stored.{ChangesStream, IsTight, KeepsAllButStream, kept_of, stored_of}
 
 -- ---- entries
 
@@ -111,38 +113,64 @@ stays_stored old new i setting stays = elim stays [
   | inr failed ↦ inr (same_limits_fail old new i setting failed)
 ]
 
+pub change_keeps : (i : ℕ) (old new : FileState) → ChangesStream i old new → KeepsAllButStream i old new
+change_keeps i old new k = record { content = one-change-keeps-rest i old new k.content; unsound = k.unsound; failed = k.failed }
+
+-- what is kept, and where sectors were appended none is free: one change
+pub one_change : (i : ℕ) (old new : FileState) → KeepsAllButStream i old new → IsTight old new → ChangesStream i old new
+one_change i old new k tight = record {
+  content = record { setting = k.content.setting; entries = k.content.entries; others = k.content.others; header = k.content.header; made = k.content.made; grows = tight };
+  unsound = k.unsound;
+  failed = k.failed;
+}
+
 pub nothing_changes : (i : ℕ) (file : FileState) → ChangesStream i file file
 nothing_changes i file = record { content = same-content-is-none i file; unsound = λ _ _. refl; failed = λ failed. failed }
 
-pub fails_then : (i : ℕ) (first old new : FileState) (failures : ℕ) → new ≡ with_flags old failures true → ChangesStream i first old → ChangesStream i first new
+pub nothing_goes : (i : ℕ) (file : FileState) → KeepsAllButStream i file file
+nothing_goes i file = change_keeps i file file (nothing_changes i file)
+
+-- what a call of the window says of the file: one change of a content, or none
+pub changed_once : (i : ℕ) (old new : FileState) → ((first : FileState) → KeepsAllButStream i first old → KeepsAllButStream i first new) → IsTight old new → ChangesStream i old new
+changed_once i old new others tight = one_change i old new (others old (nothing_goes i old)) tight
+
+-- reading changes nothing
+pub reads_change : (i : ℕ) (old new : FileState) → kept_of new ≡ kept_of old → ChangesStream i old new
+reads_change i old new same = one_change i old new (reads_keep i old old new same (nothing_goes i old)) (reads_are_tight old old new same (still_is_tight old))
+
+pub fails_then : (i : ℕ) (first old new : FileState) (failures : ℕ) → new ≡ with_flags old failures true → KeepsAllButStream i first old → KeepsAllButStream i first new
 fails_then i first old new failures is k =
-    subst (λ (z : FileState). ChangesStream i first z) (sym is)
+    subst (λ (z : FileState). KeepsAllButStream i first z) (sym is)
     (flags_change_nothing first old i failures true (λ calm. absurd (let w : true ≡ false = calm in cc)) (λ _. refl) k)
 
 -- of a file that has not failed
 pub flushes_then : (i : ℕ) (first old new : FileState) (failures : ℕ) (begun : Bool) → is_failed old ≡ false → new ≡ with_flags old failures begun
-    → ChangesStream i first old → ChangesStream i first new
+    → KeepsAllButStream i first old → KeepsAllButStream i first new
 flushes_then i first old new failures begun unfailed is k =
-    subst (λ (z : FileState). ChangesStream i first z) (sym is)
+    subst (λ (z : FileState). KeepsAllButStream i first z) (sym is)
     (flags_change_nothing first old i failures begun (λ _. unfailed) (λ failed. absurd (let w : true ≡ false = sym (k.failed failed) ∙ unfailed in cc)) k)
+
+-- where sectors were appended none is free, whatever the flags
+pub fails_tight : (first old new : FileState) (failures : ℕ) → new ≡ with_flags old failures true → IsTight first old → IsTight first new
+fails_tight first old new failures is k =
+    subst (λ (z : FileState). IsTight first z) (sym is) (flags_are_tight first old failures true (λ calm. absurd (let w : true ≡ false = calm in cc)) k)
+
+pub flushes_tight : (first old new : FileState) (failures : ℕ) (begun : Bool) → is_failed old ≡ false → new ≡ with_flags old failures begun → IsTight first old → IsTight first new
+flushes_tight first old new failures begun unfailed is k =
+    subst (λ (z : FileState). IsTight first z) (sym is) (flags_are_tight first old failures begun (λ _. unfailed) k)
+
+-- nor where the tables stay
+pub tables_tight : (first old new : FileState) → is_failed old ≡ false → tables_in new.base ≡ tables_in old.base → IsTight first old → IsTight first new
+tables_tight first old new unfailed same k = λ calm.
+    subst (λ (t : TableState). length (tables_in first.base).fat < length t.fat → NoneFree t.fat × (length t.fat ≤ (tables_in first.base).max_sectors)) (sym same) (k unfailed)
 
 -- a change of a sound file that has not failed, one after what was changed before
 pub changes_in_turn : (i : ℕ) (first old new : FileState) → old.is_sound ≡ true → is_failed old ≡ false → ChangesOneContent i old new
-    → (is_failed new ≡ false → length (tables_in old.base).fat ≤ length (tables_in new.base).fat)
-    → (is_failed new ≡ false → NoneFree (tables_in old.base).fat → NoneFree (tables_in new.base).fat)
-    → ChangesStream i first old → ChangesStream i first new
-changes_in_turn i first old new sound unfailed change no_shorter none k = record {
-  content = contents-in-turn i first old new k.content change (λ failed. absurd (let w : true ≡ false = sym failed ∙ unfailed in cc)) no_shorter none;
+    → KeepsAllButStream i first old → KeepsAllButStream i first new
+changes_in_turn i first old new sound unfailed change k = record {
+  content = rest-then i first old new k.content (one-change-keeps-rest i old new change) (λ failed. absurd (let w : true ≡ false = sym failed ∙ unfailed in cc));
   unsound = λ unsound _. absurd (let w : true ≡ false = sym sound ∙ k.content.setting.is_sound ∙ unsound in cc);
   failed = λ failed. absurd (let w : true ≡ false = sym (k.failed failed) ∙ unfailed in cc);
-}
-
--- the first change of such a file
-pub changes_at_once : (i : ℕ) (old new : FileState) → old.is_sound ≡ true → is_failed old ≡ false → ChangesOneContent i old new → ChangesStream i old new
-changes_at_once i old new sound unfailed change = record {
-  content = change;
-  unsound = λ unsound _. absurd (let w : true ≡ false = sym sound ∙ unsound in cc);
-  failed = λ failed. absurd (let w : true ≡ false = sym failed ∙ unfailed in cc);
 }
 
 -- ---- bytes
@@ -218,13 +246,22 @@ write_done old new i at bytes (Ok n) setting held sound stream was inside some m
     written_done old new i setting was is held sound stream at bytes (Ok n) inside some most (more some) long put
 write_done old new i at bytes (Err e) setting held sound stream was inside some most more long put is = tt
 
--- where a write ended in a file that has not failed, it is no shorter, and none is free where none was
-pub write_no_shorter : (old new : FileState) (r : Result ℕ Error) → OnOk r (length (tables_in old.base).fat ≤ length (tables_in new.base).fat) → OnErr r (StaysOrFails old new)
-    → is_failed new ≡ false → length (tables_in old.base).fat ≤ length (tables_in new.base).fat
-write_no_shorter old new (Ok n) grown stays calm = grown
-write_no_shorter old new (Err e) grown stays calm = omega (arith, ap (λ (xs : List ℕ). length xs) (stops_no_shorter old new stays calm))
+-- bytes inside the length leave it as it is
+pub write_same_len : (old new : FileState) (i at count : ℕ) (r : Result ℕ Error) → at + count ≤ len_of old.base i → IfOk r (λ n. n ≤ count)
+    → IfOk r (λ n. len_of new.base i ≡ max (len_of old.base i) (at + n)) → OnOk r (len_of new.base i ≡ len_of old.base i)
+write_same_len old new i at count (Ok n) inside most long = omega (arith, inside, most, long)
+write_same_len old new i at count (Err e) inside most long = tt
 
-pub write_stays_full : (old new : FileState) (r : Result ℕ Error) → (NoneFree (tables_in old.base).fat → OnOk r (NoneFree (tables_in new.base).fat)) → OnErr r (StaysOrFails old new)
-    → is_failed new ≡ false → NoneFree (tables_in old.base).fat → NoneFree (tables_in new.base).fat
-write_stays_full old new (Ok n) full stays calm none = full none
-write_stays_full old new (Err e) full stays calm none = subst (λ (xs : List ℕ). NoneFree xs) (sym (stops_no_shorter old new stays calm)) none
+pub write_inside : (at count len : ℕ) → at + count ≤ len → (at < len) ⊎ (count ≡ 0)
+write_inside at count len inside = elim (cases_lt 0 count) [ inl some ↦ inl (omega (arith, inside, some)) | inr none ↦ inr (omega (arith, none)) ]
+
+-- all of the bytes were put behind the end
+pub append_done : {T : Type 0} (old new : FileState) (i : ℕ) (bytes : List ℕ) (r : Result T Error) → SameSetting old new → Holds old → old.is_sound ≡ true → IsStreamOf old.base i → is_failed old ≡ false
+    → OnOk r (len_of new.base i ≡ len_of old.base i + length bytes) → OnOk r (content_at new i ≡ written (content_at old i) (len_of old.base i) bytes) → OnOk r (is_failed new ≡ false)
+    → OnOk r (stored_of new i ≡ stored_after_write (stored_of old i) (len_of old.base i) bytes)
+append_done old new i bytes (Ok x) setting held sound stream was long put is =
+    let all : take (length bytes) bytes ≡ bytes = take_all (length bytes) bytes (omega arith) in
+    subst (λ (xs : List ℕ). stored_of new i ≡ stored_after_write (stored_of old i) (len_of old.base i) xs) all
+    (stored_written old new i setting was is held sound stream (len_of old.base i) (length bytes) bytes (omega arith) (omega arith) (omega (arith, long))
+    (put ∙ ap (λ (xs : List ℕ). written (content_at old i) (len_of old.base i) xs) (sym all)))
+append_done old new i bytes (Err e) setting held sound stream was long put is = tt

@@ -13,10 +13,10 @@ use Rattle.cfb_volume.specs.Answers.{content_at}
 use Rattle.cfb_stream_buffer.specs.Contents.{Stored, stream_setting_of}
 use Rattle.cfb_stream_window.specs.Windows.{IsSettled, Runs, Suits, Window, run_of, settled, state_of}
 use Rattle.cfb_stream_window.proofs.Carrying.{settled_agrees}
-use Rattle.cfb_compound_file.specs.Stored.{ChangesStream, kept_of, stored_of}
-use Rattle.cfb_compound_file.specs.StreamAnswers.{GoesOn, OpenStream, closing_of}
+use Rattle.cfb_compound_file.specs.Stored.{ChangesInTurn, ChangesStream, IsTight, KeepsAllButStream, kept_of, stored_of}
+use Rattle.cfb_compound_file.specs.StreamAnswers.{GoesOn, GoesOnInTurn, OpenStream, closing_of}
 use Rattle.cfb_compound_file.proofs.OpenStreams.{asked, rest_then}
-use Rattle.cfb_compound_file.proofs.StoredStreams.{as_before, unfailed_content}
+use Rattle.cfb_compound_file.proofs.StoredStreams.{as_before, change_keeps, changed_once, nothing_changes, nothing_goes, unfailed_content}
 
 pub goes_on_by : (tells : Bool) (old new : OpenStream) → new.entry ≡ old.entry → new.window.bound ≡ old.window.bound
     → (IsTrue tells → ChangesStream old.entry old.file new.file) → GoesOn tells old new
@@ -24,7 +24,54 @@ goes_on_by tells old new entry bound changes = record {
   entry = entry;
   bound = bound;
   changes = changes;
-  rest = λ told first k. rest_then old.entry old.file new.file first (changes told) k;
+  rest = λ told first k. rest_then old.entry old.file new.file first (change_keeps old.entry old.file new.file (changes told)) k;
+}
+
+-- bytes that were kept back are written out, and then comes the call
+abbrev pub between_by : (entry : ℕ) (old mid new : FileState) → ((first : FileState) → KeepsAllButStream entry first old → KeepsAllButStream entry first mid)
+    → ((first : FileState) → KeepsAllButStream entry first mid → KeepsAllButStream entry first new) → IsTight old mid → IsTight mid new → ChangesInTurn entry old new
+between_by entry old mid new before after first second =
+    let k = after old (before old (nothing_goes entry old)) in
+    record {
+      content = k.content;
+      unsound = k.unsound;
+      failed = k.failed;
+      between = mid;
+      first = changed_once entry old mid before first;
+      second = changed_once entry mid new after second;
+    }
+
+-- one change is two of which the first is none
+abbrev pub at_once : (entry : ℕ) (old new : FileState) → ChangesStream entry old new → ChangesInTurn entry old new
+at_once entry old new k = record {
+  content = (change_keeps entry old new k).content;
+  unsound = k.unsound;
+  failed = k.failed;
+  between = old;
+  first = nothing_changes entry old;
+  second = k;
+}
+
+pub goes_at_once : (tells : Bool) (old new : OpenStream) → GoesOn tells old new → GoesOnInTurn tells old new
+goes_at_once tells old new g = record {
+  entry = g.entry;
+  bound = g.bound;
+  changes = λ told. at_once old.entry old.file new.file (g.changes told);
+  calm = λ told calm. refl;
+  settles = λ told unfailed. inl refl;
+  rest = g.rest;
+}
+
+pub goes_in_turn_by : (tells : Bool) (old new : OpenStream) → new.entry ≡ old.entry → new.window.bound ≡ old.window.bound → (changes : IsTrue tells → ChangesInTurn old.entry old.file new.file)
+    → ((told : IsTrue tells) → old.window.pending ≡ false → (changes told).between ≡ old.file)
+    → ((told : IsTrue tells) → is_failed old.file ≡ false → IsSettled (stored_of old.file old.entry) old.window (stored_of (changes told).between old.entry)) → GoesOnInTurn tells old new
+goes_in_turn_by tells old new entry bound changes calm settles = record {
+  entry = entry;
+  bound = bound;
+  changes = changes;
+  calm = calm;
+  settles = settles;
+  rest = λ told first k. rest_then old.entry old.file new.file first (record { content = (changes told).content; unsound = (changes told).unsound; failed = (changes told).failed }) k;
 }
 
 -- where all but the count of failures is kept unless the file has failed

@@ -4,15 +4,16 @@ use Rattle.std.proofs.Common.{sym, subst}
 use Rattle.cfb_format.specs.Reading.{IsOutline, Outline, stream_numbers}
 use Rattle.cfb_mini_sectors.specs.State.{cases_of, entries_of}
 use Rattle.cfb_content.specs.Contents.{KeepsFixedHeader, KeepsOthers, MovesContent}
-use Rattle.cfb_agreement.specs.Changes.{ChangesOneContent}
+use Rattle.cfb_agreement.specs.Changes.{KeepsAllButContent}
 use Rattle.cfb_agreement.specs.Files.{FileState, SameSetting, failures_of, is_failed}
 use Rattle.cfb_agreement.specs.Laws.{with_flags}
 use Rattle.cfb_agreement.proofs.Flags.{made-flagged}
-use Rattle.cfb_compound_file.specs.Stored.{ChangesStream, kept_of}
+use Rattle.cfb_agreement.proofs.InTurn.{same-content-is-none}
+use Rattle.cfb_compound_file.specs.Stored.{IsTight, KeepsAllButStream, kept_of}
 
--- what was changed in a file was changed in it whatever its flags, but a file that failed stays failed
+-- what was kept in a file was kept in it whatever its flags, but a file that failed stays failed
 module _ (first old : FileState) (i failures : ℕ) (begun : Bool) (unfailed : begun ≡ false → is_failed old ≡ false) (stays : is_failed first ≡ true → begun ≡ true)
-    (k : ChangesStream i first old) where
+    (k : KeepsAllButStream i first old) where
   abbrev now : FileState
   now = with_flags old failures begun
 
@@ -33,24 +34,36 @@ module _ (first old : FileState) (i failures : ℕ) (begun : Bool) (unfailed : b
   header : KeepsFixedHeader first.base now.base
   header = let h = k.content.header in record { no_shorter = h.no_shorter; bytes = h.bytes }
 
-  content : ChangesOneContent i first now
+  content : KeepsAllButContent i first now
   content = record {
     setting = setting;
     entries = entries;
     others = others;
     header = header;
     made = λ calm made. made-flagged old.base failures begun (k.content.made (unfailed calm) made);
-    grows = λ calm. k.content.grows (unfailed calm);
   }
 
-  pub flags_change_nothing : ChangesStream i first now
+  pub flags_change_nothing : KeepsAllButStream i first now
   flags_change_nothing = record { content = content; unsound = λ unsound calm. k.unsound unsound (unfailed calm); failed = stays }
 
 -- nor by the count of failures alone
-pub counts_change_nothing : (i : ℕ) (first old : FileState) (failures : ℕ) → ChangesStream i first old → ChangesStream i first (with_flags old failures (is_failed old))
+counts_change_nothing : (i : ℕ) (first old : FileState) (failures : ℕ) → KeepsAllButStream i first old → KeepsAllButStream i first (with_flags old failures (is_failed old))
 counts_change_nothing i first old failures k = flags_change_nothing first old i failures (is_failed old) (λ calm. calm) k.failed k
 
-pub reads_keep : (i : ℕ) (first old new : FileState) → kept_of new ≡ kept_of old → ChangesStream i first old → ChangesStream i first new
+pub reads_keep : (i : ℕ) (first old new : FileState) → kept_of new ≡ kept_of old → KeepsAllButStream i first old → KeepsAllButStream i first new
 reads_keep i first old new same k =
     counts_change_nothing i first (kept_of new) (failures_of new)
-    (subst (λ (z : FileState). ChangesStream i first z) (sym same) (counts_change_nothing i first old 0 k))
+    (subst (λ (z : FileState). KeepsAllButStream i first z) (sym same) (counts_change_nothing i first old 0 k))
+
+-- ---- tightness
+
+pub flags_are_tight : (first old : FileState) (failures : ℕ) (begun : Bool) → (begun ≡ false → is_failed old ≡ false) → IsTight first old → IsTight first (with_flags old failures begun)
+flags_are_tight first old failures begun unfailed k = λ calm. k (unfailed calm)
+
+pub reads_are_tight : (first old new : FileState) → kept_of new ≡ kept_of old → IsTight first old → IsTight first new
+reads_are_tight first old new same k =
+    flags_are_tight first (kept_of new) (failures_of new) (is_failed new) (λ calm. calm)
+    (subst (λ (z : FileState). IsTight first z) (sym same) (flags_are_tight first old 0 (is_failed old) (λ calm. calm) k))
+
+pub still_is_tight : (file : FileState) → IsTight file file
+still_is_tight file = (same-content-is-none 0 file).grows

@@ -4,8 +4,8 @@ use Rattle.cfb_format.specs.Bytes.{max_stream_len}
 use Rattle.cfb_format.specs.Siblings.{entry_at}
 use Rattle.cfb_mini_sectors.specs.State.{bytes_of, content_of, entries_of, version_of}
 use Rattle.cfb_content.specs.Contents.{IsStreamOf, KeepsFixedHeader, KeepsOthers, MovesContent, len_of}
-use Rattle.cfb_agreement.specs.Changes.{ChangesOneContent}
-use Rattle.cfb_agreement.specs.Files.{FileState, SameSetting, is_failed}
+use Rattle.cfb_agreement.specs.Changes.{ChangesOneContent, KeepsAllButContent}
+use Rattle.cfb_agreement.specs.Files.{FileState, GrowsTightly, SameSetting, is_failed}
 use Rattle.cfb_agreement.specs.Laws.{with_flags}
 use Rattle.cfb_stream_buffer.specs.Contents.{Stored}
 
@@ -36,8 +36,27 @@ pub record KeepsRest (entry : ℕ) (first now : FileState) : Type 0 where
   pub unsound : first.is_sound ≡ false → is_failed now ≡ false → bytes_of now.base ≡ bytes_of first.base
   pub failed : is_failed first ≡ true → is_failed now ≡ true
 
--- by one of them, which leaves a file as made as it was made, and where it appended a sector none free
+-- the same from any state of the file on; and a file as made is so again
+pub record KeepsAllButStream (entry : ℕ) (first now : FileState) : Type 0 where
+  pub content : KeepsAllButContent entry first now
+  pub unsound : first.is_sound ≡ false → is_failed now ≡ false → bytes_of now.base ≡ bytes_of first.base
+  pub failed : is_failed first ≡ true → is_failed now ≡ true
+
+-- one change of a content, or none: where it appended a sector none is free, and the limit is kept, unless the file has failed
+abbrev pub IsTight : FileState → FileState → Type 0
+IsTight old new = is_failed new ≡ false → GrowsTightly old.base new.base
+
+-- by one call, which leaves a file as made as it was made, and where it appended a sector none free
 pub record ChangesStream (entry : ℕ) (old new : FileState) : Type 0 where
   pub content : ChangesOneContent entry old new
   pub unsound : old.is_sound ≡ false → is_failed new ≡ false → bytes_of new.base ≡ bytes_of old.base
   pub failed : is_failed old ≡ true → is_failed new ≡ true
+
+-- by two of them, one after the other
+pub record ChangesInTurn (entry : ℕ) (old new : FileState) : Type 0 where
+  pub content : KeepsAllButContent entry old new
+  pub unsound : old.is_sound ≡ false → is_failed new ≡ false → bytes_of new.base ≡ bytes_of old.base
+  pub failed : is_failed old ≡ true → is_failed new ≡ true
+  pub between : FileState
+  pub first : ChangesStream entry old between
+  pub second : ChangesStream entry between new

@@ -1,5 +1,5 @@
 -- What the calls on an open stream answer, and what they leave.
-use Rattle.std.specs.Prelude.{ℕ, ◌≡◌, Bool, IsTrue, List, Option, Some, None, Result, Ok, Err, if◌then◌else◌}
+use Rattle.std.specs.Prelude.{ℕ, ◌≡◌, Bool, false, IsTrue, List, Option, Some, None, Result, Ok, Err, if◌then◌else◌}
 use Rattle.cfb_format.specs.declared.error.Error.{Error}
 use Rattle.cfb_format.specs.declared.medium.MediumFault.{MediumFault}
 use Rattle.cfb_format.specs.Refused.{CountsError}
@@ -13,10 +13,10 @@ use Rattle.cfb_agreement.specs.Changes.{StaysOrFails}
 use Rattle.cfb_agreement.specs.Files.{Agrees, FileState, failures_of, is_failed}
 use Rattle.cfb_stream_buffer.specs.Contents.{KeptOrFailed, Stored}
 use Rattle.cfb_stream_window.specs.Answers.{AtRefusal}
-use Rattle.cfb_stream_window.specs.Windows.{IsCallRefused, Runs, Window, run_of, state_of}
+use Rattle.cfb_stream_window.specs.Windows.{IsCallRefused, IsSettled, Runs, Window, run_of, state_of}
 use Rattle.cfb_path_changes.specs.Answers.{MeansTree, causes_of}
 use Rattle.cfb_path_changes.specs.Finding.{StandsAt}
-use Rattle.cfb_compound_file.specs.Stored.{ChangesStream, KeepsRest, kept_of, stored_of}
+use Rattle.cfb_compound_file.specs.Stored.{ChangesInTurn, ChangesStream, KeepsRest, kept_of, stored_of}
 
 -- the file that is borrowed, the number of the stream's entry, and the window in memory
 pub record OpenStream : Type 0 where
@@ -78,6 +78,16 @@ pub record GoesOn (tells : Bool) (old new : OpenStream) : Type 0 where
   pub entry : new.entry ≡ old.entry
   pub bound : new.window.bound ≡ old.window.bound
   pub changes : IsTrue tells → ChangesStream old.entry old.file new.file
+  pub rest : IsTrue tells → (first : FileState) → KeepsRest old.entry first old.file → KeepsRest old.entry first new.file
+
+-- The same stream, and of the file only its content has changed: bytes that were kept back are written out first, as a flush does, and then
+-- comes the call. With none kept back there is the call alone.
+pub record GoesOnInTurn (tells : Bool) (old new : OpenStream) : Type 0 where
+  pub entry : new.entry ≡ old.entry
+  pub bound : new.window.bound ≡ old.window.bound
+  pub changes : IsTrue tells → ChangesInTurn old.entry old.file new.file
+  pub calm : (told : IsTrue tells) → old.window.pending ≡ false → (changes told).between ≡ old.file
+  pub settles : (told : IsTrue tells) → is_failed old.file ≡ false → IsSettled (stored_in old) old.window (stored_of (changes told).between old.entry)
   pub rest : IsTrue tells → (first : FileState) → KeepsRest old.entry first old.file → KeepsRest old.entry first new.file
 
 -- ---- from opening to closing

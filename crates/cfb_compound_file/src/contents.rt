@@ -2,7 +2,7 @@
 ghost use Rattle.std.specs.Prelude.{◌≤◌, ◌+◌, ◌↔◌, IsTrue};
 ghost use Rattle.cfb_content.specs.Contents.{IsStreamOf, IsTooLongFor};
 ghost use Rattle.cfb_agreement.specs.Files.{IsFullFile, failures_of};
-ghost use Rattle.cfb_compound_file.specs.Stored.{ChangesStream, kept_of, stored_of};
+ghost use Rattle.cfb_compound_file.specs.Stored.{IsTight, KeepsAllButStream, kept_of, stored_of};
 
 use crate::compound_file::CompoundFile;
 use cfb_format::error::{Detail, Error};
@@ -59,9 +59,11 @@ impl<F: ReadMedium, A: Heap + Clone> ReadContents for CompoundFile<F, A> {
 }
 
 impl<F: Medium, A: Heap + Clone> Contents for CompoundFile<F, A> {
-    ghost use Rattle.cfb_compound_file.specs.Flags.{reads_keep};
+    ghost use Rattle.cfb_compound_file.specs.Flags.{reads_are_tight, reads_keep, still_is_tight};
 
-    ghost keeps = { λ id first now. ChangesStream id first now };
+    ghost keeps = { λ id first now. KeepsAllButStream id first now };
+
+    ghost tight = { λ old new. IsTight old new };
 
     ghost write_faults = { F.write_faults };
 
@@ -89,6 +91,38 @@ impl<F: Medium, A: Heap + Clone> Contents for CompoundFile<F, A> {
         self.volume.write(id, at, bytes)
     }
 
+    fn append(&mut self, id: u32, bytes: &[u8]) -> Result<(), Error> {
+        if self.volume.is_failed() {
+            return Err(Error::Failed);
+        }
+        if !self.volume.is_sound() {
+            return Err(Error::Unsound);
+        }
+        // The entries are in order, so that this one is known to be a stream's.
+        let _entries = self.volume.entries();
+        let len = self.volume.len(id);
+        let limit = self.volume.version().stream_len_mask();
+        if !is_inside(len, bytes.len() as u64, len, limit) {
+            return Err(Error::InvalidInput(Detail::text("a stream cannot be so long")));
+        }
+        self.volume.append(id, bytes)
+    }
+
+    fn can_resize(&self, id: u32, len: u64) -> Result<bool, Error> {
+        if self.volume.is_failed() {
+            return Ok(false);
+        }
+        if !self.volume.is_sound() {
+            return Ok(false);
+        }
+        // The entries are in order, so that this one is known to be a stream's.
+        let _entries = self.volume.entries();
+        if self.volume.version().stream_len_mask() < len {
+            return Ok(false);
+        }
+        self.volume.can_resize(id, len)
+    }
+
     fn resize(&mut self, id: u32, len: u64) -> Result<(), Error> {
         if self.volume.is_failed() {
             return Err(Error::Failed);
@@ -112,6 +146,10 @@ impl<F: Medium, A: Heap + Clone> Contents for CompoundFile<F, A> {
     }
 
     ghost reads_keep = { λ id first old new same keeps. reads_keep id first old new same keeps };
+
+    ghost reads_are_tight = { λ first old new same tight. reads_are_tight first old new same tight };
+
+    ghost still_is_tight = { λ file. still_is_tight file };
 }
 
 /// Whether so many bytes can be put at a place: it is up to the end, and they leave the stream within its greatest length.

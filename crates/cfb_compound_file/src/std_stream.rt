@@ -1,6 +1,6 @@
 //! A stream that is read and written, by std's traits. Each call is the stream's own, and is refused as it is, with the kind of `std_kind`.
 //! The stream still has to be closed: a loop that uses a reader or a writer up takes `&mut stream`.
-ghost use Rattle.std.specs.Prelude.{◌≡◌, ◌+◌, ◌≤◌, ◌||◌, [], IfErr, IfOk, IfSome, IsTrue, None, OnOk, Some, false, length, min, take};
+ghost use Rattle.std.specs.Prelude.{◌≡◌, ◌+◌, ◌<◌, ◌≤◌, ◌||◌, [], IfErr, IfOk, IfSome, IsTrue, None, OnOk, Some, false, length, min, take};
 ghost use Rattle.std.specs.Borrow.{sem};
 ghost use Rattle.std.specs.Io.{ReadsAtMost, StartsWith, WritesAtMost};
 ghost use Rattle.std.specs.IoError.{error_kind};
@@ -13,11 +13,11 @@ ghost use Rattle.cfb_agreement.specs.Files.{FileState, failures_of, is_failed};
 ghost use Rattle.cfb_stream_window.specs.Windows.{whence_of};
 ghost use Rattle.cfb_path_changes.specs.Answers.{causes_of};
 ghost use Rattle.cfb_compound_file.specs.Buffering.{BuffersRead, BuffersSeek, BuffersWrite};
-ghost use Rattle.cfb_compound_file.specs.Stored.{kept_of};
+ghost use Rattle.cfb_compound_file.specs.Stored.{ChangesStream, kept_of};
 ghost use Rattle.cfb_compound_file.specs.Streams.{entry_of, file_of, open_of, window_of};
 ghost use Rattle.cfb_compound_file.specs.StdLending.{IsLendingRefused, IsLentFrom, keeps};
 ghost use Rattle.cfb_compound_file.specs.StdStreams.{bytes_in, place_in, rest_in};
-ghost use Rattle.cfb_compound_file.specs.StreamAnswers.{ClosesTree, GoesOn, IsStreamRefused, StreamRunsOn, stream_in};
+ghost use Rattle.cfb_compound_file.specs.StreamAnswers.{ClosesTree, GoesOn, GoesOnInTurn, IsStreamRefused, StreamRunsOn, stream_in};
 ghost use Rattle.cfb_rules.specs.StreamCalls.{consume, count, flush, got, offset, read, ready, seek, write};
 
 use crate::stream::Stream;
@@ -143,7 +143,9 @@ impl<'a, F: Medium, A: Heap + Clone> Write for Stream<'a, F, A> {
         ensures refused { IsTrue F.tells → IfErr result (StandsFor (IsStreamRefused
             (causes_of (file_of self.old).now (file_of self.new).now) (λ f. F.read_faults f
             || F.write_faults f) (open_of self.old) (write bytes.now) (open_of self.new))) }
-        ensures goes_on { GoesOn F.tells (open_of self.old) (open_of self.new) }
+        ensures goes_on { GoesOnInTurn F.tells (open_of self.old) (open_of self.new) }
+        ensures once { IsTrue F.tells → length bytes.now < 65536 → ChangesStream
+            (entry_of self.old) (file_of self.old).now (file_of self.new).now }
         ensures counts { IsTrue F.tells → OnOk result
             (failures_of (file_of self.new).now ≡ failures_of (file_of self.old).now) }
         ensures none { length bytes.now ≡ 0 → (file_of self.new).now ≡ (file_of self.old).now }

@@ -1,15 +1,15 @@
 //! Streams, as lists of bytes with a position, through a buffer. Lengths and places are in bytes.
-ghost use Rattle.std.specs.Prelude.{◌≡◌, ◌+◌, ◌++◌, ◌≤◌, ◌==◌, ◌||◌, min, length, take, drop, false, true, IsTrue, IfOk, IfErr, OnOk, OnErr, None};
+ghost use Rattle.std.specs.Prelude.{◌≡◌, ◌+◌, ◌++◌, ◌<◌, ◌≤◌, ◌⊎◌, ◌==◌, ◌||◌, min, length, take, drop, false, true, IsTrue, IfOk, IfErr, OnOk, OnErr, None};
 ghost use Rattle.std.specs.Borrow.{sem};
 ghost use Rattle.cfb_content.specs.Contents.{IsStreamOf};
 ghost use Rattle.cfb_agreement.specs.Files.{Agrees, FileState, failures_of, is_failed};
 ghost use Rattle.cfb_format.specs.Refused.{CountsFailure};
 ghost use Rattle.cfb_rules.specs.Runs.{Closes};
-ghost use Rattle.cfb_stream_window.specs.Windows.{Suits, whence_of};
+ghost use Rattle.cfb_stream_window.specs.Windows.{IsLengthened, Suits, whence_of};
 ghost use Rattle.cfb_path_changes.specs.Answers.{causes_of};
 ghost use Rattle.cfb_compound_file.specs.Buffering.{BuffersRead, BuffersRest, BuffersSeek, BuffersWrite};
 ghost use Rattle.cfb_compound_file.specs.Stored.{ChangesStream, KeepsRest, kept_of, stored_of};
-ghost use Rattle.cfb_compound_file.specs.StreamAnswers.{ClosesTree, GoesOn, IsClosingRefused, IsStreamRefused, StreamRunsBy, StreamRunsOn, causes_of_len, open_stream_of, run_in, stream_in};
+ghost use Rattle.cfb_compound_file.specs.StreamAnswers.{ClosesTree, GoesOn, GoesOnInTurn, IsClosingRefused, IsStreamRefused, StreamRunsBy, StreamRunsOn, causes_of_len, open_stream_of, run_in, stored_in, stream_in};
 
 use crate::compound_file::CompoundFile;
 use crate::held::Held;
@@ -151,7 +151,9 @@ impl<'a, F: Medium, A: Heap + Clone> Stream<'a, F, A> {
         ensures refused { IsTrue F.tells → IfErr result (IsStreamRefused
             (causes_of (file_of self.old).now (file_of self.new).now) (λ f. F.read_faults f
             || F.write_faults f) (open_of self.old) (write bytes.now) (open_of self.new)) }
-        ensures goes_on { GoesOn F.tells (open_of self.old) (open_of self.new) }
+        ensures goes_on { GoesOnInTurn F.tells (open_of self.old) (open_of self.new) }
+        ensures once { IsTrue F.tells → length bytes.now < 65536 → ChangesStream
+            (entry_of self.old) (file_of self.old).now (file_of self.new).now }
         ensures counts { IsTrue F.tells
             → CountsFailure (λ f. F.read_faults f || F.write_faults f) result
             (failures_of (file_of self.old).now) (failures_of (file_of self.new).now) }
@@ -186,7 +188,8 @@ impl<'a, F: Medium, A: Heap + Clone> Stream<'a, F, A> {
 
     /// Cuts the stream to a length, or pads it with zeros; the position becomes the length where it was past it. The present length does
     /// nothing. `InvalidInput` past the greatest length that the version has; `Unsound`; `Medium`, `Memory`, and `Full` where the length
-    /// needs more numbers than are left, which is found before anything is written.
+    /// needs more numbers than are left, which is found before anything is written. With bytes kept back behind the end, a longer length has them written out
+    /// first where there is room for both; a refusal after that leaves the file failed.
     pub fn set_len(&mut self, len: u64) -> Result<(), Error>
         ensures same_file { (file_of self.new).ghost_name ≡ (file_of self.old).ghost_name }
         ensures runs { IsTrue F.tells → OnOk result
@@ -196,14 +199,19 @@ impl<'a, F: Medium, A: Heap + Clone> Stream<'a, F, A> {
             → IfErr result (IsStreamRefused (causes_of_len (entry_of self.old) len
             (file_of self.old).now (file_of self.new).now) (λ f. F.read_faults f
             || F.write_faults f) (open_of self.old) (set_len len) (open_of self.new)) }
-        ensures goes_on { GoesOn F.tells (open_of self.old) (open_of self.new) }
+        ensures goes_on { GoesOnInTurn F.tells (open_of self.old) (open_of self.new) }
+        ensures once { IsTrue F.tells
+            → (IsLengthened (stored_in (open_of self.old)) (window_of self.old) len → ⊥)
+            → ChangesStream (entry_of self.old) (file_of self.old).now (file_of self.new).now }
         ensures counts { IsTrue F.tells
             → CountsFailure (λ f. F.read_faults f || F.write_faults f) result
             (failures_of (file_of self.old).now) (failures_of (file_of self.new).now) }
         ensures same { len ≡ (window_of self.old).size
             → (file_of self.new).now ≡ (file_of self.old).now }
         ensures foreseen { IsTrue F.tells
-            → IfErr result (λ e. e ≡ Error.Full → (file_of self.new).now ≡ (file_of self.old).now) }
+            → IfErr result (λ e. e ≡ Error.Full → ((file_of self.new).now ≡ (file_of self.old).now)
+            ⊎ (IsLengthened (stored_in (open_of self.old)) (window_of self.old) len
+            × (is_failed (file_of self.new).now ≡ true))) }
         ensures room { (window_of self.new).room ≡ (window_of self.old).room }
     {
         self.window.set_len(self.file, self.entry, len)

@@ -3,7 +3,7 @@ use Rattle.std.proofs.Common.{◌≡◌, ◌≢◌, ◌<◌, inl, inr, ℕ, List
 use Rattle.std.specs.Prelude.{Contains, Option, Some, None, flat_map, if◌then◌else◌, nat_eq, not, slice_index, unwrap_or, ◌&&◌, ◌==◌}
 use Rattle.std.specs.List.{IsDistinct}
 use Rattle.std.proofs.lemmas.Bool.{cases_lt}
-use Rattle.std.proofs.lemmas.List.{get_or_past}
+use Rattle.std.proofs.lemmas.List.{append_assoc, get_or_past}
 use Rattle.std.proofs.lemmas.List.Elements.{Contains-append_cases, Contains-append_left, Contains-append_right}
 use Rattle.cfb_format.specs.declared.header.Header.{Header}
 use Rattle.cfb_format.specs.declared.validate.Validation.{Validation}
@@ -21,6 +21,8 @@ use Rattle.cfb_tables.specs.Changes.{AreDisjoint}
 use Rattle.cfb_tables.specs.Owners.{IsClosedUnder, Uses, tally}
 use Rattle.cfb_tables.specs.Tables.{first_or_end}
 use Rattle.cfb_tables.proofs.ChainLemmas.{members-busy, regular-le}
+use Rattle.cfb_tables.specs.Clean.{IsUnnamed}
+use Rattle.cfb_tables.proofs.CleanLemmas.{regular-goes_on}
 use Rattle.cfb_tables.proofs.ClosedLemmas.{chains-closed, closed-together, marks-closed, owned-unnamed}
 use Rattle.cfb_tables.proofs.Counts.{distinct-tally, in-tally, tally-distinct, tally-in}
 use Rattle.cfb_tables.proofs.Members.{Contains-nil, distinct-apart, distinct-left, value-at}
@@ -29,7 +31,8 @@ use Rattle.cfb_mini_sectors.specs.State.{HoldsMini, IsChangeable, MiniState, byt
 use Rattle.cfb_mini_sectors.specs.Steps.{system_sectors}
 use Rattle.cfb_content.specs.Contents.{IsStreamOf, mini_sectors_owned, parts_with, sectors_owned}
 use Rattle.cfb_content.specs.Uses.{mini_sectors_by_owners, other_streams, sectors_by_owners}
-use Rattle.cfb_content.specs.Laws.{OwnIsApart, StreamStartIsUnnamed}
+use Rattle.cfb_mini_sectors.proofs.MiniStreams.{chain-is-stream, stream-chain}
+use Rattle.cfb_content.specs.Laws.{ChangeableStartsAreUnnamed, OwnIsApart, StreamStartIsUnnamed}
 use Rattle.cfb_content.proofs.Owned.{in-others, into-flat, used-by-owners}
 
 -- ---- the header
@@ -317,3 +320,46 @@ stream-start-unnamed v s i change at =
           (λ n m regular. absurd (Contains-nil n m))
           (flat-closed s.minifat (mini_sectors_owned s) others (minis-closed s)),
     )
+
+-- nor those of the MiniFAT's chain and of the mini stream's
+pub starts-unnamed : ChangeableStartsAreUnnamed
+starts-unnamed v s i change at =
+    let o = at.outline in
+    let others = flat_map (sectors_owned s) (other_streams o i) in
+    let fat = (tables_in s).fat in
+    let tables = table_sectors (tables_in s) in
+    let directory = s.directory.sectors in
+    let minifat = s.minifat_sectors in
+    let stream = mini_stream_of s in
+    let own = sectors_owned s i in
+    let front = tables ++ directory in
+    let by : Uses fat (front ++ minifat ++ stream ++ own ++ others) = subst (λ (l : List ℕ). Uses fat (l ++ own ++ others))
+    (sym (append_assoc tables (directory ++ minifat) stream) ∙ ap (λ (l : List ℕ). l ++ stream) (sym (append_assoc tables directory minifat)))
+    (owners-use v s change o at.is i at.reached).0 in
+    let own_closed = closed-together fat own others (sectors-closed s i) (flat-closed fat (sectors_owned s) (other_streams o i) (sectors-closed s)) in
+    let stream_closed = stream-closed v s change.held in
+    let front_closed = closed-together fat tables directory (tables-closed v s change.held) (chains-closed fat (first_or_end directory) directory change.held.directory.chain) in
+    let minifat_closed = chains-closed fat (first_or_end minifat) minifat change.held.chain in
+    let stream_chain = stream-is-chain v s change.held in
+    record {
+      minifat = start-unnamed fat front minifat (stream ++ (own ++ others))
+          (subst (Uses fat) (ap (λ (l : List ℕ). l ++ others) (append_assoc (front ++ minifat) stream own)
+          ∙ append_assoc (front ++ minifat) (stream ++ own) others
+          ∙ ap (λ (l : List ℕ). front ++ minifat ++ l) (append_assoc stream own others)) by)
+          change.held.chain front_closed (closed-together fat stream (own ++ others) stream_closed own_closed);
+      mini_stream = start-unnamed fat (front ++ minifat) stream (own ++ others)
+          (subst (Uses fat) (append_assoc (front ++ minifat ++ stream) own others) by)
+          stream_chain (closed-together fat front minifat front_closed minifat_closed) own_closed;
+    }
+  where
+    start-unnamed : (table front list back : List ℕ) → Uses table (front ++ list ++ back) → IsChain table (first_or_end list) list
+        → IsClosedUnder table front → IsClosedUnder table back → IsUnnamed table (first_or_end list)
+    start-unnamed table front [] back uses chain closed closed' = λ j lt regular. regular-goes_on (value table j) regular
+    start-unnamed table front (x ∷ list) back uses chain closed closed' = owned-unnamed table front (x ∷ list) back x uses chain (omega arith) closed closed'
+
+    stream-is-chain : (v : Validation) (s : MiniState) → HoldsMini v s → IsChain (tables_in s).fat (first_or_end (mini_stream_of s)) (mini_stream_of s)
+    stream-is-chain v s held =
+        let root = entry_at (entries_of s) 0 in
+        let is : mini_stream_of s ≡ held.mini_stream.sectors = ap (λ (w : Option (List ℕ)). unwrap_or w []) held.mini_stream.kept in
+        subst (λ (l : List ℕ). IsChain (tables_in s).fat (first_or_end l) l) (sym is)
+        (stream-chain (tables_in s).fat root held.mini_stream.sectors (chain-is-stream (tables_in s).fat root held.mini_stream.sectors held.mini_stream.chain))

@@ -1,5 +1,5 @@
 -- Each kind of change of one stream's content, in the words of use.
-use Rattle.std.proofs.Common.{◌≡◌, ℕ, List, [], ◌++◌, Bool, true, false, refl, sym, ◌∙◌, ap, subst}
+use Rattle.std.proofs.Common.{◌≡◌, inl, inr, ℕ, List, [], ◌++◌, Bool, true, false, refl, sym, ◌∙◌, ap, subst}
 use Rattle.std.specs.Prelude.{Contains, Option, flat_map, if◌then◌else◌, unwrap_or}
 use Rattle.cfb_format.specs.declared.validate.Validation.{Validation}
 use Rattle.cfb_format.specs.Content.{is_large, mini_chain, sector_chain}
@@ -10,14 +10,14 @@ use Rattle.cfb_tables.specs.Owners.{UseChanges, Uses, tally}
 use Rattle.cfb_tables.specs.Tables.{TableState}
 use Rattle.cfb_tables.proofs.UseLemmas.{use-changes-follow, uses-kept}
 use Rattle.cfb_soundness.specs.Streams.{own_mini_sectors, own_sectors}
-use Rattle.cfb_alloc.specs.ListedChain.{Lengthens}
+use Rattle.cfb_alloc.specs.ListedChain.{Lengthens, Shortens}
 use Rattle.cfb_mini_table.specs.MiniTable.{MiniGivesBack, TakesMini}
 use Rattle.cfb_mini_sectors.specs.State.{MiniState, cases_of, entries_of, mini_stream_of, parts_of, tables_in}
-use Rattle.cfb_mini_sectors.specs.Steps.{mini_stream_lacks, minifat_lacks}
+use Rattle.cfb_mini_sectors.specs.Steps.{SettlesRoom, mini_stream_lacks, mini_stream_needs, minifat_lacks, minifat_needs}
 use Rattle.cfb_content.specs.Contents.{mini_sectors_owned, parts_with, sectors_owned}
 use Rattle.cfb_content.specs.Uses.{ChangesContent, GrowthStays, LargeBecomesSmall, LargeGoesOn, LargeIsCut, SameUse, SmallBecomesLarge, SmallGoesOn, SmallIsCut, mini_sectors_by_owners, other_streams, sectors_by_owners}
 use Rattle.cfb_content.proofs.Apart.{owners-use, same-reached}
-use Rattle.cfb_content.proofs.InUse.{in_use, mini-goes-on, mini-is-cut, minifat-goes-on, own-goes-on, own-is-cut, same-use, stream-goes-on, use-by-count}
+use Rattle.cfb_content.proofs.InUse.{in_use, mini-goes-on, mini-is-cut, minifat-goes-on, minifat-is-cut, own-goes-on, own-is-cut, same-use, stream-goes-on, stream-is-cut, use-by-count}
 use Rattle.cfb_content.proofs.Outlines.{moved-is-outline, no-root-stream}
 use Rattle.cfb_content.proofs.Owned.{others-in, same-flat, used-by-owners}
 
@@ -116,7 +116,7 @@ large-goes-on v i old new xs ys ms count change kept longer had has = record {
 pub large-is-cut : LargeIsCut
 large-is-cut v i old new xs ys ms left change kept shorter had has = record {
   sectors = λ o is. fat-side v i old new change o is old.minifat_sectors (mini_stream_of old) xs ys kept.minifat_sectors (stream-same old new kept.mini_stream) had.sectors_are has.sectors_are
-      (own-is-cut (tables_in old) (tables_in new) old.directory.sectors old.minifat_sectors (mini_stream_of old) xs ys (others v i old new change o is) left shorter);
+      (own-is-cut (tables_in old) (tables_in new) old.directory.sectors (others v i old new change o is) left old.minifat_sectors (mini_stream_of old) xs ys shorter);
   mini_sectors = λ o is. mini-side v i old new change o is ms ms had.mini_sectors_are has.mini_sectors_are
       (λ u. same-use old.minifat (ms ++ mini_others v i old new change o is) new.minifat kept.minifat);
 }
@@ -128,6 +128,30 @@ grown-system t b t' d f f' m m' x y count count' first second u =
     let a = minifat-goes-on t b d y count f f' m x first u in
     use-changes-follow t.fat (in_use t d f m x y) b.fat (in_use b d f' m x y) t'.fat (in_use t' d f' m' x y) a
     (stream-goes-on b t' d y count' f' m m' x second (uses-kept t.fat (in_use t d f m x y) b.fat (in_use b d f' m x y) a u))
+
+-- the mini stream gives back sectors, and then the MiniFAT
+shrunk-system : (t b t' : TableState) (d f f' m m' x y : List ℕ) (left left' : ℕ) → Shortens left m m' t b → Shortens left' f f' b t'
+    → Uses t.fat (in_use t d f m x y) → UseChanges t.fat (in_use t d f m x y) t'.fat (in_use t' d f' m' x y)
+shrunk-system t b t' d f f' m m' x y left left' first second u =
+    let a = stream-is-cut t b d y left f m m' x first u in
+    use-changes-follow t.fat (in_use t d f m x y) b.fat (in_use b d f m' x y) t'.fat (in_use t' d f' m' x y) a
+    (minifat-is-cut b t' d y left' f f' m' x second (uses-kept t.fat (in_use t d f m x y) b.fat (in_use b d f m' x y) a u))
+
+-- the directory's sectors, the MiniFAT's and the mini stream's, and those of one stream and of the others, while room is given back or all stays
+settled-system : (a b : MiniState) (x y : List ℕ) → SettlesRoom a b → Uses (tables_in a).fat (in_use (tables_in a) a.directory.sectors a.minifat_sectors (mini_stream_of a) x y)
+    → UseChanges (tables_in a).fat (in_use (tables_in a) a.directory.sectors a.minifat_sectors (mini_stream_of a) x y)
+    (tables_in b).fat (in_use (tables_in b) a.directory.sectors b.minifat_sectors (mini_stream_of b) x y)
+settled-system a b x y (inl gives) u =
+    subst (λ (m : List ℕ). UseChanges (tables_in a).fat (in_use (tables_in a) a.directory.sectors a.minifat_sectors (mini_stream_of a) x y)
+    (tables_in b).fat (in_use (tables_in b) a.directory.sectors b.minifat_sectors m x y)) (sym (ap (λ (w : Option (List ℕ)). unwrap_or w []) gives.kept))
+    (shrunk-system (tables_in a) gives.between (tables_in b) a.directory.sectors a.minifat_sectors b.minifat_sectors (mini_stream_of a) gives.stream x y
+    (mini_stream_needs b) (minifat_needs b) gives.mini_stream gives.minifat u)
+settled-system a b x y (inr keeps) u =
+    let before = in_use (tables_in a) a.directory.sectors a.minifat_sectors (mini_stream_of a) x y in
+    let same : in_use (tables_in b) a.directory.sectors b.minifat_sectors (mini_stream_of b) x y ≡ before =
+    λ j. in_use (keeps.tables j) a.directory.sectors (keeps.minifat j) (stream-same a b keeps.mini_stream j) x y in
+    subst (λ (w : List ℕ). UseChanges (tables_in a).fat before (tables_in b).fat w) (sym same)
+    (same-use (tables_in a).fat before (tables_in b).fat (ap (λ (t : TableState). t.fat) keeps.tables))
 
 pub growth-stays : GrowthStays
 growth-stays count old mid new grows system = record {
@@ -148,11 +172,9 @@ small-goes-on v i old new xs ms ns limit count change grows listed takes had has
 }
 
 pub small-is-cut : SmallIsCut
-small-is-cut v i old new xs ms ns left change system listed gives had has = record {
-  sectors = λ o is. fat-side v i old new change o is old.minifat_sectors (mini_stream_of old) xs xs system.minifat (stream-same old new system.mini_stream) had.sectors_are has.sectors_are
-      (λ u. subst (λ (t : TableState). UseChanges (tables_in old).fat (in_use (tables_in old) old.directory.sectors old.minifat_sectors (mini_stream_of old) xs (others v i old new change o is))
-      t.fat (in_use t old.directory.sectors old.minifat_sectors (mini_stream_of old) xs (others v i old new change o is))) (sym system.tables)
-      (same-use (tables_in old).fat (in_use (tables_in old) old.directory.sectors old.minifat_sectors (mini_stream_of old) xs (others v i old new change o is)) (tables_in old).fat refl));
+small-is-cut v i old new xs ms ns left change room listed gives had has = record {
+  sectors = λ o is. fat-side v i old new change o is new.minifat_sectors (mini_stream_of new) xs xs refl refl had.sectors_are has.sectors_are
+      (settled-system old new xs (others v i old new change o is) room);
   mini_sectors = λ o is. mini-side v i old new change o is ms ns had.mini_sectors_are has.mini_sectors_are
       (mini-is-cut old.minifat new.minifat ms ns (mini_others v i old new change o is) left gives listed);
 }
@@ -172,7 +194,7 @@ large-becomes-small v i old mid new xs ns limit count change kept shorter grows 
     freed-and-grown y u =
         let first : UseChanges (tables_in old).fat (in_use (tables_in old) old.directory.sectors old.minifat_sectors (mini_stream_of old) xs y)
         (tables_in mid).fat (in_use (tables_in mid) old.directory.sectors old.minifat_sectors (mini_stream_of old) [] y) =
-        own-is-cut (tables_in old) (tables_in mid) old.directory.sectors old.minifat_sectors (mini_stream_of old) xs [] y 0 shorter u in
+        own-is-cut (tables_in old) (tables_in mid) old.directory.sectors y 0 old.minifat_sectors (mini_stream_of old) xs [] shorter u in
         use-changes-follow (tables_in old).fat (in_use (tables_in old) old.directory.sectors old.minifat_sectors (mini_stream_of old) xs y)
         (tables_in mid).fat (in_use (tables_in mid) old.directory.sectors old.minifat_sectors (mini_stream_of old) [] y)
         (tables_in new).fat (in_use (tables_in new) old.directory.sectors new.minifat_sectors grows.stream [] y) first
@@ -183,12 +205,22 @@ large-becomes-small v i old mid new xs ns limit count change kept shorter grows 
         (tables_in mid).fat (in_use (tables_in mid) old.directory.sectors old.minifat_sectors (mini_stream_of old) [] y) first u))
 
 pub small-becomes-large : SmallBecomesLarge
-small-becomes-large v i old mid new ms ys count change system gives kept longer had has = record {
-  sectors = λ o is. fat-side v i old new change o is old.minifat_sectors (mini_stream_of old) [] ys (kept.minifat_sectors ∙ system.minifat)
-      (stream-same old new (kept.mini_stream ∙ system.mini_stream)) had.sectors_are has.sectors_are
-      (own-goes-on (tables_in old) (tables_in new) old.directory.sectors (others v i old new change o is) count old.minifat_sectors (mini_stream_of old) [] ys
-      (subst (λ (t : TableState). Lengthens count [] ys t (tables_in new)) system.tables longer));
+small-becomes-large v i old mid new ms ys count change room gives kept longer had has = record {
+  sectors = λ o is. fat-side v i old new change o is mid.minifat_sectors (mini_stream_of mid) [] ys kept.minifat_sectors (stream-same mid new kept.mini_stream)
+      had.sectors_are has.sectors_are (λ u. settled-and-grown (others v i old new change o is) u);
   mini_sectors = λ o is. mini-side v i old new change o is ms [] had.mini_sectors_are has.mini_sectors_are
       (mini-is-cut old.minifat new.minifat ms [] (mini_others v i old new change o is) 0
       (subst (λ (t : List ℕ). MiniGivesBack [] ms old.minifat t) (sym kept.minifat) gives) refl);
 }
+  where
+    settled-and-grown : (y : List ℕ) → Uses (tables_in old).fat (in_use (tables_in old) old.directory.sectors old.minifat_sectors (mini_stream_of old) [] y)
+        → UseChanges (tables_in old).fat (in_use (tables_in old) old.directory.sectors old.minifat_sectors (mini_stream_of old) [] y)
+        (tables_in new).fat (in_use (tables_in new) old.directory.sectors mid.minifat_sectors (mini_stream_of mid) ys y)
+    settled-and-grown y u =
+        let before = in_use (tables_in old) old.directory.sectors old.minifat_sectors (mini_stream_of old) [] y in
+        let between = in_use (tables_in mid) old.directory.sectors mid.minifat_sectors (mini_stream_of mid) [] y in
+        let first : UseChanges (tables_in old).fat before (tables_in mid).fat between = settled-system old mid [] y room u in
+        use-changes-follow (tables_in old).fat before (tables_in mid).fat between
+        (tables_in new).fat (in_use (tables_in new) old.directory.sectors mid.minifat_sectors (mini_stream_of mid) ys y) first
+        (own-goes-on (tables_in mid) (tables_in new) old.directory.sectors y count mid.minifat_sectors (mini_stream_of mid) [] ys longer
+        (uses-kept (tables_in old).fat before (tables_in mid).fat between first u))

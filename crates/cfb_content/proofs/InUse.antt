@@ -130,23 +130,44 @@ module _ (t t' : TableState) (d y : List ℕ) (count : ℕ) where
       (Contains-append_right (table_sectors t) (d ++ xs ++ m) n (Contains-append_left (d ++ xs) m n (Contains-append_right d xs n (ends-in xs n c)))))) uses
       (λ n. omega (arith, listed-tally n xs ys l.listed))
 
--- the one stream's chain is cut, or freed
-pub own-is-cut : (t t' : TableState) (d f m xs ys y : List ℕ) (left : ℕ) → Shortens left xs ys t t' → Uses t.fat (in_use t d f m xs y)
-    → UseChanges t.fat (in_use t d f m xs y) t'.fat (in_use t' d f m ys y)
-own-is-cut t t' d f m xs ys y left s uses =
-    freeing-by-count t.fat t'.fat (ends_of (take left xs)) (drop left xs) (in_use t d f m xs y) (in_use t' d f m ys y)
-    (given-back-frees t.fat t'.fat (ends_of (take left xs)) (drop left xs) s.given_back.given)
-    (λ n c. Contains-append_left (table_sectors t' ++ (d ++ f ++ m) ++ ys) y n (Contains-append_right (table_sectors t' ++ (d ++ f ++ m)) ys n
-    (subst (λ (l : List ℕ). Contains l n) (sym s.listed) (ends-in (take left xs) n c))))
-    uses.distinct
-    (λ n. omega (
-      arith,
-      cut-tally n left xs ys s.listed,
-      in-use-tally n t.fat_sectors t.difat_sectors d f m xs y,
-      in-use-tally n t'.fat_sectors t'.difat_sectors d f m ys y,
-      ap (λ (u : TableState). tally n u.fat_sectors) s.given_back.rest,
-      ap (λ (u : TableState). tally n u.difat_sectors) s.given_back.rest,
-    ))
+module _ (t t' : TableState) (d y : List ℕ) (left : ℕ) where
+  -- an owner's list is cut, or all of it is given back
+  cut-use : (xs ys f m x f' m' x' : List ℕ) → Shortens left xs ys t t' → ((n : ℕ) → Contains ys n → Contains (in_use t' d f' m' x' y) n) → Uses t.fat (in_use t d f m x y)
+      → ((n : ℕ) → tally n f + tally n m + tally n x ≡ tally n f' + tally n m' + tally n x' + tally n (drop left xs))
+      → UseChanges t.fat (in_use t d f m x y) t'.fat (in_use t' d f' m' x' y)
+  cut-use xs ys f m x f' m' x' s inside uses counts =
+      freeing-by-count t.fat t'.fat (ends_of (take left xs)) (drop left xs) (in_use t d f m x y) (in_use t' d f' m' x' y)
+      (given-back-frees t.fat t'.fat (ends_of (take left xs)) (drop left xs) s.given_back.given)
+      (λ n c. inside n (subst (λ (l : List ℕ). Contains l n) (sym s.listed) (ends-in (take left xs) n c)))
+      uses.distinct
+      (λ n. omega (
+        arith,
+        counts n,
+        in-use-tally n t.fat_sectors t.difat_sectors d f m x y,
+        in-use-tally n t'.fat_sectors t'.difat_sectors d f' m' x' y,
+        ap (λ (u : TableState). tally n u.fat_sectors) s.given_back.rest,
+        ap (λ (u : TableState). tally n u.difat_sectors) s.given_back.rest,
+      ))
+
+  -- that of the one stream
+  pub own-is-cut : (f m xs ys : List ℕ) → Shortens left xs ys t t' → Uses t.fat (in_use t d f m xs y) → UseChanges t.fat (in_use t d f m xs y) t'.fat (in_use t' d f m ys y)
+  own-is-cut f m xs ys s uses = cut-use xs ys f m xs f m ys s
+      (λ n c. Contains-append_left (table_sectors t' ++ (d ++ f ++ m) ++ ys) y n (Contains-append_right (table_sectors t' ++ (d ++ f ++ m)) ys n c)) uses
+      (λ n. omega (arith, cut-tally n left xs ys s.listed))
+
+  -- that of the mini stream
+  pub stream-is-cut : (f xs ys x : List ℕ) → Shortens left xs ys t t' → Uses t.fat (in_use t d f xs x y) → UseChanges t.fat (in_use t d f xs x y) t'.fat (in_use t' d f ys x y)
+  stream-is-cut f xs ys x s uses = cut-use xs ys f xs x f ys x s
+      (λ n c. Contains-append_left (table_sectors t' ++ (d ++ f ++ ys) ++ x) y n (Contains-append_left (table_sectors t' ++ (d ++ f ++ ys)) x n
+      (Contains-append_right (table_sectors t') (d ++ f ++ ys) n (Contains-append_right (d ++ f) ys n c)))) uses
+      (λ n. omega (arith, cut-tally n left xs ys s.listed))
+
+  -- that of the MiniFAT
+  pub minifat-is-cut : (xs ys m x : List ℕ) → Shortens left xs ys t t' → Uses t.fat (in_use t d xs m x y) → UseChanges t.fat (in_use t d xs m x y) t'.fat (in_use t' d ys m x y)
+  minifat-is-cut xs ys m x s uses = cut-use xs ys xs m x ys m x s
+      (λ n c. Contains-append_left (table_sectors t' ++ (d ++ ys ++ m) ++ x) y n (Contains-append_left (table_sectors t' ++ (d ++ ys ++ m)) x n
+      (Contains-append_right (table_sectors t') (d ++ ys ++ m) n (Contains-append_left (d ++ ys) m n (Contains-append_right d ys n c))))) uses
+      (λ n. omega (arith, cut-tally n left xs ys s.listed))
 
 -- ---- the MiniFAT
 

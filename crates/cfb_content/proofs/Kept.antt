@@ -1,9 +1,7 @@
 -- What a change leaves of the other streams' content.
 use Rattle.std.proofs.Common.{◌≡◌, ◌≢◌, ◌<◌, ◌≤◌, ◌+◌, ◌*◌, ◌/◌, ◌%◌, inl, inr, ℕ, List, [], ◌++◌, Bool, true, false, refl, sym, ◌∙◌, ap, subst, length, arith}
 use Rattle.std.specs.Prelude.{Contains, IsSome, Option, Some, if◌then◌else◌, slice_index, unwrap_or, ◌==◌}
-use Rattle.std.proofs.lemmas.List.{append-nil, get_or_append_left}
 use Rattle.std.proofs.lemmas.List.Elements.{Contains-append_cases, Contains-append_left, Contains-append_right, Contains-get_or}
-use Rattle.std.proofs.Math.Seq.{drop-length}
 use Rattle.cfb_format.specs.declared.validate.Validation.{Validation}
 use Rattle.cfb_format.specs.declared.version.Version.{Version}
 use Rattle.cfb_format.specs.declared.version.Version.TheVariants.{V3, V4}
@@ -15,7 +13,6 @@ use Rattle.cfb_format.specs.Siblings.{entry_at}
 use Rattle.cfb_format.proofs.Chains.{chain_from-IsChain}
 use Rattle.cfb_sectors.specs.Sectors.{SectorStays}
 use Rattle.cfb_sectors.specs.Words.{RangeStays}
-use Rattle.cfb_tables.specs.Listed.{gained}
 use Rattle.cfb_tables.proofs.ChainLemmas.{chain-stays}
 use Rattle.cfb_alloc.specs.Frame.{IsForeign, Spares}
 use Rattle.cfb_tables.proofs.Members.{Contains-nil, distinct-apart, value-below}
@@ -97,12 +94,6 @@ stays-inside v i n at a b e s = record {
   each = λ j lt from to. s.each j lt (omega (arith, e, from)) (omega (arith, e, mini-inside v n, next-start v i, to));
 }
 
--- where the mini stream's chain at most goes on, a mini sector in it keeps its place
-pub place-stays : (v : Version) (xs more : List ℕ) (m : ℕ) → 64 * m < length xs * sector_len v → mini_start v (xs ++ more) m ≡ mini_start v xs m
-place-stays v xs more m room =
-    ap (λ i. sector_start v i + mini_sector_len * m % sector_len v)
-    (get_or_append_left xs more 0 (mini_sector_len * m / sector_len v) (mini-below v m (length xs) room))
-
 -- the mini stream has a place for each value of the MiniFAT
 pub stream-room : (v : Validation) (s : MiniState) (m : ℕ) → HoldsMini v s → m < length s.minifat → 64 * m < length (mini_stream_of s) * sector_len (version_of s)
 stream-room v s m held lt =
@@ -126,7 +117,7 @@ module _ (v : Validation) (own : List ℕ) (old new : MiniState) (i : ℕ) (chan
 pub kept-mini-spared : KeptMiniIsSpared
 kept-mini-spared v own old new i change at spares within kept = record {
   values = λ m busy out. ap (λ (t : List ℕ). value t m) kept.minifat;
-  mini_stream = same ∙ sym (append-nil (mini_stream_of old)) ∙ ap (λ l. mini_stream_of old ++ l) (sym none);
+  places = λ m busy out. ap (λ (l : List ℕ). mini_start (version_of old) l m) same;
   bytes = λ m busy out.
       let lt = below m busy in
       let index = 64 * m / sector_len (version_of old) in
@@ -138,9 +129,6 @@ kept-mini-spared v own old new i change at spares within kept = record {
   where
     same : mini_stream_of new ≡ mini_stream_of old
     same = ap (λ (w : Option (List ℕ)). unwrap_or w []) kept.mini_stream
-
-    none : gained (mini_stream_of old) (mini_stream_of new) ≡ []
-    none = ap (λ l. gained (mini_stream_of old) l) same ∙ drop-length (mini_stream_of old)
 
     below : (m : ℕ) → value old.minifat m ≢ free_sector → m < length old.minifat
     below m busy = value-below old.minifat m busy
@@ -175,7 +163,7 @@ spared-is-kept v own mini_own old new i change at spares within mini_spares mini
       (λ b. same-maybe old.minifat new.minifat (e.stream_len == 0) e.start_sector (subst (λ (w : Option (List ℕ)). IsSome w) (small-content old e b) some)
       (λ n c. let f = mini b n c in mini_spares.values n f.0 f.1));
   sectors = λ b n c. spares.sectors n (foreign b n c);
-  places = λ b n c. moved n (mini b n c).2;
+  places = λ b n c. let f = mini b n c in moved n f.0 f.1;
   mini_sectors = λ b n c. let f = mini b n c in mini_spares.bytes n f.0 f.1;
 }
   where
@@ -212,11 +200,8 @@ spared-is-kept v own mini_own old new i change at spares within mini_spares mini
         let busy = minis-busy old k n c' in
         (busy.0, λ d. apart.mini_others i at (λ q. ne (sym q)) n c' (mini_within n d), busy.1)
 
-    moved : (n : ℕ) → n < length old.minifat → mini_place new n ≡ mini_place old n
-    moved n lt =
-        ap (λ w. mini_start w (mini_stream_of new) n) spares.same_version
-        ∙ ap (λ l. mini_start (version_of old) l n) mini_spares.mini_stream
-        ∙ place-stays (version_of old) (mini_stream_of old) (gained (mini_stream_of old) (mini_stream_of new)) n (stream-room v old n change.held lt)
+    moved : (n : ℕ) → value old.minifat n ≢ free_sector → (Contains mini_own n → ⊥) → mini_place new n ≡ mini_place old n
+    moved n busy out = ap (λ w. mini_start w (mini_stream_of new) n) spares.same_version ∙ mini_spares.places n busy out
 
 pub spared-sectors-kept : SparedSectorsAreKept
 spared-sectors-kept v own old new i change at spares within kept =

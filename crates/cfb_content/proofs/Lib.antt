@@ -8,6 +8,7 @@ pub mod InUse
 pub mod Changing
 pub mod Sound
 pub mod Snug
+pub mod SnugMini
 pub mod Fullness
 pub mod StreamEntry
 mod KnownSectors

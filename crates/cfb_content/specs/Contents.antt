@@ -16,7 +16,7 @@ use Rattle.cfb_tables.specs.Owners.{AllUsed}
 use Rattle.cfb_alloc.specs.Alloc.{IsMeasured}
 use Rattle.cfb_alloc.specs.Frame.{IsFixedHeaderByte}
 use Rattle.cfb_mini_sectors.specs.State.{IsChangeable, MiniState, bytes_of, cases_of, entries_of, mini_place, parts_of, root_len_of, table_of, tables_in, version_of}
-use Rattle.cfb_mini_sectors.specs.Steps.{IsZeroMini}
+use Rattle.cfb_mini_sectors.specs.Steps.{IsInMiniStream, IsZeroMini}
 use Rattle.cfb_mini.specs.MiniSectors.{IsStill}
 
 -- ---- which stream
@@ -110,9 +110,9 @@ pub record SizesChain (old new : MiniState) (i : ℕ) : Type 0 where
       → length (mini_sectors_owned new i)
       ≡ max (mini_sectors_for (len_of new i)) (length (mini_sectors_owned old i))
 
--- each mini sector that the stream of that entry gave back reads as zeros
+-- each mini sector that the stream of that entry gave back, and the mini stream still has, reads as zeros
 abbrev pub WipesMinis : MiniState → MiniState → ℕ → Type 0
-WipesMinis old new i = (m : ℕ) → Contains (mini_sectors_owned old i) m → (Contains (mini_sectors_owned new i) m → ⊥) → IsZeroMini new m
+WipesMinis old new i = (m : ℕ) → Contains (mini_sectors_owned old i) m → (Contains (mini_sectors_owned new i) m → ⊥) → IsInMiniStream new m → IsZeroMini new m
 
 -- ---- fullness
 

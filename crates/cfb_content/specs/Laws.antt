@@ -15,8 +15,9 @@ use Rattle.cfb_tables.specs.Clean.{IsUnnamed}
 use Rattle.cfb_tables.specs.Tables.{IsTooFew}
 use Rattle.cfb_alloc.specs.Frame.{Spares, table_sectors}
 use Rattle.cfb_chains.specs.ChainPlaces.{place_along}
-use Rattle.cfb_mini_sectors.specs.State.{HoldsMini, HoldsMiniStream, IsChangeable, MiniState, bytes_of, cases_of, content_of, entries_of, parts_of, table_of, tables_in, version_of}
-use Rattle.cfb_mini_sectors.specs.Steps.{IsTooFewAfterFor, KeepsLimits, KeepsMini, MovesRoot, SparesMini, system_sectors}
+use Rattle.cfb_mini_table.specs.MiniTable.{TakesMini}
+use Rattle.cfb_mini_sectors.specs.State.{HoldsMini, HoldsMiniStream, IsChangeable, MiniState, bytes_of, cases_of, content_of, entries_of, parts_of, root_len_of, table_of, tables_in, version_of}
+use Rattle.cfb_mini_sectors.specs.Steps.{AreStartsUnnamed, GrowsFor, IsMeasuredMini, IsSnugMini, IsTooFewAfterFor, KeepsLimits, KeepsMini, MovesRoot, SparesMini, system_sectors}
 use Rattle.cfb_content.specs.Contents.{AreAllUsed, AreSnug, IsSnug, IsStreamOf, IsTooLongFor, KeepsContent, KeepsOthers, MovesContent, SizesChain, len_of, mini_place_along, mini_sectors_owned, sectors_owned}
 use Rattle.cfb_content.specs.Uses.{ChangesContent, ChangesUse, Owns}
 
@@ -122,6 +123,19 @@ SameIsSized = (validation : Validation) (old new : MiniState) (i : ℕ) → IsCh
     → version_of new ≡ version_of old → (tables_in new).fat ≡ (tables_in old).fat → new.minifat ≡ old.minifat
     → entry_at (entries_of new) i ≡ entry_at (entries_of old) i → SizesChain old new i
 
+-- the MiniFAT and the mini stream have exactly the sectors that they need, where they had before and went on by just those that so many
+-- mini sectors lacked
+abbrev pub GrowthIsSnugMini : Type 0
+GrowthIsSnugMini = (validation : Validation) (limit count : ℕ) (touched more : List ℕ) (old new : MiniState) → HoldsMini validation new
+    → version_of new ≡ version_of old → GrowsFor count old new → TakesMini limit old.minifat new.minifat touched more → 0 < length more
+    → length more ≡ count → IsMeasuredMini new → IsSnugMini old → IsSnugMini new
+
+-- and where they stay, and the root's start and length
+abbrev pub KeptIsSnugMini : Type 0
+KeptIsSnugMini = (old new : MiniState) → version_of new ≡ version_of old → KeepsMini old new
+    → (entry_at (entries_of new) 0).start_sector ≡ (entry_at (entries_of old) 0).start_sector → root_len_of new ≡ root_len_of old
+    → IsSnugMini old → IsSnugMini new
+
 -- ---- what is the stream's own
 
 -- the stream's sectors hold neither tables nor directory, MiniFAT or mini stream, and no other stream has one of them or of its mini
@@ -140,6 +154,10 @@ abbrev pub StreamStartIsUnnamed : Type 0
 StreamStartIsUnnamed = (validation : Validation) (s : MiniState) (i : ℕ) → IsChangeable validation s → IsStreamOf s i
     → (0 < length (sectors_owned s i) → IsUnnamed (tables_in s).fat (entry_at (entries_of s) i).start_sector)
     × (0 < length (mini_sectors_owned s i) → IsUnnamed s.minifat (entry_at (entries_of s) i).start_sector)
+
+-- and in the FAT nothing names the first sector of the MiniFAT or of the mini stream
+abbrev pub ChangeableStartsAreUnnamed : Type 0
+ChangeableStartsAreUnnamed = (validation : Validation) (s : MiniState) (i : ℕ) → IsChangeable validation s → IsStreamOf s i → AreStartsUnnamed s
 
 -- a large stream's sectors are its chain, the file has each of its bytes in its place there, and each of the sectors whole but perhaps the
 -- file's last

@@ -11,7 +11,7 @@ use Rattle.cfb_alloc.specs.Frame.{table_sectors}
 use Rattle.cfb_alloc.specs.ListedChain.{Lengthens, Shortens}
 use Rattle.cfb_mini_table.specs.MiniTable.{MiniGivesBack, TakesMini}
 use Rattle.cfb_mini_sectors.specs.State.{HoldsMini, HoldsMiniStream, IsChangeable, MiniState, cases_of, entries_of, parts_of, tables_in}
-use Rattle.cfb_mini_sectors.specs.Steps.{GrowsFor, KeepsLimits, KeepsMini, KeepsSystem, system_sectors}
+use Rattle.cfb_mini_sectors.specs.Steps.{GrowsFor, KeepsLimits, KeepsMini, KeepsSystem, SettlesRoom, system_sectors}
 use Rattle.cfb_content.specs.Contents.{IsStreamOf, KeepsOthers, MovesContent, mini_sectors_owned, parts_with, sectors_owned}
 
 -- ---- owners
@@ -87,10 +87,10 @@ SmallGoesOn = (validation : Validation) (i : ℕ) (old new : MiniState) (xs ms n
 abbrev pub GrowthStays : Type 0
 GrowthStays = (count : ℕ) (old mid new : MiniState) → GrowsFor count old mid → KeepsSystem mid new → GrowsFor count old new
 
--- it is cut, or freed
+-- it is cut, or freed, and the MiniFAT and the mini stream give back what they do not need
 abbrev pub SmallIsCut : Type 0
 SmallIsCut = (validation : Validation) (i : ℕ) (old new : MiniState) (xs ms ns : List ℕ) (left : ℕ) → ChangesContent validation i old new
-    → KeepsSystem old new → ns ≡ take left ms → MiniGivesBack (ends_of (take left ms)) (drop left ms) old.minifat new.minifat
+    → SettlesRoom old new → ns ≡ take left ms → MiniGivesBack (ends_of (take left ms)) (drop left ms) old.minifat new.minifat
     → Owns old i xs ms → Owns new i xs ns → ChangesUse old new
 
 -- a large stream becomes a small one: its chain is freed, and then the mini chain begins
@@ -102,5 +102,5 @@ LargeBecomesSmall = (validation : Validation) (i : ℕ) (old mid new : MiniState
 -- a small stream becomes a large one: its mini chain is freed, and then the chain begins
 abbrev pub SmallBecomesLarge : Type 0
 SmallBecomesLarge = (validation : Validation) (i : ℕ) (old mid new : MiniState) (ms ys : List ℕ) (count : ℕ) → ChangesContent validation i old new
-    → KeepsSystem old mid → MiniGivesBack [] ms old.minifat mid.minifat → KeepsMini mid new
+    → SettlesRoom old mid → MiniGivesBack [] ms old.minifat mid.minifat → KeepsMini mid new
     → Lengthens count [] ys (tables_in mid) (tables_in new) → Owns old i [] ms → Owns new i ys [] → ChangesUse old new

@@ -1,6 +1,6 @@
 //! What the definitions promise about each other. None of these functions does anything: each has a law
 //! as its contract.
-ghost use Rattle.cfb_content.specs.Laws.{AllUsedIsKept, ChangedIsChangeable, ContentMovesInTurn, EmptyIsSnug, EmptyOwnsNothing, EnoughIsNotTooLong, KeptIsReadable, KeptIsSnug, KeptMiniIsSpared, LackIsTooLong, LargeIsReadByPlaces, LargeIsResized, LargeIsThere, LargeIsWritten, LargeOwnsItsChain, MovedIsOutline, MovedRootIsMoved, NothingIsMoved, OthersAreKeptInTurn, OthersAreReadable, OwnIsApart, OwnStays, SameEntriesAreMoved, SameIsSized, SizedIsSnug, SmallIsReadByPlaces, SmallIsResized, SmallIsThere, SmallIsWritten, SmallOwnsItsChain, SparedIsKept, SparedSectorsAreKept, StreamIsNoRoot, StreamOwnsItsOwn, StreamStartIsUnnamed, StreamStays};
+ghost use Rattle.cfb_content.specs.Laws.{AllUsedIsKept, ChangeableStartsAreUnnamed, ChangedIsChangeable, ContentMovesInTurn, EmptyIsSnug, EmptyOwnsNothing, EnoughIsNotTooLong, GrowthIsSnugMini, KeptIsReadable, KeptIsSnug, KeptIsSnugMini, KeptMiniIsSpared, LackIsTooLong, LargeIsReadByPlaces, LargeIsResized, LargeIsThere, LargeIsWritten, LargeOwnsItsChain, MovedIsOutline, MovedRootIsMoved, NothingIsMoved, OthersAreKeptInTurn, OthersAreReadable, OwnIsApart, OwnStays, SameEntriesAreMoved, SameIsSized, SizedIsSnug, SmallIsReadByPlaces, SmallIsResized, SmallIsThere, SmallIsWritten, SmallOwnsItsChain, SparedIsKept, SparedSectorsAreKept, StreamIsNoRoot, StreamOwnsItsOwn, StreamStartIsUnnamed, StreamStays};
 ghost use Rattle.cfb_content.specs.Uses.{GrowthStays, LargeBecomesSmall, LargeGoesOn, LargeIsCut, SameUse, SmallBecomesLarge, SmallGoesOn, SmallIsCut, UsedByOwners};
 
 /// Start and length of a stream's entry and of the root's are none of what the tree hangs on (MS-CFB 2.6).
@@ -29,11 +29,12 @@ pub fn kept_streams_read_as_before()
     ensures others { OthersAreReadable }
 {}
 
-/// In a file that can be changed no sector and no mini sector has two owners, nothing names where a stream starts, and each stream has its
-/// chain and all its bytes.
+/// In a file that can be changed no sector and no mini sector has two owners, nothing names where a stream, the MiniFAT or the mini stream
+/// starts, and each stream has its chain and all its bytes.
 pub fn streams_own_their_sectors()
     ensures apart { OwnIsApart }
     ensures start { StreamStartIsUnnamed }
+    ensures system { ChangeableStartsAreUnnamed }
     ensures large { LargeIsThere }
     ensures small { SmallIsThere }
 {}
@@ -82,12 +83,15 @@ pub fn files_stay_changeable()
     ensures all_used { AllUsedIsKept }
 {}
 
-/// Each stream has exactly the sectors, or mini sectors, that its length needs, where it was so before the one got a chain for its length.
+/// Each stream has exactly the sectors, or mini sectors, that its length needs, where it was so before the one got a chain for its length;
+/// and so have the MiniFAT and the mini stream, where they got just what the mini sectors that were taken lacked.
 pub fn chains_fit_their_lengths()
     ensures kept { KeptIsSnug }
     ensures empty { EmptyIsSnug }
     ensures sized { SizedIsSnug }
     ensures same { SameIsSized }
+    ensures mini_longer { GrowthIsSnugMini }
+    ensures mini_kept { KeptIsSnugMini }
 {}
 
 /// A length is too long for the format exactly where memory has too few numbers for it.

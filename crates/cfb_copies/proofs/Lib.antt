@@ -1,4 +1,5 @@
 pub mod Settings
+pub mod Settled
 pub mod Reading
 pub mod Filling
 pub mod Growing

@@ -1,5 +1,6 @@
 //! A whole file copied into an empty medium.
-ghost use Rattle.std.specs.Prelude.{◌≡◌, ◌<◌, ◌||◌, [], false, true, length, IsTrue, IfOk, IfErr, IfSome, IsErrAnd, MatchOption, OnOk, slice_index_or};
+ghost use Rattle.std.specs.Prelude.{◌≡◌, ◌<◌, ◌≤◌, ◌||◌, [], false, true, length, IsTrue, IfOk, IfErr, IfSome, IsErrAnd, MatchOption, OnOk, slice_index_or};
+ghost use Rattle.cfb_format.specs.Content.{mini_stream_cutoff};
 ghost use Rattle.cfb_format.specs.declared.error.Error.TheVariants.{Failed};
 ghost use Rattle.cfb_format.specs.Meaning.{Means};
 ghost use Rattle.cfb_format.specs.Reading.{IsOutline, Outline};
@@ -49,7 +50,7 @@ fn copy_listed<F: ReadMedium, W: Medium, A: Heap + Clone>(
     numbers: &mut Vec<u32, A>,
     piece: &mut [u8],
 ) -> Result<(), Error>
-    requires room { 0 < length piece.old }
+    requires room { mini_stream_cutoff ≤ length piece.old }
     requires none { numbers.old.items ≡ [] }
     requires listed { ListsObjects source.old list.now }
     requires copyable { AreCopyable source.old list.now }

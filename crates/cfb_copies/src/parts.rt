@@ -1,5 +1,6 @@
 //! One object copied, with its fields and its bytes, but without what is in it.
-ghost use Rattle.std.specs.Prelude.{◌≡◌, ◌↔◌, ◌<◌, ◌||◌, ◌∷◌, ℕ, List, false, true, length, chars, IsTrue, IfOk, IfErr, OnOk};
+ghost use Rattle.std.specs.Prelude.{◌≡◌, ◌↔◌, ◌≤◌, ◌||◌, ◌∷◌, ℕ, List, false, true, length, chars, IsTrue, IfOk, IfErr, OnOk};
+ghost use Rattle.cfb_format.specs.Content.{mini_stream_cutoff};
 ghost use Rattle.cfb_format.specs.DirectoryEntry.{Entry};
 ghost use Rattle.cfb_format.specs.Refused.{IsBreak};
 ghost use Rattle.cfb_format.specs.Siblings.{entry_at};
@@ -116,7 +117,7 @@ pub(crate) fn copy_object<F: ReadMedium, W: Medium, A: Heap + Clone>(
     target: &mut Volume<W, A>,
     piece: &mut [u8],
 ) -> Result<u32, Error>
-    requires room { 0 < length piece.old }
+    requires room { mini_stream_cutoff ≤ length piece.old }
     requires copyable { IsCopyable source.old entry }
     requires in_version { version_of target.old.base ≡ version_of source.old.base }
     requires sound { target.old.is_sound ≡ true }

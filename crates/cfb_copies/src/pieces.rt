@@ -1,51 +1,52 @@
 //! The bytes of a stream, copied piece by piece.
-ghost use Rattle.std.specs.Prelude.{◌≡◌, ◌+◌, ◌<◌, ◌≤◌, ◌||◌, false, true, length, IsTrue, IfErr, OnOk};
+ghost use Rattle.std.specs.Prelude.{◌≡◌, ◌+◌, ◌^◌, ◌<◌, ◌≤◌, ◌||◌, false, true, length, IsTrue, IfErr, OnOk};
 ghost use Rattle.cfb_format.specs.Bytes.{max_stream_len};
-ghost use Rattle.cfb_format.specs.Medium.{written};
-ghost use Rattle.cfb_format.specs.Refused.{IsBreak};
+ghost use Rattle.cfb_format.specs.Content.{mini_stream_cutoff};
+ghost use Rattle.cfb_format.specs.Medium.{part};
+ghost use Rattle.cfb_format.specs.Refused.{CountsFailure, IsBreak};
 ghost use Rattle.cfb_mini_sectors.specs.State.{entries_of, version_of};
 ghost use Rattle.cfb_content.specs.Contents.{IsStreamOf, len_of};
 ghost use Rattle.cfb_agreement.specs.Files.{Holds, failures_of, is_failed};
 ghost use Rattle.cfb_volume.specs.Answers.{content_at};
-ghost use Rattle.cfb_copies.specs.Steps.{CountsEither, FillsStream, GivesFault, IsReadOnly};
+ghost use Rattle.cfb_copies.specs.Steps.{CountsEither, FillsStream, IsReadOnly};
 
 use cfb_format::error::Error;
 use cfb_format::medium::{Medium, ReadMedium};
 use cfb_volume::volume::Volume;
 use std::alloc::Allocator as Heap;
 
-/// Puts all of these bytes at the end of a stream, `at` bytes from its start. `Full` where numbers lack, `Memory`, and `Medium` where the
-/// medium fails.
-#[tactic(auto, using(cfb_format::proofs::ByteLemmas::written_step))]
-fn append<W: Medium, A: Heap + Clone>(
-    target: &mut Volume<W, A>,
-    to: u32,
+/// Fills `into` with the bytes of a stream from byte `at` on, which lie inside its length.
+///
+/// `InvalidData` where they can't be read, `Memory`, and `Medium` where the medium fails.
+#[tactic(auto, using(cfb_format::proofs::ByteLemmas::served_more))]
+fn read_piece<F: ReadMedium, A: Heap + Clone>(
+    source: &mut Volume<F, A>,
+    from: u32,
     at: u64,
-    bytes: &[u8],
+    into: &mut [u8],
 ) -> Result<(), Error>
-    requires sound { target.old.is_sound ≡ true }
-    requires unfailed { is_failed target.old ≡ false }
-    requires stream { IsStreamOf target.old.base to }
-    requires end { len_of target.old.base to ≡ at }
-    requires fits { at + length bytes.now ≤ max_stream_len (version_of target.old.base) }
-    requires some { 0 < length bytes.now }
-    ensures len { OnOk result (len_of target.new.base to ≡ at + length bytes.now) }
-    ensures fills { OnOk result (FillsStream W.tells to target.old target.new) }
-    ensures content { IsTrue W.tells → Holds target.old → OnOk result
-        (content_at target.new to ≡ written (content_at target.old to) at bytes.now) }
-    ensures err { IsTrue W.tells → Holds target.old → IfErr result (IsBreak Unit) }
-    ensures fault { IsTrue W.tells
-        → IfErr result (GivesFault (λ f. W.read_faults f || W.write_faults f)) }
+    requires from { from < length (entries_of source.old.base) }
+    requires inside { at + length into.old ≤ len_of source.old.base from }
+    requires bound { at + length into.old < 2 ^ 64 }
+    ensures reads { IsReadOnly F.tells source.old source.new }
+    ensures ok { IsTrue F.tells → Holds source.old → OnOk result
+        (into.new ≡ part (content_at source.old from) at (length into.old)) }
+    ensures err { IsTrue F.tells → Holds source.old
+        → length (content_at source.old from) ≡ len_of source.old.base from
+        → IfErr result (IsBreak Unit) }
+    ensures counts { IsTrue F.tells → CountsFailure F.read_faults result
+        (failures_of source.old) (failures_of source.new) }
 {
     let mut done = 0;
-    while done < bytes.len() {
-        let count = target.write(to, at + done as u64, &bytes[done..])?;
+    while done < into.len() {
+        let count = source.read(from, at + done as u64, &mut into[done..])?;
         done += count;
     }
     Ok(())
 }
 
-/// Gives an empty stream of the target all bytes of a stream of the source, as many at a time as `piece` has room for.
+/// Gives an empty stream of the target all bytes of a stream of the source, as many at a time as `piece` has room for: so the first piece
+/// puts the stream where it is to lie, and it never moves (MS-CFB 2.6.3).
 ///
 /// `InvalidData` where the source's stream can't be read to its end, `Full` where numbers lack, `Memory`, and `Medium` where one of the
 /// two media fails.
@@ -56,7 +57,7 @@ pub(crate) fn copy_bytes<F: ReadMedium, W: Medium, A: Heap + Clone>(
     to: u32,
     piece: &mut [u8],
 ) -> Result<(), Error>
-    requires room { 0 < length piece.old }
+    requires room { mini_stream_cutoff ≤ length piece.old }
     requires from { from < length (entries_of source.old.base) }
     requires fits { len_of source.old.base from ≤ max_stream_len (version_of target.old.base) }
     requires sound { target.old.is_sound ≡ true }
@@ -78,8 +79,9 @@ pub(crate) fn copy_bytes<F: ReadMedium, W: Medium, A: Heap + Clone>(
     let len = source.len(from);
     let mut at: u64 = 0;
     while at < len {
-        let count = source.read(from, at, piece)?;
-        append(target, to, at, &piece[..count])?;
+        let count = (len - at).min(piece.len() as u64) as usize;
+        read_piece(source, from, at, &mut piece[..count])?;
+        target.append(to, &piece[..count])?;
         at += count as u64;
     }
     Ok(())

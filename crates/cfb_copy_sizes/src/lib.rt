@@ -4,5 +4,3 @@
 
 pub mod laws;
 pub mod needs;
-#[cfg(test)]
-mod tests;

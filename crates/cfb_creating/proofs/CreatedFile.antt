@@ -25,6 +25,7 @@ use Rattle.cfb_directory.specs.State.{AreWritable}
 use Rattle.cfb_mini_sectors.specs.Held.{with_table}
 use Rattle.cfb_mini_sectors.specs.Laws.{SoundMiniIsHeld}
 use Rattle.cfb_mini_sectors.specs.State.{HoldsMini, IsChangeable, MiniState, reading_of, table_of, tables_in}
+use Rattle.cfb_mini_sectors.specs.Steps.{IsSnugMini}
 use Rattle.cfb_content.specs.Contents.{parts_with}
 use Rattle.cfb_agreement.specs.Files.{Holds, IsAsMade}
 use Rattle.cfb_creating.proofs.Parts.{created_sizes, unused_at}
@@ -84,6 +85,11 @@ all_used zero used = (0, lit< tt, refl)
 all_used (suc zero) used = (1, lit< tt, refl)
 all_used (suc (suc i)) used = absurd (used refl)
 
+-- there is no mini sector, and no sector for one
+no_minis : (v : Version) (cases : Cases) (failures limit : ℕ) → IsSnugMini (created_state v (created_bytes v) failures cases limit)
+no_minis V3 cases failures limit = record { measured = refl; minifat = refl; mini_stream = refl; start = refl }
+no_minis V4 cases failures limit = record { measured = refl; minifat = refl; mini_stream = refl; start = refl }
+
 -- ---- the whole file
 
 module _ (one_header : AtMostOneHeader) (one_outline : AtMostOneOutline) (v : Version) (cases : Cases) where
@@ -135,6 +141,7 @@ module _ (one_header : AtMostOneHeader) (one_outline : AtMostOneOutline) (v : Ve
       exact = exact_tables v limit;
       -- there is no stream
       snug = λ k at. absurd (Contains-nil k (subst (λ (p : Outline). Contains (stream_numbers p) k) (sym (the_outline at.outline at.is)) at.reached));
+      snug_mini = no_minis v cases failures limit;
       balanced = λ o is. subst (AreBalanced (created_reading v).entries) (the_outline o is) (balanced v);
     }
 

@@ -1,18 +1,38 @@
 //! Directories in memory that other writers left out of balance, looked up in and changed.
 use crate::changed::{opened, put, reached, take};
-use crate::directories::{Given, chain, directory};
+use crate::directories::chain;
+use crate::texts::directory_said;
+use cfb_codecs::direntry::DirEntry;
 use cfb_entries::entries::Entries;
-use cfb_format::color::Color::{Black, Red};
-use cfb_format::consts::NO_STREAM as NONE;
 use cfb_format::error::Error;
-use cfb_format::objtype::ObjType::{Root, Stream, Unallocated};
 use cfb_format::validate::Validation::Permissive;
 use std::alloc::Global;
 use std::process::Abort;
 use std::test::Fail;
 
-/// A name that is put into a storage, and the number that it gets then; or that is taken out of it, and no number.
-type Step = (&'static str, Option<u32>);
+/// What is done with a name, or asked, and the number that answers it. `+`: it is put in, and gets the number. `-`: it is taken out, and so many
+/// slots change, where it is said. `?`: it is found in the root. `/`: it is found in the root's `a`. `#`: so many entries are reached.
+type Step = (u8, &'static str, Option<u32>);
+
+/// Whether a step in the storage at these names is answered so.
+fn is_answered(
+    alloc: Global,
+    entries: &mut Entries,
+    names: &[&str],
+    (what, name, wanted): &Step,
+) -> Result<bool, Error> {
+    let answer = match what {
+        b'+' => Some(put(alloc, entries, names, name)?),
+        b'-' => {
+            let count = take(alloc, entries, names, name)?;
+            wanted.and(u32::try_from(count).ok())
+        }
+        b'?' => entries.find(&[name]),
+        b'/' => entries.find(&["a", name]),
+        _ => u32::try_from(reached(alloc, entries, Permissive)?).ok(),
+    };
+    Ok(answer == *wanted)
+}
 
 /// Takes these steps in the storage at these names.
 fn change(
@@ -22,45 +42,40 @@ fn change(
     names: &[&str],
     steps: &[Step],
 ) -> Result<(), Error> {
-    for (name, number) in steps {
-        match number {
-            Some(number) => {
-                assert!(rt; put(alloc, entries, names, name)? == *number, "{name}");
-            }
-            None => {
-                take(alloc, entries, names, name)?;
-            }
-        }
+    for (i, step) in steps.iter().enumerate() {
+        assert!(rt; is_answered(alloc, entries, names, step)?, "step {i}");
     }
     Ok(())
 }
 
-fn change_many(rt: &impl Abort, alloc: Global, entries: &mut Entries) -> Result<(), Error> {
-    assert!(rt; entries.find(&["20000"]) == Some(20_000));
-    assert!(rt; put(alloc, entries, &[], "20001")? == 20_001);
-    assert!(rt; take(alloc, entries, &[], "10000")? == 2);
-    assert!(rt; entries.find(&["10000"]).is_none());
-    assert!(rt; entries.find(&["20001"]) == Some(20_001));
-    assert!(rt; put(alloc, entries, &[], "x")? == 10_000);
-    assert!(rt; entries.find(&["X"]) == Some(10_000));
-    assert!(rt; reached(alloc, entries, Permissive)? == 20_001);
-    Ok(())
+/// Takes these steps in the root of a directory.
+fn change_list(
+    rt: &impl Abort,
+    alloc: Global,
+    list: Vec<DirEntry>,
+    steps: &[Step],
+) -> Result<(), Error> {
+    let mut entries = opened(alloc, list, Permissive)?;
+    change(rt, alloc, &mut entries, &[], steps)
 }
+
+#[rattlefmt::skip]
+const MANY: &[Step] = &[
+    (b'?', "20000", Some(20_000)), (b'+', "20001", Some(20_001)), (b'-', "10000", Some(2)), (b'?', "10000", None),
+    (b'?', "20001", Some(20_001)), (b'+', "x", Some(10_000)), (b'?', "X", Some(10_000)), (b'#', "", Some(20_001)),
+];
 
 #[test]
 fn twenty_thousand_side_by_side_are_changed(rt: HostRuntime) -> Result<(), Fail> {
     let list = chain(rt.alloc(), 20_000, false)?;
-    let mut entries = opened(rt.alloc(), list, Permissive)?;
-    change_many(&rt, rt.alloc(), &mut entries)?;
+    change_list(&rt, rt.alloc(), list, MANY)?;
     Ok(())
 }
 
-const DEEP: &[Step] = &[
-    ("b", Some(2_001)),
-    ("c", Some(2_002)),
-    ("b", None),
-    ("c", None),
-];
+#[rattlefmt::skip]
+const DEEP: &[Step] = &[(b'+', "b", Some(2_001)), (b'+', "c", Some(2_002)), (b'-', "b", None), (b'-', "c", None)];
+
+const LAST: &[Step] = &[(b'-', "a", None), (b'#', "", Some(1_999))];
 
 /// The last of 2000 storages is filled, emptied and taken out of the one above.
 fn change_last(
@@ -72,10 +87,9 @@ fn change_last(
 ) -> Result<(), Error> {
     assert!(rt; entries.find(names) == Some(2_000));
     change(rt, alloc, entries, names, DEEP)?;
-    take(alloc, entries, above, "a")?;
+    change(rt, alloc, entries, above, LAST)?;
     assert!(rt; entries.find(names).is_none());
     assert!(rt; entries.find(above) == Some(1_999));
-    assert!(rt; reached(alloc, entries, Permissive)? == 1_999);
     Ok(())
 }
 
@@ -92,55 +106,38 @@ fn two_thousand_in_each_other_are_changed(rt: HostRuntime) -> Result<(), Fail> {
     Ok(())
 }
 
-/// A root with a sibling.
-const BESIDE: &[Given] = &[
-    ("Root Entry", Root, Black, [1, NONE, NONE], 0),
-    ("a", Stream, Black, [NONE; 3], 0),
+/// The entries, and the steps.
+type Row = (&'static str, &'static [Step]);
+
+#[rattlefmt::skip]
+const ROWS: [Row; 3] = [
+    // A root with a sibling: it is no part of the tree, and its slot is not taken.
+    ("Root Entry:Rb1--,a:Fb---", &[(b'?', "a", None), (b'+', "a", Some(2)), (b'?', "a", Some(2)), (b'#', "", Some(1))]),
+    // Three slots of which the middle one is used. Right after opening the lowest free slot is taken, then the one that was freed last, and of
+    // new ones the lowest.
+    (
+        "Root Entry:Rb--2,-,m:Fb---,-",
+        &[
+            (b'+', "z", Some(1)), (b'-', "m", None), (b'+', "n", Some(2)), (b'+', "a", Some(3)), (b'+', "b", Some(4)),
+            (b'+', "c", Some(5)), (b'-', "a", None), (b'-', "b", None), (b'+', "d", Some(4)), (b'+', "e", Some(3)), (b'+', "f", Some(6)),
+        ],
+    ),
+    // The entry before one that goes has its slot then, and is found there, with what is in it.
+    (
+        "Root Entry:Rb--2,a:Db--4,m:Fb13-,z:Fb---,c:Fb---",
+        &[(b'/', "c", Some(4)), (b'-', "m", None), (b'?', "m", None), (b'?', "a", Some(2)), (b'/', "c", Some(4))],
+    ),
 ];
 
-fn put_below(rt: &impl Abort, alloc: Global, entries: &mut Entries) -> Result<(), Error> {
-    assert!(rt; entries.find(&["a"]).is_none());
-    assert!(rt; put(alloc, entries, &[], "a")? == 2);
-    assert!(rt; entries.find(&["a"]) == Some(2));
-    assert!(rt; reached(alloc, entries, Permissive)? == 1);
+fn are_changed(rt: &impl Abort, alloc: Global, rows: &[Row]) -> Result<(), Error> {
+    for (text, steps) in rows {
+        change_list(rt, alloc, directory_said(alloc, text)?, steps)?;
+    }
     Ok(())
 }
 
-/// The root's own siblings are no part of the tree, and their slots are not taken.
 #[test]
-fn siblings_of_the_root_stay_where_they_are(rt: HostRuntime) -> Result<(), Fail> {
-    let list = directory(rt.alloc(), BESIDE)?;
-    let mut entries = opened(rt.alloc(), list, Permissive)?;
-    put_below(&rt, rt.alloc(), &mut entries)?;
-    Ok(())
-}
-
-/// A root, and three slots of which the middle one is used.
-#[rattlefmt::skip]
-const GIVEN: &[Given] = &[
-    ("Root Entry", Root, Black, [NONE, NONE, 2], 0), ("", Unallocated, Red, [NONE; 3], 0),
-    ("m", Stream, Black, [NONE; 3], 0), ("", Unallocated, Red, [NONE; 3], 0),
-];
-
-#[rattlefmt::skip]
-const STEPS: &[Step] = &[
-    ("z", Some(1)), // the lowest
-    ("m", None),
-    ("n", Some(2)), // the freed one
-    ("a", Some(3)), // the last one
-    ("b", Some(4)), // the lowest new one
-    ("c", Some(5)), // the next new one
-    ("a", None), ("b", None),
-    ("d", Some(4)), // what was freed last
-    ("e", Some(3)), // what was freed before that
-    ("f", Some(6)), // a new one again
-];
-
-/// Right after opening the lowest free slot is taken, then the one that was freed last, and of new ones the lowest.
-#[test]
-fn free_slots_are_taken_in_order(rt: HostRuntime) -> Result<(), Fail> {
-    let list = directory(rt.alloc(), GIVEN)?;
-    let mut entries = opened(rt.alloc(), list, Permissive)?;
-    change(&rt, rt.alloc(), &mut entries, &[], STEPS)?;
+fn small_directories_are_changed(rt: HostRuntime) -> Result<(), Fail> {
+    are_changed(&rt, rt.alloc(), &ROWS)?;
     Ok(())
 }

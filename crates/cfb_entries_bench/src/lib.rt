@@ -12,3 +12,5 @@ mod outlines;
 mod refusals;
 #[cfg(test)]
 mod removals;
+#[cfg(test)]
+mod texts;

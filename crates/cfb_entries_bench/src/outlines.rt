@@ -1,11 +1,10 @@
 //! Which directories have an outline, in which mode, and what is listed of them.
-use crate::directories::{Given, chain, directory, is_stream, reached_at};
+use crate::directories::{chain, is_stream, reached_at};
+use crate::texts::directory_said;
 use cfb_codecs::direntry::DirEntry;
 use cfb_codecs::path::CaseMapper;
-use cfb_format::color::Color::{Black, Red};
 use cfb_format::consts::NO_STREAM as NONE;
 use cfb_format::error::Error;
-use cfb_format::objtype::ObjType::{Root, Storage, Stream, Unallocated};
 use cfb_format::validate::Validation::{self, Permissive, Strict};
 use cfb_outline::listing::contents;
 use cfb_outline::outline::reached_entries;
@@ -17,94 +16,38 @@ use std::test::Fail;
 const REFUSED: &[u32] = &[NONE];
 
 /// Storages before what is in them, siblings by name.
-#[rattlefmt::skip]
-const NESTED: &[Given] = &[
-    ("Root Entry", Root, Black, [NONE, NONE, 2], 0),
-    ("d", Storage, Black, [NONE, NONE, 4], 0),
-    ("m", Storage, Black, [1, 3, NONE], 0),
-    ("z", Stream, Black, [NONE, NONE, NONE], 0),
-    ("bb", Stream, Black, [5, NONE, NONE], 0),
-    ("c", Stream, Black, [NONE, NONE, NONE], 0),
-];
+const NESTED: &str = "Root Entry:Rb--2,d:Db--4,m:Db13-,z:Fb---,bb:Fb5--,c:Fb---";
 
-/// What a row is about, the entries, the numbers that are reached in permissive opening, and
+/// What a row is about, the entries, the length of the first, the numbers that are reached in permissive opening, and
 /// whether strict opening reaches them too.
-type Row = (&'static str, &'static [Given], &'static [u32], bool);
+type Row = (&'static str, &'static str, u64, &'static [u32], bool);
 
 #[rattlefmt::skip]
 const ROWS: [Row; 24] = [
-    ("no entry", &[], REFUSED, false),
-    ("the root alone", &[("Root Entry", Root, Black, [NONE; 3], 0)], &[], true),
-    ("the root's siblings are not followed", &[("Root Entry", Root, Red, [1, 0, NONE], 128), ("a", Stream, Red, [NONE; 3], 0)], &[], true),
-    ("whole mini sectors", &[("Root Entry", Root, Black, [NONE; 3], 65)], REFUSED, false),
-    ("half mini sectors", &[("Root Entry", Root, Black, [NONE; 3], 96)], REFUSED, false),
-    ("a storage in place of the root", &[("Root Entry", Storage, Black, [NONE; 3], 0)], REFUSED, false),
-    ("nested storages", NESTED, &[1, 5, 4, 2, 3], true),
-    (
-        "names rise along the whole list",
-        &[
-            ("Root Entry", Root, Black, [NONE, NONE, 2], 0), ("d", Storage, Black, [NONE, 3, NONE], 0),
-            ("m", Storage, Black, [1, NONE, NONE], 0), ("z", Storage, Black, [NONE; 3], 0),
-        ],
-        REFUSED, false,
-    ),
-    (
-        "names that rise",
-        &[
-            ("Root Entry", Root, Black, [NONE, NONE, 2], 0), ("d", Storage, Black, [NONE; 3], 0),
-            ("m", Storage, Black, [1, 3, NONE], 0), ("z", Storage, Black, [NONE; 3], 0),
-        ],
-        &[1, 2, 3], true,
-    ),
-    (
-        "a shorter name comes first",
-        &[("Root Entry", Root, Black, [NONE, NONE, 1], 0), ("z", Stream, Black, [NONE, 2, NONE], 0), ("aa", Stream, Black, [NONE; 3], 0)],
-        &[1, 2], true,
-    ),
-    (
-        "one name in other letters",
-        &[("Root Entry", Root, Black, [NONE, NONE, 1], 0), ("m", Stream, Black, [NONE, 2, NONE], 0), ("M", Stream, Black, [NONE; 3], 0)],
-        REFUSED, false,
-    ),
-    (
-        "one name in two storages",
-        &[("Root Entry", Root, Black, [NONE, NONE, 1], 0), ("m", Storage, Black, [NONE, NONE, 2], 0), ("M", Stream, Black, [NONE; 3], 0)],
-        &[1, 2], true,
-    ),
-    ("the root below itself", &[("Root Entry", Root, Black, [NONE, NONE, 0], 0)], REFUSED, false),
-    ("its own sibling", &[("Root Entry", Root, Black, [NONE, NONE, 1], 0), ("a", Storage, Black, [1, NONE, NONE], 0)], REFUSED, false),
-    ("its own child", &[("Root Entry", Root, Black, [NONE, NONE, 1], 0), ("a", Storage, Black, [NONE, NONE, 1], 0)], REFUSED, false),
-    ("the root in a storage", &[("Root Entry", Root, Black, [NONE, NONE, 1], 0), ("a", Storage, Black, [NONE, NONE, 0], 0)], REFUSED, false),
-    (
-        "one entry in two storages",
-        &[
-            ("Root Entry", Root, Black, [NONE, NONE, 1], 0), ("a", Storage, Black, [NONE, 2, 3], 0),
-            ("b", Storage, Black, [NONE, NONE, 3], 0), ("c", Stream, Black, [NONE; 3], 0),
-        ],
-        REFUSED, false,
-    ),
-    ("a child past the end", &[("Root Entry", Root, Black, [NONE, NONE, 1], 0), ("a", Storage, Black, [NONE, NONE, 2], 0)], REFUSED, false),
-    ("a sibling past the end", &[("Root Entry", Root, Black, [NONE, NONE, 1], 0), ("a", Stream, Black, [NONE, 2, NONE], 0)], REFUSED, false),
-    ("an unused entry", &[("Root Entry", Root, Black, [NONE, NONE, 1], 0), ("", Unallocated, Black, [NONE; 3], 0)], REFUSED, false),
-    ("a second root", &[("Root Entry", Root, Black, [NONE, NONE, 1], 0), ("a", Root, Black, [NONE; 3], 0)], REFUSED, false),
-    (
-        "red under red on the right",
-        &[("Root Entry", Root, Black, [NONE, NONE, 1], 0), ("a", Stream, Red, [NONE, 2, NONE], 0), ("b", Stream, Red, [NONE; 3], 0)],
-        &[1, 2], false,
-    ),
-    (
-        "red under red on the left",
-        &[("Root Entry", Root, Black, [NONE, NONE, 2], 0), ("a", Stream, Red, [NONE; 3], 0), ("b", Stream, Red, [1, NONE, NONE], 0)],
-        &[1, 2], false,
-    ),
-    (
-        "red in a red storage, black under red",
-        &[
-            ("Root Entry", Root, Red, [NONE, NONE, 1], 0), ("a", Storage, Red, [NONE, 2, 3], 0),
-            ("b", Stream, Black, [NONE; 3], 0), ("c", Stream, Red, [NONE; 3], 0),
-        ],
-        &[1, 3, 2], true,
-    ),
+    ("no entry", "", 0, REFUSED, false),
+    ("the root alone", "Root Entry:Rb---", 0, &[], true),
+    ("the root's siblings are not followed", "Root Entry:Rr10-,a:Fr---", 128, &[], true),
+    ("whole mini sectors", "Root Entry:Rb---", 65, REFUSED, false),
+    ("half mini sectors", "Root Entry:Rb---", 96, REFUSED, false),
+    ("a storage in place of the root", "Root Entry:Db---", 0, REFUSED, false),
+    ("nested storages", NESTED, 0, &[1, 5, 4, 2, 3], true),
+    ("names rise along the whole list", "Root Entry:Rb--2,d:Db-3-,m:Db1--,z:Db---", 0, REFUSED, false),
+    ("names that rise", "Root Entry:Rb--2,d:Db---,m:Db13-,z:Db---", 0, &[1, 2, 3], true),
+    ("a shorter name comes first", "Root Entry:Rb--1,z:Fb-2-,aa:Fb---", 0, &[1, 2], true),
+    ("one name in other letters", "Root Entry:Rb--1,m:Fb-2-,M:Fb---", 0, REFUSED, false),
+    ("one name in two storages", "Root Entry:Rb--1,m:Db--2,M:Fb---", 0, &[1, 2], true),
+    ("the root below itself", "Root Entry:Rb--0", 0, REFUSED, false),
+    ("its own sibling", "Root Entry:Rb--1,a:Db1--", 0, REFUSED, false),
+    ("its own child", "Root Entry:Rb--1,a:Db--1", 0, REFUSED, false),
+    ("the root in a storage", "Root Entry:Rb--1,a:Db--0", 0, REFUSED, false),
+    ("one entry in two storages", "Root Entry:Rb--1,a:Db-23,b:Db--3,c:Fb---", 0, REFUSED, false),
+    ("a child past the end", "Root Entry:Rb--1,a:Db--2", 0, REFUSED, false),
+    ("a sibling past the end", "Root Entry:Rb--1,a:Fb-2-", 0, REFUSED, false),
+    ("an unused entry", "Root Entry:Rb--1,:-b---", 0, REFUSED, false),
+    ("a second root", "Root Entry:Rb--1,a:Rb---", 0, REFUSED, false),
+    ("red under red on the right", "Root Entry:Rb--1,a:Fr-2-,b:Fr---", 0, &[1, 2], false),
+    ("red under red on the left", "Root Entry:Rb--2,a:Fr---,b:Fr1--", 0, &[1, 2], false),
+    ("red in a red storage, black under red", "Root Entry:Rr--1,a:Dr-23,b:Fb---,c:Fr---", 0, &[1, 3, 2], true),
 ];
 
 /// Whether these numbers are reached in this mode, or what stands for a refusal is wanted and comes.
@@ -119,7 +62,7 @@ fn reaches(alloc: Global, entries: &[DirEntry], mode: Validation, wanted: &[u32]
 }
 
 fn is_found_or_refused(rt: &impl Abort, alloc: Global, entries: &[DirEntry], row: &Row) {
-    let (about, _, wanted, strict) = row;
+    let (about, _, _, wanted, strict) = row;
     assert!(rt; reaches(alloc, entries, Permissive, wanted), "{about}");
     let wanted = if *strict { *wanted } else { REFUSED };
     assert!(rt;
@@ -128,9 +71,18 @@ fn is_found_or_refused(rt: &impl Abort, alloc: Global, entries: &[DirEntry], row
     );
 }
 
+/// The entries of a row.
+fn given(alloc: Global, row: &Row) -> Result<Vec<DirEntry>, Error> {
+    let mut entries = directory_said(alloc, row.1)?;
+    if let Some(root) = entries.first_mut() {
+        root.stream_len = row.2;
+    }
+    Ok(entries)
+}
+
 fn are_found_or_refused(rt: &impl Abort, alloc: Global, rows: &[Row]) -> Result<(), Error> {
     for row in rows {
-        let entries = directory(alloc, row.1)?;
+        let entries = given(alloc, row)?;
         is_found_or_refused(rt, alloc, &entries, row);
     }
     Ok(())
@@ -181,7 +133,7 @@ fn are_listed(rt: &impl Abort, alloc: Global, entries: &[DirEntry]) -> Result<()
 
 #[test]
 fn contents_are_listed(rt: HostRuntime) -> Result<(), Fail> {
-    let entries = directory(rt.alloc(), NESTED)?;
+    let entries = directory_said(rt.alloc(), NESTED)?;
     are_listed(&rt, rt.alloc(), &entries)?;
     Ok(())
 }

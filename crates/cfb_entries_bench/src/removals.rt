@@ -1,150 +1,116 @@
 //! Which colours stand where after entries are taken out of sibling trees (MS-CFB 2.6.4).
 use crate::changed::{opened, put, reached, take};
-use crate::directories::entry;
+use crate::texts::directory_said;
 use cfb_codecs::direntry::DirEntry;
 use cfb_entries::entries::Entries;
-use cfb_format::color::Color::{self, Black, Red};
-use cfb_format::consts::NO_STREAM as NONE;
 use cfb_format::error::Error;
-use cfb_format::objtype::ObjType::{Root, Stream};
 use cfb_format::validate::Validation::{Permissive, Strict};
 use std::alloc::{Allocator, Global};
 use std::process::Abort;
 use std::test::Fail;
 
-/// Name and colour, left and right sibling: of a stream, or of a slot that nothing uses, which has
-/// no name.
-type Node = (&'static str, Color, u32, u32);
-
-/// A slot that nothing uses.
-const FREE: Node = ("", Red, NONE, NONE);
-
-fn entry_of(alloc: Global, (name, color, left, right): &Node) -> Result<DirEntry, Error> {
-    if name.is_empty() {
-        return Ok(DirEntry::unallocated(alloc));
-    }
-    entry(alloc, &(*name, Stream, *color, [*left, *right, NONE], 0))
-}
-
-fn push_siblings(
-    alloc: Global,
-    list: &mut Vec<DirEntry>,
-    top: u32,
-    nodes: &[Node],
-) -> Result<(), Error> {
-    list.push(entry(alloc, &("Root Entry", Root, Black, [NONE, NONE, top], 0))?)?;
-    for node in nodes {
-        list.push(entry_of(alloc, node)?)?;
-    }
-    Ok(())
-}
-
-/// The root with this child, and the entries behind it.
-fn siblings(alloc: Global, top: u32, nodes: &[Node]) -> Result<Vec<DirEntry>, Error> {
-    let mut list = Vec::new(alloc);
-    push_siblings(alloc, &mut list, top, nodes)?;
-    Ok(list)
-}
-
-/// What a row is about, the root's child and the entries, the name that is taken out of the root,
-/// and child and entries then.
-type Row = (
-    &'static str,
-    u32,
-    &'static [Node],
-    &'static str,
-    u32,
-    &'static [Node],
-);
+/// What a row is about, the entries, the name that is taken out of the root, and the entries then.
+type Row = (&'static str, &'static str, &'static str, &'static str);
 
 #[rattlefmt::skip]
 const ROWS: [Row; 14] = [
     (
         "a red one goes",
-        1, &[("b", Black, 2, NONE), ("a", Red, NONE, NONE)], "a",
-        1, &[("b", Black, NONE, NONE), FREE],
+        "Root Entry:Rb--1,b:Fb2--,a:Fr---", "a",
+        "Root Entry:Rb--1,b:Fb---,-",
     ),
     (
         "a red one in the place of a black one becomes black",
-        1, &[("b", Black, 2, NONE), ("a", Red, NONE, NONE)], "b",
-        2, &[FREE, ("a", Black, NONE, NONE)],
+        "Root Entry:Rb--1,b:Fb2--,a:Fr---", "b",
+        "Root Entry:Rb--2,-,a:Fb---",
     ),
     (
         "the only one goes",
-        1, &[("a", Black, NONE, NONE)], "a",
-        NONE, &[FREE],
+        "Root Entry:Rb--1,a:Fb---", "a",
+        "Root Entry:Rb---,-",
     ),
     (
         "a black sibling with no red child becomes red",
-        2, &[("a", Black, NONE, NONE), ("b", Black, 1, 3), ("c", Black, NONE, NONE)], "a",
-        2, &[FREE, ("b", Black, NONE, 3), ("c", Red, NONE, NONE)],
+        "Root Entry:Rb--2,a:Fb---,b:Fb13-,c:Fb---", "a",
+        "Root Entry:Rb--2,-,b:Fb-3-,c:Fr---",
     ),
     (
         "and so on the other side",
-        2, &[("a", Black, NONE, NONE), ("b", Black, 1, 3), ("c", Black, NONE, NONE)], "c",
-        2, &[("a", Red, NONE, NONE), ("b", Black, 1, NONE), FREE],
+        "Root Entry:Rb--2,a:Fb---,b:Fb13-,c:Fb---", "c",
+        "Root Entry:Rb--2,a:Fr---,b:Fb1--,-",
     ),
     (
         "a red one above makes up for it",
-        4, &[("a", Black, NONE, NONE), ("b", Red, 1, 3), ("c", Black, NONE, NONE), ("d", Black, 2, 5), ("e", Black, NONE, NONE)], "a",
-        4, &[FREE, ("b", Black, NONE, 3), ("c", Red, NONE, NONE), ("d", Black, 2, 5), ("e", Black, NONE, NONE)],
+        "Root Entry:Rb--4,a:Fb---,b:Fr13-,c:Fb---,d:Fb25-,e:Fb---", "a",
+        "Root Entry:Rb--4,-,b:Fb-3-,c:Fr---,d:Fb25-,e:Fb---",
     ),
     (
         "the farther child of the sibling is red",
-        2, &[("a", Black, NONE, NONE), ("b", Black, 1, 3), ("c", Black, NONE, 4), ("d", Red, NONE, NONE)], "a",
-        3, &[FREE, ("b", Black, NONE, NONE), ("c", Black, 2, 4), ("d", Black, NONE, NONE)],
+        "Root Entry:Rb--2,a:Fb---,b:Fb13-,c:Fb-4-,d:Fr---", "a",
+        "Root Entry:Rb--3,-,b:Fb---,c:Fb24-,d:Fb---",
     ),
     (
         "and so on the other side",
-        3, &[("a", Red, NONE, NONE), ("b", Black, 1, NONE), ("c", Black, 2, 4), ("d", Black, NONE, NONE)], "d",
-        2, &[("a", Black, NONE, NONE), ("b", Black, 1, 3), ("c", Black, NONE, NONE), FREE],
+        "Root Entry:Rb--3,a:Fr---,b:Fb1--,c:Fb24-,d:Fb---", "d",
+        "Root Entry:Rb--2,a:Fb---,b:Fb13-,c:Fb---,-",
     ),
     (
         "the nearer child of the sibling is red",
-        2, &[("a", Black, NONE, NONE), ("b", Black, 1, 4), ("c", Red, NONE, NONE), ("d", Black, 3, NONE)], "a",
-        3, &[FREE, ("b", Black, NONE, NONE), ("c", Black, 2, 4), ("d", Black, NONE, NONE)],
+        "Root Entry:Rb--2,a:Fb---,b:Fb14-,c:Fr---,d:Fb3--", "a",
+        "Root Entry:Rb--3,-,b:Fb---,c:Fb24-,d:Fb---",
     ),
     (
         "and so on the other side",
-        3, &[("a", Black, NONE, 2), ("b", Red, NONE, NONE), ("c", Black, 1, 4), ("d", Black, NONE, NONE)], "d",
-        2, &[("a", Black, NONE, NONE), ("b", Black, 1, 3), ("c", Black, NONE, NONE), FREE],
+        "Root Entry:Rb--3,a:Fb-2-,b:Fr---,c:Fb14-,d:Fb---", "d",
+        "Root Entry:Rb--2,a:Fb---,b:Fb13-,c:Fb---,-",
     ),
     (
         "a red sibling goes above",
-        2, &[("a", Black, NONE, NONE), ("b", Black, 1, 4), ("c", Black, NONE, NONE), ("d", Red, 3, 5), ("e", Black, NONE, NONE)], "a",
-        4, &[FREE, ("b", Black, NONE, 3), ("c", Red, NONE, NONE), ("d", Black, 2, 5), ("e", Black, NONE, NONE)],
+        "Root Entry:Rb--2,a:Fb---,b:Fb14-,c:Fb---,d:Fr35-,e:Fb---", "a",
+        "Root Entry:Rb--4,-,b:Fb-3-,c:Fr---,d:Fb25-,e:Fb---",
     ),
     (
         "and so on the other side",
-        4, &[("a", Black, NONE, NONE), ("b", Red, 1, 3), ("c", Black, NONE, NONE), ("d", Black, 2, 5), ("e", Black, NONE, NONE)], "e",
-        2, &[("a", Black, NONE, NONE), ("b", Black, 1, 4), ("c", Red, NONE, NONE), ("d", Black, 3, NONE), FREE],
+        "Root Entry:Rb--4,a:Fb---,b:Fr13-,c:Fb---,d:Fb25-,e:Fb---", "e",
+        "Root Entry:Rb--2,a:Fb---,b:Fb14-,c:Fr---,d:Fb3--,-",
     ),
     (
         "one with two children gives its slot and its colour to the one before it",
-        2, &[("a", Black, NONE, NONE), ("b", Black, 1, 4), ("c", Black, NONE, NONE), ("d", Red, 3, 6), ("e", Red, NONE, NONE), ("f", Black, 5, 7), ("g", Red, NONE, NONE)], "b",
-        4, &[FREE, ("a", Black, NONE, 3), ("c", Red, NONE, NONE), ("d", Black, 2, 6), ("e", Red, NONE, NONE), ("f", Black, 5, 7), ("g", Red, NONE, NONE)],
+        "Root Entry:Rb--2,a:Fb---,b:Fb14-,c:Fb---,d:Fr36-,e:Fr---,f:Fb57-,g:Fr---", "b",
+        "Root Entry:Rb--4,-,a:Fb-3-,c:Fr---,d:Fb26-,e:Fr---,f:Fb57-,g:Fr---",
     ),
     (
         "out of balance there may be no sibling",
-        3, &[("a", Black, NONE, NONE), ("b", Black, 1, NONE), ("c", Black, 2, 4), ("d", Black, NONE, NONE)], "a",
-        3, &[FREE, ("b", Black, NONE, NONE), ("c", Black, 2, 4), ("d", Red, NONE, NONE)],
+        "Root Entry:Rb--3,a:Fb---,b:Fb1--,c:Fb24-,d:Fb---", "a",
+        "Root Entry:Rb--3,-,b:Fb---,c:Fb24-,d:Fr---",
     ),
 ];
+
+/// Type, colour, links, bits and start of an entry.
+fn numbers_of<A: Allocator>(entry: &DirEntry<A>) -> [u32; 7] {
+    [
+        u32::from(entry.obj_type.as_byte()),
+        u32::from(entry.color.as_byte()),
+        entry.left_sibling,
+        entry.right_sibling,
+        entry.child,
+        entry.state_bits,
+        entry.start_sector,
+    ]
+}
+
+/// Its moments and its length.
+fn longs_of<A: Allocator>(entry: &DirEntry<A>) -> [u64; 3] {
+    let (created, modified) = (entry.creation_time, entry.modified_time);
+    [created.value(), modified.value(), entry.stream_len]
+}
 
 /// Whether two entries are the same.
 fn is_same_entry<A: Allocator, B: Allocator>(one: &DirEntry<A>, other: &DirEntry<B>) -> bool {
     one.name.as_str() == other.name.as_str()
-        && one.obj_type == other.obj_type
-        && one.color == other.color
-        && one.left_sibling == other.left_sibling
-        && one.right_sibling == other.right_sibling
-        && one.child == other.child
+        && numbers_of(one) == numbers_of(other)
+        && longs_of(one) == longs_of(other)
         && one.clsid == other.clsid
-        && one.state_bits == other.state_bits
-        && one.creation_time == other.creation_time
-        && one.modified_time == other.modified_time
-        && one.start_sector == other.start_sector
-        && one.stream_len == other.stream_len
 }
 
 /// Whether all entries are the same.
@@ -165,14 +131,13 @@ fn are_same_entries<A: Allocator, B: Allocator>(
 
 /// Whether the entries are so once the name is gone.
 fn follows(alloc: Global, entries: &mut Entries, row: &Row) -> Result<bool, Error> {
-    let (_, _, _, name, top, nodes) = row;
-    take(alloc, entries, &[], name)?;
-    let wanted = siblings(alloc, *top, nodes)?;
+    take(alloc, entries, &[], row.2)?;
+    let wanted = directory_said(alloc, row.3)?;
     Ok(are_same_entries(entries.list(), &wanted))
 }
 
 fn is_followed(alloc: Global, row: &Row) -> Result<bool, Error> {
-    let list = siblings(alloc, row.1, row.2)?;
+    let list = directory_said(alloc, row.1)?;
     let mut entries = opened(alloc, list, Permissive)?;
     follows(alloc, &mut entries, row)
 }
@@ -204,15 +169,17 @@ fn levels(entries: &[DirEntry], link: u32, at_most: u32) -> u32 {
     left.max(right).saturating_add(1)
 }
 
+fn name_of(alloc: Global, number: u32) -> Result<String, Error> {
+    Ok(format!(in alloc; "n{number:04}")?)
+}
+
 fn put_numbered(alloc: Global, entries: &mut Entries, number: u32) -> Result<(), Error> {
-    let name = format!(in alloc; "n{number:04}")?;
-    put(alloc, entries, &[], &name)?;
+    put(alloc, entries, &[], &name_of(alloc, number)?)?;
     Ok(())
 }
 
 fn take_numbered(alloc: Global, entries: &mut Entries, number: u32) -> Result<(), Error> {
-    let name = format!(in alloc; "n{number:04}")?;
-    take(alloc, entries, &[], &name)?;
+    take(alloc, entries, &[], &name_of(alloc, number)?)?;
     Ok(())
 }
 
@@ -233,7 +200,7 @@ fn take_half(rt: &impl Abort, alloc: Global, entries: &mut Entries) -> Result<()
 /// As many streams, by names that rise, and then half of them gone again.
 #[test]
 fn half_of_two_thousand_are_taken(rt: HostRuntime) -> Result<(), Fail> {
-    let list = siblings(rt.alloc(), NONE, &[])?;
+    let list = directory_said(rt.alloc(), "Root Entry:Rb---")?;
     let mut entries = opened(rt.alloc(), list, Strict)?;
     take_half(&rt, rt.alloc(), &mut entries)?;
     Ok(())

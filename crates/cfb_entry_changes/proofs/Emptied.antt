@@ -21,7 +21,8 @@ use Rattle.cfb_mini_sectors.specs.State.{MiniState, cases_of, content_of, entrie
 use Rattle.cfb_objects.proofs.Same.{tree-stays}
 use Rattle.cfb_entry_changes.specs.Standing.{StreamsStand, WritesEntries}
 use Rattle.cfb_entry_changes.specs.Clearing.{ClearsStorage, WritesClearing}
-use Rattle.cfb_entry_changes.specs.Laws.{ClearedEmptiesTree, ClearedHasOutline, ClearedIsAllUsed, ClearedIsBalanced, ClearedIsChangeable, ClearedIsFound, ClearedIsSnug, ClearedKeepsRoot}
+use Rattle.cfb_content.proofs.SnugMini.{kept-is-snug-mini}
+use Rattle.cfb_entry_changes.specs.Laws.{ClearedEmptiesTree, ClearedHasOutline, ClearedIsAllUsed, ClearedIsBalanced, ClearedIsChangeable, ClearedIsFound, ClearedIsSnug, ClearedIsSnugMini, ClearedKeepsRoot}
 use Rattle.cfb_entry_changes.proofs.Cleared.{after, now-balanced, now-found, now-is, now-reaches, now-tree, kind-same, root-apart}
 use Rattle.cfb_entry_changes.proofs.Standing.{all-used-now, changeable-now, reads-as-before, snug-now}
 use Rattle.cfb_entry_changes.proofs.Trees.{entries-become}
@@ -88,6 +89,18 @@ cleared-keeps-root old new top t = elim (cases_eq 0 top) [
   | inr ne ↦ ap (λ (x : Entry). x.stream_len) (t.cleared.others_kept 0 ne (root-apart (cases_of old) (entries_of old) (entries_of new) t.storage.outline top t.inside t.storage.is t.storage.reached
       t.storage.kind t.has_inside t.cleared))
 ]
+
+pub cleared-keeps-start : (old new : MiniState) (top : ℕ) → ClearsStorage old new top
+    → (entry_at (entries_of new) 0).start_sector ≡ (entry_at (entries_of old) 0).start_sector
+cleared-keeps-start old new top t = elim (cases_eq 0 top) [
+  | inl e ↦ ap (λ (i : ℕ). (entry_at (entries_of new) i).start_sector) e ∙ ap (λ (x : Entry). x.start_sector) t.cleared.top_kept
+      ∙ ap (λ (i : ℕ). (entry_at (entries_of old) i).start_sector) (sym e)
+  | inr ne ↦ ap (λ (x : Entry). x.start_sector) (t.cleared.others_kept 0 ne (root-apart (cases_of old) (entries_of old) (entries_of new) t.storage.outline top t.inside t.storage.is t.storage.reached
+      t.storage.kind t.has_inside t.cleared))
+]
+
+pub cleared-is-snug-mini : ClearedIsSnugMini
+cleared-is-snug-mini old new top t = kept-is-snug-mini old new t.kept.limits.version t.kept.mini (cleared-keeps-start old new top t) (cleared-keeps-root old new top t)
 
 pub cleared-is-balanced : ClearedIsBalanced
 cleared-is-balanced old new top t o p is p_is =

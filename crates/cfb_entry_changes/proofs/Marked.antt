@@ -27,10 +27,11 @@ use Rattle.cfb_objects.specs.Changes.{ChangesFields}
 use Rattle.cfb_objects.proofs.Fields.{fields-change-in-place}
 use Rattle.cfb_mini_sectors.specs.State.{MiniState, cases_of, content_of, entries_of}
 use Rattle.cfb_content.specs.Contents.{len_of}
+use Rattle.cfb_content.proofs.SnugMini.{kept-is-snug-mini}
 use Rattle.cfb_objects.proofs.Balance.{fields-keep-balance}
 use Rattle.cfb_entry_changes.specs.Standing.{SameContent, StreamsStand, WritesEntries}
 use Rattle.cfb_entry_changes.specs.Marking.{GivesFields, MarksEntry, WritesFields}
-use Rattle.cfb_entry_changes.specs.Laws.{MarkedChangesTree, MarkedHasOutline, MarkedIsAllUsed, MarkedIsBalanced, MarkedIsChangeable, MarkedIsFound, MarkedIsSnug, MarkedKeepsRoot}
+use Rattle.cfb_entry_changes.specs.Laws.{MarkedChangesTree, MarkedHasOutline, MarkedIsAllUsed, MarkedIsBalanced, MarkedIsChangeable, MarkedIsFound, MarkedIsSnug, MarkedIsSnugMini, MarkedKeepsRoot}
 use Rattle.cfb_entry_changes.proofs.Standing.{all-used-now, changeable-now, reads-as-before, snug-now}
 use Rattle.cfb_entry_changes.proofs.Trees.{entries-become}
 
@@ -84,6 +85,11 @@ marked-has-outline old new i fields t o is = new_is old new i fields t o is
 
 pub marked-keeps-root : MarkedKeepsRoot
 marked-keeps-root old new i fields t = (same-at old new i fields t 0).len
+
+pub marked-is-snug-mini : MarkedIsSnugMini
+marked-is-snug-mini old new i fields t =
+    let root = same-at old new i fields t 0 in
+    kept-is-snug-mini old new t.kept.limits.version t.kept.mini root.start root.len
 
 -- the outline is the one that there was
 same-outline : (old new : MiniState) (i : ℕ) (fields : Fields) → MarksEntry old new i fields → (before after : Outline) → IsOutline (cases_of old) (entries_of old) before

@@ -20,11 +20,13 @@ use Rattle.cfb_trees.proofs.Standing.{reached-is-parent}
 use Rattle.cfb_trees.proofs.Streams.{removal-keeps-streams}
 use Rattle.cfb_trees.proofs.Taken.{removal-keeps-outline, taken-numbers}
 use Rattle.cfb_objects.proofs.Same.{readable-ignores-links}
+use Rattle.cfb_mini.proofs.RootStays.{removed-root}
 use Rattle.cfb_mini_sectors.specs.State.{MiniState, bytes_of, cases_of, content_of, entries_of, parts_of}
 use Rattle.cfb_content.specs.Contents.{len_of}
+use Rattle.cfb_content.proofs.SnugMini.{kept-is-snug-mini}
 use Rattle.cfb_entry_changes.specs.Standing.{SameContent, StreamsStand, WritesEntries}
 use Rattle.cfb_entry_changes.specs.Taking.{TakesObject, WritesRemoval}
-use Rattle.cfb_entry_changes.specs.Laws.{TakenHasOutline, TakenIsAllUsed, TakenIsChangeable, TakenIsNotFound, TakenIsSnug, TakenKeepsRoot, TakenLeavesTree, TakenStandsAt}
+use Rattle.cfb_entry_changes.specs.Laws.{TakenHasOutline, TakenIsAllUsed, TakenIsChangeable, TakenIsNotFound, TakenIsSnug, TakenIsSnugMini, TakenKeepsRoot, TakenLeavesTree, TakenStandsAt}
 use Rattle.cfb_entry_changes.proofs.Dropped.{object-is-removed}
 use Rattle.cfb_entry_changes.proofs.Standing.{all-used-now, changeable-now, reads-as-before, snug-now}
 use Rattle.cfb_entry_changes.proofs.Trees.{entries-become}
@@ -141,6 +143,11 @@ taken-keeps-root old new parent name t = elim (cases_eq 0 parent) [
       ∙ ap (λ (i : ℕ). (entry_at (entries_of old) i).stream_len) (sym e)
   | inr ne ↦ ap (λ (x : Entry). x.stream_len) (t.entry.removed.others_kept 0 ne (root-apart old new parent name t t.storage.outline t.storage.is))
 ]
+
+pub taken-is-snug-mini : TakenIsSnugMini
+taken-is-snug-mini old new parent name t =
+    let root = removed-root (cases_of old) (entries_of old) (entries_of new) parent t.entry.number t.entry.freed t.entry.before t.entry.behind t.entry.after t.entry.removed t.storage in
+    kept-is-snug-mini old new t.kept.limits.version t.kept.mini root.start root.len
 
 -- ---- in the file
 

@@ -16,6 +16,7 @@ use Rattle.cfb_siblings.specs.Paths.{number_from}
 use Rattle.cfb_trees.specs.Changes.{HasLess}
 use Rattle.cfb_entries.specs.declared.fields.Fields.{Fields}
 use Rattle.cfb_mini_sectors.specs.State.{IsChangeable, MiniState, bytes_of, cases_of, entries_of, root_len_of, version_of}
+use Rattle.cfb_mini_sectors.specs.Steps.{IsSnugMini}
 use Rattle.cfb_objects.specs.Changes.{ContentsStay}
 use Rattle.cfb_objects.specs.Laws.{BecomesTree}
 use Rattle.cfb_objects.specs.Objects.{tree_from}
@@ -101,6 +102,9 @@ TakenIsAllUsed = (validation : Validation) (old new : MiniState) (parent : ℕ) 
 abbrev pub TakenIsSnug : Type 0
 TakenIsSnug = (validation : Validation) (old new : MiniState) (parent : ℕ) (name : List ℕ) → WritesRemoval validation old new parent name → AreSnug old → AreSnug new
 
+abbrev pub TakenIsSnugMini : Type 0
+TakenIsSnugMini = (old new : MiniState) (parent : ℕ) (name : List ℕ) → TakesObject old new parent name → IsSnugMini old → IsSnugMini new
+
 -- its bytes mean the tree without the object at these names
 abbrev pub TakenLeavesTree : Type 0
 TakenLeavesTree = (validation : Validation) (old new : MiniState) (parent : ℕ) (called : List ℕ) → WritesRemoval validation old new parent called
@@ -138,6 +142,9 @@ ClearedIsAllUsed = (validation : Validation) (old new : MiniState) (top : ℕ) �
 
 abbrev pub ClearedIsSnug : Type 0
 ClearedIsSnug = (validation : Validation) (old new : MiniState) (top : ℕ) → WritesClearing validation old new top → AreSnug old → AreSnug new
+
+abbrev pub ClearedIsSnugMini : Type 0
+ClearedIsSnugMini = (old new : MiniState) (top : ℕ) → ClearsStorage old new top → IsSnugMini old → IsSnugMini new
 
 -- its bytes mean the tree with nothing in the storage at these names
 abbrev pub ClearedEmptiesTree : Type 0
@@ -178,6 +185,9 @@ MarkedIsAllUsed = (validation : Validation) (old new : MiniState) (i : ℕ) (fie
 abbrev pub MarkedIsSnug : Type 0
 MarkedIsSnug = (validation : Validation) (old new : MiniState) (i : ℕ) (fields : Fields) (o : Outline) → IsOutline (cases_of old) (entries_of old) o
     → WritesFields validation old new i fields → AreSnug old → AreSnug new
+
+abbrev pub MarkedIsSnugMini : Type 0
+MarkedIsSnugMini = (old new : MiniState) (i : ℕ) (fields : Fields) → MarksEntry old new i fields → IsSnugMini old → IsSnugMini new
 
 -- its bytes mean the tree with these fields of the object at these names
 abbrev pub MarkedChangesTree : Type 0

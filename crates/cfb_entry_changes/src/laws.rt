@@ -1,6 +1,6 @@
 //! What changes of entries make of a file. None of these functions does anything: each has a law as
 //! its contract.
-ghost use Rattle.cfb_entry_changes.specs.Laws.{ClearedEmptiesTree, ClearedHasOutline, ClearedIsAllUsed, ClearedIsBalanced, ClearedIsChangeable, ClearedIsFound, ClearedIsSnug, ClearedKeepsRoot, EntriesKeepStreams, MarkedChangesTree, MarkedHasOutline, MarkedIsAllUsed, MarkedIsBalanced, MarkedIsChangeable, MarkedIsFound, MarkedIsSnug, MarkedKeepsRoot, MovedIsFound, ObjectIsRemoved, StandingIsAllUsed, StandingIsChangeable, StandingIsSnug, StreamsAreKeptInTurn, TakenHasOutline, TakenIsAllUsed, TakenIsBalanced, TakenIsChangeable, TakenIsNotFound, TakenIsSnug, TakenKeepsRoot, TakenLeavesTree, TakenStandsAt};
+ghost use Rattle.cfb_entry_changes.specs.Laws.{ClearedEmptiesTree, ClearedHasOutline, ClearedIsAllUsed, ClearedIsBalanced, ClearedIsChangeable, ClearedIsFound, ClearedIsSnug, ClearedIsSnugMini, ClearedKeepsRoot, EntriesKeepStreams, MarkedChangesTree, MarkedHasOutline, MarkedIsAllUsed, MarkedIsBalanced, MarkedIsChangeable, MarkedIsFound, MarkedIsSnug, MarkedIsSnugMini, MarkedKeepsRoot, MovedIsFound, ObjectIsRemoved, StandingIsAllUsed, StandingIsChangeable, StandingIsSnug, StreamsAreKeptInTurn, TakenHasOutline, TakenIsAllUsed, TakenIsBalanced, TakenIsChangeable, TakenIsNotFound, TakenIsSnug, TakenIsSnugMini, TakenKeepsRoot, TakenLeavesTree, TakenStandsAt};
 
 /// The contents of all streams stay where entries alone are written. Where each stream stands at an
 /// entry of its own again, a sound file is sound again, nothing is loose in it, if nothing was, and
@@ -36,6 +36,7 @@ pub fn removals_leave_the_meant_tree()
     ensures changeable { TakenIsChangeable }
     ensures all_used { TakenIsAllUsed }
     ensures snug { TakenIsSnug }
+    ensures snug_mini { TakenIsSnugMini }
     ensures tree { TakenLeavesTree }
 {}
 
@@ -55,6 +56,7 @@ pub fn clearings_empty_the_meant_storage()
     ensures changeable { ClearedIsChangeable }
     ensures all_used { ClearedIsAllUsed }
     ensures snug { ClearedIsSnug }
+    ensures snug_mini { ClearedIsSnugMini }
     ensures tree { ClearedEmptiesTree }
 {}
 
@@ -75,5 +77,6 @@ pub fn fields_change_the_meant_tree()
     ensures changeable { MarkedIsChangeable }
     ensures all_used { MarkedIsAllUsed }
     ensures snug { MarkedIsSnug }
+    ensures snug_mini { MarkedIsSnugMini }
     ensures tree { MarkedChangesTree }
 {}

@@ -31,21 +31,3 @@ pub fn unpacked(alloc: Global, medium: MemoryMedium) -> Result<Vec<u8>, Error> {
     read?;
     Ok(bytes)
 }
-
-#[cfg(test)]
-mod tests {
-    use super::{packed, unpacked};
-    use std::test::Fail;
-
-    #[test]
-    fn all_bytes_come_back(rt: HostRuntime) -> Result<(), Fail> {
-        let mut bytes = Vec::new(rt.alloc());
-        for place in 0..5000usize {
-            bytes.push((place % 251) as u8)?;
-        }
-        let medium = packed(rt.alloc(), bytes.as_slice())?;
-        let found = unpacked(rt.alloc(), medium)?;
-        assert_eq!(rt; found, bytes);
-        Ok(())
-    }
-}

@@ -30,11 +30,12 @@ use Rattle.cfb_directory.proofs.NamesFound.{inserted-is-found}
 use Rattle.cfb_mini.proofs.RootStays.{inserted-root}
 use Rattle.cfb_mini_sectors.specs.State.{MiniState, cases_of, entries_of, version_of}
 use Rattle.cfb_content.specs.Contents.{len_of}
+use Rattle.cfb_content.proofs.SnugMini.{kept-is-snug-mini}
 use Rattle.cfb_trees.specs.Balance.{IsBalanced, StayBalanced}
 use Rattle.cfb_insertion.specs.Putting.{PutsObject}
 use Rattle.cfb_objects.proofs.Balance.{fields-keep-balance}
 use Rattle.cfb_insertion.proofs.Balance.{insertion-keeps-balance}
-use Rattle.cfb_insertion.specs.Laws.{PutHasOutline, PutIsBalanced, PutIsExact, PutObjectIsFound, PutIsNew, PutKeepsRoot, PutLeavesNoneFree}
+use Rattle.cfb_insertion.specs.Laws.{PutHasOutline, PutIsBalanced, PutIsExact, PutIsSnugMini, PutObjectIsFound, PutIsNew, PutKeepsRoot, PutGrowsTightly}
 
 -- the names before the last, and the last, are all
 all-names : (first : List ℕ) (names : List (List ℕ)) → parent_names (first ∷ names) ++ last_name (first ∷ names) ∷ [] ≡ first ∷ names
@@ -156,10 +157,18 @@ put-keeps-root old new parent n name kind moment put =
     (inserted-root (cases_of old) (with_room old.directory) (entries_of new) parent n (new_entry name kind moment) put.entry.before put.entry.behind put.entry.inserted put.entry.was_free root).len
     ∙ ap (λ (x : Entry). x.stream_len) (same old new parent n name kind moment put 0)
 
-pub put-leaves-none-free : PutLeavesNoneFree
-put-leaves-none-free old new parent n name kind moment put longer = either (has_free (entries_of old))
+pub put-is-snug-mini : PutIsSnugMini
+put-is-snug-mini old new parent n name kind moment put =
+    let root = ap (λ (x : Entry). x.obj_type) (same old new parent n name kind moment put 0) ∙ put.storage.is.root in
+    let kept = inserted-root (cases_of old) (with_room old.directory) (entries_of new) parent n (new_entry name kind moment) put.entry.before put.entry.behind put.entry.inserted put.entry.was_free root in
+    kept-is-snug-mini old new put.limits.version put.mini
+    (kept.start ∙ ap (λ (x : Entry). x.start_sector) (same old new parent n name kind moment put 0))
+    (put-keeps-root old new parent n name kind moment put)
+
+pub put-grows-tightly : PutGrowsTightly
+put-grows-tightly old new parent n name kind moment put longer = either (has_free (entries_of old))
     (λ free. absurd (let same = ap (λ t. length t.fat) (put.kept free).1 in omega (arith, longer, same)))
-    (λ none. (put.lengthened none).taken.none_free longer)
+    (λ none. ((put.lengthened none).taken.none_free longer, (put.lengthened none).taken.limited longer))
 
 pub put-is-exact : PutIsExact
 put-is-exact old new parent n name kind moment put exact = either (has_free (entries_of old))

@@ -1,5 +1,5 @@
 -- What a new object in the directory makes of a file (MS-CFB 2.6).
-use Rattle.std.specs.Prelude.{ℕ, ◌≡◌, ◌<◌, List, ◌∷◌, Some, length, Contains}
+use Rattle.std.specs.Prelude.{ℕ, ◌≡◌, ◌<◌, ◌≤◌, List, ◌∷◌, Some, length, Contains}
 use Rattle.cfb_format.specs.declared.objtype.ObjType.{ObjType}
 use Rattle.cfb_format.specs.declared.objtype.ObjType.TheVariants.{Storage, Stream}
 use Rattle.cfb_format.specs.declared.validate.Validation.{Validation}
@@ -14,7 +14,7 @@ use Rattle.cfb_tables.specs.Tables.{AreExactTables}
 use Rattle.cfb_alloc.specs.Frame.{Spares}
 use Rattle.cfb_directory.specs.State.{IsFullForEntry}
 use Rattle.cfb_mini_sectors.specs.State.{IsChangeable, MiniState, bytes_of, cases_of, entries_of, parts_of, root_len_of, table_of, tables_in}
-use Rattle.cfb_mini_sectors.specs.Steps.{KeepsMini}
+use Rattle.cfb_mini_sectors.specs.Steps.{IsSnugMini, KeepsMini}
 use Rattle.cfb_objects.specs.Laws.{BecomesTree}
 use Rattle.cfb_content.specs.Contents.{AreAllUsed, KeepsContent, AreSnug}
 use Rattle.cfb_trees.specs.Balance.{StayBalanced}
@@ -45,10 +45,10 @@ abbrev pub PutKeepsRoot : Type 0
 PutKeepsRoot = (old new : MiniState) (parent n : ℕ) (name : List ℕ) (kind : ObjType) (moment : ℕ) → PutsObject old new parent n name kind moment
     → root_len_of new ≡ root_len_of old
 
--- where a sector was appended none is free
-abbrev pub PutLeavesNoneFree : Type 0
-PutLeavesNoneFree = (old new : MiniState) (parent n : ℕ) (name : List ℕ) (kind : ObjType) (moment : ℕ) → PutsObject old new parent n name kind moment
-    → length (tables_in old).fat < length (tables_in new).fat → NoneFree (tables_in new).fat
+-- where a sector was appended none is free, and there are no more of them than the limit allows
+abbrev pub PutGrowsTightly : Type 0
+PutGrowsTightly = (old new : MiniState) (parent n : ℕ) (name : List ℕ) (kind : ObjType) (moment : ℕ) → PutsObject old new parent n name kind moment
+    → length (tables_in old).fat < length (tables_in new).fat → NoneFree (tables_in new).fat × (length (tables_in new).fat ≤ (tables_in old).max_sectors)
 
 -- exact tables stay exact
 abbrev pub PutIsExact : Type 0
@@ -87,6 +87,11 @@ PutIsAllUsed = (validation : Validation) (old new : MiniState) (parent n : ℕ) 
 abbrev pub PutIsSnug : Type 0
 PutIsSnug = (validation : Validation) (old new : MiniState) (parent n : ℕ) (name : List ℕ) (kind : ObjType) (moment : ℕ)
     → WritesObject validation old new parent n name kind moment → AreSnug old → AreSnug new
+
+-- and so have the MiniFAT and the mini stream for the mini sectors that there are
+abbrev pub PutIsSnugMini : Type 0
+PutIsSnugMini = (old new : MiniState) (parent n : ℕ) (name : List ℕ) (kind : ObjType) (moment : ℕ) → PutsObject old new parent n name kind moment
+    → IsSnugMini old → IsSnugMini new
 
 -- its bytes mean the tree with a new storage at its names, or with a new stream
 abbrev pub PutStorageJoinsTree : Type 0

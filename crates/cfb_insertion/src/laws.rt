@@ -1,6 +1,6 @@
 //! What a new object in the directory makes of a file. None of these functions does anything: each has a law as its contract.
 ghost use Rattle.cfb_insertion.specs.Balance.{InsertionKeepsBalance};
-ghost use Rattle.cfb_insertion.specs.Laws.{PutHasOutline, PutIsAllUsed, PutIsBalanced, PutIsChangeable, PutIsExact, PutObjectIsFound, PutIsNew, PutKeepsRoot, PutKeepsStreams, PutLeavesNoneFree, PutStorageJoinsTree, PutStreamJoinsTree, FullForEntryIsFull, PutIsSnug};
+ghost use Rattle.cfb_insertion.specs.Laws.{PutHasOutline, PutIsAllUsed, PutIsBalanced, PutIsChangeable, PutIsExact, PutObjectIsFound, PutIsNew, PutKeepsRoot, PutKeepsStreams, PutGrowsTightly, PutStorageJoinsTree, PutStreamJoinsTree, FullForEntryIsFull, PutIsSnug, PutIsSnugMini};
 
 /// The new object is one of the tree, empty and of its kind, and stands at its names; the mini stream keeps its length (MS-CFB 2.6).
 pub fn new_objects_are_in_the_tree()
@@ -22,7 +22,8 @@ pub fn insertions_keep_files_sound()
     ensures all_used { PutIsAllUsed }
     ensures exact { PutIsExact }
     ensures snug { PutIsSnug }
-    ensures grows { PutLeavesNoneFree }
+    ensures snug_mini { PutIsSnugMini }
+    ensures grows { PutGrowsTightly }
 {}
 
 /// The children of all storages stay in balance: an insertion changes that of none but its own.

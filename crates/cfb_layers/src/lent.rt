@@ -1,10 +1,10 @@
 //! Lines on a chain that is lent, of sectors or of mini sectors, as a list of bytes with a position.
 
+use crate::runs::{difference, laid};
 use crate::sessions::{Turn, goes_on, heard, refuse_from_here};
+use crate::state::Sum;
 use cfb_format::consts::END_OF_CHAIN;
 use cfb_format::error::Error;
-use cfb_layer_files::runs::{difference, laid};
-use cfb_layer_files::state::Sum;
 use cfb_rows::answers::Answer;
 use cfb_rows::judge::Judge;
 use cfb_rows::lines::{Line, Script};

@@ -4,10 +4,20 @@
 #![tactic(auto)]
 
 mod chains;
+mod contents;
+mod directories;
+mod forms;
+mod guards;
 mod lent;
+mod looks;
+mod media;
 mod mini_chains;
 mod minis;
+mod reading;
+mod runs;
 mod sessions;
+mod state;
+mod table_files;
 mod tables;
 mod world;
 

@@ -2,10 +2,10 @@
 
 use crate::mini_chains::play_on_mini_chain;
 use crate::sessions::{Ended, Turn, goes_on, heard};
+use crate::state::{free_in, state_of};
+use crate::{contents, directories};
 use cfb_format::error::Error;
 use cfb_format::medium::{Medium, ReadMedium};
-use cfb_layer_files::state::{free_in, state_of};
-use cfb_layer_files::{contents, directories};
 use cfb_mini::mini_allocator::MiniAllocator;
 use cfb_rows::answers::Answer;
 use cfb_rows::judge::Judge;

@@ -1,14 +1,14 @@
 //! A file over a medium, from its opening to its end.
 
+use crate::looks::opened;
+use crate::media::{LayerMedium, left_by, medium_with};
 use crate::minis::play_minis;
+use crate::table_files::opened_tables;
 use crate::tables::play_tables;
 use cfb_format::error::Error;
 use cfb_format::medium::{Medium, MediumFault};
 use cfb_format::validate::Validation;
 use cfb_format::version::Version;
-use cfb_layer_files::looks::opened;
-use cfb_layer_files::media::{LayerMedium, left_by, medium_with};
-use cfb_layer_files::table_files::opened_tables;
 use cfb_media::media::Kind;
 use cfb_rows::answers::Answer;
 use cfb_rows::faults::Plan;

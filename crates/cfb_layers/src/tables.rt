@@ -1,12 +1,12 @@
 //! Lines on tables.
 
 use crate::chains::play_on_chain;
+use crate::reading;
 use crate::sessions::{Ended, Turn, goes_on, heard};
+use crate::table_files::state_of_tables;
 use cfb_alloc::alloc::Allocator;
 use cfb_format::error::Error;
 use cfb_format::medium::Medium;
-use cfb_layer_files::reading;
-use cfb_layer_files::table_files::state_of_tables;
 use cfb_rows::answers::Answer;
 use cfb_rows::judge::Judge;
 use cfb_rows::lines::{Line, Script};

@@ -1,14 +1,14 @@
 //! All rows, one behind the other.
 
+use crate::forms::fits;
+use crate::guards::{Guard, are_kept, guarded};
+use crate::looks::{Facts, look, make, medium_in};
+use crate::runs::laid;
 use crate::sessions::{How, Outcome, play_once};
+use crate::table_files::{looked_at_tables, make_tables};
 use cfb_format::error::Error;
 use cfb_format::validate::Validation;
 use cfb_format::version::Version;
-use cfb_layer_files::forms::fits;
-use cfb_layer_files::guards::{Guard, are_kept, guarded};
-use cfb_layer_files::looks::{Facts, look, make, medium_in};
-use cfb_layer_files::runs::laid;
-use cfb_layer_files::table_files::{looked_at_tables, make_tables};
 use cfb_media::media::Kind;
 use cfb_rows::answers::Answer;
 use cfb_rows::faults::Plan;

@@ -6,8 +6,6 @@ mod fields;
 mod hex;
 pub mod lines;
 mod numbers;
-#[cfg(test)]
-mod tests;
 mod word;
 
 pub use error::LinesError;

@@ -1,5 +1,6 @@
 //! Directories that are listed and walked.
 use crate::asked::{count_of, listed, taken_from, told_at};
+use crate::places::placed;
 use cfb_codecs::direntry::DirEntry;
 use cfb_codecs::timestamp::Timestamp;
 use cfb_entries_bench::directories::{Given, directory};
@@ -189,24 +190,36 @@ fn each_kind_shows_what_it_has(rt: HostRuntime) -> Result<(), Fail> {
     Ok(())
 }
 
-/// How many entries a walk over all lists.
-fn walked<A: Allocator + Clone>(alloc: A, entries: &[DirEntry<A>]) -> Result<usize, Error> {
+/// How many entries a walk over all lists, or how many objects have a place.
+fn counted<A: Allocator + Clone>(
+    alloc: A,
+    entries: &[DirEntry<A>],
+    by_place: bool,
+) -> Result<usize, Error> {
+    if by_place {
+        return Ok(placed(alloc, entries)?.len());
+    }
     Ok(count_of(listed(alloc, entries, Preorder, "/", None)?))
 }
+
+/// Whether objects are counted by place, how many there are, and how many requests that makes at least.
+type Counted = (bool, usize, u64);
 
 fn are_refused_in_turn<'a>(
     rt: &impl Abort,
     heap: &'a Refusing<Global>,
     entries: &[DirEntry<&'a Refusing<Global>>],
+    (by_place, count, least): &Counted,
 ) {
+    heap.refuse_none();
     let start = heap.asked();
-    assert!(rt; walked(heap, entries) == Ok(7));
+    assert!(rt; counted(heap, entries, *by_place) == Ok(*count));
     let all = heap.asked().saturating_sub(start);
-    assert!(rt; all > 7);
+    assert!(rt; all >= *least);
     for before in 0..all {
         heap.refuse_after(before);
-        let refused = walked(heap, entries) == Err(Error::Memory);
-        let then = walked(heap, entries) == Ok(7);
+        let refused = counted(heap, entries, *by_place) == Err(Error::Memory);
+        let then = counted(heap, entries, *by_place) == Ok(*count);
         assert!(rt; refused && then, "at {before}");
     }
 }
@@ -215,6 +228,7 @@ fn are_refused_in_turn<'a>(
 fn requests_are_refused_in_turn(rt: HostRuntime) -> Result<(), Fail> {
     let heap = Refusing::new(rt.alloc());
     let entries = directory(&heap, DEEP)?;
-    are_refused_in_turn(&rt, &heap, &entries);
+    are_refused_in_turn(&rt, &heap, &entries, &(false, 7, 8));
+    are_refused_in_turn(&rt, &heap, &entries, &(true, 6, 6));
     Ok(())
 }

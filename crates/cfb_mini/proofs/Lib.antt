@@ -12,6 +12,7 @@ pub mod MiniPieces
 pub mod MiniGrown
 pub mod MiniExtended
 pub mod MiniCut
+pub mod MiniGiven
 pub mod MiniBehind
 pub mod MiniBegun
 pub mod LeastAbove

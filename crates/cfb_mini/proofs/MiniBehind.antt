@@ -1,11 +1,15 @@
 -- What a mini chain has behind its first mini sector.
-use Rattle.std.proofs.Common.{◌≡◌, ◌≢◌, ◌≤◌, ℕ, List, [], ◌∷◌, sym, ◌∙◌, ap, subst, length, take, drop, arith}
-use Rattle.cfb_format.specs.Bytes.{end_of_chain}
+use Rattle.std.proofs.Common.{◌≡◌, ◌≢◌, ◌≤◌, ◌<◌, inl, inr, ℕ, List, [], ◌∷◌, sym, ◌∙◌, ap, subst, length, take, drop, arith}
+use Rattle.std.specs.Prelude.{Err, Ok, OnOk, Result}
+use Rattle.std.proofs.lemmas.Bool.{cases_lt}
+use Rattle.std.proofs.lemmas.List.{length-drop, nil_from_length}
+use Rattle.cfb_format.specs.Bytes.{end_of_chain, free_sector}
 use Rattle.cfb_format.specs.Chain.{IsChain, value}
 use Rattle.cfb_format.proofs.Unique.{IsChain-unique}
 use Rattle.cfb_tables.specs.Listed.{ends_of}
 use Rattle.cfb_tables.proofs.ChainLemmas.{chain-rest, chain_of}
 use Rattle.cfb_tables.proofs.ListedLemmas.{ending_other}
+use Rattle.cfb_tables.proofs.Members.{Contains-here, value-below}
 use Rattle.cfb_mini_table.specs.MiniTable.{MiniGivesBack}
 
 -- a chain that starts somewhere has its start as its first member
@@ -28,3 +32,36 @@ pub cut-behind : (table new : List ℕ) (start : ℕ) (ids : List ℕ) → start
     → MiniGivesBack (start ∷ []) (drop 1 ids) table new
 cut-behind table new start ids ne c cut =
     subst (λ (l : List ℕ). MiniGivesBack l (drop 1 ids) table new) (ap (λ (l : List ℕ). ends_of (take 1 l)) (begun-at table start ids ne c) ∙ ending_other start ne) cut
+
+-- ---- whether there is one
+
+-- a chain that starts somewhere has a member
+pub chain-some : (table : List ℕ) (start : ℕ) (ids : List ℕ) → start ≢ end_of_chain → IsChain table start ids → 0 < length ids
+chain-some table start ids ne c = let len = ap (λ (l : List ℕ). length l) (begun-at table start ids ne c) in omega (arith, len)
+
+-- and one that goes on there has one behind it
+pub goes-behind : (table : List ℕ) (start : ℕ) (ids : List ℕ) → start ≢ end_of_chain → IsChain table start ids → value table start ≢ end_of_chain → 1 < length ids
+goes-behind table start ids ne c on = elim (cases_lt 1 (length ids)) [
+  | inl more ↦ more
+  | inr few ↦
+      let same = begun-at table start ids ne c in
+      let len = length-drop 1 ids in
+      let none : drop 1 ids ≡ [] = nil_from_length (drop 1 ids) (omega (arith, len, few)) in
+      let rest = chain-rest table start [] start (drop 1 ids) (subst (λ (l : List ℕ). IsChain table start l) same c) in
+      let last = subst (λ (l : List ℕ). IsChain table (value table start) l) none rest in
+      absurd (on last.follows)
+]
+
+-- where a mini chain ends, there is a mini sector
+pub still-some : (old new : List ℕ) (mini : ℕ) (gone : List ℕ) → MiniGivesBack (mini ∷ []) gone old new → new ≡ [] → ⊥
+still-some old new mini gone cut none =
+    let ended = cut.ended mini (Contains-here mini []) in
+    let busy : value new mini ≢ free_sector = λ e. (let f = sym ended ∙ e in omega (arith, f)) in
+    let inside = value-below new mini busy in
+    let size = ap (λ (l : List ℕ). length l) none in
+    omega (arith, inside, size)
+
+-- what an answer says of what it says
+pub on_ok_then : {T E : Type 0} (P Q : Type 0) (r : Result T E) → OnOk r P → (P → OnOk r Q) → OnOk r Q
+on_ok_then P Q (Ok x) p f = f p
+on_ok_then P Q (Err e) p f = tt

@@ -1,5 +1,5 @@
 -- Mini chains that are cut: what is left of them, what the bytes hold, and what is left alone.
-use Rattle.std.proofs.Common.{◌≡◌, ◌≢◌, ◌≤◌, ◌<◌, ◌+◌, ◌-◌, inl, inr, ℕ, zero, suc, List, [], ◌∷◌, ◌++◌, refl, sym, ◌∙◌, ap, subst, length, take, drop, arith, append-nil, length-take}
+use Rattle.std.proofs.Common.{◌≡◌, ◌≢◌, ◌⊎◌, ◌≤◌, ◌<◌, ◌+◌, ◌-◌, inl, inr, ℕ, zero, suc, List, [], ◌∷◌, ◌++◌, refl, sym, ◌∙◌, ap, subst, length, take, drop, arith, append-nil, length-take}
 use Rattle.std.proofs.lemmas.Bool.{cases_eq, cases_lt}
 use Rattle.std.proofs.lemmas.List.{length-drop, nil_from_length, take-append-drop, take_all}
 use Rattle.std.specs.Prelude.{Contains}
@@ -22,12 +22,12 @@ use Rattle.cfb_mini_table.specs.MiniTable.{EndsBusy, MiniGivesBack}
 use Rattle.cfb_mini_table.proofs.FreedLemmas.{gives-none}
 use Rattle.cfb_mini_table.proofs.LawLemmas.{left-is-chain}
 use Rattle.cfb_mini_sectors.specs.State.{IsMiniClean, MiniState, HoldsMini, bytes_of, mini_place, mini_stream_of, tables_in, version_of}
-use Rattle.cfb_mini_sectors.specs.Steps.{EndsNoChain, SparesMini}
+use Rattle.cfb_mini_sectors.specs.Steps.{EndsNoChain, SparesMini, mini_stream_needs}
 use Rattle.cfb_mini_sectors.specs.Held.{HasMiniPlaces, HoldsMiniBut, with_minifat}
 use Rattle.cfb_mini_sectors.specs.Pieces.{HaveMinis, HaveWords}
 use Rattle.cfb_mini_sectors.proofs.HeldSteps.{but-given-back, held-but}
 use Rattle.cfb_mini_sectors.proofs.MiniClean.{cut-mini-clean, freed-mini-clean}
-use Rattle.cfb_mini_sectors.proofs.MinifatGrown.{same_listed}
+use Rattle.cfb_mini_sectors.proofs.MiniFrames.{shorter-place}
 use Rattle.cfb_mini.specs.MiniSectors.{HasMiniSector}
 use Rattle.cfb_mini.proofs.MiniKnown.{has-mini, held-sectors, known-mini, known-word}
 use Rattle.cfb_mini.proofs.MiniExtended.{mini-there}
@@ -72,7 +72,8 @@ cut-held validation ids left minifat s h chain fewer cut unnamed =
 
 module _ (ids : List ℕ) (left : ℕ) (a c : MiniState) (chain : IsChain a.minifat (first_or_end ids) ids) (fewer : left < length ids)
     (cut : MiniGivesBack (ends_of (take left ids)) (drop left ids) a.minifat c.minifat) (places : HasMiniPlaces a) (within : AreSectorsOf (tables_in a) (mini_stream_of a))
-    (stream : mini_stream_of c ≡ mini_stream_of a)
+    (version : version_of c ≡ version_of a)
+    (stream : (mini_stream_of c ≡ mini_stream_of a) ⊎ (mini_stream_of c ≡ take (mini_stream_needs c) (mini_stream_of a)))
     (others : (m : ℕ) → HasMiniSector a m → (Contains (drop left ids) m → ⊥) → RangeStays (mini_place a m) (mini_place a m + mini_sector_len) (bytes_of a) (bytes_of c)) where
   -- each mini sector in use that is not given back keeps its bytes
   pub cut-bytes : (m : ℕ) → value a.minifat m ≢ free_sector → (Contains (drop left ids) m → ⊥) → RangeStays (mini_place a m) (mini_place a m + mini_sector_len) (bytes_of a) (bytes_of c)
@@ -81,7 +82,9 @@ module _ (ids : List ℕ) (left : ℕ) (a c : MiniState) (chain : IsChain a.mini
   pub cut-spares : SparesMini ids a c
   cut-spares = record {
     values = λ m busy out. cut.only m (λ n. out (cut_members a.minifat ids left m chain fewer n));
-    mini_stream = same_listed (mini_stream_of a) (mini_stream_of c) stream;
+    places = λ m busy out.
+        let still = cut.only m (λ n. out (cut_members a.minifat ids left m chain fewer n)) in
+        shorter-place a c m places version stream busy (value-below c.minifat m (λ e. busy (sym still ∙ e)));
     bytes = λ m busy out. cut-bytes m busy (λ n. out (cut_members a.minifat ids left m chain fewer (Contains-append_right (ends_of (take left ids)) (drop left ids) m n)));
   }
 

@@ -1,5 +1,5 @@
 -- What a change of the MiniFAT and of what it asks for in the file leaves alone.
-use Rattle.std.proofs.Common.{◌≡◌, ◌≢◌, ◌⊎◌, ◌≤◌, ◌<◌, ◌+◌, ◌*◌, ◌/◌, inl, inr, ℕ, Bool, true, List, [], ◌++◌, refl, sym, ◌∙◌, ap, subst, length, arith}
+use Rattle.std.proofs.Common.{◌≡◌, ◌≢◌, ◌⊎◌, ◌≤◌, ◌<◌, ◌+◌, ◌*◌, ◌/◌, inl, inr, ℕ, Bool, true, List, [], refl, sym, ◌∙◌, ap, subst, length, arith}
 use Rattle.std.specs.Prelude.{Contains, Option, Some, option_map, slice_index}
 use Rattle.std.proofs.lemmas.List.Elements.{Contains-append_cases, Contains-get_or}
 use Rattle.cfb_format.specs.declared.error.Error.{Error}
@@ -16,7 +16,6 @@ use Rattle.cfb_format.specs.Refused.{AfterMedium, CountsError, IsInvalidData}
 use Rattle.cfb_sectors.specs.Sectors.{IsMediumError}
 use Rattle.cfb_sectors.specs.Words.{RangeStays}
 use Rattle.cfb_sectors.proofs.SectorLemmas.{Stays_trans}
-use Rattle.cfb_tables.specs.Listed.{gained}
 use Rattle.cfb_tables.specs.Refused.{ChangeRefused}
 use Rattle.cfb_tables.specs.Tables.{TableState}
 use Rattle.cfb_tables.proofs.Members.{value-below}
@@ -29,8 +28,9 @@ use Rattle.cfb_directory.specs.Steps.{KeepsWholeHeader}
 use Rattle.cfb_mini_table.specs.MiniTable.{IsTooFewMini, MiniTableState, TakesMini}
 use Rattle.cfb_mini_sectors.specs.State.{MiniState, bytes_of, entries_of, mini_place, mini_stream_of, root_len_of, table_of, tables_in, version_of}
 use Rattle.cfb_mini_sectors.specs.Steps.{GrowsFor, KeepsHeader, KeepsLimits, MovesRoot, SparesMini, StopsShortOrFull, mini_stream_lacks, minifat_lacks, system_sectors}
+use Rattle.cfb_soundness.specs.Places.{mini_start}
 use Rattle.cfb_mini_sectors.specs.Held.{HasMiniPlaces}
-use Rattle.cfb_mini_sectors.proofs.MiniFrames.{place-stays}
+use Rattle.cfb_mini_sectors.proofs.MiniFrames.{version-place}
 use Rattle.cfb_mini.specs.MiniSectors.{HasMiniSector}
 use Rattle.cfb_mini.proofs.MiniGrown.{grown-system}
 use Rattle.cfb_mini.proofs.MiniKnown.{mini_index}
@@ -99,14 +99,14 @@ module _ (ends more : List ℕ) (limit : ℕ) (a b c : MiniState) (places : HasM
   pub taken-bytes : (m : ℕ) → value a.minifat m ≢ free_sector → RangeStays (mini_place a m) (mini_place a m + mini_sector_len) (bytes_of a) (bytes_of c)
   taken-bytes m busy =
       let low : m < length b.minifat = subst (λ (l : List ℕ). m < length l) (sym minifat) (value-below a.minifat m busy) in
-      let here : mini_place b m ≡ mini_place a m = place-stays a b m (gained (mini_stream_of a) (mini_stream_of b)) places version grown.mini_stream busy in
+      let here : mini_place b m ≡ mini_place a m = version-place a b m version (grown.places m busy (not_in_nil m)) in
       Stays_trans (mini_place a m) (mini_place a m + mini_sector_len) (bytes_of a) (bytes_of b) (bytes_of c) (grown.bytes m busy (λ n. not_in_nil m n))
       (subst (λ p. RangeStays p (p + mini_sector_len) (bytes_of b) (bytes_of c)) here (others m (mini-there b m room within low) (λ n. busy (taken.fresh m n))))
 
   pub taken-spares : SparesMini ends a c
   taken-spares = record {
     values = λ m busy out. taken.only m (λ n. elim (Contains-append_cases ends more m n) [ inl e ↦ out e | inr n ↦ busy (taken.fresh m n) ]);
-    mini_stream = stream ∙ grown.mini_stream ∙ ap (λ (l : List ℕ). mini_stream_of a ++ gained (mini_stream_of a) l) (sym stream);
+    places = λ m busy out. ap (λ (l : List ℕ). mini_start (version_of a) l m) stream ∙ grown.places m busy (not_in_nil m);
     bytes = λ m busy out. taken-bytes m busy;
   }
 

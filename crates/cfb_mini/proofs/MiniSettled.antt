@@ -37,6 +37,7 @@ use Rattle.cfb_mini_sectors.specs.Pieces.{AreZeros}
 use Rattle.cfb_mini_sectors.proofs.HeldMini.{if-strict, no-tables}
 use Rattle.cfb_mini_sectors.proofs.HeldSteps.{but-held, but-root, but-written, directory-minifat, front-stream}
 use Rattle.cfb_mini_sectors.proofs.PiecePlaces.{mini_fits}
+use Rattle.cfb_mini.specs.Changing.{IsStreamApart}
 
 -- all late words were written, and the others stayed
 pub but-words : (validation : Validation) (late : List ℕ) (s : MiniState) (a : AllocatorState) → HoldsMiniBut late validation s → a.tables ≡ tables_in s → HoldsTables validation a
@@ -176,23 +177,36 @@ stream-no_tables validation late s h i m =
 
 -- ---- behind them the root's entry is written
 
+-- the mini stream is apart from the directory and from the tables
+pub stream-apart : (validation : Validation) (late : List ℕ) (s : MiniState) → HoldsMiniBut late validation s → IsStreamApart s
+stream-apart validation late s h =
+    let stream = mini_stream_of s in
+    let is : stream ≡ h.mini_stream.sectors = ap (λ (w : Option (List ℕ)). unwrap_or w []) h.mini_stream.kept in
+    let chain : IsChain (tables_in s).fat (first_or_end stream) stream = subst (λ (l : List ℕ). IsChain (tables_in s).fat (first_or_end l) l) (sym is) h.mini_stream.chain in
+    record {
+      chain = chain;
+      directory = λ i n o. front-stream s h.apart i (Contains-append_left s.directory.sectors s.minifat_sectors i o) n;
+      tables = no-tables validation (table_of s) (first_or_end stream) stream h.directory.tables chain;
+    }
+
 -- where the directory's sectors alone are written, the mini stream's stay
-pub named-stays : (validation : Validation) (late : List ℕ) (s : MiniState) (b c : AllocatorState) → HoldsMiniBut late validation s → b.tables ≡ tables_in s
-    → Spares s.directory.sectors b c → (m : ℕ) → mini_sector_len * m / sector_len (version_of s) < length (mini_stream_of s)
+pub apart-stays : (s : MiniState) (b c : AllocatorState) → IsStreamApart s → b.tables ≡ tables_in s → Spares s.directory.sectors b c → (m : ℕ)
+    → mini_sector_len * m / sector_len (version_of s) < length (mini_stream_of s)
     → RangeStays (mini_place s m) (mini_place s m + mini_sector_len) b.file.bytes c.file.bytes
-named-stays validation late s b c h same spares m lt =
+apart-stays s b c apart same spares m lt =
     let v = version_of s in
     let stream = mini_stream_of s in
-    let is : mini_stream_of s ≡ h.mini_stream.sectors = ap (λ (w : Option (List ℕ)). unwrap_or w []) h.mini_stream.kept in
-    let chain : IsChain (tables_in s).fat (first_or_end stream) stream = subst (λ (l : List ℕ). IsChain (tables_in s).fat (first_or_end l) l) (sym is) h.mini_stream.chain in
-    let none = no-tables validation (table_of s) (first_or_end stream) stream h.directory.tables chain in
     let keeps = (other-chains-spared s.directory.sectors b c (first_or_end stream) stream spares
-    (subst (λ (t : TableState). IsChain t.fat (first_or_end stream) stream) (sym same) chain)
-    (λ i n o. front-stream s h.apart i (Contains-append_left s.directory.sectors s.minifat_sectors i o) n)
-    (subst (λ (t : TableState). AreDisjoint stream (table_sectors t)) (sym same) none)).2 in
+    (subst (λ (t : TableState). IsChain t.fat (first_or_end stream) stream) (sym same) apart.chain) apart.directory
+    (subst (λ (t : TableState). AreDisjoint stream (table_sectors t)) (sym same) apart.tables)).2 in
     let x = slice_index stream (mini_sector_len * m / sector_len v) in
     mini-in-sector v stream b.file.bytes c.file.bytes m
     (subst (λ (t : TableState). SectorStays t.version x b.file.bytes c.file.bytes) same (keeps x (mini-sector-of v stream m lt)))
+
+pub named-stays : (validation : Validation) (late : List ℕ) (s : MiniState) (b c : AllocatorState) → HoldsMiniBut late validation s → b.tables ≡ tables_in s
+    → Spares s.directory.sectors b c → (m : ℕ) → mini_sector_len * m / sector_len (version_of s) < length (mini_stream_of s)
+    → RangeStays (mini_place s m) (mini_place s m + mini_sector_len) b.file.bytes c.file.bytes
+named-stays validation late s b c h = apart-stays s b c (stream-apart validation late s h)
 
 -- and zeros in them
 pub named-zero : (s : MiniState) (d : DirectoryState) (b : AllocatorState) (m : ℕ) → version_of s ≡ d.table.tables.version → RangeStays (mini_place s m) (mini_place s m + mini_sector_len) b.file.bytes d.table.file.bytes

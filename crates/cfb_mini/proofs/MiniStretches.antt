@@ -22,7 +22,7 @@ use Rattle.cfb_mini_sectors.proofs.PiecePlaces.{minis_apart}
 use Rattle.cfb_mini.specs.MiniRuns.{ChangesMiniStretch, HasTheMinis, IsMiniRun, IsMiniStretch}
 use Rattle.cfb_mini.specs.MiniSectors.{HasMiniSector}
 use Rattle.cfb_mini.proofs.MiniKnown.{mini_below, mini_index}
-use Rattle.cfb_mini.proofs.MiniWritten.{busy-mini, gained-none}
+use Rattle.cfb_mini.proofs.MiniWritten.{busy-mini}
 
 -- ---- where a byte of the mini stream lies
 
@@ -140,7 +140,7 @@ pub stretch_spares : (validation : Validation) (s : MiniState) (a : AllocatorSta
     → ChangesMiniStretch mini offset count s (with_table s a) → HasTheMinis own mini offset count → SparesMini own s (with_table s a)
 stretch_spares validation s a own mini offset count h change all = record {
   values = λ m busy out. refl;
-  mini_stream = gained-none (mini_stream_of s);
+  places = λ m busy out. refl;
   bytes = λ m busy out.
       let v = version_of s in
       let stream = mini_stream_of s in

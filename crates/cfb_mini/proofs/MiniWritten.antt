@@ -10,7 +10,6 @@ use Rattle.cfb_format.specs.Medium.{ChangesOnlyBytes}
 use Rattle.cfb_format.specs.Reading.{minifat_words}
 use Rattle.cfb_format.specs.Siblings.{entry_at}
 use Rattle.cfb_tables.specs.Changes.{AreDisjoint}
-use Rattle.cfb_tables.specs.Listed.{gained}
 use Rattle.cfb_tables.specs.Tables.{AreSizes, TableState, first_or_end, sizes_of}
 use Rattle.cfb_tables.proofs.Members.{Contains-here, distinct-right, value-past}
 use Rattle.cfb_alloc.specs.Agreement.{KeepsSectors}
@@ -29,15 +28,10 @@ use Rattle.cfb_mini_sectors.proofs.MiniWords.{minifat-kept}
 use Rattle.cfb_mini.proofs.MiniKnown.{held-sectors, known-mini, mini_index}
 use Rattle.cfb_mini_sectors.proofs.PiecePlaces.{minis_apart}
 
--- nothing was gained
-pub gained-none : (list : List ℕ) → list ≡ list ++ gained list list
-gained-none [] = refl
-gained-none (x ∷ list) = ap (λ (l : List ℕ). x ∷ l) (gained-none list)
-
 pub spares-mini-refl : (own : List ℕ) (s : MiniState) → SparesMini own s s
 spares-mini-refl own s = record {
   values = λ m busy out. refl;
-  mini_stream = gained-none (mini_stream_of s);
+  places = λ m busy out. refl;
   bytes = λ m busy out. record { no_shorter = omega arith; each = λ i lt from to. refl };
 }
 
@@ -54,7 +48,7 @@ pub written-spares-mini : (validation : Validation) (s : MiniState) (a : Allocat
     → SparesMini (mini ∷ []) s (with_table s a)
 written-spares-mini validation s a mini offset n h same within there change = record {
   values = λ m busy out. refl;
-  mini_stream = gained-none (mini_stream_of s);
+  places = λ m busy out. refl;
   bytes = λ m busy out.
       let has = busy-mini validation s h m busy in
       let once = distinct-right (s.directory.sectors ++ s.minifat_sectors) (mini_stream_of s) h.apart in

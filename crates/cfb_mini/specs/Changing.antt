@@ -4,10 +4,14 @@ use Rattle.cfb_format.specs.Bytes.{sector_len, words_per_sector}
 use Rattle.cfb_format.specs.Chain.{IsChain}
 use Rattle.cfb_format.specs.Content.{mini_sector_len, mini_stream_chain}
 use Rattle.cfb_format.specs.Siblings.{entry_at}
-use Rattle.cfb_directory.specs.Growing.{ArePlaced, AreSectorsOf}
+use Rattle.cfb_tables.specs.Changes.{AreDisjoint}
+use Rattle.cfb_alloc.specs.Frame.{table_sectors}
+use Rattle.cfb_directory.specs.Growing.{ArePlaced, AreSectorsOf, IsListedChain}
 use Rattle.cfb_directory.specs.State.{DirectoryState}
 use Rattle.cfb_mini_table.specs.MiniTable.{MiniTableState}
-use Rattle.cfb_mini_sectors.specs.State.{MiniState, mini_stream_of, parts_of, tables_in, version_of}
+use Rattle.cfb_tables.specs.Tables.{first_or_end}
+use Rattle.cfb_mini_sectors.specs.State.{MiniState, entries_of, mini_stream_of, parts_of, tables_in, version_of}
+use Rattle.cfb_mini_sectors.specs.Steps.{BeginsSystem, IsMeasuredMini, KeepsLimits, KeepsSizes, MovesRoot}
 
 -- these as the mini sectors of a file
 abbrev pub mini_of : DirectoryState → MiniTableState → List ℕ → Option (List ℕ) → MiniState
@@ -39,3 +43,23 @@ pub record HaveSectors (s : MiniState) : Type 0 where
   pub minifat : AreSectorsOf (tables_in s) s.minifat_sectors
   pub room : length s.minifat * mini_sector_len ≤ length (mini_stream_of s) * sector_len (version_of s)
   pub mini_stream : AreSectorsOf (tables_in s) (mini_stream_of s)
+
+-- however it ends, a change that gives room back leaves this: the directory's sectors, the number of sectors and the table sectors, a
+-- beginning of both lists, and of the entries all but the root's start and length
+pub record KeepsAllButRoom (old new : MiniState) : Type 0 where
+  pub directory : new.directory.sectors ≡ old.directory.sectors
+  pub sizes : KeepsSizes (tables_in old) (tables_in new)
+  pub stays : BeginsSystem old new
+  pub entries : MovesRoot old new
+  pub limits : KeepsLimits old new
+
+-- the root's entry has the start of the mini stream, and the length of the MiniFAT's values
+pub record IsNamedMini (s : MiniState) : Type 0 where
+  pub measured : IsMeasuredMini s
+  pub start : (entry_at (entries_of s) 0).start_sector ≡ first_or_end (mini_stream_of s)
+
+-- the mini stream's sectors are a chain of the FAT, and none of them is one of the directory or holds the tables
+pub record IsStreamApart (s : MiniState) : Type 0 where
+  pub chain : IsListedChain (tables_in s) (mini_stream_of s)
+  pub directory : AreDisjoint (mini_stream_of s) s.directory.sectors
+  pub tables : AreDisjoint (mini_stream_of s) (table_sectors (tables_in s))

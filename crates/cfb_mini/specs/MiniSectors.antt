@@ -1,13 +1,14 @@
 -- The mini sectors of a file one by one: whether they are there, and what of the state a call on them changes (MS-CFB 2.4).
 use Rattle.std.specs.Prelude.{ℕ, ◌≡◌, ◌≢◌, ◌+◌, ◌*◌, ◌/◌, ◌%◌, ◌<◌, List, ◌++◌, length, take, drop, slice_get, slice_index, Contains, Option, option_and_then}
+use Rattle.cfb_format.specs.declared.validate.Validation.{Validation}
 use Rattle.cfb_format.specs.Bytes.{sector_len, free_sector}
 use Rattle.cfb_format.specs.Chain.{value}
 use Rattle.cfb_format.specs.Content.{mini_sector_len, place_in_chain}
 use Rattle.cfb_sectors.specs.Words.{RangeStays}
 use Rattle.cfb_tables.specs.Listed.{ends_of, gained}
 use Rattle.cfb_mini_table.specs.MiniTable.{TakesMini, MiniGivesBack}
-use Rattle.cfb_mini_sectors.specs.State.{MiniState, bytes_of, mini_place, mini_stream_of, table_of, tables_in, version_of}
-use Rattle.cfb_mini_sectors.specs.Steps.{GrowsFor, IsMeasuredMini, IsTooFewFor, KeepsLimits, KeepsSystem, MovesRoot}
+use Rattle.cfb_mini_sectors.specs.State.{MiniState, HoldsMini, bytes_of, mini_place, mini_stream_of, table_of, tables_in, version_of}
+use Rattle.cfb_mini_sectors.specs.Steps.{BeginsSystem, CanGiveRoomBack, GivesRoomBack, GrowsFor, IsMeasuredMini, IsSnugMini, IsTooFewFor, KeepsLimits, KeepsSizes, MovesRoot}
 
 -- the mini stream has this mini sector, in a sector of the file
 pub record HasMiniSector (s : MiniState) (m : ℕ) : Type 0 where
@@ -71,12 +72,15 @@ pub record LengthensMini (more : ℕ) (before after : List ℕ) (old new : MiniS
   pub enough : IsTooFewFor old more → ⊥
 
 -- so many mini sectors are left of the mini chain of the listed ones, those behind them were given back, and the list has the ones that
--- are left
+-- are left; where some were, the MiniFAT and the mini stream have given back what they do not need
 pub record ShortensMini (left : ℕ) (before after : List ℕ) (old new : MiniState) : Type 0 where
   pub listed : after ≡ take left before
   pub given_back : MiniGivesBack (ends_of (take left before)) (drop left before) old.minifat new.minifat
-  pub system : KeepsSystem old new
+  pub sizes : KeepsSizes (tables_in old) (tables_in new)
+  pub stays : BeginsSystem old new
+  pub room : left < length before → CanGiveRoomBack old → GivesRoomBack old new
   pub measured : left < length before → IsMeasuredMini new
+  pub snug : left < length before → (validation : Validation) → HoldsMini validation old → IsSnugMini new
 
 -- what every change of mini chains leaves alone: the directory's sectors, the limits, and of the entries all but the root's start and
 -- length

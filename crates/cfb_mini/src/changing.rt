@@ -3,7 +3,7 @@
 ghost use Rattle.std.specs.Prelude.{◌≡◌, ◌≢◌, ◌↔◌, ◌⊎◌, ℕ, List, ◌+◌, ◌-◌, ◌*◌, ◌/◌, ◌<◌, ◌≤◌, ◌++◌, [], Some, length, nat_eq, take, drop, true, Contains, IsTrue, vec_len, vec_capacity, IfErr, OnOk};
 ghost use Rattle.std.specs.List.{IsDistinct};
 ghost use Rattle.cfb_format.specs.declared.validate.Validation.{Validation};
-ghost use Rattle.cfb_format.specs.Bytes.{end_of_chain, max_regular_sector, sector_len, words_per_sector};
+ghost use Rattle.cfb_format.specs.Bytes.{end_of_chain, max_regular_sector, sector_len, word_at, words_per_sector};
 ghost use Rattle.cfb_format.specs.Chain.{IsChain, value};
 ghost use Rattle.cfb_format.specs.Content.{mini_sector_len};
 ghost use Rattle.cfb_format.specs.Full.{free_count, max_mini_sectors};
@@ -23,11 +23,13 @@ ghost use Rattle.cfb_directory.specs.State.{KeepsDirectoryLimits};
 ghost use Rattle.cfb_directory.specs.Steps.{KeepsWholeHeader};
 ghost use Rattle.cfb_mini_table.specs.MiniTable.{EndsBusy, IsPreparedMini, IsTooFewMini, MiniGivesBack, TakesMini};
 ghost use Rattle.cfb_mini_sectors.specs.State.{HoldsMini, bytes_of, mini_place};
-ghost use Rattle.cfb_mini_sectors.specs.Steps.{EndsNoChain, GrowsFor, IsMeasuredMini, IsNotHeld, IsTooFewFor, IsZeroMini, KeepsHeader, KeepsLimits, KeepsSystem, MovesRoot, SparesMini, StopsShort, StopsShortOrFull, system_sectors};
+ghost use Rattle.cfb_mini_sectors.specs.Steps.{AreStartsUnnamed, BeginsSystem, CanGiveRoomBack, EndsNoChain, GivesRoomBack, GrowsFor, IsInMiniStream, IsMeasuredMini, IsNotHeld, IsSnugMini, IsTooFewFor, IsZeroMini, KeepsHeader, KeepsLimits, KeepsSizes, MovesRoot, SparesMini, StopsShort, StopsShortOrFull, mini_stream_needs, minifat_needs, system_sectors};
+ghost use Rattle.cfb_soundness.specs.Places.{mini_start};
+ghost use Rattle.cfb_mini_sectors.specs.Giving.{CanGiveBack};
 ghost use Rattle.cfb_mini_sectors.specs.Held.{HoldsMiniBut, with_minifat};
 ghost use Rattle.cfb_mini_sectors.specs.Pieces.{HaveMinis, HaveWords};
 ghost use Rattle.cfb_mini.specs.MiniSectors.{HasMiniSector, KeepsMiniBytesBut};
-ghost use Rattle.cfb_mini.specs.Changing.{HaveSectors, mini_of};
+ghost use Rattle.cfb_mini.specs.Changing.{HaveSectors, IsNamedMini, IsStreamApart, KeepsAllButRoom, mini_of};
 
 use cfb_directory::bounds::least_above;
 use cfb_directory::directory::Directory;
@@ -35,6 +37,7 @@ use cfb_entries::fields::Fields;
 use cfb_format::consts::{END_OF_CHAIN, MINI_SECTOR_LEN};
 use cfb_format::error::{Detail, Error};
 use cfb_format::medium::{Medium, ReadMedium};
+use cfb_mini_sectors::giving::{Needs, can_give_back, give_back_both, needs_for};
 use cfb_mini_sectors::growing::{grow_both, lacks_for};
 use cfb_mini_sectors::pieces::{are_known_minis, are_known_words, wipe, write_words};
 use cfb_mini_table::mini_table::MiniTable;
@@ -400,6 +403,8 @@ fn grow_sectors<F: Medium, A: Heap>(
         (mini_of directory.new table.now minifat_sectors.new.items (Some stream.new.items))) }
     ensures above { IsLeastAbove (minifat_sectors.old.items ++ stream.old.items) above.old
         → IsLeastAbove (minifat_sectors.new.items ++ stream.new.items) above.new }
+    ensures goes_on { stream.new.items
+        ≡ stream.old.items ++ gained stream.old.items stream.new.items }
     ensures rest { directory.new ≡ record directory.old { table = directory.new.table } }
     ensures placed { OnOk result (ArePlaced directory.new) }
     ensures words { OnOk result (length table.now.minifat + (count - free_count table.now.minifat)
@@ -482,6 +487,8 @@ pub(crate) fn extend_listed<F: Medium, A: Heap>(
     ensures measured { OnOk result (IsMeasuredMini
         (mini_of directory.new table.new minifat_sectors.new.items (Some stream.new.items))) }
     ensures directory { directory.new.sectors ≡ directory.old.sectors }
+    ensures goes_on { stream.new.items
+        ≡ stream.old.items ++ gained stream.old.items stream.new.items }
     ensures entries { MovesRoot
         (mini_of directory.old table.old minifat_sectors.old.items (Some stream.old.items))
         (mini_of directory.new table.new minifat_sectors.new.items (Some stream.new.items)) }
@@ -571,63 +578,298 @@ fn are_held<F: ReadMedium, A: Heap>(
     are_known_minis(directory.allocator(), stream, minis)
 }
 
-/// Leaves so many mini sectors of the mini chain that has just the listed ones, and frees the ones behind them: all of
-/// `MiniAllocator::cut_mini_listed` where the mini stream has a chain and some are freed.
+/// Names in the root's entry what is left of the mini stream, with the length of the MiniFAT's values, and gives back the sectors behind
+/// so many of the mini stream and of the MiniFAT. `Medium` where the medium fails.
+fn name_and_give<F: Medium, A: Heap>(
+    directory: &mut Directory<F, A>,
+    table: &MiniTable<A>,
+    minifat_sectors: &mut Vec<u32, A>,
+    stream: &mut Vec<u32, A>,
+    left: Needs,
+) -> Result<(), Error>
+    requires placed { ArePlaced directory.old }
+    requires begun { directory.old.table.file.begun ≡ true }
+    requires minifat { left.minifat ≡ minifat_needs
+        (mini_of directory.old table.now minifat_sectors.old.items (Some stream.old.items)) }
+    requires mini_stream { left.mini_stream ≡ mini_stream_needs
+        (mini_of directory.old table.now minifat_sectors.old.items (Some stream.old.items)) }
+    requires can { CanGiveBack left.minifat left.mini_stream minifat_sectors.old.items
+        stream.old.items directory.old.table.tables }
+    ensures kept { KeepsAllButRoom
+        (mini_of directory.old table.now minifat_sectors.old.items (Some stream.old.items))
+        (mini_of directory.new table.now minifat_sectors.new.items (Some stream.new.items)) }
+    ensures room { OnOk result (GivesRoomBack
+        (mini_of directory.old table.now minifat_sectors.old.items (Some stream.old.items))
+        (mini_of directory.new table.now minifat_sectors.new.items (Some stream.new.items))) }
+    ensures counted { IsTrue F.tells → OnOk result
+        (word_at directory.new.table.file.bytes 64 ≡ length minifat_sectors.new.items) }
+    ensures named { OnOk result (IsNamedMini
+        (mini_of directory.new table.now minifat_sectors.new.items (Some stream.new.items))) }
+    ensures holds { IsTrue F.tells → (validation : Validation)
+        → EndsBusy table.now.minifat → HoldsMiniBut [] validation
+        (mini_of directory.old table.now minifat_sectors.old.items (Some stream.old.items))
+        → (table.now.minifat ≡ [] → AreStartsUnnamed
+        (mini_of directory.old table.now minifat_sectors.old.items (Some stream.old.items)))
+        → OnOk result (HoldsMini validation
+        (mini_of directory.new table.now minifat_sectors.new.items (Some stream.new.items))) }
+    ensures minis { IsTrue F.tells → IsStreamApart
+        (mini_of directory.old table.now minifat_sectors.old.items (Some stream.old.items))
+        → (m : ℕ) → HasMiniSector
+        (mini_of directory.old table.now minifat_sectors.old.items (Some stream.old.items)) m
+        → RangeStays (mini_start directory.old.table.tables.version stream.old.items m)
+        (mini_start directory.old.table.tables.version stream.old.items m + mini_sector_len)
+        directory.old.table.file.bytes directory.new.table.file.bytes }
+    ensures spares { IsTrue F.tells → Spares (system_sectors
+        (mini_of directory.old table.now minifat_sectors.old.items (Some stream.old.items)))
+        directory.old.table directory.new.table }
+    ensures header { IsTrue F.tells → KeepsHeader
+        (mini_of directory.old table.now minifat_sectors.old.items (Some stream.old.items))
+        (mini_of directory.new table.now minifat_sectors.new.items (Some stream.new.items)) }
+    ensures begun { directory.new.table.file.begun ≡ true }
+    ensures err { IfErr result IsMediumError }
+    ensures counts { IsTrue F.tells → CountsFailure
+        F.write_faults result directory.old.table.file.failures directory.new.table.file.failures }
+{
+    let kept = left.mini_stream.min(stream.len());
+    name_mini_stream(directory, &stream[..kept], table.len())?;
+    give_back_both(directory.allocator_mut(), minifat_sectors, stream, left)
+}
+
+/// The least number above the sectors of both lists, which had so many when it was `above`: made anew where one has fewer now.
+fn above_left(
+    above: usize,
+    minifat_sectors: &[u32],
+    words: usize,
+    stream: &[u32],
+    minis: usize,
+) -> usize
+    ensures same { words ≡ length minifat_sectors.now
+        → minis ≡ length stream.now → result ≡ above }
+    ensures anew { (words ≡ length minifat_sectors.now → minis ≡ length stream.now → ⊥)
+        → IsLeastAbove (minifat_sectors.now ++ stream.now) result }
+{
+    if words == minifat_sectors.len() && minis == stream.len() {
+        return above;
+    }
+    least_above(least_above(0, minifat_sectors), stream)
+}
+
+/// Names the mini stream in the root's entry, and gives back the sectors of the mini stream and of the MiniFAT that the MiniFAT's values
+/// do not need: none where the FAT does not have both as chains, which no bytes hold. `Medium` where the medium fails.
+fn give_room_back<F: Medium, A: Heap>(
+    directory: &mut Directory<F, A>,
+    table: &MiniTable<A>,
+    minifat_sectors: &mut Vec<u32, A>,
+    stream: &mut Vec<u32, A>,
+    above: &mut usize,
+) -> Result<(), Error>
+    requires placed { ArePlaced directory.old }
+    requires above { IsLeastAbove (minifat_sectors.old.items ++ stream.old.items) above.old }
+    requires begun { directory.old.table.file.begun ≡ true }
+    ensures above { IsLeastAbove (minifat_sectors.new.items ++ stream.new.items) above.new }
+    ensures kept { KeepsAllButRoom
+        (mini_of directory.old table.now minifat_sectors.old.items (Some stream.old.items))
+        (mini_of directory.new table.now minifat_sectors.new.items (Some stream.new.items)) }
+    ensures room { CanGiveRoomBack
+        (mini_of directory.old table.now minifat_sectors.old.items (Some stream.old.items))
+        → OnOk result (GivesRoomBack
+        (mini_of directory.old table.now minifat_sectors.old.items (Some stream.old.items))
+        (mini_of directory.new table.now minifat_sectors.new.items (Some stream.new.items))) }
+    ensures counted { IsTrue F.tells → CanGiveRoomBack
+        (mini_of directory.old table.now minifat_sectors.old.items (Some stream.old.items))
+        → OnOk result
+        (word_at directory.new.table.file.bytes 64 ≡ length minifat_sectors.new.items) }
+    ensures named { OnOk result (IsNamedMini
+        (mini_of directory.new table.now minifat_sectors.new.items (Some stream.new.items))) }
+    ensures holds { IsTrue F.tells → (validation : Validation)
+        → EndsBusy table.now.minifat → HoldsMiniBut [] validation
+        (mini_of directory.old table.now minifat_sectors.old.items (Some stream.old.items))
+        → (table.now.minifat ≡ [] → AreStartsUnnamed
+        (mini_of directory.old table.now minifat_sectors.old.items (Some stream.old.items)))
+        → OnOk result (HoldsMini validation
+        (mini_of directory.new table.now minifat_sectors.new.items (Some stream.new.items))) }
+    ensures minis { IsTrue F.tells → IsStreamApart
+        (mini_of directory.old table.now minifat_sectors.old.items (Some stream.old.items))
+        → (m : ℕ) → HasMiniSector
+        (mini_of directory.old table.now minifat_sectors.old.items (Some stream.old.items)) m
+        → RangeStays (mini_start directory.old.table.tables.version stream.old.items m)
+        (mini_start directory.old.table.tables.version stream.old.items m + mini_sector_len)
+        directory.old.table.file.bytes directory.new.table.file.bytes }
+    ensures spares { IsTrue F.tells → Spares (system_sectors
+        (mini_of directory.old table.now minifat_sectors.old.items (Some stream.old.items)))
+        directory.old.table directory.new.table }
+    ensures header { IsTrue F.tells → KeepsHeader
+        (mini_of directory.old table.now minifat_sectors.old.items (Some stream.old.items))
+        (mini_of directory.new table.now minifat_sectors.new.items (Some stream.new.items)) }
+    ensures begun { directory.new.table.file.begun ≡ true }
+    ensures err { IfErr result IsMediumError }
+    ensures counts { IsTrue F.tells → CountsFailure
+        F.write_faults result directory.old.table.file.failures directory.new.table.file.failures }
+{
+    let left = needs_for(directory.version(), table.len());
+    if !can_give_back(directory.allocator(), minifat_sectors, stream, left) {
+        return name_mini_stream(directory, stream, table.len());
+    }
+    let (words, minis) = (minifat_sectors.len(), stream.len());
+    let given = name_and_give(directory, table, minifat_sectors, stream, left);
+    *above = above_left(*above, minifat_sectors, words, stream, minis);
+    given
+}
+
+/// Writes what freed mini sectors ask for: zeros over them, and the words whose values have changed; and gives back the sectors that are
+/// not needed any more. `Medium` where the medium fails.
+fn settle_freed<F: Medium, A: Heap>(
+    directory: &mut Directory<F, A>,
+    table: &MiniTable<A>,
+    minifat_sectors: &mut Vec<u32, A>,
+    stream: &mut Vec<u32, A>,
+    above: &mut usize,
+    minis: &[u32],
+    numbers: &[u32],
+) -> Result<(), Error>
+    requires placed { ArePlaced directory.old }
+    requires above { IsLeastAbove (minifat_sectors.old.items ++ stream.old.items) above.old }
+    requires words { HaveWords directory.old.table.tables.version minifat_sectors.old.items
+        (length directory.old.table.tables.fat) numbers.now }
+    requires minis { HaveMinis directory.old.table.tables.version stream.old.items
+        (length directory.old.table.tables.fat) minis.now }
+    ensures above { IsLeastAbove (minifat_sectors.new.items ++ stream.new.items) above.new }
+    ensures kept { KeepsAllButRoom
+        (mini_of directory.old table.now minifat_sectors.old.items (Some stream.old.items))
+        (mini_of directory.new table.now minifat_sectors.new.items (Some stream.new.items)) }
+    ensures room { CanGiveRoomBack
+        (mini_of directory.old table.now minifat_sectors.old.items (Some stream.old.items))
+        → OnOk result (GivesRoomBack
+        (mini_of directory.old table.now minifat_sectors.old.items (Some stream.old.items))
+        (mini_of directory.new table.now minifat_sectors.new.items (Some stream.new.items))) }
+    ensures counted { IsTrue F.tells → CanGiveRoomBack
+        (mini_of directory.old table.now minifat_sectors.old.items (Some stream.old.items))
+        → OnOk result
+        (word_at directory.new.table.file.bytes 64 ≡ length minifat_sectors.new.items) }
+    ensures named { OnOk result (IsNamedMini
+        (mini_of directory.new table.now minifat_sectors.new.items (Some stream.new.items))) }
+    ensures holds { IsTrue F.tells → (validation : Validation)
+        → EndsBusy table.now.minifat → HoldsMiniBut numbers.now validation
+        (mini_of directory.old table.now minifat_sectors.old.items (Some stream.old.items))
+        → (table.now.minifat ≡ [] → AreStartsUnnamed
+        (mini_of directory.old table.now minifat_sectors.old.items (Some stream.old.items)))
+        → OnOk result (HoldsMini validation
+        (mini_of directory.new table.now minifat_sectors.new.items (Some stream.new.items))) }
+    ensures zeros { IsTrue F.tells → (validation : Validation) (late minifat : List ℕ)
+        → HoldsMiniBut late validation (with_minifat
+        (mini_of directory.old table.now minifat_sectors.old.items (Some stream.old.items)) minifat)
+        → OnOk result ((m : ℕ) → Contains minis.now m → IsInMiniStream
+        (mini_of directory.new table.now minifat_sectors.new.items (Some stream.new.items)) m
+        → IsZeroMini
+        (mini_of directory.new table.now minifat_sectors.new.items (Some stream.new.items)) m) }
+    ensures other_minis { IsTrue F.tells → (validation : Validation) (late minifat : List ℕ)
+        → HoldsMiniBut late validation (with_minifat
+        (mini_of directory.old table.now minifat_sectors.old.items (Some stream.old.items)) minifat)
+        → (m : ℕ) → HasMiniSector
+        (mini_of directory.old table.now minifat_sectors.old.items (Some stream.old.items)) m
+        → (Contains minis.now m → ⊥)
+        → RangeStays (mini_start directory.old.table.tables.version stream.old.items m)
+        (mini_start directory.old.table.tables.version stream.old.items m + mini_sector_len)
+        directory.old.table.file.bytes directory.new.table.file.bytes }
+    ensures spares { IsTrue F.tells → Spares (system_sectors
+        (mini_of directory.old table.now minifat_sectors.old.items (Some stream.old.items)))
+        directory.old.table directory.new.table }
+    ensures header { IsTrue F.tells → KeepsHeader
+        (mini_of directory.old table.now minifat_sectors.old.items (Some stream.old.items))
+        (mini_of directory.new table.now minifat_sectors.new.items (Some stream.new.items)) }
+    ensures begun { directory.new.table.file.begun ≡ true }
+    ensures err { IfErr result IsMediumError }
+    ensures counts { IsTrue F.tells → CountsFailure
+        F.write_faults result directory.old.table.file.failures directory.new.table.file.failures }
+{
+    write_sectors(directory, table, minifat_sectors, stream, minis, numbers)?;
+    give_room_back(directory, table, minifat_sectors, stream, above)
+}
+
+/// Leaves so many mini sectors of the mini chain that has just the listed ones, frees the ones behind them, and gives back the sectors
+/// that are not needed any more: all of `MiniAllocator::cut_mini_listed` where the mini stream has a chain and some are freed.
 pub(crate) fn cut_listed<F: Medium, A: Heap>(
     directory: &mut Directory<F, A>,
     table: &mut MiniTable<A>,
-    minifat_sectors: &[u32],
-    stream: &[u32],
+    minifat_sectors: &mut Vec<u32, A>,
+    stream: &mut Vec<u32, A>,
+    above: &mut usize,
     ids: &mut Vec<u32, A>,
     left: usize,
 ) -> Result<(), Error>
     requires fewer { left < length ids.old.items }
     requires chain { IsChain table.old.minifat (first_or_end ids.old.items) ids.old.items }
+    requires above { IsLeastAbove (minifat_sectors.old.items ++ stream.old.items) above.old }
+    ensures above { IsLeastAbove (minifat_sectors.new.items ++ stream.new.items) above.new }
     ensures chain { IsChain table.new.minifat (first_or_end ids.new.items) ids.new.items }
     ensures listed { OnOk result (ids.new.items ≡ take left ids.old.items) }
     ensures shorter { length ids.new.items ≤ length ids.old.items }
     ensures given_back { OnOk result (MiniGivesBack (ends_of (take left ids.old.items))
         (drop left ids.old.items) table.old.minifat table.new.minifat) }
-    ensures system { KeepsSystem (mini_of directory.old table.old minifat_sectors.now
-        (Some stream.now)) (mini_of directory.new table.new minifat_sectors.now (Some stream.now)) }
-    ensures measured { OnOk result
-        (IsMeasuredMini (mini_of directory.new table.new minifat_sectors.now (Some stream.now))) }
-    ensures entries { MovesRoot (mini_of directory.old table.old minifat_sectors.now
-        (Some stream.now)) (mini_of directory.new table.new minifat_sectors.now (Some stream.now)) }
+    ensures directory { directory.new.sectors ≡ directory.old.sectors }
+    ensures sizes { KeepsSizes directory.old.table.tables directory.new.table.tables }
+    ensures stays { BeginsSystem
+        (mini_of directory.old table.old minifat_sectors.old.items (Some stream.old.items))
+        (mini_of directory.new table.new minifat_sectors.new.items (Some stream.new.items)) }
+    ensures room { CanGiveRoomBack
+        (mini_of directory.old table.old minifat_sectors.old.items (Some stream.old.items))
+        → OnOk result (GivesRoomBack
+        (mini_of directory.old table.old minifat_sectors.old.items (Some stream.old.items))
+        (mini_of directory.new table.new minifat_sectors.new.items (Some stream.new.items))) }
+    ensures measured { OnOk result (IsMeasuredMini
+        (mini_of directory.new table.new minifat_sectors.new.items (Some stream.new.items))) }
+    ensures snug { (validation : Validation) → HoldsMini validation
+        (mini_of directory.old table.old minifat_sectors.old.items (Some stream.old.items))
+        → OnOk result (IsSnugMini
+        (mini_of directory.new table.new minifat_sectors.new.items (Some stream.new.items))) }
+    ensures counted { IsTrue F.tells → (validation : Validation) → HoldsMini validation
+        (mini_of directory.old table.old minifat_sectors.old.items (Some stream.old.items))
+        → OnOk result (word_at directory.new.table.file.bytes 64
+        ≡ length minifat_sectors.new.items) }
+    ensures entries { MovesRoot
+        (mini_of directory.old table.old minifat_sectors.old.items (Some stream.old.items))
+        (mini_of directory.new table.new minifat_sectors.new.items (Some stream.new.items)) }
     ensures holds { IsTrue F.tells → (validation : Validation) → HoldsMini validation
-        (mini_of directory.old table.old minifat_sectors.now (Some stream.now))
+        (mini_of directory.old table.old minifat_sectors.old.items (Some stream.old.items))
+        → (table.new.minifat ≡ [] → AreStartsUnnamed
+        (mini_of directory.old table.old minifat_sectors.old.items (Some stream.old.items)))
         → (left ≡ 0 → IsUnnamed table.old.minifat (first_or_end ids.old.items))
         → OnOk result (HoldsMini validation
-        (mini_of directory.new table.new minifat_sectors.now (Some stream.now))) }
+        (mini_of directory.new table.new minifat_sectors.new.items (Some stream.new.items))) }
     ensures wiped { IsTrue F.tells → (validation : Validation) → HoldsMini validation
-        (mini_of directory.old table.old minifat_sectors.now (Some stream.now))
+        (mini_of directory.old table.old minifat_sectors.old.items (Some stream.old.items))
         → OnOk result ((m : ℕ) → Contains (drop left ids.old.items) m
-        → IsZeroMini (mini_of directory.new table.new minifat_sectors.now (Some stream.now)) m) }
-    ensures spares { IsTrue F.tells
-        → Spares (system_sectors (mini_of directory.old table.old minifat_sectors.now
-        (Some stream.now))) directory.old.table directory.new.table }
+        → IsInMiniStream
+        (mini_of directory.new table.new minifat_sectors.new.items (Some stream.new.items)) m
+        → IsZeroMini
+        (mini_of directory.new table.new minifat_sectors.new.items (Some stream.new.items)) m) }
+    ensures spares { IsTrue F.tells → Spares (system_sectors
+        (mini_of directory.old table.old minifat_sectors.old.items (Some stream.old.items)))
+        directory.old.table directory.new.table }
     ensures mini_spares { IsTrue F.tells → (validation : Validation) → HoldsMini validation
-        (mini_of directory.old table.old minifat_sectors.now (Some stream.now))
-        → SparesMini ids.old.items (mini_of directory.old table.old minifat_sectors.now
-        (Some stream.now)) (mini_of directory.new table.new minifat_sectors.now (Some stream.now)) }
+        (mini_of directory.old table.old minifat_sectors.old.items (Some stream.old.items))
+        → SparesMini ids.old.items
+        (mini_of directory.old table.old minifat_sectors.old.items (Some stream.old.items))
+        (mini_of directory.new table.new minifat_sectors.new.items (Some stream.new.items)) }
     ensures bytes { IsTrue F.tells → (validation : Validation) → HoldsMini validation
-        (mini_of directory.old table.old minifat_sectors.now (Some stream.now))
+        (mini_of directory.old table.old minifat_sectors.old.items (Some stream.old.items))
         → KeepsMiniBytesBut (drop left ids.old.items)
-        (mini_of directory.old table.old minifat_sectors.now (Some stream.now))
-        (mini_of directory.new table.new minifat_sectors.now (Some stream.now)) }
-    ensures header { IsTrue F.tells
-        → KeepsHeader (mini_of directory.old table.old minifat_sectors.now (Some stream.now))
-        (mini_of directory.new table.new minifat_sectors.now (Some stream.now)) }
-    ensures limits { KeepsLimits (mini_of directory.old table.old minifat_sectors.now
-        (Some stream.now)) (mini_of directory.new table.new minifat_sectors.now (Some stream.now)) }
+        (mini_of directory.old table.old minifat_sectors.old.items (Some stream.old.items))
+        (mini_of directory.new table.new minifat_sectors.new.items (Some stream.new.items)) }
+    ensures header { IsTrue F.tells → KeepsHeader
+        (mini_of directory.old table.old minifat_sectors.old.items (Some stream.old.items))
+        (mini_of directory.new table.new minifat_sectors.new.items (Some stream.new.items)) }
+    ensures limits { KeepsLimits
+        (mini_of directory.old table.old minifat_sectors.old.items (Some stream.old.items))
+        (mini_of directory.new table.new minifat_sectors.new.items (Some stream.new.items)) }
     ensures begun { OnOk result (IsRaised (left
         < length ids.old.items) directory.old.table.file directory.new.table.file) }
-    ensures refused { IfErr result
-        (StopsShort (mini_of directory.old table.old minifat_sectors.now (Some stream.now))
-        (mini_of directory.new table.new minifat_sectors.now (Some stream.now))) }
+    ensures refused { IfErr result (StopsShort
+        (mini_of directory.old table.old minifat_sectors.old.items (Some stream.old.items))
+        (mini_of directory.new table.new minifat_sectors.new.items (Some stream.new.items))) }
     ensures kept { IfErr result (AfterMedium Unit (ids.new.items ≡ ids.old.items)) }
     ensures err { IfErr result (ChangeRefused (IsNotHeld
-        (mini_of directory.old table.old minifat_sectors.now (Some stream.now))) ⊥ ⊥ Unit) }
+        (mini_of directory.old table.old minifat_sectors.old.items (Some stream.old.items))) ⊥ ⊥ Unit) }
     ensures counts { IsTrue F.tells → CountsFailure
         F.write_faults result directory.old.table.file.failures directory.new.table.file.failures }
 {
@@ -641,11 +883,12 @@ pub(crate) fn cut_listed<F: Medium, A: Heap>(
         return Err(unheld(table.len()));
     }
     table.cut_listed(ids, left);
-    let freed = settle(
+    let freed = settle_freed(
         directory,
         table,
         minifat_sectors,
         stream,
+        above,
         &ids[left..],
         &ids[left.saturating_sub(1)..],
     );

@@ -41,7 +41,7 @@ ghost use Rattle.cfb_directory.specs.Steps.{KeepsOtherSlots, KeepsSlotsBut, Keep
 ghost use Rattle.cfb_directory.specs.Steps.{IsDirectoryNotHeld};
 ghost use Rattle.cfb_mini_table.specs.MiniTable.{AcceptsMini, IsTooFewMini, MiniGivesBack, TakesMini, read_entries};
 ghost use Rattle.cfb_mini_sectors.specs.State.{MiniState, HoldsMini, bytes_of, cases_of, entries_of, mini_place, mini_stream_of, parts_of, root_len_of, table_of, tables_in, version_of};
-ghost use Rattle.cfb_mini_sectors.specs.Steps.{EndsNoChain, GrowsFor, IsMeasuredMini, IsNotHeld, IsTooFewAfterFor, IsTooFewFor, IsZeroMini, KeepsHeader, KeepsLimits, KeepsMini, KeepsSystem, MovesRoot, SparesMini, StopsShort, StopsShortOrFull, mini_stream_lacks, minifat_lacks, system_sectors};
+ghost use Rattle.cfb_mini_sectors.specs.Steps.{AreStartsUnnamed, BeginsSystem, CanGiveRoomBack, EndsNoChain, GivesRoomBack, GrowsFor, IsInMiniStream, IsMeasuredMini, IsNotHeld, IsSnugMini, IsTooFewAfterFor, IsTooFewFor, IsZeroMini, KeepsHeader, KeepsLimits, KeepsMini, KeepsSizes, MovesRoot, SparesMini, StopsShort, StopsShortOrFull, mini_stream_lacks, minifat_lacks, system_sectors};
 ghost use Rattle.cfb_mini_sectors.specs.Held.{with_table};
 ghost use Rattle.cfb_mini.specs.Changing.{AreMinifatSectors, root_len_in};
 ghost use Rattle.cfb_mini.specs.MiniSectors.{ChangesFileOnly, HasMiniByte, HasMiniSector, IsStill, KeepsMiniBytesBut};
@@ -550,6 +550,8 @@ impl<F: Medium, A: Heap> MiniAllocator<F, A> {
         ensures grown { 0 < count → OnOk result (GrowsFor count self.old self.new) }
         ensures measured { 0 < count → OnOk result (IsMeasuredMini self.new) }
         ensures directory { self.new.directory.sectors ≡ self.old.directory.sectors }
+        ensures goes_on { mini_stream_of self.new ≡ mini_stream_of self.old
+            ++ gained (mini_stream_of self.old) (mini_stream_of self.new) }
         ensures entries { MovesRoot self.old self.new }
         ensures holds { IsTrue F.tells → (validation : Validation)
             → HoldsMini validation self.old → OnOk result (HoldsMini validation self.new) }
@@ -594,11 +596,13 @@ impl<F: Medium, A: Heap> MiniAllocator<F, A> {
     }
 
     /// Leaves so many mini sectors of the mini chain that has just the listed ones, frees the ones behind them, and takes them off the
-    /// list. What is freed reads as zeros. It asks for no memory and walks no chain. Where there are no more than so many nothing changes.
+    /// list. What is freed reads as zeros where the mini stream still has it. The sectors of the MiniFAT and of the mini stream that the
+    /// root's length does not need then are given back, and the header's count follows. It asks for no memory. Where there are no more
+    /// than so many mini sectors nothing changes.
     ///
     /// `InvalidData` where the bytes do not hold the mini sectors: then nothing has changed. After `Medium`, where the medium fails, of the
     /// file's bytes no mini sector in use but those of this chain has changed, and no sector in use but those of the directory, of the
-    /// MiniFAT and of the mini stream.
+    /// MiniFAT, of the mini stream and of the FAT.
     pub fn cut_mini_listed(&mut self, ids: &mut Vec<u32, A>, left: usize) -> Result<(), Error>
         requires chain { IsChain self.old.minifat (first_or_end ids.old.items) ids.old.items }
         ensures chain { IsChain self.new.minifat (first_or_end ids.new.items) ids.new.items }
@@ -608,14 +612,27 @@ impl<F: Medium, A: Heap> MiniAllocator<F, A> {
             → OnErr result ⊥ × (self.new ≡ self.old) × (ids.new.items ≡ ids.old.items) }
         ensures given_back { OnOk result (MiniGivesBack (ends_of (take left ids.old.items))
             (drop left ids.old.items) self.old.minifat self.new.minifat) }
-        ensures system { KeepsSystem self.old self.new }
+        ensures directory { self.new.directory.sectors ≡ self.old.directory.sectors }
+        ensures sizes { KeepsSizes (tables_in self.old) (tables_in self.new) }
+        ensures stays { BeginsSystem self.old self.new }
+        ensures room { left < length ids.old.items
+            → CanGiveRoomBack self.old → OnOk result (GivesRoomBack self.old self.new) }
         ensures measured { left < length ids.old.items → OnOk result (IsMeasuredMini self.new) }
+        ensures snug { left < length ids.old.items
+            → (validation : Validation) → HoldsMini validation self.old
+            → OnOk result (IsSnugMini self.new) }
+        ensures counted { IsTrue F.tells → left < length ids.old.items
+            → (validation : Validation) → HoldsMini validation self.old → OnOk result
+            (word_at (bytes_of self.new) 64 ≡ length self.new.minifat_sectors) }
         ensures entries { MovesRoot self.old self.new }
-        ensures holds { IsTrue F.tells → (validation : Validation) → HoldsMini validation self.old
+        ensures holds { IsTrue F.tells → (validation : Validation)
+            → HoldsMini validation self.old
+            → (self.new.minifat ≡ [] → AreStartsUnnamed self.old)
             → (left ≡ 0 → IsUnnamed self.old.minifat (first_or_end ids.old.items))
             → OnOk result (HoldsMini validation self.new) }
         ensures wiped { IsTrue F.tells → (validation : Validation) → HoldsMini validation self.old
-            → OnOk result ((m : ℕ) → Contains (drop left ids.old.items) m → IsZeroMini self.new m) }
+            → OnOk result ((m : ℕ) → Contains (drop left ids.old.items) m
+            → IsInMiniStream self.new m → IsZeroMini self.new m) }
         ensures spares { IsTrue F.tells
             → Spares (system_sectors self.old) (table_of self.old) (table_of self.new) }
         ensures mini_spares { IsTrue F.tells → (validation : Validation)
@@ -635,14 +652,15 @@ impl<F: Medium, A: Heap> MiniAllocator<F, A> {
         if left >= ids.len() {
             return Ok(());
         }
-        let Some(stream) = &self.mini_stream else {
+        let Some(stream) = &mut self.mini_stream else {
             return Err(no_mini_stream());
         };
         cut_listed(
             &mut self.directory,
             &mut self.table,
-            &self.minifat_sectors,
+            &mut self.minifat_sectors,
             stream,
+            &mut self.above,
             ids,
             left,
         )
@@ -666,6 +684,8 @@ impl<F: Medium, A: Heap + Clone> MiniAllocator<F, A> {
         ensures grown { 0 < count → OnOk result (GrowsFor count self.old self.new) }
         ensures measured { 0 < count → OnOk result (IsMeasuredMini self.new) }
         ensures directory { self.new.directory.sectors ≡ self.old.directory.sectors }
+        ensures goes_on { mini_stream_of self.new ≡ mini_stream_of self.old
+            ++ gained (mini_stream_of self.old) (mini_stream_of self.new) }
         ensures entries { MovesRoot self.old self.new }
         ensures holds { IsTrue F.tells → (validation : Validation)
             → HoldsMini validation self.old → OnOk result (HoldsMini validation self.new) }
@@ -700,7 +720,8 @@ impl<F: Medium, A: Heap + Clone> MiniAllocator<F, A> {
         Ok(ids)
     }
 
-    /// Frees the mini chain from `start`: what is freed reads as zeros. The empty one, from END, changes nothing.
+    /// Frees the mini chain from `start`, and the sectors that are not needed then, as `cut_mini_listed`. The empty one, from END, changes
+    /// nothing.
     ///
     /// `InvalidData` where there is no such chain, and where the bytes do not hold the mini sectors; and `Memory`: then nothing has
     /// changed. `Medium` as in `cut_mini_listed`.
@@ -708,14 +729,26 @@ impl<F: Medium, A: Heap + Clone> MiniAllocator<F, A> {
         ensures freed { OnOk result ((list : List ℕ) × IsChain self.old.minifat start list
             × MiniGivesBack [] list self.old.minifat self.new.minifat) }
         ensures none { start ≡ end_of_chain → OnErr result ⊥ × (self.new ≡ self.old) }
-        ensures system { KeepsSystem self.old self.new }
+        ensures directory { self.new.directory.sectors ≡ self.old.directory.sectors }
+        ensures sizes { KeepsSizes (tables_in self.old) (tables_in self.new) }
+        ensures stays { BeginsSystem self.old self.new }
+        ensures room { start ≢ end_of_chain
+            → CanGiveRoomBack self.old → OnOk result (GivesRoomBack self.old self.new) }
         ensures measured { start ≢ end_of_chain → OnOk result (IsMeasuredMini self.new) }
+        ensures snug { start ≢ end_of_chain → (validation : Validation)
+            → HoldsMini validation self.old → OnOk result (IsSnugMini self.new) }
+        ensures counted { IsTrue F.tells → start ≢ end_of_chain
+            → (validation : Validation) → HoldsMini validation self.old → OnOk result
+            (word_at (bytes_of self.new) 64 ≡ length self.new.minifat_sectors) }
         ensures entries { MovesRoot self.old self.new }
-        ensures holds { IsTrue F.tells → (validation : Validation) → HoldsMini validation self.old
+        ensures holds { IsTrue F.tells → (validation : Validation)
+            → HoldsMini validation self.old
+            → (self.new.minifat ≡ [] → AreStartsUnnamed self.old)
             → IsUnnamed self.old.minifat start → OnOk result (HoldsMini validation self.new) }
         ensures wiped { IsTrue F.tells → (validation : Validation)
             → HoldsMini validation self.old → (list : List ℕ) → IsChain self.old.minifat start list
-            → OnOk result ((m : ℕ) → Contains list m → IsZeroMini self.new m) }
+            → OnOk result ((m : ℕ) → Contains list m
+            → IsInMiniStream self.new m → IsZeroMini self.new m) }
         ensures spares { IsTrue F.tells
             → Spares (system_sectors self.old) (table_of self.old) (table_of self.new) }
         ensures mini_spares { IsTrue F.tells
@@ -741,8 +774,8 @@ impl<F: Medium, A: Heap + Clone> MiniAllocator<F, A> {
         self.cut_mini_listed(&mut ids, 0)
     }
 
-    /// Ends a mini chain at this mini sector, and frees the ones behind it: what is freed reads as zeros. Where it ends there already
-    /// nothing changes.
+    /// Ends a mini chain at this mini sector, and frees the ones behind it and the sectors that are not needed then, as `cut_mini_listed`.
+    /// Where it ends there already nothing changes.
     ///
     /// `InvalidData` where no mini chain goes on from the mini sector or ends there, and where the bytes do not hold the mini sectors; and
     /// `Memory`: then nothing has changed. `Medium` as in `cut_mini_listed`.
@@ -750,15 +783,25 @@ impl<F: Medium, A: Heap + Clone> MiniAllocator<F, A> {
         ensures cut { OnOk result ((list : List ℕ) × IsChain self.old.minifat mini (mini ∷ list)
             × MiniGivesBack (mini ∷ []) list self.old.minifat self.new.minifat) }
         ensures none { value self.old.minifat mini ≡ end_of_chain → self.new ≡ self.old }
-        ensures system { KeepsSystem self.old self.new }
+        ensures directory { self.new.directory.sectors ≡ self.old.directory.sectors }
+        ensures sizes { KeepsSizes (tables_in self.old) (tables_in self.new) }
+        ensures stays { BeginsSystem self.old self.new }
+        ensures room { value self.old.minifat mini ≢ end_of_chain
+            → CanGiveRoomBack self.old → OnOk result (GivesRoomBack self.old self.new) }
         ensures measured { value self.old.minifat mini ≢ end_of_chain
             → OnOk result (IsMeasuredMini self.new) }
+        ensures snug { value self.old.minifat mini ≢ end_of_chain → (validation : Validation)
+            → HoldsMini validation self.old → OnOk result (IsSnugMini self.new) }
+        ensures counted { IsTrue F.tells → value self.old.minifat mini ≢ end_of_chain
+            → (validation : Validation) → HoldsMini validation self.old → OnOk result
+            (word_at (bytes_of self.new) 64 ≡ length self.new.minifat_sectors) }
         ensures entries { MovesRoot self.old self.new }
         ensures holds { IsTrue F.tells → (validation : Validation)
             → HoldsMini validation self.old → OnOk result (HoldsMini validation self.new) }
         ensures wiped { IsTrue F.tells → (validation : Validation) → HoldsMini validation self.old
             → (list : List ℕ) → IsChain self.old.minifat mini (mini ∷ list)
-            → OnOk result ((m : ℕ) → Contains list m → IsZeroMini self.new m) }
+            → OnOk result ((m : ℕ) → Contains list m
+            → IsInMiniStream self.new m → IsZeroMini self.new m) }
         ensures spares { IsTrue F.tells
             → Spares (system_sectors self.old) (table_of self.old) (table_of self.new) }
         ensures mini_spares { IsTrue F.tells → (validation : Validation)

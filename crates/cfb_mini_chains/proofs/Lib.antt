@@ -1,5 +1,6 @@
 pub mod MiniChainPlaces
 pub mod MiniChainHeld
+mod MiniStreamBegun
 pub mod MiniChainFrames
 pub mod MiniChainBytes
 pub mod MiniChainAnswers

@@ -19,8 +19,9 @@ use Rattle.cfb_chains.specs.declared.chain.Numbers as numbers
 use Rattle.cfb_chains.proofs.PlacedBytes as chain
 use Rattle.cfb_soundness.specs.Places.{mini_start}
 use Rattle.cfb_mini_sectors.specs.State.{MiniState, HoldsMini, bytes_of, mini_place, mini_stream_of, version_of}
-use Rattle.cfb_mini_sectors.specs.Steps.{IsZeroMini, SparesMini}
-use Rattle.cfb_mini_sectors.proofs.MiniFrames.{held-places, place-stays}
+use Rattle.cfb_mini_sectors.specs.Steps.{IsZeroMini, SparesMini, mini_stream_needs}
+use Rattle.cfb_mini_sectors.proofs.MiniFrames.{held-places, place-stays, shorter-place, version-place}
+use Rattle.cfb_mini_chains.proofs.MiniStreamBegun.{begun-distinct, begun-whole}
 use Rattle.cfb_mini.specs.MiniSectors.{ChangesFileOnly, KeepsMiniBytesBut}
 use Rattle.cfb_mini_chains.specs.LentMiniChain.{state_of, start_sector_of, ids_of, len_of, position_of, file_bytes_of, mini_sector_at, place_at, place_of, byte_of, HoldsWanted, ChangesOnlyWanted, OthersStay, HasWritten, HasResized}
 use Rattle.cfb_mini_chains.specs.declared.mini_chain.MiniChain.{MiniChain}
@@ -346,7 +347,8 @@ module _ {F A : Type 0} {g : medium.Ghosts F} {l : numbers.Ghosts (Vec ℕ A)} w
   -- ---- a cut, and zeros behind the length then
 
   module _ (validation : Validation) (old cut new : MiniChain F A (Vec ℕ A) g l) (len n : ℕ) (chained : IsChained old) (cut_chained : IsChained cut) (h : HoldsMini validation (state_of old))
-      (version : version_of (state_of cut) ≡ version_of (state_of old)) (stream : mini_stream_of (state_of cut) ≡ mini_stream_of (state_of old))
+      (version : version_of (state_of cut) ≡ version_of (state_of old))
+      (stream : (mini_stream_of (state_of cut) ≡ mini_stream_of (state_of old)) ⊎ (mini_stream_of (state_of cut) ≡ take (mini_stream_needs (state_of cut)) (mini_stream_of (state_of old))))
       (left : ids_of cut ≡ take n (ids_of old)) (wanted : n ≡ rounded_up len 64) (few : n ≤ length (ids_of old))
       (keeps : KeepsMiniBytesBut (drop n (ids_of old)) (state_of old) (state_of cut))
       (uncut : length (ids_of old) ≤ n → file_bytes_of cut ≡ file_bytes_of old)
@@ -364,17 +366,22 @@ module _ {F A : Type 0} {g : medium.Ghosts F} {l : numbers.Ghosts (Vec ℕ A)} w
 
     cut_whole : (m : ℕ) → Contains (ids_of cut) m → 64 * m + 64 ≤ length (mini_stream_of (state_of cut)) * sector_len (version_of (state_of cut))
     cut_whole m member =
-        subst (λ (v : Version). 64 * m + 64 ≤ length (mini_stream_of (state_of cut)) * sector_len v) (sym version)
-        (subst (λ (xs : List ℕ). 64 * m + 64 ≤ length xs * sector_len (version_of (state_of old))) (sym stream)
-        (chain_whole validation old chained h m (kept_own (ids_of old) (ids_of cut) n left m member)))
+        begun-whole (state_of old) (state_of cut) m version stream (member_below (state_of cut).minifat (start_sector_of cut) (ids_of cut) m cut_chained member)
+        (chain_whole validation old chained h m (kept_own (ids_of old) (ids_of cut) n left m member))
 
     cut_distinct : IsDistinct nat_eq (mini_stream_of (state_of cut))
-    cut_distinct = subst (λ (xs : List ℕ). IsDistinct nat_eq xs) (sym stream) (held_distinct validation (state_of old) h)
+    cut_distinct = begun-distinct (state_of old) (state_of cut) stream (held_distinct validation (state_of old) h)
 
     cut_place : (k : ℕ) → k < n * 64 → place_at cut k ≡ place_at old k
     cut_place k inside =
-        (λ j. mini_start (version j) (stream j) (slice_index (left j) (k / 64)) + k % 64)
-        ∙ ap (λ m. mini_place (state_of old) m + k % 64) (taken_at (ids_of old) n k inside)
+        let same = ap (λ (xs : List ℕ). slice_index xs (k / 64)) left ∙ taken_at (ids_of old) n k inside in
+        let size = cut_len in
+        let low = member_below (state_of cut).minifat (start_sector_of cut) (ids_of cut) (mini_sector_at cut k) cut_chained (mini_member (ids_of cut) k (omega (arith, size, inside))) in
+        let busy = member_busy (state_of old).minifat (start_sector_of old) (ids_of old) (mini_sector_at old k) chained (mini_member (ids_of old) k (omega (arith, inside, few))) in
+        ap (λ m. mini_place (state_of cut) m + k % 64) same
+        ∙ ap (λ p. p + k % 64) (version-place (state_of old) (state_of cut) (mini_sector_at old k) version
+        (shorter-place (state_of old) (state_of cut) (mini_sector_at old k) (held-places (state_of old) h.mini_stream) version stream busy
+        (subst (λ m. m < length (state_of cut).minifat) same low)))
 
     -- a mini sector that is left is none of those that were given back
     left_stays : (k : ℕ) → k < n * 64 → Contains (drop n (ids_of old)) (mini_sector_at old k) → ⊥

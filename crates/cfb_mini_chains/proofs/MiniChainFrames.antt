@@ -1,23 +1,24 @@
 -- What changes of mini chains leave alone, one after the other.
-use Rattle.std.proofs.Common.{◌≡◌, ◌≢◌, ◌≤◌, ◌<◌, ◌+◌, ◌*◌, ◌⊎◌, inl, inr, ℕ, List, [], ◌∷◌, ◌++◌, refl, sym, ◌∙◌, ap, subst, length, arith}
+use Rattle.std.proofs.Common.{◌≡◌, ◌≢◌, ◌≤◌, ◌<◌, ◌+◌, ◌*◌, ◌⊎◌, inl, inr, ℕ, List, [], ◌∷◌, ◌++◌, refl, sym, ◌∙◌, ap, subst, length, take, arith}
 use Rattle.std.specs.Prelude.{Contains, Option, unwrap_or}
-use Rattle.std.proofs.lemmas.List.{append-nil}
 use Rattle.std.proofs.lemmas.List.Elements.{Contains-append_right, Contains-append_cases}
 use Rattle.cfb_format.specs.declared.validate.Validation.{Validation}
-use Rattle.cfb_format.specs.Bytes.{free_sector}
+use Rattle.cfb_format.specs.Bytes.{free_sector, word_at}
 use Rattle.cfb_format.specs.Chain.{value}
 use Rattle.cfb_format.specs.Medium.{ChangesOnlyBytes}
 use Rattle.cfb_sectors.specs.Words.{RangeStays}
 use Rattle.cfb_sectors.proofs.SectorLemmas.{Stays_trans}
+use Rattle.cfb_sectors.proofs.WordLemmas.{word_apart}
 use Rattle.cfb_tables.specs.Listed.{gained}
 use Rattle.cfb_tables.specs.Tables.{HasTaken, TableState}
-use Rattle.cfb_tables.proofs.Members.{Contains-one, Contains-or, in_three, first_of_three}
+use Rattle.cfb_tables.proofs.Members.{Contains-one, Contains-or, in_three, first_of_three, value-below}
 use Rattle.cfb_alloc.specs.Frame.{Spares}
 use Rattle.cfb_alloc.proofs.Frames.{spares-less, spares-then}
 use Rattle.cfb_mini_table.specs.MiniTable.{TakesMini}
 use Rattle.cfb_mini_sectors.specs.State.{MiniState, HoldsMini, bytes_of, mini_place, mini_stream_of, table_of, tables_in, version_of}
-use Rattle.cfb_mini_sectors.specs.Steps.{GrowsFor, KeepsHeader, KeepsLimits, KeepsSystem, MovesRoot, SparesMini, system_sectors}
-use Rattle.cfb_mini_sectors.proofs.MiniFrames.{held-places, place-stays, spares-less as minis-less}
+use Rattle.cfb_mini_sectors.specs.Steps.{BeginsSystem, GrowsFor, KeepsHeader, KeepsLimits, MovesRoot, SparesMini, mini_stream_needs, system_sectors}
+use Rattle.cfb_mini_sectors.proofs.MiniFrames.{held-places, shorter-place, spares-less as minis-less, version-place}
+use Rattle.cfb_mini_chains.proofs.MiniStreamBegun.{begun-among}
 use Rattle.cfb_mini.specs.MiniSectors.{ChangesFileOnly, KeepsDirectory, KeepsMiniBytesBut}
 
 -- ---- other mini sectors
@@ -32,10 +33,11 @@ bytes_less own more old new among keeps m busy out = keeps m busy (λ c. out (am
 
 -- a change, and then one of some of the same mini sectors
 pub bytes_then : (validation : Validation) (own own' : List ℕ) (a b c : MiniState) → HoldsMini validation a → version_of b ≡ version_of a
-    → mini_stream_of b ≡ mini_stream_of a → ((m : ℕ) → value a.minifat m ≢ free_sector → (Contains own m → ⊥) → value b.minifat m ≢ free_sector)
+    → (mini_stream_of b ≡ mini_stream_of a) ⊎ (mini_stream_of b ≡ take (mini_stream_needs b) (mini_stream_of a))
+    → ((m : ℕ) → value a.minifat m ≢ free_sector → (Contains own m → ⊥) → value b.minifat m ≢ free_sector)
     → ((m : ℕ) → Contains own' m → Contains own m) → KeepsMiniBytesBut own a b → SparesMini own' b c → KeepsMiniBytesBut own a c
 bytes_then validation own own' a b c h version stream still among first second m busy out =
-    let at = place-stays a b m [] (held-places a h.mini_stream) version (stream ∙ sym (append-nil (mini_stream_of a))) busy in
+    let at = version-place a b m version (shorter-place a b m (held-places a h.mini_stream) version stream busy (value-below b.minifat m (still m busy out))) in
     Stays_trans (mini_place a m) (mini_place a m + 64) (bytes_of a) (bytes_of b) (bytes_of c) (first m busy out)
     (subst (λ p. RangeStays p (p + 64) (bytes_of b) (bytes_of c)) at (second.bytes m (still m busy out) (λ member. out (among m member))))
 
@@ -93,6 +95,13 @@ header_then_write a b c at n longer behind first change i within outside =
     let low = outside_first i outside in
     change.below i (omega (arith, within, longer)) (omega (arith, low, behind)) ∙ first i within outside
 
+-- nor its number of MiniFAT sectors
+pub counted_then_write : (a b : MiniState) (at n : ℕ) → 512 ≤ length (bytes_of a) → 512 ≤ at → ChangesFileOnly a b → ChangesOnlyBytes at n (bytes_of a) (bytes_of b)
+    → word_at (bytes_of a) 64 ≡ length a.minifat_sectors → word_at (bytes_of b) 64 ≡ length b.minifat_sectors
+counted_then_write a b at n long behind kept change counted =
+    word_apart at n 64 (bytes_of a) (bytes_of b) change (omega (arith, long)) (λ early. absurd (omega (arith, behind, early))) ∙ counted
+    ∙ sym (ap (λ (s : MiniState). length s.minifat_sectors) kept)
+
 -- ---- sectors
 
 -- a sector that the tables took is free before
@@ -142,9 +151,8 @@ stream_spared old new =
     (λ i m. Contains-append_right (old.directory.sectors ++ old.minifat_sectors) (mini_stream_of old) i m)
 
 -- mini sectors are given back, and then one is written
-pub cut_spared : (old mid new : MiniState) → KeepsSystem old mid → Spares (system_sectors old) (table_of old) (table_of mid)
+pub cut_spared : (old mid new : MiniState) → BeginsSystem old mid → Spares (system_sectors old) (table_of old) (table_of mid)
     → Spares (mini_stream_of mid) (table_of mid) (table_of new) → Spares (system_sectors old) (table_of old) (table_of new)
-cut_spared old mid new system first second =
-    let is : mini_stream_of mid ≡ mini_stream_of old = ap (λ (o : Option (List ℕ)). unwrap_or o []) system.mini_stream in
+cut_spared old mid new stays first second =
     spares-then (system_sectors old) (mini_stream_of mid) (table_of old) (table_of mid) (table_of new)
-    (λ i m. inr (Contains-append_right (old.directory.sectors ++ old.minifat_sectors) (mini_stream_of old) i (subst (λ (xs : List ℕ). Contains xs i) is m))) first second
+    (λ i m. inr (Contains-append_right (old.directory.sectors ++ old.minifat_sectors) (mini_stream_of old) i (begun-among old mid stays.mini_stream i m))) first second

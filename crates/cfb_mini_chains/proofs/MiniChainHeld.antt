@@ -6,12 +6,10 @@ use Rattle.std.proofs.lemmas.Bool.{cases_lt}
 use Rattle.cfb_format.specs.declared.validate.Validation.{Validation}
 use Rattle.cfb_format.specs.Bytes.{sector_len, free_sector}
 use Rattle.cfb_format.specs.Chain.{value, chain_from}
-use Rattle.cfb_tables.specs.Tables.{TableState}
 use Rattle.cfb_alloc.proofs.ChainView.{found_chain}
 use Rattle.cfb_tables.proofs.ChainLemmas.{members-busy}
 use Rattle.cfb_tables.proofs.Members.{distinct-right}
 use Rattle.cfb_mini_sectors.specs.State.{MiniState, HoldsMini, mini_place, mini_stream_of, table_of, tables_in, version_of}
-use Rattle.cfb_mini_sectors.specs.Steps.{KeepsSystem}
 use Rattle.cfb_mini.proofs.MiniKnown.{mini-or-not}
 use Rattle.cfb_mini.specs.MiniSectors.{HasMiniByte, HasMiniSector}
 
@@ -44,15 +42,3 @@ byte_or s m offset =
           ]
       | inr none ↦ inr (λ h. none h.mini_sector)
     ]
-
--- and has it still where neither the mini stream nor the tables change
-pub has_kept : (old new : MiniState) (m : ℕ) → KeepsSystem old new → HasMiniSector old m → HasMiniSector new m
-has_kept old new m kept has =
-    let stream : mini_stream_of new ≡ mini_stream_of old = ap (λ (o : Option (List ℕ)). unwrap_or o []) kept.mini_stream in
-    let tables = kept.tables in
-    record {
-      in_stream = subst (λ (t : TableState). 64 * m < length (mini_stream_of new) * sector_len t.version) (sym tables)
-          (subst (λ (xs : List ℕ). 64 * m < length xs * sector_len (version_of old)) (sym stream) has.in_stream);
-      in_file = subst (λ (t : TableState). slice_index (mini_stream_of new) (64 * m / sector_len t.version) < length t.fat) (sym tables)
-          (subst (λ (xs : List ℕ). slice_index xs (64 * m / sector_len (version_of old)) < length (tables_in old).fat) (sym stream) has.in_file);
-    }

@@ -4,6 +4,7 @@ use Rattle.std.specs.Prelude.{Some, Result, Ok, Err, OnOk, Contains, get_or, sli
 use Rattle.std.proofs.lemmas.List.{take_all, drop_all}
 use Rattle.std.proofs.lemmas.List.Elements.{Contains-append_cases, Contains-get_or}
 use Rattle.cfb_format.specs.declared.error.Error.{Error}
+use Rattle.cfb_format.specs.declared.validate.Validation.{Validation}
 use Rattle.cfb_format.specs.Bytes.{end_of_chain, free_sector}
 use Rattle.cfb_format.specs.Chain.{IsChain, chain_from, value}
 use Rattle.cfb_format.specs.Full.{rounded_up}
@@ -13,8 +14,8 @@ use Rattle.cfb_tables.proofs.ListedLemmas.{last_is, last_alone}
 use Rattle.cfb_tables.proofs.Members.{Contains-nil, Contains-one, Contains-or}
 use Rattle.cfb_chains.proofs.ChainLists.{listed_chain}
 use Rattle.cfb_mini_table.specs.MiniTable.{TakesMini, MiniGivesBack}
-use Rattle.cfb_mini_sectors.specs.State.{MiniState}
-use Rattle.cfb_mini_sectors.specs.Steps.{EndsNoChain, GrowsFor, IsMeasuredMini, IsTooFewFor, KeepsSystem}
+use Rattle.cfb_mini_sectors.specs.State.{HoldsMini, MiniState, tables_in}
+use Rattle.cfb_mini_sectors.specs.Steps.{BeginsSystem, CanGiveRoomBack, EndsNoChain, GivesRoomBack, GrowsFor, IsMeasuredMini, IsSnugMini, IsTooFewFor, KeepsSizes}
 use Rattle.cfb_mini.specs.MiniSectors.{LengthensMini, ShortensMini}
 
 -- ---- where a list starts and ends
@@ -67,10 +68,12 @@ lengthened (Ok x) more before after old new some listed count taken grown measur
 lengthened (Err e) more before after old new some listed count taken grown measured enough = tt
 
 pub shortened : {T : Type 0} (r : Result T Error) (left : ℕ) (before after : List ℕ) (old new : MiniState) → OnOk r (after ≡ take left before)
-    → OnOk r (MiniGivesBack (ends_of (take left before)) (drop left before) old.minifat new.minifat) → KeepsSystem old new
-    → (left < length before → OnOk r (IsMeasuredMini new)) → OnOk r (ShortensMini left before after old new)
-shortened (Ok x) left before after old new listed given_back system measured = record { listed = listed; given_back = given_back; system = system; measured = measured }
-shortened (Err e) left before after old new listed given_back system measured = tt
+    → OnOk r (MiniGivesBack (ends_of (take left before)) (drop left before) old.minifat new.minifat) → KeepsSizes (tables_in old) (tables_in new) → BeginsSystem old new
+    → (left < length before → CanGiveRoomBack old → OnOk r (GivesRoomBack old new)) → (left < length before → OnOk r (IsMeasuredMini new))
+    → (left < length before → (validation : Validation) → HoldsMini validation old → OnOk r (IsSnugMini new)) → OnOk r (ShortensMini left before after old new)
+shortened (Ok x) left before after old new listed given_back sizes stays room measured snug =
+    record { listed = listed; given_back = given_back; sizes = sizes; stays = stays; room = room; measured = measured; snug = snug }
+shortened (Err e) left before after old new listed given_back sizes stays room measured snug = tt
 
 -- a mini sector in use that is not given back is in use still
 pub left_busy : (ends gone old new : List ℕ) (m : ℕ) → MiniGivesBack ends gone old new → value old m ≢ free_sector → (Contains gone m → ⊥) → value new m ≢ free_sector
@@ -98,8 +101,11 @@ uncut left ids s start chained all =
         stays_trimmed = λ busy. busy;
         none = λ zero. refl;
       };
-      system = record { directory = refl; minifat = refl; mini_stream = refl; tables = refl };
+      sizes = record { sectors = refl; free = omega arith; rest = refl };
+      stays = record { minifat = inl refl; mini_stream = inl refl };
+      room = λ fewer can. absurd (omega (arith, fewer, all));
       measured = λ fewer. absurd (omega (arith, fewer, all));
+      snug = λ fewer validation h. absurd (omega (arith, fewer, all));
     }
   where
     ended : (xs : List ℕ) → IsChain s.minifat (first_or_end xs) xs → (i : ℕ) → Contains (ends_of xs) i → value s.minifat i ≡ end_of_chain

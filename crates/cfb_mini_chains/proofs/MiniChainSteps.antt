@@ -1,5 +1,5 @@
 -- The steps of a write and of a set length on a lent mini chain, one after the other.
-use Rattle.std.proofs.Common.{◌≡◌, ◌≢◌, ◌<◌, ◌≤◌, ◌+◌, ◌-◌, ◌*◌, ◌/◌, ◌%◌, ◌⊎◌, inl, inr, min, ℕ, List, [], ◌∷◌, ◌++◌, refl, sym, ◌∙◌, ap, subst, length, take, drop, arith, length-append}
+use Rattle.std.proofs.Common.{◌≡◌, ◌≢◌, ◌<◌, ◌≤◌, ◌+◌, ◌-◌, ◌*◌, ◌/◌, ◌%◌, ◌⊎◌, inl, inr, min, ℕ, List, [], ◌∷◌, ◌++◌, refl, sym, ◌∙◌, ap, subst, length, take, drop, arith, length-append, length-take}
 use Rattle.std.specs.Prelude.{Result, Ok, Err, OnOk, OnErr, IfOk, IfErr, Contains, Option, Vec, slice_index, unwrap_or}
 use Rattle.std.proofs.lemmas.List.{append-nil}
 use Rattle.std.proofs.lemmas.List.Elements.{Contains-append_cases}
@@ -22,8 +22,8 @@ use Rattle.cfb_tables.proofs.Members.{Contains-nil, Contains-one}
 use Rattle.cfb_chains.specs.declared.chain.Numbers as numbers
 use Rattle.cfb_chains.proofs.ChainLists.{start_is}
 use Rattle.cfb_mini_table.specs.MiniTable.{TakesMini}
-use Rattle.cfb_mini_sectors.specs.State.{MiniState, HoldsMini, bytes_of, mini_place, mini_stream_of, version_of}
-use Rattle.cfb_mini_sectors.specs.Steps.{IsNotHeld, KeepsHeader, KeepsSystem, SparesMini}
+use Rattle.cfb_mini_sectors.specs.State.{MiniState, HoldsMini, bytes_of, mini_place, mini_stream_of, tables_in, version_of}
+use Rattle.cfb_mini_sectors.specs.Steps.{BeginsSystem, IsNotHeld, KeepsHeader, KeepsSizes, SparesMini}
 use Rattle.cfb_mini_sectors.proofs.MiniFrames.{held-places, place-stays}
 use Rattle.cfb_mini.specs.MiniSectors.{ChangesFileOnly, HasMiniSector, KeepsMiniBytesBut, LengthensMini, ShortensMini}
 use Rattle.cfb_mini.proofs.MiniKnown.{held-sectors, known-mini}
@@ -31,7 +31,8 @@ use Rattle.cfb_mini_chains.specs.LentMiniChain.{state_of, start_sector_of, ids_o
 use Rattle.cfb_mini_chains.specs.declared.mini_chain.MiniChain.{MiniChain}
 use Rattle.cfb_mini_chains.proofs.MiniChainBytes.{IsChained, was_wanted, zero_or_more}
 use Rattle.cfb_mini_chains.proofs.MiniChainFrames.{bytes_less, bytes_then, outside_first}
-use Rattle.cfb_mini_chains.proofs.MiniChainHeld.{has_kept, member_below}
+use Rattle.cfb_mini_chains.proofs.MiniChainHeld.{member_below}
+use Rattle.cfb_mini_chains.proofs.MiniStreamBegun.{begun-there}
 use Rattle.cfb_mini_chains.proofs.MiniChainLists.{dropped_first, dropped_more, first_taken, left_busy, some_needed}
 use Rattle.cfb_mini_chains.proofs.MiniChainPlaces.{behind_header, mini_member, taken_at}
 
@@ -164,13 +165,23 @@ shortened_then_file left before after after' old mid new made same kept =
     (subst (λ (s : MiniState). ShortensMini left before after old s) (sym kept) (record {
       listed = made.listed;
       given_back = made.given_back;
-      system = record {
-        directory = made.system.directory;
-        minifat = made.system.minifat;
-        mini_stream = made.system.mini_stream;
-        tables = made.system.tables;
-      };
+      sizes = record { sectors = made.sizes.sectors; free = made.sizes.free; rest = made.sizes.rest };
+      stays = record { minifat = made.stays.minifat; mini_stream = made.stays.mini_stream };
+      room = λ fewer can. (let given = made.room fewer can in record {
+        directory = given.directory;
+        between = given.between;
+        stream = given.stream;
+        kept = given.kept;
+        mini_stream = given.mini_stream;
+        minifat = given.minifat;
+      });
       measured = made.measured;
+      snug = λ fewer validation h. (let is = made.snug fewer validation h in record {
+        measured = is.measured;
+        minifat = is.minifat;
+        mini_stream = is.mini_stream;
+        start = is.start;
+      });
     }))
 
 -- ---- a lent mini chain
@@ -189,6 +200,13 @@ module _ {F A : Type 0} {g : medium.Ghosts F} {l : numbers.Ghosts (Vec ℕ A)} w
   pub byte_below : (c : MiniChain F A (Vec ℕ A) g l) (k : ℕ) → IsChained c → k < len_of c → mini_sector_at c k < length (state_of c).minifat
   byte_below c k chained inside = member_below (state_of c).minifat (start_sector_of c) (ids_of c) (mini_sector_at c k) chained (mini_member (ids_of c) k inside)
 
+  -- with a byte of the mini chain the table has a value
+  pub some_left : (c : MiniChain F A (Vec ℕ A) g l) (k : ℕ) → IsChained c → k < len_of c → (state_of c).minifat ≡ [] → ⊥
+  some_left c k chained inside none =
+      let low = byte_below c k chained inside in
+      let size = ap (λ (xs : List ℕ). length xs) none in
+      omega (arith, low, size)
+
   -- the bytes do not hold a mini stream that has no such mini sector
   pub not_held : (c : MiniChain F A (Vec ℕ A) g l) (k : ℕ) → IsChained c → k < len_of c → (IsPlaced c k → ⊥) → IsNotHeld (state_of c)
   not_held c k chained inside none validation h = none (known-mini (state_of c) (held-sectors validation (state_of c) h) (mini_sector_at c k) (byte_below c k chained inside))
@@ -202,14 +220,19 @@ module _ {F A : Type 0} {g : medium.Ghosts F} {l : numbers.Ghosts (Vec ℕ A)} w
       room (mini_sector_at grown (position_of grown)) (byte_below grown (position_of grown) chained (omega (arith, left, wanted)))
 
   -- once it is cut, the mini stream has the mini sector of a length that ends in one, as it had before
-  pub tail_placed : (old cut : MiniChain F A (Vec ℕ A) g l) (len n : ℕ) → n ≡ rounded_up len 64 → ids_of cut ≡ take n (ids_of old) → KeepsSystem (state_of old) (state_of cut)
+  pub tail_placed : (old cut : MiniChain F A (Vec ℕ A) g l) (len n : ℕ) → n ≡ rounded_up len 64 → ids_of cut ≡ take n (ids_of old) → n ≤ length (ids_of old) → IsChained cut
+      → KeepsSizes (tables_in (state_of old)) (tables_in (state_of cut)) → BeginsSystem (state_of old) (state_of cut)
       → (0 < len % 64 → IsPlaced old len) → (len % 64 ≡ 0) ⊎ IsPlaced cut len
-  tail_placed old cut len n wanted left system placed =
+  tail_placed old cut len n wanted left few chained sizes stays placed =
       elim (zero_or_more (len % 64)) [
         | inl whole ↦ inl whole
         | inr parted ↦
             (let at : mini_sector_at cut len ≡ mini_sector_at old len = ap (λ (xs : List ℕ). slice_index xs (len / 64)) left ∙ taken_at (ids_of old) n len (omega (arith, wanted, parted)) in
-            inr (subst (λ m. HasMiniSector (state_of cut) m) (sym at) (has_kept (state_of old) (state_of cut) (mini_sector_at old len) system (placed parted))))
+            let size = ap (λ (xs : List ℕ). length xs) left in
+            let count = length-take n (ids_of old) in
+            let low = byte_below cut len chained (omega (arith, wanted, parted, size, count, few)) in
+            inr (subst (λ m. HasMiniSector (state_of cut) m) (sym at)
+            (begun-there (state_of old) (state_of cut) (mini_sector_at old len) sizes stays.mini_stream (subst (λ m. m < length (state_of cut).minifat) at low) (placed parted))))
       ]
 
   -- ---- the header
@@ -261,8 +284,7 @@ module _ {F A : Type 0} {g : medium.Ghosts F} {l : numbers.Ghosts (Vec ℕ A)} w
         | inl whole ↦ subst (λ (s : MiniState). KeepsMiniBytesBut (drop (len / 64) (ids_of old)) (state_of old) s) (sym (none whole)) first
         | inr parted ↦
             bytes_then validation (drop (len / 64) (ids_of old)) (mini_sector_at cut len ∷ []) (state_of old) (state_of cut) new h
-            (ap (λ (t : TableState). t.version) made.system.tables)
-            (ap (λ (o : Option (List ℕ)). unwrap_or o []) made.system.mini_stream)
+            (ap (λ (t : TableState). t.version) made.sizes.rest) made.stays.mini_stream
             (λ m busy out. left_busy _ _ _ _ m made.given_back busy (λ lost. out (among m lost)))
             (tail_dropped old cut len n wanted few made.listed parted) first (some parted)
       ]

@@ -1,7 +1,7 @@
 //! A mini chain as one list of bytes with a position (MS-CFB 2.4).
 ghost use Rattle.std.specs.Prelude.{◌≡◌, ◌≢◌, ℕ, List, [], ◌∷◌, ◌++◌, ◌+◌, ◌-◌, ◌*◌, ◌/◌, ◌%◌, ◌<◌, ◌≤◌, max, min, length, replicate, true, take, drop, slice_index, ◌⊎◌, Contains, Some, IsTrue, IfOk, IfErr, IsErrAnd, OnOk, OnErr, MatchResult, vec_len};
 ghost use Rattle.cfb_format.specs.declared.validate.Validation.{Validation};
-ghost use Rattle.cfb_format.specs.Bytes.{max_regular_sector};
+ghost use Rattle.cfb_format.specs.Bytes.{max_regular_sector, word_at};
 ghost use Rattle.cfb_format.specs.Chain.{IsChain, chain_from};
 ghost use Rattle.cfb_format.specs.Content.{mini_sector_len, placed_from};
 ghost use Rattle.cfb_format.specs.Full.{rounded_up};
@@ -13,7 +13,7 @@ ghost use Rattle.cfb_tables.specs.Clean.{IsUnnamed};
 ghost use Rattle.cfb_tables.specs.Listed.{gained};
 ghost use Rattle.cfb_tables.specs.Refused.{ChangeRefused, WalkRefused};
 ghost use Rattle.cfb_mini_sectors.specs.State.{HoldsMini, bytes_of, mini_place, mini_stream_of, table_of};
-ghost use Rattle.cfb_mini_sectors.specs.Steps.{IsNotHeld, IsTooFewFor, IsZeroMini, KeepsHeader, SparesMini, StopsShort, StopsShortOrFull, system_sectors};
+ghost use Rattle.cfb_mini_sectors.specs.Steps.{AreStartsUnnamed, IsInMiniStream, IsNotHeld, IsTooFewFor, IsZeroMini, KeepsHeader, SparesMini, StopsShort, StopsShortOrFull, system_sectors};
 ghost use Rattle.cfb_mini.specs.MiniSectors.{ChangesFileOnly, HasMiniByte, HasMiniSector, IsStill, KeepsDirectory, KeepsMiniBytesBut, LengthensMini, ShortensMini, place_in_mini_sectors};
 
 use cfb_chains::chain::Numbers;
@@ -406,7 +406,8 @@ impl<'a, F: Medium, A: Heap> MiniChain<'a, F, A> {
 impl<'a, F: Medium, A: Heap> MiniChain<'a, F, A> {
     ghost use Rattle.cfb_mini_chains.specs.LentMiniChain.{minialloc_of, state_of, start_sector_of, ids_of, len_of, position_of, missing_of, mini_sector_at, HasGained, HasKept, IsAsBefore, IsPlaced, OthersStay, HasWritten, HasResized};
 
-    /// Frees its mini sectors: then it has none, and what is freed reads as zeros. Where it had none nothing changes.
+    /// Frees its mini sectors: then it has none. What is freed reads as zeros where the mini stream still has it; the sectors of the MiniFAT
+    /// and of the mini stream that are not needed then are given back. Where it had none nothing changes.
     ///
     /// It asks for no memory. `InvalidData` where the bytes do not hold the mini sectors, and `Medium` where the medium fails. Nothing has
     /// changed where it is refused, but after `Medium`: then no other mini sector in use has changed.
@@ -421,11 +422,17 @@ impl<'a, F: Medium, A: Heap> MiniChain<'a, F, A> {
         ensures directory { KeepsDirectory (state_of self.old) (state_of self.new) }
         ensures holds { IsTrue F.tells
             → (validation : Validation) → HoldsMini validation (state_of self.old)
+            → ((state_of self.new).minifat ≡ [] → AreStartsUnnamed (state_of self.old))
             → IsUnnamed (state_of self.old).minifat (start_sector_of self.old)
             → OnOk result (HoldsMini validation (state_of self.new)) }
+        ensures counted { IsTrue F.tells → 0 < length (ids_of self.old)
+            → (validation : Validation) → HoldsMini validation (state_of self.old) → OnOk result
+            (word_at (bytes_of (state_of self.new)) 64
+            ≡ length (state_of self.new).minifat_sectors) }
         ensures wiped { IsTrue F.tells → (validation : Validation)
             → HoldsMini validation (state_of self.old) → OnOk result ((m : ℕ)
-            → Contains (ids_of self.old) m → IsZeroMini (state_of self.new) m) }
+            → Contains (ids_of self.old) m → IsInMiniStream (state_of self.new) m
+            → IsZeroMini (state_of self.new) m) }
         ensures spares { IsTrue F.tells → Spares (system_sectors (state_of self.old))
             (table_of (state_of self.old)) (table_of (state_of self.new)) }
         ensures mini_spares { IsTrue F.tells
@@ -510,7 +517,7 @@ impl<'a, F: Medium, A: Heap> MiniChain<'a, F, A> {
     }
 
     /// Lets the mini chain have the mini sectors that so many bytes need: it gains those that are missing, which read as zeros, or those
-    /// behind are freed and read as zeros. Where it gains none, the bytes of the last one behind this length become zeros. The position
+    /// behind are freed, as by `free`. Where it gains none, the bytes of the last one behind this length become zeros. The position
     /// stays, or is the end where it was past it. The length that it has changes nothing.
     ///
     /// `InvalidData`, `Full`, `Memory` and `Medium` as in `write`; a shorter length asks for no memory and is never `Full`. Whatever it
@@ -536,6 +543,7 @@ impl<'a, F: Medium, A: Heap> MiniChain<'a, F, A> {
         ensures directory { KeepsDirectory (state_of self.old) (state_of self.new) }
         ensures holds { IsTrue F.tells
             → (validation : Validation) → HoldsMini validation (state_of self.old)
+            → ((state_of self.new).minifat ≡ [] → AreStartsUnnamed (state_of self.old))
             → (len ≡ 0 → IsUnnamed (state_of self.old).minifat (start_sector_of self.old))
             → OnOk result (HoldsMini validation (state_of self.new)) }
         ensures places { IsTrue F.tells
@@ -545,10 +553,14 @@ impl<'a, F: Medium, A: Heap> MiniChain<'a, F, A> {
             → (validation : Validation) → HoldsMini validation (state_of self.old)
             → KeepsMiniBytesBut (drop (len / mini_sector_len) (ids_of self.old))
             (state_of self.old) (state_of self.new) }
+        ensures counted { IsTrue F.tells → rounded_up len mini_sector_len < length (ids_of self.old)
+            → (validation : Validation) → HoldsMini validation (state_of self.old) → OnOk result
+            (word_at (bytes_of (state_of self.new)) 64
+            ≡ length (state_of self.new).minifat_sectors) }
         ensures wiped { IsTrue F.tells → (validation : Validation)
             → HoldsMini validation (state_of self.old) → OnOk result ((m : ℕ)
             → Contains (drop (rounded_up len mini_sector_len) (ids_of self.old)) m
-            → IsZeroMini (state_of self.new) m) }
+            → IsInMiniStream (state_of self.new) m → IsZeroMini (state_of self.new) m) }
         ensures spares { IsTrue F.tells → Spares (system_sectors (state_of self.old))
             (table_of (state_of self.old)) (table_of (state_of self.new)) }
         ensures mini_spares { IsTrue F.tells
@@ -610,6 +622,9 @@ impl<'a, F: Medium, A: Heap> MiniChain<'a, F, A> {
             (ids_of self.old) (ids_of self.new) (state_of self.old) (state_of self.new)) }
         ensures room { OnOk result ((m : ℕ)
             → m < length (state_of self.new).minifat → HasMiniSector (state_of self.new) m) }
+        ensures goes_on { mini_stream_of (state_of self.new)
+            ≡ mini_stream_of (state_of self.old) ++ gained (mini_stream_of
+            (state_of self.old)) (mini_stream_of (state_of self.new)) }
         ensures directory { KeepsDirectory (state_of self.old) (state_of self.new) }
         ensures holds { IsTrue F.tells
             → (validation : Validation) → HoldsMini validation (state_of self.old)
@@ -654,11 +669,17 @@ impl<'a, F: Medium, A: Heap> MiniChain<'a, F, A> {
         ensures directory { KeepsDirectory (state_of self.old) (state_of self.new) }
         ensures holds { IsTrue F.tells
             → (validation : Validation) → HoldsMini validation (state_of self.old)
+            → ((state_of self.new).minifat ≡ [] → AreStartsUnnamed (state_of self.old))
             → (count ≡ 0 → IsUnnamed (state_of self.old).minifat (start_sector_of self.old))
             → OnOk result (HoldsMini validation (state_of self.new)) }
+        ensures counted { IsTrue F.tells → count < length (ids_of self.old)
+            → (validation : Validation) → HoldsMini validation (state_of self.old) → OnOk result
+            (word_at (bytes_of (state_of self.new)) 64
+            ≡ length (state_of self.new).minifat_sectors) }
         ensures wiped { IsTrue F.tells → (validation : Validation)
             → HoldsMini validation (state_of self.old) → OnOk result ((m : ℕ)
-            → Contains (drop count (ids_of self.old)) m → IsZeroMini (state_of self.new) m) }
+            → Contains (drop count (ids_of self.old)) m
+            → IsInMiniStream (state_of self.new) m → IsZeroMini (state_of self.new) m) }
         ensures spares { IsTrue F.tells → Spares (system_sectors (state_of self.old))
             (table_of (state_of self.old)) (table_of (state_of self.new)) }
         ensures mini_spares { IsTrue F.tells
@@ -713,6 +734,8 @@ fn extend_list<F: Medium, A: Heap>(
         (LengthensMini count ids.old.items ids.new.items minialloc.old minialloc.new) }
     ensures room { OnOk result ((m : ℕ)
         → m < length minialloc.new.minifat → HasMiniSector minialloc.new m) }
+    ensures goes_on { mini_stream_of minialloc.new ≡ mini_stream_of minialloc.old
+        ++ gained (mini_stream_of minialloc.old) (mini_stream_of minialloc.new) }
     ensures directory { KeepsDirectory minialloc.old minialloc.new }
     ensures holds { IsTrue F.tells → (validation : Validation)
         → HoldsMini validation minialloc.old → OnOk result (HoldsMini validation minialloc.new) }
@@ -756,12 +779,18 @@ fn shorten_list<F: Medium, A: Heap>(
     ensures cut { OnOk result
         (ShortensMini count ids.old.items ids.new.items minialloc.old minialloc.new) }
     ensures directory { KeepsDirectory minialloc.old minialloc.new }
-    ensures holds { IsTrue F.tells → (validation : Validation) → HoldsMini validation minialloc.old
+    ensures holds { IsTrue F.tells → (validation : Validation)
+        → HoldsMini validation minialloc.old
+        → (minialloc.new.minifat ≡ [] → AreStartsUnnamed minialloc.old)
         → (count ≡ 0 → IsUnnamed minialloc.old.minifat start.old)
         → OnOk result (HoldsMini validation minialloc.new) }
+    ensures counted { IsTrue F.tells → count < length ids.old.items
+        → (validation : Validation) → HoldsMini validation minialloc.old → OnOk result
+        (word_at (bytes_of minialloc.new) 64 ≡ length minialloc.new.minifat_sectors) }
     ensures wiped { IsTrue F.tells
         → (validation : Validation) → HoldsMini validation minialloc.old → OnOk result ((m : ℕ)
-        → Contains (drop count ids.old.items) m → IsZeroMini minialloc.new m) }
+        → Contains (drop count ids.old.items) m
+        → IsInMiniStream minialloc.new m → IsZeroMini minialloc.new m) }
     ensures spares { IsTrue F.tells
         → Spares (system_sectors minialloc.old) (table_of minialloc.old) (table_of minialloc.new) }
     ensures mini_spares { IsTrue F.tells

@@ -43,7 +43,7 @@ in_ends list i is some =
     subst (λ (l : List ℕ). Contains l i) (sym (ending_other (last_or_end list) (λ e. some (sym is ∙ e))))
     (subst (λ k. Contains (k ∷ []) i) (sym is) (Contains-here i []))
 
-of_ends : (list : List ℕ) (i : ℕ) → Contains (ends_of list) i → (last_or_end list ≡ i) × (i ≢ end_of_chain)
+pub of_ends : (list : List ℕ) (i : ℕ) → Contains (ends_of list) i → (last_or_end list ≡ i) × (i ≢ end_of_chain)
 of_ends list i m = elim (cases_eq (last_or_end list) end_of_chain) [
   | inl e ↦ absurd (not_in_nil i (subst (λ k. Contains (ending k) i) e m))
   | inr ne ↦
@@ -51,7 +51,7 @@ of_ends list i m = elim (cases_eq (last_or_end list) end_of_chain) [
       (is, λ e. ne (is ∙ e))
 ]
 
-some_end : (list : List ℕ) (i : ℕ) → Contains (ends_of list) i → 0 < length list
+pub some_end : (list : List ℕ) (i : ℕ) → Contains (ends_of list) i → 0 < length list
 some_end [] i m = absurd (not_in_nil i m)
 some_end (x ∷ list) i m = omega arith
 
@@ -66,7 +66,7 @@ last_of_both xs (y ∷ more) =
     let is : last_or_end (xs ++ list) ≡ last_or_end list = ap last_or_end split ∙ last_pushed (xs ++ front) (last_or_end list) in
     inr (subst (λ k. Contains list k) (sym is) (Contains-get_or list (length list - 1) end_of_chain (omega arith)))
 
-last_rest : (x y : ℕ) (list : List ℕ) → last_or_end (x ∷ y ∷ list) ≡ last_or_end (y ∷ list)
+pub last_rest : (x y : ℕ) (list : List ℕ) → last_or_end (x ∷ y ∷ list) ≡ last_or_end (y ∷ list)
 last_rest x y list =
     let rest = y ∷ list in
     let front = take (length rest - 1) rest in

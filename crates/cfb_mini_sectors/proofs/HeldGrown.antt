@@ -61,7 +61,7 @@ header-words old new first count fits_first fits_count is =
     )
 
 -- a change of them spares all sectors
-header-spares : (old new : AllocatorState) → new.tables ≡ old.tables → ChangesOnlyBytes 60 8 old.file.bytes new.file.bytes → Spares [] old new
+pub header-spares : (old new : AllocatorState) → new.tables ≡ old.tables → ChangesOnlyBytes 60 8 old.file.bytes new.file.bytes → Spares [] old new
 header-spares old new same change = record {
   same_version = ap (λ (t : TableState). t.version) same;
   no_shorter = change.no_shorter;

@@ -4,6 +4,8 @@ pub mod MiniWords
 pub mod HeldMini
 pub mod HeldSteps
 pub mod HeldGrown
+pub mod HeldShortened
+pub mod ListedChains
 pub mod MiniPlaces
 pub mod MiniFrames
 pub mod PiecePlaces

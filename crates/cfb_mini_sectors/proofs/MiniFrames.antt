@@ -1,13 +1,12 @@
 -- What changes of mini sectors spare, and what that keeps: chains of other mini sectors, and their bytes.
-use Rattle.std.proofs.Common.{◌≡◌, ◌≢◌, ◌≤◌, ◌<◌, ◌+◌, ◌*◌, ◌/◌, ◌%◌, inl, inr, ℕ, List, [], ◌∷◌, ◌++◌, Bool, true, false, Option, Some, None, if◌then◌else◌, nat_lt, slice_get, refl, sym, ◌∙◌, ap, subst, length, drop, arith, append-nil, lt-ltb, ltb-true, mod-lt}
+use Rattle.std.proofs.Common.{◌≡◌, ◌≢◌, ◌≤◌, ◌<◌, ◌+◌, ◌*◌, ◌/◌, ◌%◌, ◌⊎◌, inl, inr, ℕ, List, [], ◌∷◌, ◌++◌, Bool, true, false, Option, Some, None, if◌then◌else◌, nat_lt, slice_get, refl, sym, ◌∙◌, ap, subst, length, take, arith, lt-ltb, ltb-true, mod-lt}
 use Rattle.std.specs.Prelude.{Contains, option_and_then, slice_index, unwrap_or}
-use Rattle.std.proofs.Math.Seq.{drop-append_seam}
-use Rattle.std.proofs.lemmas.List.{append_assoc}
 use Rattle.std.proofs.lemmas.List.Elements.{Contains-get_or}
 use Rattle.std.proofs.lemmas.Option.{get_or_from_slice_get, none-some, same_Some, slice_get_within}
 use Rattle.cfb_format.specs.Bytes.{byte_at, free_sector, sector_len}
 use Rattle.cfb_format.specs.Chain.{value}
 use Rattle.cfb_format.specs.Content.{in_file, mini_sector_len, place_in_mini_chain, place_in_mini_stream}
+use Rattle.cfb_format.specs.Full.{rounded_up}
 use Rattle.cfb_sectors.specs.Words.{RangeStays}
 use Rattle.cfb_sectors.proofs.SectorLemmas.{Stays_apart, Stays_refl, Stays_trans}
 use Rattle.cfb_tables.specs.Listed.{gained}
@@ -15,16 +14,10 @@ use Rattle.cfb_tables.proofs.ChainLemmas.{chain-stays, members-busy}
 use Rattle.cfb_tables.proofs.Members.{Contains-here, value-below}
 use Rattle.cfb_soundness.specs.Places.{mini_start}
 use Rattle.cfb_mini_sectors.specs.State.{HoldsMiniStream, MiniState, bytes_of, mini_place, mini_stream_of, parts_of, version_of}
+use Rattle.cfb_mini_sectors.specs.Steps.{mini_stream_needs}
 use Rattle.cfb_mini_sectors.specs.Held.{HasMiniPlaces}
 use Rattle.cfb_mini_sectors.specs.Laws.{MiniBytesStayInPlace, NoMiniSectorIsTouched, OtherMiniChainsAreSpared, SectorsSpareMini, SparesMiniInTurn, SparesMiniLess, TableChangeSparesMini, WritingSparesMini}
-use Rattle.cfb_mini_sectors.proofs.MiniPlaces.{mini-placed, mini_below, mini_room, mini_start-left, mini_stays, minis_apart}
-
--- a list that is longer by something is longer by what it gained
-pub longer-by : (old new more : List ℕ) → new ≡ old ++ more → new ≡ old ++ gained old new
-longer-by old new more e = e ∙ ap (λ (l : List ℕ). old ++ l) (sym (ap (λ (l : List ℕ). drop (length old) l) e ∙ drop-append_seam old more))
-
-same-longer : (old new : List ℕ) → new ≡ old → new ≡ old ++ gained old new
-same-longer old new e = longer-by old new [] (e ∙ sym (append-nil old))
+use Rattle.cfb_mini_sectors.proofs.MiniPlaces.{mini-placed, mini_below, mini_room, mini_start-left, mini_start-shorter, mini_stays, minis_apart, needed_room}
 
 same-stream : (old new : MiniState) → new.mini_stream ≡ old.mini_stream → mini_stream_of new ≡ mini_stream_of old
 same-stream old new e = ap (λ (w : Option (List ℕ)). unwrap_or w []) e
@@ -36,16 +29,43 @@ same-bytes from to a b e = subst (λ (l : List ℕ). RangeStays from to a l) (sy
 room_of : (s : MiniState) (m : ℕ) → HasMiniPlaces s → value s.minifat m ≢ free_sector → 64 * m < length (mini_stream_of s) * sector_len (version_of s)
 room_of s m places busy = mini_room (version_of s) m (length s.minifat) (length (mini_stream_of s)) (value-below s.minifat m busy) places
 
+-- by the old version too
+pub version-place : (old new : MiniState) (m : ℕ) → version_of new ≡ version_of old → mini_start (version_of old) (mini_stream_of new) m ≡ mini_place old m
+    → mini_place new m ≡ mini_place old m
+version-place old new m version same = ap (λ v. mini_start v (mini_stream_of new) m) version ∙ same
+
+-- a mini stream that stays has each in its place
+pub same-place : (old new : MiniState) (m : ℕ) → mini_stream_of new ≡ mini_stream_of old → mini_start (version_of old) (mini_stream_of new) m ≡ mini_place old m
+same-place old new m stream = ap (λ (l : List ℕ). mini_start (version_of old) l m) stream
+
+-- and one that goes on has those in use
+pub longer-place : (old new : MiniState) (m : ℕ) (more : List ℕ) → HasMiniPlaces old → mini_stream_of new ≡ mini_stream_of old ++ more
+    → value old.minifat m ≢ free_sector → mini_start (version_of old) (mini_stream_of new) m ≡ mini_place old m
+longer-place old new m more places stream busy =
+    ap (λ (l : List ℕ). mini_start (version_of old) l m) stream ∙ mini_start-left (version_of old) (mini_stream_of old) more m (room_of old m places busy)
+
+-- one that gives back sectors that its mini sectors do not need has those that are left
+pub shorter-place : (old new : MiniState) (m : ℕ) → HasMiniPlaces old → version_of new ≡ version_of old
+    → (mini_stream_of new ≡ mini_stream_of old) ⊎ (mini_stream_of new ≡ take (mini_stream_needs new) (mini_stream_of old))
+    → value old.minifat m ≢ free_sector → m < length new.minifat → mini_start (version_of old) (mini_stream_of new) m ≡ mini_place old m
+shorter-place old new m places version (inl same) busy left = same-place old new m same
+shorter-place old new m places version (inr shorter) busy left =
+    let v = version_of old in
+    let n = mini_stream_needs new in
+    let few : 64 * m < n * sector_len v = subst (λ w. 64 * m < rounded_up (length new.minifat * mini_sector_len) (sector_len (version_of new)) * sector_len w) version
+    (needed_room (version_of new) m (length new.minifat) left) in
+    ap (λ (l : List ℕ). mini_start v l m) shorter ∙ mini_start-shorter v (mini_stream_of old) n m few (room_of old m places busy)
+
 -- and keeps it where sectors come behind
 pub place-stays : (old new : MiniState) (m : ℕ) (more : List ℕ) → HasMiniPlaces old → version_of new ≡ version_of old → mini_stream_of new ≡ mini_stream_of old ++ more
     → value old.minifat m ≢ free_sector → mini_place new m ≡ mini_place old m
 place-stays old new m more places version stream busy =
-    (λ j. mini_start (version j) (stream j) m) ∙ mini_start-left (version_of old) (mini_stream_of old) more m (room_of old m places busy)
+    version-place old new m version (longer-place old new m more places stream busy)
 
 pub table-change-spares : TableChangeSparesMini
 table-change-spares own old new only stream bytes = record {
   values = λ m busy out. only m out;
-  mini_stream = same-longer (mini_stream_of old) (mini_stream_of new) (same-stream old new stream);
+  places = λ m busy out. same-place old new m (same-stream old new stream);
   bytes = λ m busy out. same-bytes (mini_place old m) (mini_place old m + mini_sector_len) (bytes_of old) (bytes_of new) bytes;
 }
 
@@ -55,7 +75,7 @@ nothing-touched own old new minifat stream bytes = table-change-spares own old n
 pub spares-less : SparesMiniLess
 spares-less own more old new among s = record {
   values = λ m busy out. s.values m busy (λ o. out (among m o));
-  mini_stream = s.mini_stream;
+  places = λ m busy out. s.places m busy (λ o. out (among m o));
   bytes = λ m busy out. s.bytes m busy (λ o. out (among m o));
 }
 
@@ -64,22 +84,20 @@ spares-then own more a b c places version inside first second =
     let still : (m : ℕ) → value a.minifat m ≢ free_sector → (Contains own m → ⊥) → value b.minifat m ≢ free_sector = λ m busy out e. busy (sym (first.values m busy out) ∙ e) in
     let out_still : (m : ℕ) → value a.minifat m ≢ free_sector → (Contains own m → ⊥) → Contains more m → ⊥ =
     λ m busy out n. elim (inside m n) [ inl free ↦ busy free | inr o ↦ out o ] in
-    let x = gained (mini_stream_of a) (mini_stream_of b) in
-    let y = gained (mini_stream_of b) (mini_stream_of c) in
+    let here : (m : ℕ) → value a.minifat m ≢ free_sector → (Contains own m → ⊥) → mini_place b m ≡ mini_place a m =
+    λ m busy out. version-place a b m version (first.places m busy out) in
     record {
       values = λ m busy out. second.values m (still m busy out) (out_still m busy out) ∙ first.values m busy out;
-      mini_stream = longer-by (mini_stream_of a) (mini_stream_of c) (x ++ y)
-          (second.mini_stream ∙ ap (λ (l : List ℕ). l ++ y) first.mini_stream ∙ append_assoc (mini_stream_of a) x y);
+      places = λ m busy out. ap (λ v. mini_start v (mini_stream_of c) m) (sym version) ∙ second.places m (still m busy out) (out_still m busy out) ∙ here m busy out;
       bytes = λ m busy out.
-          let here : mini_place b m ≡ mini_place a m = place-stays a b m x places version first.mini_stream busy in
           Stays_trans (mini_place a m) (mini_place a m + mini_sector_len) (bytes_of a) (bytes_of b) (bytes_of c) (first.bytes m busy out)
-          (subst (λ p. RangeStays p (p + mini_sector_len) (bytes_of b) (bytes_of c)) here (second.bytes m (still m busy out) (out_still m busy out)));
+          (subst (λ p. RangeStays p (p + mini_sector_len) (bytes_of b) (bytes_of c)) (here m busy out) (second.bytes m (still m busy out) (out_still m busy out)));
     }
 
 pub sectors-spare : SectorsSpareMini
 sectors-spare old new places minifat stream keeps = record {
   values = λ m busy out. ap (λ (t : List ℕ). value t m) minifat;
-  mini_stream = stream;
+  places = λ m busy out. longer-place old new m (gained (mini_stream_of old) (mini_stream_of new)) places stream busy;
   bytes = λ m busy out.
       let v = version_of old in
       let q = 64 * m / sector_len v in
@@ -90,7 +108,7 @@ sectors-spare old new places minifat stream keeps = record {
 pub writing-spares : WritingSparesMini
 writing-spares old new x at n places once lt minifat stream low high change = record {
   values = λ m busy out. ap (λ (t : List ℕ). value t m) minifat;
-  mini_stream = same-longer (mini_stream_of old) (mini_stream_of new) (same-stream old new stream);
+  places = λ m busy out. same-place old new m (same-stream old new stream);
   bytes = λ m busy out.
       let v = version_of old in
       let list = mini_stream_of old in
@@ -106,7 +124,7 @@ pub other-chains-spared : OtherMiniChainsAreSpared
 other-chains-spared own old new start list places version s chain apart =
     let busy : (m : ℕ) → Contains list m → value old.minifat m ≢ free_sector = λ m c. (members-busy old.minifat start list chain m c).0 in (
       chain-stays old.minifat new.minifat start list (λ m c. s.values m (busy m c) (apart m c)) chain,
-      (λ m c. (place-stays old new m (gained (mini_stream_of old) (mini_stream_of new)) places version s.mini_stream (busy m c), s.bytes m (busy m c) (apart m c))),
+      (λ m c. (version-place old new m version (s.places m (busy m c) (apart m c)), s.bytes m (busy m c) (apart m c))),
     )
 
 -- ---- bytes by place

@@ -1,14 +1,15 @@
 -- Where mini sectors lie.
-use Rattle.std.proofs.Common.{◌≡◌, ◌≢◌, ◌⊎◌, ◌≤◌, ◌<◌, ◌+◌, ◌*◌, ◌/◌, ◌%◌, inl, inr, ℕ, List, [], ◌++◌, Option, Some, sym, ◌∙◌, ap, length, arith, mod-lt}
-use Rattle.std.specs.Prelude.{nat_eq, option_and_then, slice_get, slice_index, unwrap_or}
+use Rattle.std.proofs.Common.{◌≡◌, ◌≢◌, ◌⊎◌, ◌≤◌, ◌<◌, ◌+◌, ◌*◌, ◌/◌, ◌%◌, inl, inr, ℕ, List, [], ◌++◌, Option, Some, sym, ◌∙◌, ap, length, take, drop, arith, length-take, mod-lt}
+use Rattle.std.specs.Prelude.{min, nat_eq, option_and_then, slice_get, slice_index, unwrap_or}
 use Rattle.std.specs.List.{IsDistinct}
 use Rattle.std.proofs.lemmas.Bool.{cases_eq, cases_lt}
-use Rattle.std.proofs.lemmas.List.{get_or_append_left}
+use Rattle.std.proofs.lemmas.List.{get_or_append_left, take-append-drop}
 use Rattle.std.proofs.lemmas.Option.{slice_get-get_or}
 use Rattle.cfb_format.specs.declared.version.Version.{Version}
 use Rattle.cfb_format.specs.declared.version.Version.TheVariants.{V3, V4}
 use Rattle.cfb_format.specs.Bytes.{sector_len, sector_start}
 use Rattle.cfb_format.specs.Content.{in_file, mini_sector_len, place_in_chain, place_in_mini_chain}
+use Rattle.cfb_format.specs.Full.{rounded_up}
 use Rattle.cfb_sectors.specs.Sectors.{SectorStays}
 use Rattle.cfb_sectors.specs.Words.{RangeStays}
 use Rattle.cfb_alloc.proofs.Listed.{place_once}
@@ -33,6 +34,21 @@ mini_room V4 m count n lt room = omega (arith, lt, room)
 -- sectors that come behind leave it where it is
 pub mini_start-left : (v : Version) (list more : List ℕ) (m : ℕ) → 64 * m < length list * sector_len v → mini_start v (list ++ more) m ≡ mini_start v list m
 mini_start-left v list more m h = ap (λ i. sector_start v i + 64 * m % sector_len v) (get_or_append_left list more 0 (64 * m / sector_len v) (mini_below v m (length list) h))
+
+-- and so do those that go behind so many of them
+pub mini_start-shorter : (v : Version) (list : List ℕ) (n m : ℕ) → 64 * m < n * sector_len v → 64 * m < length list * sector_len v
+    → mini_start v (take n list) m ≡ mini_start v list m
+mini_start-shorter v list n m few room = sym (mini_start-left v (take n list) (drop n list) m (both v (length (take n list)) (length-take n list) few room))
+    ∙ ap (λ (l : List ℕ). mini_start v l m) (take-append-drop n list)
+  where
+    both : (w : Version) (k : ℕ) → k ≡ min n (length list) → 64 * m < n * sector_len w → 64 * m < length list * sector_len w → 64 * m < k * sector_len w
+    both V3 k is few room = omega (arith, is, few, room)
+    both V4 k is few room = omega (arith, is, few, room)
+
+-- the sectors that so many mini sectors need have each of them
+pub needed_room : (v : Version) (m count : ℕ) → m < count → 64 * m < rounded_up (count * mini_sector_len) (sector_len v) * sector_len v
+needed_room V3 m count lt = omega (arith, lt)
+needed_room V4 m count lt = omega (arith, lt)
 
 -- it stays where its sector stays
 pub mini_stays : (v : Version) (list : List ℕ) (m : ℕ) (a b : List ℕ) → SectorStays v (slice_index list (64 * m / sector_len v)) a b

@@ -1,16 +1,10 @@
 -- The words of the header on the MiniFAT as they are written (MS-CFB 2.2).
-use Rattle.std.proofs.Common.{◌≡◌, ◌≤◌, ◌<◌, ◌^◌, ℕ, List, [], ◌∷◌, refl, ap, ◌∙◌, length, arith}
-use Rattle.std.specs.Prelude.{slice_index}
+use Rattle.std.proofs.Common.{◌≡◌, ◌≤◌, ◌<◌, ◌^◌, ℕ, List, ap, ◌∙◌, length, arith}
 use Rattle.cfb_format.specs.Bytes.{word_at}
 use Rattle.cfb_format.specs.Medium.{ChangesOnlyBytes}
 use Rattle.cfb_format.proofs.ByteLemmas.{ChangesOnly_trans, ChangesOnly_wider}
 use Rattle.cfb_sectors.specs.Words.{with_word}
 use Rattle.cfb_sectors.proofs.WordLemmas.{length-with_word, word_apart, word_with_word}
-use Rattle.cfb_tables.specs.Tables.{first_or_end}
-
-pub first_is : (list : List ℕ) → 0 < length list → first_or_end list ≡ slice_index list 0
-first_is [] some = absurd (omega (arith, some))
-first_is (x ∷ list) some = refl
 
 -- both words lie in these eight bytes
 pub both_words : (a b c : List ℕ) → ChangesOnlyBytes 60 4 a b → ChangesOnlyBytes 64 4 b c → ChangesOnlyBytes 60 8 a c

@@ -1,19 +1,23 @@
 -- What the calls of the layer of mini sectors change, and what they leave alone (MS-CFB 2.4).
-use Rattle.std.specs.Prelude.{ℕ, ◌≡◌, ◌≢◌, ◌+◌, ◌-◌, ◌*◌, ◌<◌, ◌≤◌, ◌⊎◌, List, ◌++◌, true, length, slice_index, Contains, Some}
+use Rattle.std.specs.Prelude.{ℕ, ◌≡◌, ◌≢◌, ◌+◌, ◌-◌, ◌*◌, ◌<◌, ◌≤◌, ◌⊎◌, List, ◌++◌, true, length, slice_index, take, Contains, Some}
 use Rattle.cfb_format.specs.declared.error.Error.{Error}
 use Rattle.cfb_format.specs.declared.validate.Validation.{Validation}
 use Rattle.cfb_format.specs.Bytes.{byte_at, sector_len, words_per_sector, end_of_chain, free_sector}
 use Rattle.cfb_format.specs.Chain.{value}
 use Rattle.cfb_format.specs.Content.{mini_sector_len}
-use Rattle.cfb_format.specs.DirectoryEntry.{Entry}
 use Rattle.cfb_format.specs.Full.{free_count, rounded_up}
 use Rattle.cfb_format.specs.Refused.{HasReason, AfterMedium, at_every_error}
 use Rattle.cfb_format.specs.Siblings.{entry_at}
-use Rattle.cfb_tables.specs.Listed.{gained, last_or_end}
-use Rattle.cfb_tables.specs.Tables.{TableState, AreFullTables, IsTooFew}
+use Rattle.cfb_tables.specs.Changes.{AreDisjoint}
+use Rattle.cfb_tables.specs.Clean.{IsUnnamed}
+use Rattle.cfb_tables.specs.Listed.{last_or_end}
+use Rattle.cfb_tables.specs.Tables.{TableState, AreFullTables, IsTooFew, first_or_end}
 use Rattle.cfb_tables.specs.Room.{IsTooFewAfter}
 use Rattle.cfb_sectors.specs.Words.{RangeStays}
-use Rattle.cfb_alloc.specs.ListedChain.{Lengthens}
+use Rattle.cfb_alloc.specs.Alloc.{IsUsable}
+use Rattle.cfb_alloc.specs.ListedChain.{Lengthens, Shortens}
+use Rattle.cfb_directory.specs.Growing.{IsListedChain}
+use Rattle.cfb_soundness.specs.Places.{mini_start}
 use Rattle.cfb_mini_table.specs.MiniTable.{IsTooFewMini}
 use Rattle.cfb_mini_sectors.specs.State.{MiniState, HoldsMini, bytes_of, cases_of, entries_of, mini_place, mini_stream_of, root_len_of, table_of, tables_in, version_of}
 use Rattle.cfb_format.specs.DirectoryEntry.{ButContent}
@@ -69,7 +73,61 @@ pub record KeepsMini (old new : MiniState) : Type 0 where
 abbrev pub IsMeasuredMini : MiniState → Type 0
 IsMeasuredMini s = root_len_of s ≡ mini_sector_len * length s.minifat
 
+-- ---- what is given back
+
+-- how many sectors the MiniFAT needs for its values, and how many the mini stream
+abbrev pub minifat_needs : MiniState → ℕ
+minifat_needs s = rounded_up (length s.minifat) (words_per_sector (version_of s))
+
+abbrev pub mini_stream_needs : MiniState → ℕ
+mini_stream_needs s = rounded_up (length s.minifat * mini_sector_len) (sector_len (version_of s))
+
+-- the mini stream's sectors behind those that it needs now were given back, and then the MiniFAT's; the directory's sectors stay
+pub record GivesRoomBack (old new : MiniState) : Type 0 where
+  pub directory : new.directory.sectors ≡ old.directory.sectors
+  pub between : TableState
+  pub stream : List ℕ
+  pub kept : new.mini_stream ≡ Some stream
+  pub mini_stream : Shortens (mini_stream_needs new) (mini_stream_of old) stream (tables_in old) between
+  pub minifat : Shortens (minifat_needs new) old.minifat_sectors new.minifat_sectors between (tables_in new)
+
+-- room was given back, or, where no mini sector was freed, all of it stayed
+abbrev pub SettlesRoom : MiniState → MiniState → Type 0
+SettlesRoom old new = GivesRoomBack old new ⊎ KeepsSystem old new
+
+-- the root's length is that of the MiniFAT's values, and the MiniFAT and the mini stream have exactly the sectors that they need: without
+-- any the root's entry has no start
+pub record IsSnugMini (s : MiniState) : Type 0 where
+  pub measured : IsMeasuredMini s
+  pub minifat : length s.minifat_sectors ≡ minifat_needs s
+  pub mini_stream : length (mini_stream_of s) ≡ mini_stream_needs s
+  pub start : (entry_at (entries_of s) 0).start_sector ≡ first_or_end (mini_stream_of s)
+
+-- some sectors at the end of the mini stream may have been given back, and so may some of the MiniFAT: those that the MiniFAT's values do
+-- not need
+pub record BeginsSystem (old new : MiniState) : Type 0 where
+  pub minifat : (new.minifat_sectors ≡ old.minifat_sectors) ⊎ (new.minifat_sectors ≡ take (minifat_needs new) old.minifat_sectors)
+  pub mini_stream : (mini_stream_of new ≡ mini_stream_of old) ⊎ (mini_stream_of new ≡ take (mini_stream_needs new) (mini_stream_of old))
+
+-- the FAT has the MiniFAT's sectors and the mini stream's as two chains, and can be changed: so it is where bytes hold them
+pub record CanGiveRoomBack (s : MiniState) : Type 0 where
+  pub usable : IsUsable (tables_in s)
+  pub minifat : IsListedChain (tables_in s) s.minifat_sectors
+  pub mini_stream : IsListedChain (tables_in s) (mini_stream_of s)
+  pub apart : AreDisjoint s.minifat_sectors (mini_stream_of s)
+
+-- nothing in the FAT names the first sector of the MiniFAT, nor that of the mini stream
+pub record AreStartsUnnamed (s : MiniState) : Type 0 where
+  pub minifat : IsUnnamed (tables_in s).fat (first_or_end s.minifat_sectors)
+  pub mini_stream : IsUnnamed (tables_in s).fat (first_or_end (mini_stream_of s))
+
 -- ---- what stays
+
+-- the tables have as many sectors as before, no fewer free ones, and the same FAT sectors and DIFAT sectors
+pub record KeepsSizes (old new : TableState) : Type 0 where
+  pub sectors : length new.fat ≡ length old.fat
+  pub free : free_count old.fat ≤ free_count new.fat
+  pub rest : new ≡ record old { fat = new.fat }
 
 -- of the entries only the root's changes, and of it start and length alone: the length stays whole mini sectors
 pub record MovesRoot (old new : MiniState) : Type 0 where
@@ -85,11 +143,11 @@ pub record KeepsLimits (old new : MiniState) : Type 0 where
   pub max_sectors : (tables_in new).max_sectors ≡ (tables_in old).max_sectors
   pub max_mini_sectors : new.max_mini_sectors ≡ old.max_mini_sectors
 
--- a change of these mini sectors: every other one in use keeps its value, its place and its bytes. The mini stream's chain goes on at
--- its end alone
+-- a change of these mini sectors: every other one in use keeps its value, its place and its bytes
 pub record SparesMini (own : List ℕ) (old new : MiniState) : Type 0 where
   pub values : (m : ℕ) → value old.minifat m ≢ free_sector → (Contains own m → ⊥) → value new.minifat m ≡ value old.minifat m
-  pub mini_stream : mini_stream_of new ≡ mini_stream_of old ++ gained (mini_stream_of old) (mini_stream_of new)
+  pub places : (m : ℕ) → value old.minifat m ≢ free_sector → (Contains own m → ⊥)
+      → mini_start (version_of old) (mini_stream_of new) m ≡ mini_place old m
   pub bytes : (m : ℕ) → value old.minifat m ≢ free_sector → (Contains own m → ⊥)
       → RangeStays (mini_place old m) (mini_place old m + mini_sector_len) (bytes_of old) (bytes_of new)
 
@@ -99,6 +157,10 @@ IsOutsideMini i = (i < 44) ⊎ ((48 ≤ i) × (i < 60))
 
 abbrev pub KeepsHeader : MiniState → MiniState → Type 0
 KeepsHeader old new = (i : ℕ) → i < length (bytes_of old) → IsOutsideMini i → slice_index (bytes_of new) i ≡ slice_index (bytes_of old) i
+
+-- the mini stream has this mini sector
+abbrev pub IsInMiniStream : MiniState → ℕ → Type 0
+IsInMiniStream s m = mini_sector_len * m < length (mini_stream_of s) * sector_len (version_of s)
 
 -- the mini sector's bytes are zeros, and the file has them
 pub record IsZeroMini (s : MiniState) (m : ℕ) : Type 0 where

@@ -27,7 +27,7 @@ use cfb_format::error::{Detail, Error};
 use cfb_format::medium::{Medium, ReadMedium};
 use cfb_format::version::Version;
 use cfb_sectors::sector::SectorInit;
-use cfb_tables::ends::last_number;
+use cfb_tables::ends::{first_number, last_number};
 use std::alloc::Allocator as Heap;
 
 /// How many sectors the MiniFAT and the mini stream lack.
@@ -91,13 +91,13 @@ fn name_first<F: Medium, A: Heap>(
     allocator.write_header_word(HeaderWord::FirstMiniFat, first)
 }
 
-/// Says in the header where the MiniFAT begins, if it is new, and how many sectors it has (MS-CFB 2.2). `Medium` where the medium fails.
-fn name_minifat<F: Medium, A: Heap>(
+/// Says in the header where the MiniFAT begins, if it is new or has no sector any more, and how many sectors it has (MS-CFB 2.2). `Medium`
+/// where the medium fails.
+pub(crate) fn name_minifat<F: Medium, A: Heap>(
     allocator: &mut Allocator<F, A>,
     sectors: &[u32],
     is_new: bool,
 ) -> Result<(), Error>
-    requires some { 0 < length sectors.now }
     requires few { length sectors.now < 2 ^ 32 }
     ensures tables { allocator.new.tables ≡ allocator.old.tables }
     ensures kept { allocator.new.file
@@ -126,7 +126,7 @@ fn name_minifat<F: Medium, A: Heap>(
 {
     // The tables' sizes are told with the length.
     let _fact = allocator.file_len();
-    name_first(allocator, sectors[0], is_new)?;
+    name_first(allocator, first_number(sectors), is_new)?;
     allocator.write_header_word(HeaderWord::MiniFatSectors, sectors.len() as u32)
 }
 
@@ -197,7 +197,7 @@ pub fn grow_minifat<F: Medium, A: Heap>(
 }
 
 /// Whether a chain ends at the last sector of each list, and not the same one. `InvalidData` where not.
-fn check_ends<F: ReadMedium, A: Heap>(
+pub(crate) fn check_ends<F: ReadMedium, A: Heap>(
     allocator: &Allocator<F, A>,
     minifat_sectors: &[u32],
     stream: &[u32],

@@ -1,7 +1,8 @@
 //! What the bytes of a file hold of its mini sectors (MS-CFB 2.4), how words of the MiniFAT and mini sectors are written at their places, and
-//! how the MiniFAT and the mini stream get sectors.
+//! how the MiniFAT and the mini stream get sectors and give them back.
 #![tactic(auto)]
 
+pub mod giving;
 pub mod growing;
 pub mod laws;
 pub mod pieces;

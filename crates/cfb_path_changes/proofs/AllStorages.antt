@@ -35,7 +35,7 @@ use Rattle.cfb_mini_sectors.specs.State.{bytes_of, cases_of, content_of, entries
 use Rattle.cfb_content.specs.Contents.{KeepsFixedHeader}
 use Rattle.cfb_agreement.specs.Changes.{KeepsStreams, StaysOrFails}
 use Rattle.cfb_agreement.proofs.HeldBytes.{held-means-its-tree}
-use Rattle.cfb_agreement.specs.Files.{FileState, Holds, IsAsMade, LeavesNoneFree, SameSetting, failures_of, is_failed}
+use Rattle.cfb_agreement.specs.Files.{FileState, Holds, IsAsMade, GrowsTightly, SameSetting, failures_of, is_failed}
 use Rattle.cfb_entry_changes.specs.Kept.{AllStayBalanced}
 use Rattle.cfb_sequences.specs.Laws.{all_added_at}
 use Rattle.cfb_sequences.proofs.Ways.{stream-is-in-the-way, way-is-free, way-is-there}
@@ -243,7 +243,7 @@ module _ (old : FileState) (path : List ℕ) (moment : ℕ) (names : List (List 
       go false e = refl
       go true e = let c : changing ≡ creating = e in cc
 
-  pub all_done : is_failed new ≡ false → (IsAsMade old.base → IsAsMade new.base) → LeavesNoneFree old.base new.base → (IsBalancedFile old → IsBalancedFile new)
+  pub all_done : is_failed new ≡ false → (IsAsMade old.base → IsAsMade new.base) → GrowsTightly old.base new.base → (IsBalancedFile old → IsBalancedFile new)
       → root_len_of new.base ≡ root_len_of old.base → (0 < length (drop passed names) → IsFullForEntry old.base.directory → ⊥) → (length (drop passed names) ≡ 0 → new ≡ old) → failures_of new ≡ failures_of old
       → ((before : List (List ℕ)) (o : Outline) → IsOutline (cases_of old.base) (entries_of old.base) o → number_from (cases_of old.base) (entries_of old.base) 0 o before ≡ Some k
       → BecomesTree (cases_of old.base) (bytes_of old.base) (bytes_of new.base) (all_added_at (cases_of old.base) moment (before ++ drop passed names)))
@@ -277,7 +277,7 @@ module _ (old : FileState) (path : List ℕ) (moment : ℕ) (names : List (List 
 
   -- so the call answers
   pub all_answers : {T : Type 0} (reads writes : MediumFault → Bool) (r : Result T Error) → OnOk r (is_failed new ≡ false) → (IsAsMade old.base → OnOk r (IsAsMade new.base))
-      → OnOk r (LeavesNoneFree old.base new.base) → OnOk r (AllStayBalanced old.base new.base) → OnOk r (root_len_of new.base ≡ root_len_of old.base)
+      → OnOk r (GrowsTightly old.base new.base) → OnOk r (AllStayBalanced old.base new.base) → OnOk r (root_len_of new.base ≡ root_len_of old.base)
       → (0 < length (drop passed names) → OnOk r (IsFullForEntry old.base.directory → ⊥)) → (length (drop passed names) ≡ 0 → OnOk r (new ≡ old))
       → OnOk r ((before : List (List ℕ)) (o : Outline) → IsOutline (cases_of old.base) (entries_of old.base) o → number_from (cases_of old.base) (entries_of old.base) 0 o before ≡ Some k
       → BecomesTree (cases_of old.base) (bytes_of old.base) (bytes_of new.base) (all_added_at (cases_of old.base) moment (before ++ drop passed names)))

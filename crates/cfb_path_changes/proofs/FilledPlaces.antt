@@ -23,7 +23,7 @@ use Rattle.cfb_mini_sectors.specs.State.{bytes_of, cases_of, entries_of}
 use Rattle.cfb_content.specs.Contents.{IsStreamOf, IsTooLongFor, KeepsFixedHeader, MovesContent, len_of}
 use Rattle.cfb_entry_changes.specs.Kept.{AllStayBalanced}
 use Rattle.cfb_agreement.specs.Changes.{ChangesOneContent, KeepsStreams, StaysOrFails, object_added_at}
-use Rattle.cfb_agreement.specs.Files.{FileState, Holds, IsAsMade, IsFullFile, LeavesNoneFree, SameSetting, failures_of, is_failed}
+use Rattle.cfb_agreement.specs.Files.{FileState, Holds, IsAsMade, IsFullFile, GrowsTightly, SameSetting, failures_of, is_failed}
 use Rattle.cfb_volume.specs.Answers.{content_at}
 use Rattle.cfb_path_changes.specs.Adding.{IsMissing, IsThere, creation, kind_made}
 use Rattle.cfb_path_changes.specs.declared.placing.Creation.{Creation}
@@ -121,7 +121,7 @@ module _ (what : Creation) (moment : ℕ) (old new : FileState) (place : Place) 
 
   pub missing_done : (kind : ObjType) → kind ≡ kind_made what → Holds old → SameSetting old new → is_failed new ≡ false → (IsAsMade old.base → IsAsMade new.base)
       → AllStayBalanced old.base new.base
-      → LeavesNoneFree old.base new.base → len_of new.base 0 ≡ len_of old.base 0 → KeepsStreams old.base new.base → KeepsFixedHeader old.base new.base
+      → GrowsTightly old.base new.base → len_of new.base 0 ≡ len_of old.base 0 → KeepsStreams old.base new.base → KeepsFixedHeader old.base new.base
       → (IsFullForEntry old.base.directory → ⊥) → failures_of new ≡ failures_of old
       → ((names : List (List ℕ)) (o : Outline) → IsOutline (cases_of old.base) (entries_of old.base) o
       → number_from (cases_of old.base) (entries_of old.base) 0 o (parent_names names) ≡ Some parent → last_name names ≡ chars name.now → BecomesSo kind names)

@@ -26,7 +26,7 @@ use Rattle.cfb_mini_sectors.specs.State.{bytes_of, cases_of, content_of, entries
 use Rattle.cfb_content.specs.Contents.{IsStreamOf, KeepsFixedHeader, MovesContent}
 use Rattle.cfb_content.proofs.Outlines.{moved-at, moved-is-outline}
 use Rattle.cfb_agreement.specs.Changes.{ChangesOneContent, KeepsStreams, object_added_at}
-use Rattle.cfb_agreement.specs.Files.{FileState, Holds, IsAsMade, LeavesNoneFree, SameSetting, failures_of, is_failed}
+use Rattle.cfb_agreement.specs.Files.{FileState, Holds, IsAsMade, GrowsTightly, SameSetting, failures_of, is_failed}
 use Rattle.cfb_agreement.proofs.ContentChanges.{content-becomes-tree}
 use Rattle.cfb_agreement.proofs.HeldBytes.{held-means-its-tree}
 use Rattle.cfb_volume.specs.Answers.{content_at}
@@ -181,7 +181,7 @@ module _ (old new : FileState) (what : Creation) (moment : ℕ) (path : List ℕ
 
   -- a new one was added
   pub added_done : (p : ℕ) (name : List ℕ) → IsMissing old names p name → (IsAsMade old.base → IsAsMade new.base)
-      → (IsBalancedFile old → IsBalancedFile new) → LeavesNoneFree old.base new.base → root_len_of new.base ≡ root_len_of old.base
+      → (IsBalancedFile old → IsBalancedFile new) → GrowsTightly old.base new.base → root_len_of new.base ≡ root_len_of old.base
       → KeepsStreams old.base new.base → KeepsFixedHeader old.base new.base → (IsFullForEntry old.base.directory → ⊥) → failures_of new ≡ failures_of old
       → ((names : List (List ℕ)) (o : Outline) → IsOutline (cases_of old.base) (entries_of old.base) o
       → number_from (cases_of old.base) (entries_of old.base) 0 o (parent_names names) ≡ Some p → last_name names ≡ name

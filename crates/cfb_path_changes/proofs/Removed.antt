@@ -31,7 +31,7 @@ use Rattle.cfb_mini_sectors.specs.State.{bytes_of, cases_of, entries_of, root_le
 use Rattle.cfb_content.specs.Contents.{KeepsFixedHeader, KeepsOthers}
 use Rattle.cfb_entry_changes.specs.Kept.{AllStayBalancedBut}
 use Rattle.cfb_agreement.specs.Changes.{StaysOrFails}
-use Rattle.cfb_agreement.specs.Files.{FileState, Holds, IsAsMade, LeavesNoneFree, SameSetting, failures_of, is_failed}
+use Rattle.cfb_agreement.specs.Files.{FileState, Holds, IsAsMade, GrowsTightly, SameSetting, failures_of, is_failed}
 use Rattle.cfb_path_changes.proofs.Balanced.{taken_balanced}
 use Rattle.cfb_path_changes.specs.Answers.{ForMemory, HasNothingToDo, IsDoneBy, IsRefusedBy}
 use Rattle.cfb_path_changes.specs.Calls.{CallAnswers}
@@ -153,7 +153,7 @@ module _ (old : FileState) (wanted : Wanted) (path : List ℕ) (names : List (Li
   keeps_root EmptyStorage is_one is tree same = inr (same (λ stream.
       let clash : Storage ≡ Stream = sym (inner_is (entry_at (entries_of old.base) k).obj_type (both _ _ is).0) ∙ stream in cc))
 
-  pub removed_done : (parent : ℕ) (name : List ℕ) → StandsIn old names k parent name → is_failed new ≡ false → AllStayBalancedBut old.base new.base k → (IsAsMade old.base → IsAsMade new.base) → LeavesNoneFree old.base new.base
+  pub removed_done : (parent : ℕ) (name : List ℕ) → StandsIn old names k parent name → is_failed new ≡ false → AllStayBalancedBut old.base new.base k → (IsAsMade old.base → IsAsMade new.base) → GrowsTightly old.base new.base
       → ((entry_at (entries_of old.base) k).obj_type ≢ Stream → root_len_of new.base ≡ root_len_of old.base) → failures_of new ≡ failures_of old
       → ((first : List ℕ) (rest : List (List ℕ)) (o : Outline) → IsOutline (cases_of old.base) (entries_of old.base) o
       → number_from (cases_of old.base) (entries_of old.base) 0 o (parent_names (first ∷ rest)) ≡ Some parent
@@ -199,7 +199,7 @@ module _ (old : FileState) (wanted : Wanted) (path : List ℕ) (names : List (Li
 
   -- so the call answers
   pub removed_answers : {T : Type 0} (can_give : MediumFault → Bool) (r : Result T Error) (parent : ℕ) (name : List ℕ) → StandsIn old names k parent name
-      → OnOk r (is_failed new ≡ false) → OnOk r (AllStayBalancedBut old.base new.base k) → (IsAsMade old.base → OnOk r (IsAsMade new.base)) → OnOk r (LeavesNoneFree old.base new.base)
+      → OnOk r (is_failed new ≡ false) → OnOk r (AllStayBalancedBut old.base new.base k) → (IsAsMade old.base → OnOk r (IsAsMade new.base)) → OnOk r (GrowsTightly old.base new.base)
       → ((entry_at (entries_of old.base) k).obj_type ≢ Stream → OnOk r (root_len_of new.base ≡ root_len_of old.base))
       → OnOk r ((first : List ℕ) (rest : List (List ℕ)) (o : Outline) → IsOutline (cases_of old.base) (entries_of old.base) o
       → number_from (cases_of old.base) (entries_of old.base) 0 o (parent_names (first ∷ rest)) ≡ Some parent
@@ -233,7 +233,7 @@ module _ (old : FileState) (path : List ℕ) (names : List (List ℕ)) (k : ℕ)
     allowed_all : RuleSays old (wanted_refusal AnyObject) names None
     allowed_all = wanted_allowed old held names k there.leads there.reached AnyObject there.suits
 
-    pub all_removed : is_failed new ≡ false → AllStayBalancedBut old.base new.base k → (IsAsMade old.base → IsAsMade new.base) → LeavesNoneFree old.base new.base → failures_of new ≡ failures_of old
+    pub all_removed : is_failed new ≡ false → AllStayBalancedBut old.base new.base k → (IsAsMade old.base → IsAsMade new.base) → GrowsTightly old.base new.base → failures_of new ≡ failures_of old
         → BecomesTree (cases_of old.base) (bytes_of old.base) (bytes_of new.base) (removed_at (cases_of old.base) names) → IsDoneBy old call_all done new
     all_removed ended balanced made grows same_count becomes =
         let was = tree_was (wanted_refusal AnyObject) path call_all (all_asks path) old new there.unfailed there.sound held setting ended names there.named allowed_all in
@@ -264,7 +264,7 @@ module _ (old : FileState) (path : List ℕ) (names : List (List ℕ)) (k : ℕ)
 
     pub all_removed_answers : {T : Type 0} (can_give : MediumFault → Bool) (r : Result T Error) (parent : Option (ℕ × Bor (List ℕ)))
         → IfSome parent (λ p. StandsIn old names k p.0 (chars p.1.now)) → IfNone parent (names ≡ [])
-        → OnOk r (is_failed new ≡ false) → OnOk r (AllStayBalancedBut old.base new.base k) → (IsAsMade old.base → OnOk r (IsAsMade new.base)) → OnOk r (LeavesNoneFree old.base new.base)
+        → OnOk r (is_failed new ≡ false) → OnOk r (AllStayBalancedBut old.base new.base k) → (IsAsMade old.base → OnOk r (IsAsMade new.base)) → OnOk r (GrowsTightly old.base new.base)
         → OnOk r (IfSome parent (λ p. (ns : List (List ℕ)) (o : Outline) → IsOutline (cases_of old.base) (entries_of old.base) o → StandsAs old.base o p.0 k (chars p.1.now) ns
         → BecomesTree (cases_of old.base) (bytes_of old.base) (bytes_of new.base) (removed_at (cases_of old.base) ns)))
         → OnOk r (IfNone parent (BecomesTree (cases_of old.base) (bytes_of old.base) (bytes_of new.base) (removed_at (cases_of old.base) [])))

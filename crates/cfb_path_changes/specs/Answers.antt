@@ -20,7 +20,7 @@ use Rattle.cfb_mini_sectors.specs.State.{bytes_of, cases_of, entries_of, root_le
 use Rattle.cfb_content.specs.Contents.{KeepsFixedHeader}
 use Rattle.cfb_trees.specs.Balance.{AreAllBalanced}
 use Rattle.cfb_agreement.specs.Changes.{StaysOrFails}
-use Rattle.cfb_agreement.specs.Files.{FileState, IsAsMade, IsFullFile, LeavesNoneFree, SameSetting, failures_of, is_failed}
+use Rattle.cfb_agreement.specs.Files.{FileState, IsAsMade, IsFullFile, GrowsTightly, SameSetting, failures_of, is_failed}
 use Rattle.cfb_path_changes.specs.Sparing.{SparesStreams}
 
 -- what stays the same of a file
@@ -67,12 +67,12 @@ abbrev pub KeepsFileBalanced : FileState → FileState → Type 0
 KeepsFileBalanced old new = is_failed new ≡ false → IsBalancedFile old → IsBalancedFile new
 
 -- the bytes of the header that nobody reads stay; and unless the file failed: if it was made here it is in order still, and where a sector was
--- appended none is free
+-- appended none is free, and there are no more than the limit allows
 pub record StaysInOrder (old new : FileState) : Type 0 where
   pub setting : SameSetting old new
   pub header : KeepsFixedHeader old.base new.base
   pub made : is_failed new ≡ false → IsAsMade old.base → IsAsMade new.base
-  pub grows : is_failed new ≡ false → LeavesNoneFree old.base new.base
+  pub grows : is_failed new ≡ false → GrowsTightly old.base new.base
 
 -- if the call makes an object, an entry could be had
 abbrev pub HasRoomFor : FileState → Call → Type 0

@@ -85,7 +85,7 @@ pub fn play_file<F: Medium, A: Allocator + Clone>(
 
 /// Whether a line has a form; else it is told as wrong.
 fn is_known(line: &Line<'_>, judge: &mut Judge<'_>) -> bool {
-    let is_known = fits(&ON_FILES, line);
+    let is_known = fits(ON_FILES, line);
     if !is_known {
         judge.note_wrong(line, UNKNOWN);
     }

@@ -109,7 +109,7 @@ fn command_of<A: Allocator + Clone>(
 ) -> Result<Option<Command<A>>, AllocError> {
     let (said, ops) = line.said.split_once(",").unwrap_or((line.said, ""));
     let head = Line::of(line.title, line.number, said);
-    if !fits(&ON_FILES, &head) {
+    if !fits(ON_FILES, &head) {
         return Ok(None);
     }
     match call_of(head.call()) {
@@ -226,7 +226,7 @@ fn put_ops<A: Allocator + Clone>(
 ) -> Result<bool, AllocError> {
     for text in said.split(",") {
         let op = Line::of(line.title, line.number, text);
-        if fits(&ON_STREAMS, &op) {
+        if fits(ON_STREAMS, &op) {
             ops.push(op_of(alloc, &op)?)?;
         } else if op.count > 0 {
             return Ok(false);

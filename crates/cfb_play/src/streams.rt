@@ -46,7 +46,7 @@ pub fn play_stream<'a, S: Served>(
 
 fn play_line<S: Served>(stream: &mut S, line: &Line<'_>, judge: &mut Judge<'_>) {
     judge.text.clear();
-    if !fits(&ON_STREAMS, line) {
+    if !fits(ON_STREAMS, line) {
         judge.note_wrong(line, UNKNOWN);
         return;
     }

@@ -127,7 +127,9 @@ module _ (s : MiniState) (lent a : AllocatorState) (list : List ℕ) (is-lent : 
         file-tight s mid new file (record {
           exact = λ e. second.exact (first.exact e);
           no_shorter = omega (arith, first.no_shorter, second.no_shorter);
-          none_free = λ longer. second.none_free (omega (arith, longer, same));
+          none_free = λ longer.
+              let now = second.none_free (omega (arith, longer, same)) in
+              (now.0, (let within = now.1 in let limit = ap (λ (t : TableState). t.max_sectors) given.rest in omega (arith, within, limit)));
         })
 
     pub carried-minis : (count ≡ 0 → (mid ≡ with_table s a) × (ids ≡ ids0)) → (0 < count → GrowsFor count (with_table s a) mid)

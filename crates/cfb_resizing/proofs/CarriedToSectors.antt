@@ -1,6 +1,6 @@
 -- The steps by which a content leaves its mini sectors for sectors: its mini chain is freed, and then a chain begins.
-use Rattle.std.proofs.Common.{◌≡◌, ◌≤◌, ◌<◌, ◌+◌, ◌*◌, ◌/◌, inl, inr, ℕ, List, [], ◌++◌, true, refl, sym, ◌∙◌, ap, subst, length, arith}
-use Rattle.std.specs.Prelude.{Contains, Err, unwrap_or, IfErr, Ok, Result, slice_index}
+use Rattle.std.proofs.Common.{◌≡◌, ◌≤◌, ◌<◌, ◌+◌, ◌-◌, ◌*◌, ◌/◌, inl, inr, ℕ, List, [], ◌++◌, true, refl, sym, ◌∙◌, ap, subst, length, arith}
+use Rattle.std.specs.Prelude.{Contains, Err, IfErr, Ok, Result, slice_index}
 use Rattle.std.proofs.lemmas.Bool.{cases_lt}
 use Rattle.std.proofs.lemmas.List.{append-nil}
 use Rattle.std.proofs.lemmas.List.Elements.{Contains-append_right, Contains-get_or}
@@ -8,6 +8,7 @@ use Rattle.cfb_format.specs.declared.error.Error.{Error}
 use Rattle.cfb_format.specs.declared.error.Error.TheVariants.{AlreadyExists, Failed, Full, InvalidData, InvalidInput, Medium, Memory, NotFound, Unsound}
 use Rattle.cfb_format.specs.declared.validate.Validation.{Validation}
 use Rattle.cfb_format.specs.Bytes.{sector_len}
+use Rattle.cfb_format.specs.Full.{free_count}
 use Rattle.cfb_format.specs.Refused.{AfterMedium}
 use Rattle.cfb_sectors.specs.Words.{RangeStays}
 use Rattle.cfb_soundness.specs.Places.{mini_start}
@@ -15,9 +16,9 @@ use Rattle.cfb_format.specs.Chain.{IsChain}
 use Rattle.cfb_tables.specs.Changes.{AreDisjoint}
 use Rattle.cfb_tables.specs.Clean.{IsUnnamed}
 use Rattle.cfb_tables.specs.Refused.{ChangeRefused}
-use Rattle.cfb_tables.specs.Tables.{AreSizes, TableState, first_or_end, sizes_of}
-use Rattle.cfb_tables.proofs.ChainLemmas.{members-busy}
-use Rattle.cfb_tables.proofs.Members.{Contains-nil}
+use Rattle.cfb_tables.specs.Tables.{AreSizes, IsTooFew, PassesLimit, TableState, first_or_end, sizes_of}
+use Rattle.cfb_tables.proofs.Members.{Contains-nil, first_of_three}
+use Rattle.cfb_tables.proofs.RoomLemmas.{more-is-too-few}
 use Rattle.cfb_alloc.specs.Agreement.{KeepsSectors}
 use Rattle.cfb_alloc.specs.Alloc.{AllocatorState, HoldsTables, IsOtherHeaderByte}
 use Rattle.cfb_alloc.specs.Frame.{Spares}
@@ -25,15 +26,20 @@ use Rattle.cfb_alloc.specs.ListedChain.{Lengthens}
 use Rattle.cfb_alloc.proofs.Frames.{other-chains-spared, spares-then}
 use Rattle.cfb_chains.specs.ChainPlaces.{place_along}
 use Rattle.cfb_mini_sectors.specs.State.{HoldsMini, MiniState, bytes_of, mini_place, mini_stream_of, table_of, tables_in, version_of}
-use Rattle.cfb_mini_sectors.specs.Steps.{IsZeroMini, KeepsLimits, KeepsSystem, MovesRoot, SparesMini, system_sectors}
+use Rattle.cfb_mini_table.specs.MiniTable.{MiniGivesBack}
+use Rattle.cfb_mini_sectors.specs.Steps.{AreStartsUnnamed, CanGiveRoomBack, GivesRoomBack, IsInMiniStream, IsZeroMini, KeepsLimits, KeepsSizes, MovesRoot, SparesMini, system_sectors}
 use Rattle.cfb_mini_sectors.specs.Held.{with_table}
 use Rattle.cfb_mini_sectors.proofs.HeldMini.{no-tables}
-use Rattle.cfb_mini_sectors.proofs.MiniFrames.{held-places, longer-by, sectors-spare, spares-then as mini-spares-then}
+use Rattle.cfb_mini_sectors.proofs.MinifatGrown.{same_listed}
+use Rattle.cfb_mini_sectors.proofs.MiniFrames.{held-places, sectors-spare, spares-then as mini-spares-then}
 use Rattle.cfb_mini.proofs.MiniDirectory.{chains-changed}
-use Rattle.cfb_content.proofs.Kept.{mini-below, stays-inside, stream-room}
+use Rattle.cfb_content.proofs.Apart.{system-busy}
+use Rattle.cfb_content.proofs.Kept.{mini-below, stays-inside}
 use Rattle.cfb_content.proofs.Refusals.{refused-as}
-use Rattle.cfb_resizing.specs.Turning.{IsPaddedAlong, KeepsAround, KeepsTablesTight, StopsOrBegun}
+use Rattle.cfb_resizing.specs.Turning.{CarriesToSectors, GoesUnnamed, IsPaddedAlong, KeepsAround, KeepsTablesTight, StopsOrBegun}
 use Rattle.cfb_resizing.proofs.MiniStreamChain.{stream-is-chain}
+use Rattle.cfb_resizing.proofs.Tightness.{sizes-tight}
+use Rattle.cfb_resizing.proofs.TurnedInMinis.{cut-settles}
 
 -- a change of sectors that are none of the directory's, of the MiniFAT's and of the mini stream's leaves the mini sectors
 pub apart-spares-mini : (v : Validation) (s : MiniState) (a : AllocatorState) (own : List ℕ) → HoldsMini v s → AreDisjoint (system_sectors s) own → Spares own (table_of s) a
@@ -45,7 +51,7 @@ apart-spares-mini v s a own held apart spares =
     (other-chains-spared own (table_of s) a (first_or_end list) list spares chain
     (λ i m o. apart i (Contains-append_right (s.directory.sectors ++ s.minifat_sectors) list i m) o)
     (no-tables v (table_of s) (first_or_end list) list held.directory.tables chain)).2 in
-    sectors-spare s (with_table s a) (held-places s held.mini_stream) refl (longer-by list list [] (sym (append-nil list))) keeps
+    sectors-spare s (with_table s a) (held-places s held.mini_stream) refl (same_listed list list refl) keeps
 
 pub fresh-spares-mini : (v : Validation) (s : MiniState) (a : AllocatorState) → HoldsMini v s → Spares [] (table_of s) a → SparesMini [] s (with_table s a)
 fresh-spares-mini v s a held spares = apart-spares-mini v s a [] held (λ i m o. Contains-nil i o) spares
@@ -78,18 +84,28 @@ fresh-keeps-zeros v s a held spares version m room zero =
     (stays-inside (version_of s) sector m (mini_place s m) (bytes_of s) a.file.bytes refl
     (keeps sector (Contains-get_or list index 0 (mini-below (version_of s) m (length list) room)))) zero
 
+-- as many numbers are free as before, or more: what could be taken can be still
+pub room-stays : (old new : TableState) (count : ℕ) → KeepsSizes old new → IsTooFew new count → IsTooFew old count
+room-stays old new count kept few =
+    let less = free_count new.fat - free_count old.fat in
+    let first = subst (λ (t : TableState). IsTooFew t count) kept.rest few in
+    let second : PassesLimit old.version old.max_sectors (sizes_of old) (count - free_count new.fat) =
+    subst (λ n. PassesLimit old.version old.max_sectors (record { sectors = n; fats = length old.fat_sectors; difats = length old.difat_sectors }) (count - free_count new.fat)) kept.sectors first in
+    let same : count - free_count new.fat ≡ count - less - free_count old.fat = (let more = kept.free in omega (arith, more)) in
+    more-is-too-few old (count - less) count (omega arith) (subst (λ n. PassesLimit old.version old.max_sectors (sizes_of old) n) same second)
+
 module _ (s mid : MiniState) (list : List ℕ) where
   -- the mini sectors are held once the mini chain is free
-  pub freed-held : (v : Validation) → HoldsMini v s → (0 < length list → IsUnnamed s.minifat (first_or_end list))
-      → ((◌≡◌ {A = ℕ} 0 0 → IsUnnamed s.minifat (first_or_end list)) → HoldsMini v mid) → (length list ≤ 0 → mid ≡ s) → HoldsMini v mid
+  pub freed-held : (v : Validation) → HoldsMini v s → GoesUnnamed s list
+      → ((mid.minifat ≡ [] → AreStartsUnnamed s) → (◌≡◌ {A = ℕ} 0 0 → IsUnnamed s.minifat (first_or_end list)) → HoldsMini v mid) → (length list ≤ 0 → mid ≡ s) → HoldsMini v mid
   freed-held v held unnamed holds none = elim (cases_lt 0 (length list)) [
-    | inl some ↦ holds (λ z. unnamed some)
+    | inl some ↦ holds (λ empty. unnamed.starts) (λ z. unnamed.chain some)
     | inr few ↦ subst (λ (m : MiniState). HoldsMini v m) (sym (none few)) held
   ]
 
-  module _ (lent a : AllocatorState) (is-lent : lent ≡ table_of mid) (system : KeepsSystem s mid) where
-    lent-tables : lent.tables ≡ tables_in s
-    lent-tables = ap (λ (b : AllocatorState). b.tables) is-lent ∙ system.tables
+  module _ (lent a : AllocatorState) (is-lent : lent ≡ table_of mid) (limits : KeepsLimits s mid) where
+    lent-version : lent.tables.version ≡ version_of s
+    lent-version = ap (λ (b : AllocatorState). b.tables.version) is-lent ∙ limits.version
 
     pub carried-spares : Spares (system_sectors s) (table_of s) (table_of mid) → Spares [] lent a → Spares (system_sectors s) (table_of s) a
     carried-spares first second = spares-then (system_sectors s) [] (table_of s) (table_of mid) a (λ n c. absurd (Contains-nil n c)) first
@@ -97,18 +113,22 @@ module _ (s mid : MiniState) (list : List ℕ) where
 
     pub carried-mini-spares : (v : Validation) → HoldsMini v s → HoldsMini v mid → SparesMini list s mid → Spares [] lent a → SparesMini list s (with_table mid a)
     carried-mini-spares v held held' first second =
-        mini-spares-then list [] s mid (with_table mid a) (held-places s held.mini_stream) (ap (λ (t : TableState). t.version) system.tables) (λ m c. absurd (Contains-nil m c)) first
+        mini-spares-then list [] s mid (with_table mid a) (held-places s held.mini_stream) limits.version (λ m c. absurd (Contains-nil m c)) first
         (fresh-spares-mini v mid a held' (subst (λ (b : AllocatorState). Spares [] b a) is-lent second))
 
-    -- what was freed of the mini chain reads as zeros still
-    pub carried-zeros : (v : Validation) → HoldsMini v s → HoldsMini v mid → IsChain s.minifat (first_or_end list) list → Spares [] lent a
-        → a.tables.version ≡ lent.tables.version → ((m : ℕ) → Contains list m → IsZeroMini mid m) → (m : ℕ) → Contains list m → IsZeroMini (with_table mid a) m
-    carried-zeros v held held' chain spares version wiped m c =
-        let room = stream-room v s m held (members-busy s.minifat (first_or_end list) list chain m c).1 in
-        let same : length (mini_stream_of mid) * sector_len (version_of mid) ≡ length (mini_stream_of s) * sector_len (version_of s) =
-        λ j. length (unwrap_or (system.mini_stream j) []) * sector_len (system.tables j).version in
-        fresh-keeps-zeros v mid a held' (subst (λ (b : AllocatorState). Spares [] b a) is-lent spares)
-        (version ∙ ap (λ (b : AllocatorState). b.tables.version) is-lent) m (subst (λ n. 64 * m < n) (sym same) room) (wiped m c)
+    -- what was freed of the mini chain, and is in the mini stream, reads as zeros still
+    pub carried-zeros : (v : Validation) → HoldsMini v mid → Spares [] lent a → a.tables.version ≡ lent.tables.version
+        → ((m : ℕ) → Contains list m → IsInMiniStream mid m → IsZeroMini mid m) → (m : ℕ) → Contains list m → IsInMiniStream (with_table mid a) m → IsZeroMini (with_table mid a) m
+    carried-zeros v held' spares version wiped m c inside =
+        let same : a.tables.version ≡ version_of mid = version ∙ ap (λ (b : AllocatorState). b.tables.version) is-lent in
+        let room : IsInMiniStream mid m = subst (λ w. 64 * m < length (mini_stream_of mid) * sector_len w) same inside in
+        fresh-keeps-zeros v mid a held' (subst (λ (b : AllocatorState). Spares [] b a) is-lent spares) same m room (wiped m c room)
+
+    -- what was taken had been free, and so is none of the sectors in use
+    pub carried-apart : (v : Validation) (count : ℕ) (ids : List ℕ) → HoldsMini v mid → Lengthens count [] ids lent.tables a.tables → AreDisjoint ids (system_sectors (with_table mid a))
+    carried-apart v count ids held' made n m c =
+        let taken = (subst (λ (b : AllocatorState). Lengthens count [] ids b.tables a.tables) is-lent made).taken in
+        system-busy v mid held' n c (taken.fresh n (first_of_three ids taken.fats taken.difats n m))
 
     pub carried-tables : (v : Validation) → HoldsMini v mid → HoldsTables v lent
     carried-tables v held = subst (λ (b : AllocatorState). HoldsTables v b) (sym is-lent) held.directory.tables
@@ -119,30 +139,49 @@ module _ (s mid : MiniState) (list : List ℕ) where
         chains-changed v [] mid a held tables sizes (subst (λ (b : AllocatorState). Spares [] b a) is-lent spares) (λ i m o. Contains-nil i o)
         (subst (λ (b : AllocatorState). (i : ℕ) → i < length b.file.bytes → IsOtherHeaderByte b.tables.version i → slice_index a.file.bytes i ≡ slice_index b.file.bytes i) is-lent header)
 
-    pub carried-around : MovesRoot s mid → KeepsLimits s mid → a.tables.version ≡ lent.tables.version → a.tables.max_sectors ≡ lent.tables.max_sectors → KeepsAround s (with_table mid a)
-    carried-around root limits version limit = record {
-      directory = system.directory;
+    pub carried-around : mid.directory.sectors ≡ s.directory.sectors → MovesRoot s mid → a.tables.version ≡ lent.tables.version → a.tables.max_sectors ≡ lent.tables.max_sectors
+        → KeepsAround s (with_table mid a)
+    carried-around directory root version limit = record {
+      directory = directory;
       entries = record { same_length = root.same_length; root = root.root; root_len = root.root_len; others = root.others };
       limits = record {
-        version = version ∙ ap (λ (t : TableState). t.version) lent-tables;
+        version = version ∙ lent-version;
         cases = limits.cases;
-        max_sectors = limit ∙ ap (λ (t : TableState). t.max_sectors) lent-tables;
+        max_sectors = limit ∙ ap (λ (b : AllocatorState). b.tables.max_sectors) is-lent ∙ limits.max_sectors;
         max_mini_sectors = limits.max_mini_sectors;
       };
     }
 
-    pub carried-made : (count : ℕ) (ids : List ℕ) → Lengthens count [] ids lent.tables a.tables → Lengthens count [] ids (tables_in s) a.tables
-    carried-made count ids made = subst (λ (t : TableState). Lengthens count [] ids t a.tables) lent-tables made
+    -- the mini chain went, and then the chain began
+    pub carried-makes : (v : Validation) (count : ℕ) (ids : List ℕ) → HoldsMini v s → (0 < length list → CanGiveRoomBack s → GivesRoomBack s mid) → (length list ≤ 0 → mid ≡ s)
+        → MiniGivesBack [] list s.minifat mid.minifat → Lengthens count [] ids lent.tables a.tables → CarriesToSectors count list ids s (with_table mid a)
+    carried-makes v count ids held room none freed made = record {
+      mid = mid;
+      room = cut-settles v s mid 0 list held room none;
+      none = λ empty. none (omega (arith, ap (λ (l : List ℕ). length l) empty));
+      freed = freed;
+      mini = record { minifat = refl; minifat_sectors = refl; mini_stream = refl };
+      longer = subst (λ (b : AllocatorState). Lengthens count [] ids b.tables a.tables) is-lent made;
+    }
 
-    pub carried-tight : (count : ℕ) (ids : List ℕ) → Lengthens count [] ids lent.tables a.tables → KeepsTablesTight s (with_table mid a)
-    carried-tight count ids made =
-        let taken = (carried-made count ids made).taken in record { exact = taken.exact; no_shorter = taken.longer; none_free = taken.none_free }
+    pub carried-tight : (count : ℕ) (ids : List ℕ) → KeepsSizes (tables_in s) (tables_in mid) → Lengthens count [] ids lent.tables a.tables → KeepsTablesTight s (with_table mid a)
+    carried-tight count ids sizes made =
+        let taken = (subst (λ (b : AllocatorState). Lengthens count [] ids b.tables a.tables) is-lent made).taken in
+        let first = sizes-tight s mid sizes in
+        let same = sizes.sectors in
+        record {
+          exact = λ e. taken.exact (first.exact e);
+          no_shorter = (let longer = taken.longer in omega (arith, longer, same));
+          none_free = λ longer.
+              let more : length (tables_in mid).fat < length a.tables.fat = omega (arith, longer, same) in
+              (taken.none_free more, (let within = taken.limited more in let limit = limits.max_sectors in omega (arith, within, limit)));
+        }
 
     pub carried-padded : (count : ℕ) (ids bytes : List ℕ)
         → IsPaddedAlong (length bytes) (count * sector_len lent.tables.version) (λ k. k) (place_along lent.tables.version ids) bytes a.file.bytes
         → IsPaddedAlong (length bytes) (count * sector_len (version_of s)) (λ k. k) (place_along (version_of s) ids) bytes a.file.bytes
     carried-padded count ids bytes padded =
-        subst (λ (t : TableState). IsPaddedAlong (length bytes) (count * sector_len t.version) (λ k. k) (place_along t.version ids) bytes a.file.bytes) lent-tables padded
+        subst (λ w. IsPaddedAlong (length bytes) (count * sector_len w) (λ k. k) (place_along w ids) bytes a.file.bytes) lent-version padded
 
     -- once the mini chain was free the change was begun, or it had no mini sector
     pub carried-refused : {T : Type 0} (r : Result T Error) (invalid full : Type 0) → (invalid → ⊥) → (full → ⊥) → (0 < length list → (table_of mid).file.begun ≡ true)

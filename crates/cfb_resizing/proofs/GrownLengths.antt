@@ -7,13 +7,13 @@ use Rattle.cfb_format.specs.declared.version.Version.TheVariants.{V3, V4}
 use Rattle.cfb_format.specs.Bytes.{sector_len, words_per_sector}
 use Rattle.cfb_format.specs.Full.{free_count, rounded_up}
 use Rattle.cfb_format.specs.Siblings.{entry_at}
-use Rattle.cfb_tables.specs.Tables.{AreFullTables, IsTooFew, TableState}
-use Rattle.cfb_tables.proofs.FullLemmas.{full-is-too-few}
+use Rattle.cfb_tables.specs.Tables.{IsTooFew, TableState}
 use Rattle.cfb_tables.proofs.RoomLemmas.{more-is-too-few, nothing-given-back}
 use Rattle.cfb_alloc.specs.Alloc.{AllocatorState}
 use Rattle.cfb_chains.proofs.LentContent.{wanted_is}
 use Rattle.cfb_mini_sectors.specs.State.{HoldsMini, MiniState, entries_of, mini_stream_of, table_of, tables_in, version_of}
 use Rattle.cfb_mini_sectors.specs.Steps.{IsTooFewAfterFor, IsTooFewFor, mini_stream_lacks, minifat_lacks}
+use Rattle.cfb_mini.proofs.MiniRoom.{nothing-back}
 use Rattle.cfb_content.specs.Contents.{len_of}
 use Rattle.cfb_content.specs.Laws.{LacksNumbersFor}
 use Rattle.cfb_content.specs.Parts.{IsWholeChain, IsWholeMiniChain}
@@ -80,6 +80,17 @@ moved-lacks-none s i n small large enough lacks =
     take-none : (n : ℕ) → n - 0 ≡ n
     take-none n = omega arith
 
+-- where not even the least of them can be had, it lacks them for more
+sectors-rise : (v : Version) (n more : ℕ) → n ≤ more → rounded_up n (sector_len v) ≤ rounded_up more (sector_len v)
+sectors-rise V3 n more le = omega (arith, le)
+sectors-rise V4 n more le = omega (arith, le)
+
+pub moved-stuck : (s : MiniState) (i wanted : ℕ) → len_of s i < 4096 → 4096 ≤ wanted → IsTooFew (tables_in s) (rounded_up 4096 (sector_len (version_of s))) → LacksNumbersFor s i wanted
+moved-stuck s i wanted small large few =
+    let more = more-is-too-few (tables_in s) (rounded_up 4096 (sector_len (version_of s))) (rounded_up wanted (sector_len (version_of s))) (sectors-rise (version_of s) 4096 wanted large) few in
+    let all : rounded_up wanted (sector_len (version_of s)) ≡ rounded_up wanted (sector_len (version_of s)) - 0 = omega arith in
+    (large-lacks s i wanted [] large (no-sectors s i small)).1 (subst (λ k. IsTooFew (tables_in s) k) all more)
+
 -- ---- a stream in sectors
 
 module _ (s : MiniState) (i start len wanted l needed have sub more sum most n : ℕ) (a : AllocatorState) (list : List ℕ) (large : 4096 ≤ len_of s i) (longer : len_of s i < wanted)
@@ -116,13 +127,14 @@ module _ (s : MiniState) (i start len wanted l needed have sub more sum most n :
       enough (subst (λ (b : AllocatorState). IsTooFew b.tables more) (sym same)
       (more-is-too-few (tables_in s) (rounded_up n (sector_len (version_of s)) - length list) more (omega (arith, fewer, have-is)) few))
 
-  pub large-stuck : (more < sub → IsTooFew a.tables (more + 1)) → n ≡ len_of s i → AreFullTables (tables_in s)
+  pub large-stuck : (more < sub → IsTooFew a.tables (more + 1)) → n ≡ len_of s i → LacksNumbersFor s i wanted
   large-stuck few stuck =
       let none = no-more (version_of s) (len_of s i) wanted have sub more sum most n room longer fits sub-by sum-is most-by n-is stuck in
       let zero = none.0 in
       let some = none.1 in
-      (full-is-too-few (tables_in s)).1
-      (subst (λ (b : AllocatorState). IsTooFew b.tables 1) same (subst (λ k. IsTooFew a.tables (k + 1)) zero (few (omega (arith, zero, some)))))
+      let one : IsTooFew (tables_in s) 1 = subst (λ (b : AllocatorState). IsTooFew b.tables 1) same (subst (λ k. IsTooFew a.tables (k + 1)) zero (few (omega (arith, zero, some)))) in
+      (large-lacks s i wanted list (omega (arith, large, longer)) (owned-chain s i large list whole.chain)).1
+      (more-is-too-few (tables_in s) 1 (rounded_up wanted (sector_len (version_of s)) - length list) (omega (arith, some, sub-by, have-is)) one)
 
 -- ---- a stream in mini sectors
 
@@ -134,7 +146,7 @@ lacks-rise V3 len count more free k le = (omega (arith, le), omega (arith, le))
 lacks-rise V4 len count more free k le = (omega (arith, le), omega (arith, le))
 
 -- and where a few mini sectors are too many, more are too
-more-minis-too-few : (s : MiniState) (count more : ℕ) → count ≤ more → IsTooFewAfterFor s 0 count → IsTooFewFor s more
+pub more-minis-too-few : (s : MiniState) (count more : ℕ) → count ≤ more → IsTooFewAfterFor s 0 count → IsTooFewFor s more
 more-minis-too-few s count more le (inl over) = inl (omega (arith, le, over))
 more-minis-too-few s count more le (inr lack) =
     let words = (lacks-rise (version_of s) (length s.minifat) count more (free_count s.minifat) (length s.minifat_sectors) le).0 in
@@ -177,8 +189,11 @@ module _ (s : MiniState) (i start len wanted target needed have sub more sum mos
         | inr none ↦ none-lack v s held top (let zero : count ≡ 0 = omega (arith, none) in subst (λ k. IsTooFewAfterFor s 0 k) zero few)
       ]
 
-  pub small-stuck : (more < sub → IsTooFewFor s (more + 1)) → n ≡ len_of s i → n + 1 < 4096 → IsTooFewFor s 1
+  pub small-stuck : (more < sub → IsTooFewFor s (more + 1)) → n ≡ len_of s i → wanted < 4096 → LacksNumbersFor s i wanted
   small-stuck few stuck short =
-      let zero : more ≡ 0 = omega (arith, mini-room, small, longer, target-is, sum-is, most-is, n-is, stuck, short) in
-      let some : 0 < sub = omega (arith, mini-room, small, longer, target-is, needed-is, sub-is, sum-is, most-is, n-is, stuck, short) in
-      subst (λ k. IsTooFewFor s (k + 1)) zero (few (omega (arith, zero, some)))
+      let zero : more ≡ 0 = omega (arith, mini-room, longer, target-is, sum-is, most-is, n-is, stuck, short) in
+      let some : 0 < sub = omega (arith, mini-room, longer, target-is, needed-is, sub-is, sum-is, most-is, n-is, stuck, short) in
+      let one : IsTooFewFor s 1 = subst (λ k. IsTooFewFor s (k + 1)) zero (few (omega (arith, zero, some))) in
+      let count = rounded_up wanted 64 - length list in
+      let all : 1 ≤ count = omega (arith, some, needed-is, sub-is, target-is, short, have-is) in
+      (small-lacks s i wanted list short small (owned-minis s i small list mini-whole)).1 ((nothing-back s count).1 (more-minis-too-few s 1 count all ((nothing-back s 1).1 one)))

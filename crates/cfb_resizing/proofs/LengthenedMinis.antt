@@ -72,18 +72,18 @@ module _ (old mid : MiniState) (lacking : ℕ) (ids ids' : List ℕ) (listed : i
   module _ (new : MiniState) (file : ChangesFileOnly mid new) where
     -- what stands along it once the old tail is zeros
     pub minis-lengthened-padded : (v : Validation) (list : List ℕ) (size len have room to : ℕ) → list ≡ ids' → HoldsMini v old → HoldsMini v mid
-        → IsChain old.minifat (first_or_end ids) ids → version_of mid ≡ version_of old → SparesMini (ends_of ids) old mid → KeepsMiniBytesBut [] old mid
+        → IsChain old.minifat (first_or_end ids) ids → version_of mid ≡ version_of old → mini_stream_of mid ≡ mini_stream_of old ++ gained (mini_stream_of old) (mini_stream_of mid) → KeepsMiniBytesBut [] old mid
         → ((m : ℕ) → Contains (gained ids ids') m → IsZeroMini mid m) → have ≡ length ids → room ≡ min (have * 64) 18446744073709551615 → to ≡ min size room
         → size < 18446744073709551616 → lacking ≡ rounded_up size 64 - length ids → length (gained ids ids') ≡ lacking → ((k : ℕ) → k < len → IsThereInMinis old ids k)
         → StandAlong (mini_place_along mid list) len (replicate (to - len) 0) (bytes_of new)
         → ChangesOnlyPlaces (mini_place_along mid list) len (to - len) (bytes_of mid) (bytes_of new)
         → IsPaddedAlong len size (mini_place_along old ids) (mini_place_along new ids') (bytes_of old) (bytes_of new)
-    minis-lengthened-padded v list size len have room to same held held' chain version spares keeps filled have-is room-by to-is fits lacking-is count there put zeroed =
+    minis-lengthened-padded v list size len have room to same held held' chain version stream keeps filled have-is room-by to-is fits lacking-is count there put zeroed =
         let low = tail-low size to room (have * 64) to-is room-by in
         let most = tail-most size to room (have * 64) to-is room-by fits in
         let sum = ap (λ (l : List ℕ). length l) listed in
         let parts = length-append ids (gained ids ids') in
-        minis-padded v old mid new ids ids' held held' chain chain' listed file version spares.mini_stream keeps filled len size to there
+        minis-padded v old mid new ids ids' held held' chain chain' listed file version stream keeps filled len size to there
         (subst (λ (z : List ℕ). StandAlong (mini_place_along mid z) len (replicate (to - len) 0) (bytes_of new)) same put)
         (subst (λ (z : List ℕ). ChangesOnlyPlaces (mini_place_along mid z) len (to - len) (bytes_of mid) (bytes_of new)) same zeroed)
         (omega (arith, low, have-is)) (elim most [ inl all ↦ inl all | inr enough ↦ inr (omega (arith, enough, have-is)) ])

@@ -18,3 +18,5 @@ pub mod GrownLengths
 pub mod TakenRest
 pub mod CutShort
 pub mod PutBehind
+pub mod CanGrow
+pub mod SnugMinis

@@ -1,6 +1,6 @@
 -- The content of a stream after it left its mini sectors for sectors.
 use Rattle.std.proofs.Common.{◌≡◌, ◌≤◌, ◌<◌, ◌*◌, ◌/◌, ◌%◌, ◌+◌, ◌-◌, ◌⊎◌, max, min, inl, inr, ℕ, List, [], ◌++◌, true, refl, sym, ◌∙◌, ap, subst, length, arith}
-use Rattle.std.specs.Prelude.{Contains, slice_index, unwrap_or}
+use Rattle.std.specs.Prelude.{Contains, slice_index}
 use Rattle.cfb_format.specs.declared.error.Error.{Error}
 use Rattle.cfb_format.specs.declared.error.Error.TheVariants.{AlreadyExists, Failed, Full, InvalidData, InvalidInput, Medium, Memory, NotFound, Unsound}
 use Rattle.cfb_format.specs.declared.validate.Validation.{Validation}
@@ -8,31 +8,29 @@ use Rattle.cfb_format.specs.Bytes.{sector_len}
 use Rattle.cfb_format.specs.Chain.{IsChain}
 use Rattle.cfb_format.specs.Full.{rounded_up}
 use Rattle.cfb_format.specs.Siblings.{entry_at}
-use Rattle.cfb_tables.specs.Clean.{IsUnnamed}
+use Rattle.cfb_tables.specs.Changes.{AreDisjoint}
 use Rattle.cfb_tables.specs.Tables.{IsTooFew, first_or_end}
-use Rattle.cfb_tables.proofs.Members.{Contains-nil, first_of_three}
+use Rattle.cfb_tables.proofs.Members.{Contains-nil}
 use Rattle.cfb_alloc.specs.Alloc.{AllocatorState}
 use Rattle.cfb_alloc.specs.Frame.{Spares, table_sectors}
-use Rattle.cfb_alloc.specs.ListedChain.{Lengthens}
 use Rattle.cfb_alloc.proofs.Frames.{nothing-touched}
 use Rattle.cfb_chains.specs.ChainPlaces.{place_along}
 use Rattle.cfb_chains.proofs.LentContent.{wanted_is}
 use Rattle.cfb_chains.proofs.OwnWrites.{enough_by}
 use Rattle.cfb_mini_table.specs.MiniTable.{MiniGivesBack}
 use Rattle.cfb_mini_sectors.specs.State.{HoldsMini, IsChangeable, MiniState, bytes_of, content_of, entries_of, table_of, tables_in, version_of}
-use Rattle.cfb_mini_sectors.specs.Steps.{IsZeroMini, SparesMini, system_sectors}
-use Rattle.cfb_mini_sectors.specs.Held.{with_minifat}
+use Rattle.cfb_mini_sectors.specs.Steps.{IsInMiniStream, IsZeroMini, SparesMini, system_sectors}
 use Rattle.cfb_mini_sectors.proofs.HeldMini.{no-tables}
 use Rattle.cfb_mini_sectors.proofs.MiniFrames.{nothing-touched as no-mini-touched}
 use Rattle.cfb_mini.specs.MiniSectors.{IsStill}
 use Rattle.cfb_content.specs.Contents.{IsStreamOf, KeepsOthers, len_of, mini_place_along, mini_sectors_owned}
 use Rattle.cfb_content.specs.Laws.{LacksNumbersFor}
 use Rattle.cfb_content.specs.Parts.{IsWholeMiniChain}
-use Rattle.cfb_content.proofs.Apart.{system-busy}
+use Rattle.cfb_content.proofs.Apart.{starts-unnamed}
 use Rattle.cfb_content.proofs.Kept.{spared-is-kept}
 use Rattle.cfb_content.proofs.Readable.{small-is-there}
 use Rattle.cfb_content.proofs.WholeStreams.{no-sectors, owned-minis, small-entry, whole-minis-as}
-use Rattle.cfb_resizing.specs.Turning.{IsPaddedAlong, KeepsAround, KeepsTablesTight, LiesTurnedInSectors, StandsTurned, StopsOrBegun, Turns}
+use Rattle.cfb_resizing.specs.Turning.{CarriesToSectors, GoesUnnamed, IsPaddedAlong, KeepsAround, KeepsTablesTight, LiesTurnedInSectors, StandsTurned, StopsOrBegun, Turns}
 use Rattle.cfb_resizing.proofs.TurnedInMinis.{first-mini, first-unnamed, own-minis-kept}
 use Rattle.cfb_resizing.proofs.TurnedInSectors.{large-lacks, rounded-up-holds}
 
@@ -88,16 +86,16 @@ still-kept v s new i change at still bytes =
 
 module _ (v : Validation) (s new : MiniState) (i size count : ℕ) (list ids bytes : List ℕ) (change : IsChangeable v s) (at : IsStreamOf s i) (short : len_of s i < 4096)
     (large : 4096 ≤ size) (whole : IsWholeMiniChain s (entry_at (entries_of s) i).start_sector (len_of s i) list) (count-is : count ≡ rounded_up size (sector_len (version_of s)))
-    (freed : MiniGivesBack [] list s.minifat new.minifat) (made : Lengthens count [] ids (tables_in s) (tables_in new)) (minifat : new.minifat_sectors ≡ s.minifat_sectors)
-    (stream : new.mini_stream ≡ s.mini_stream) (around : KeepsAround s new) (held : HoldsMini v new) (chain : IsChain (tables_in new).fat (first_or_end ids) ids)
+    (carried : CarriesToSectors count list ids s new) (apart : AreDisjoint ids (system_sectors new)) (around : KeepsAround s new) (held : HoldsMini v new)
+    (chain : IsChain (tables_in new).fat (first_or_end ids) ids)
     (len : length bytes ≡ len_of s i) (got : (k : ℕ) → k < len_of s i → slice_index bytes k ≡ slice_index (bytes_of s) (mini_place_along s list k))
     (padded : IsPaddedAlong (length bytes) (count * sector_len (version_of s)) (λ k. k) (place_along (version_of s) ids) bytes (bytes_of new))
-    (wiped : (m : ℕ) → Contains list m → IsZeroMini new m) where
+    (wiped : (m : ℕ) → Contains list m → IsInMiniStream new m → IsZeroMini new m) where
   owned : mini_sectors_owned s i ≡ list
   owned = owned-minis s i short list whole
 
   version : version_of new ≡ version_of s
-  version = made.taken.same_version
+  version = around.limits.version
 
   room : (k : ℕ) → k < size → k < count * sector_len (version_of s)
   room k lt =
@@ -107,13 +105,8 @@ module _ (v : Validation) (s new : MiniState) (i size count : ℕ) (list ids byt
   enough : (k : ℕ) → k < size → k / sector_len (version_of s) < length ids
   enough k lt =
       let below = rounded-up-holds (version_of s) k size lt in
-      let sum = made.count in
+      let sum = carried.longer.count in
       omega (arith, below, sum, count-is)
-
-  apart : (n : ℕ) → Contains ids n → Contains (system_sectors new) n → ⊥
-  apart n m c =
-      system-busy v s change.held n (subst (λ (l : List ℕ). Contains l n) (λ j. around.directory j ++ minifat j ++ unwrap_or (stream j) []) c)
-      (made.taken.fresh n (first_of_three ids made.taken.fats made.taken.difats n m))
 
   stands : StandsTurned s i size (bytes_of new) (place_along (version_of s) ids)
   stands = record {
@@ -132,7 +125,7 @@ module _ (v : Validation) (s new : MiniState) (i size count : ℕ) (list ids byt
     enough = λ k lt. subst (λ w. k / sector_len w < length ids) (sym version) (enough k lt);
     fewer = λ lt. absurd (omega (arith, lt, short, large));
     more = λ le.
-        let all : length ids ≡ max (rounded_up size (sector_len (version_of s))) 0 = omega (arith, made.count, count-is) in
+        let all : length ids ≡ max (rounded_up size (sector_len (version_of s))) 0 = omega (arith, carried.longer.count, count-is) in
         all ∙ (λ j. max (rounded_up size (sector_len (sym version j))) (length (sym (no-sectors s i short) j)));
     apart = apart;
     tables_apart = no-tables v (table_of new) (first_or_end ids) ids held.directory.tables chain;
@@ -142,14 +135,15 @@ module _ (v : Validation) (s new : MiniState) (i size count : ℕ) (list ids byt
   pub moved-turns : Turns s new i size (first_or_end ids)
   moved-turns = inr (inr (inr (inr (inr (record {
     was = small-entry s i short;
-    mid = with_minifat s new.minifat;
+    mid = carried.mid;
     ys = ids;
     count = count;
-    system = record { directory = refl; minifat = refl; mini_stream = refl; tables = refl };
-    freed = subst (λ (l : List ℕ). MiniGivesBack [] l s.minifat new.minifat) (sym owned) freed;
-    wiped = subst (λ (l : List ℕ). (m : ℕ) → Contains l m → IsZeroMini new m) (sym owned) wiped;
-    mini = record { minifat = refl; minifat_sectors = minifat; mini_stream = stream };
-    longer = made;
+    room = carried.room;
+    none = λ empty. carried.none (sym owned ∙ empty);
+    freed = subst (λ (l : List ℕ). MiniGivesBack [] l s.minifat carried.mid.minifat) (sym owned) carried.freed;
+    wiped = subst (λ (l : List ℕ). (m : ℕ) → Contains l m → IsInMiniStream new m → IsZeroMini new m) (sym owned) wiped;
+    mini = carried.mini;
+    longer = carried.longer;
     lies = lies;
   })))))
 
@@ -174,42 +168,38 @@ module _ (s mid new : MiniState) (i size count start len l : ℕ) (list : List �
   pub move-starts : IsStill s mid → IsChain mid.minifat (first_or_end list) list
   move-starts still = subst (λ (t : List ℕ). IsChain t (first_or_end list) list) (sym (ap (λ (m : MiniState). m.minifat) still)) (first-mini s i short list there)
 
-  unnamed : (v : Validation) → IsChangeable v s → 0 < length list → IsUnnamed s.minifat (first_or_end list)
-  unnamed v change some = first-unnamed s i short v change at list there some
+  unnamed : (v : Validation) → IsChangeable v s → GoesUnnamed s list
+  unnamed v change = record { chain = λ some. first-unnamed s i short v change at list there some; starts = starts-unnamed v s i change at }
 
   pub move-others : mid ≡ s → Spares (system_sectors mid) (table_of mid) (table_of new)
-      → ((v : Validation) → HoldsMini v mid → (0 < length list → IsUnnamed mid.minifat (first_or_end list)) → SparesMini list mid new)
+      → ((v : Validation) → HoldsMini v mid → GoesUnnamed mid list → SparesMini list mid new)
       → (v : Validation) → IsChangeable v s → KeepsOthers i s new
   move-others same spares mini_spares v change =
       own-minis-kept v s new i list change at (owned-minis s i short list there)
       (subst (λ (m : MiniState). Spares (system_sectors m) (table_of m) (table_of new)) same spares)
-      ((subst (λ (m : MiniState). HoldsMini v m → (0 < length list → IsUnnamed m.minifat (first_or_end list)) → SparesMini list m new) same (mini_spares v))
-      change.held (unnamed v change))
+      ((subst (λ (m : MiniState). HoldsMini v m → GoesUnnamed m list → SparesMini list m new) same (mini_spares v)) change.held (unnamed v change))
 
-  pub move-held : mid ≡ s → (v : Validation) → (HoldsMini v mid → (0 < length list → IsUnnamed mid.minifat (first_or_end list)) → HoldsMini v new)
-      → IsChangeable v s → HoldsMini v new
-  move-held same v holds change =
-      (subst (λ (m : MiniState). HoldsMini v m → (0 < length list → IsUnnamed m.minifat (first_or_end list)) → HoldsMini v new) same holds) change.held (unnamed v change)
+  pub move-held : mid ≡ s → (v : Validation) → (HoldsMini v mid → GoesUnnamed mid list → HoldsMini v new) → IsChangeable v s → HoldsMini v new
+  move-held same v holds change = (subst (λ (m : MiniState). HoldsMini v m → GoesUnnamed m list → HoldsMini v new) same holds) change.held (unnamed v change)
 
   pub move-turned : (ids bytes content listed : List ℕ) (first : MiniState) → mid ≡ s → first ≡ s → listed ≡ list → bytes ≡ content → (v : Validation) → IsChangeable v s
-      → MiniGivesBack [] list mid.minifat new.minifat → Lengthens count [] ids (tables_in mid) (tables_in new) → new.minifat_sectors ≡ mid.minifat_sectors
-      → new.mini_stream ≡ mid.mini_stream → KeepsAround mid new → IsChain (tables_in new).fat (first_or_end ids) ids
-      → (HoldsMini v mid → (0 < length list → IsUnnamed mid.minifat (first_or_end list)) → HoldsMini v new) → length content ≡ len
+      → (HoldsMini v mid → CarriesToSectors count list ids mid new) → (HoldsMini v mid → GoesUnnamed mid list → AreDisjoint ids (system_sectors new))
+      → KeepsAround mid new → IsChain (tables_in new).fat (first_or_end ids) ids
+      → (HoldsMini v mid → GoesUnnamed mid list → HoldsMini v new) → length content ≡ len
       → ((k : ℕ) → k < len → slice_index content k ≡ slice_index (bytes_of first) (mini_place_along first listed k))
-      → (HoldsMini v mid → (0 < length list → IsUnnamed mid.minifat (first_or_end list))
+      → (HoldsMini v mid → GoesUnnamed mid list
       → IsPaddedAlong (length bytes) (count * sector_len (version_of mid)) (λ k. k) (place_along (version_of mid) ids) bytes (bytes_of new))
-      → (HoldsMini v mid → (0 < length list → IsUnnamed mid.minifat (first_or_end list)) → (m : ℕ) → Contains list m → IsZeroMini new m)
+      → (HoldsMini v mid → GoesUnnamed mid list → (m : ℕ) → Contains list m → IsInMiniStream new m → IsZeroMini new m)
       → Turns s new i size (first_or_end ids)
-  move-turned ids bytes content listed first same same-first listed-is bytes-is v change freed made minifat stream around chain holds long got padded wiped =
+  move-turned ids bytes content listed first same same-first listed-is bytes-is v change carried apart around chain holds long got padded wiped =
+      let named = unnamed v change in
       moved-turns v s new i size count list ids bytes change at short large there wanted
-      (subst (λ (m : MiniState). MiniGivesBack [] list m.minifat new.minifat) same freed)
-      (subst (λ (m : MiniState). Lengthens count [] ids (tables_in m) (tables_in new)) same made)
-      (minifat ∙ ap (λ (m : MiniState). m.minifat_sectors) same) (stream ∙ ap (λ (m : MiniState). m.mini_stream) same)
+      ((subst (λ (m : MiniState). HoldsMini v m → CarriesToSectors count list ids m new) same carried) change.held)
+      ((subst (λ (m : MiniState). HoldsMini v m → GoesUnnamed m list → AreDisjoint ids (system_sectors new)) same apart) change.held named)
       (subst (λ (m : MiniState). KeepsAround m new) same around) (move-held same v holds change) chain
       (ap (λ (z : List ℕ). length z) bytes-is ∙ long ∙ len-is)
       (λ k lt. ap (λ (z : List ℕ). slice_index z k) bytes-is ∙ got k (omega (arith, lt, len-is))
       ∙ (λ j. slice_index (bytes_of (same-first j)) (mini_place_along (same-first j) (listed-is j) k)))
-      ((subst (λ (m : MiniState). HoldsMini v m → (0 < length list → IsUnnamed m.minifat (first_or_end list))
-      → IsPaddedAlong (length bytes) (count * sector_len (version_of m)) (λ k. k) (place_along (version_of m) ids) bytes (bytes_of new)) same padded) change.held (unnamed v change))
-      ((subst (λ (m : MiniState). HoldsMini v m → (0 < length list → IsUnnamed m.minifat (first_or_end list)) → (k : ℕ) → Contains list k → IsZeroMini new k) same wiped)
-      change.held (unnamed v change))
+      ((subst (λ (m : MiniState). HoldsMini v m → GoesUnnamed m list
+      → IsPaddedAlong (length bytes) (count * sector_len (version_of m)) (λ k. k) (place_along (version_of m) ids) bytes (bytes_of new)) same padded) change.held named)
+      ((subst (λ (m : MiniState). HoldsMini v m → GoesUnnamed m list → (k : ℕ) → Contains list k → IsInMiniStream new k → IsZeroMini new k) same wiped) change.held named)

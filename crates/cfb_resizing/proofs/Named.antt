@@ -1,29 +1,31 @@
 -- The entry of a stream is given another start and another length, once its content was changed: the directory's sectors alone are written.
-use Rattle.std.proofs.Common.{◌≡◌, ◌≢◌, ◌<◌, ◌≤◌, ◌+◌, ◌*◌, ◌/◌, inl, ℕ, List, [], ◌++◌, true, false, refl, sym, ◌∙◌, ap, subst, length, arith}
+use Rattle.std.proofs.Common.{◌≡◌, ◌≢◌, ◌<◌, ◌≤◌, ◌+◌, ◌*◌, ◌/◌, inl, inr, ℕ, List, [], ◌++◌, true, false, refl, sym, ◌∙◌, ap, subst, length, arith}
 use Rattle.std.specs.Prelude.{Contains, Option, Some, if◌then◌else◌, slice_index, unwrap_or, ◌==◌}
 use Rattle.std.proofs.lemmas.List.Elements.{Contains-append_left, Contains-get_or}
 use Rattle.cfb_format.specs.declared.objtype.ObjType.TheVariants.{Stream, Unallocated}
 use Rattle.cfb_format.specs.declared.validate.Validation.{Validation}
 use Rattle.cfb_format.specs.declared.version.Version.{Version}
 use Rattle.cfb_format.specs.declared.version.Version.TheVariants.{V3, V4}
-use Rattle.cfb_format.specs.Bytes.{entries_per_sector, max_stream_len, sector_len, stream_len_modulus}
+use Rattle.cfb_format.specs.Bytes.{entries_per_sector, max_stream_len, sector_len, stream_len_modulus, words_per_sector}
 use Rattle.cfb_format.specs.Chain.{IsChain, chain_from}
 use Rattle.cfb_format.specs.Content.{is_large, mini_sector_len, sector_chain}
 use Rattle.cfb_format.specs.DirectoryEntry.{Entry, IsValidEntry, unless_storage, ButContent}
 use Rattle.cfb_format.specs.Reading.{IsOutline, Outline, stream_numbers}
 use Rattle.cfb_format.specs.Siblings.{entry_at}
 use Rattle.cfb_sectors.specs.Words.{RangeStays}
-use Rattle.cfb_tables.specs.Tables.{first_or_end}
+use Rattle.cfb_tables.specs.Tables.{TableState, first_or_end}
 use Rattle.cfb_tables.proofs.ChainLemmas.{members-busy}
 use Rattle.cfb_tables.proofs.Members.{distinct-apart}
 use Rattle.cfb_directory.specs.Growing.{ArePlaced}
 use Rattle.cfb_alloc.specs.Frame.{IsForeign, Spares}
+use Rattle.cfb_alloc.specs.ListedChain.{Shortens}
+use Rattle.cfb_format.specs.Full.{rounded_up}
 use Rattle.cfb_soundness.specs.Places.{mini_start}
 use Rattle.cfb_entries.specs.declared.fields.Fields.{Fields}
 use Rattle.cfb_entries.specs.Fields.{entries_with_fields, entry_with_fields, fields_in}
 use Rattle.cfb_directory.proofs.ChangedFields.{changed_beside, changed_here, changed_length}
 use Rattle.cfb_mini_sectors.specs.State.{HoldsMini, IsChangeable, MiniState, bytes_of, cases_of, entries_of, mini_place, mini_stream_of, parts_of, table_of, tables_in, version_of}
-use Rattle.cfb_mini_sectors.specs.Steps.{KeepsLimits, KeepsMini, KeepsSystem}
+use Rattle.cfb_mini_sectors.specs.Steps.{KeepsLimits, KeepsMini, KeepsSystem, SettlesRoom, mini_stream_needs, minifat_needs}
 use Rattle.cfb_mini_sectors.proofs.HeldMini.{no-tables}
 use Rattle.cfb_mini_sectors.proofs.MiniStreams.{chain-is-stream, stream-chain}
 use Rattle.cfb_content.specs.Contents.{IsStreamOf, KeepsContent, KeepsOthers, MovesContent, sectors_owned}
@@ -79,9 +81,12 @@ module _ (old : MiniState) (i start size : ℕ) (stream : IsStreamOf old i) wher
     beside : (k : ℕ) → k ≢ i → entry_at (entries_of new) k ≡ entry_at (entries_of old) k
     beside k ne = ap (λ (es : List Entry). entry_at es k) same ∙ changed_beside (entries_of old) i f k ne
 
+    pub named-root : entry_at (entries_of new) 0 ≡ entry_at (entries_of old) 0
+    named-root = beside 0 (λ e. stream-is-no-root old i stream (sym e))
+
     pub named-moves : MovesContent old new i
     named-moves =
-        let root = beside 0 (λ e. stream-is-no-root old i stream (sym e)) in
+        let root = named-root in
         record {
           same_length = ap (λ (es : List Entry). length es) same ∙ changed_length (entries_of old) i f;
           own = subst (λ (e : Entry). ButContent (entry_at (entries_of old) i) e) (sym named-at) refl;
@@ -127,6 +132,23 @@ system-then old mid new a b = record {
   mini_stream = b.mini_stream ∙ a.mini_stream;
   tables = b.tables ∙ a.tables;
 }
+
+pub settles-then : (old mid new : MiniState) → SettlesRoom old mid → KeepsSystem mid new → new.minifat ≡ mid.minifat → SettlesRoom old new
+settles-then old mid new (inr same) b minifat = inr (system-then old mid new same b)
+settles-then old mid new (inl a) b minifat =
+    let version : version_of new ≡ version_of mid = ap (λ (t : TableState). t.version) b.tables in
+    let words : minifat_needs new ≡ minifat_needs mid = λ j. rounded_up (length (minifat j)) (words_per_sector (version j)) in
+    let minis : mini_stream_needs new ≡ mini_stream_needs mid = λ j. rounded_up (length (minifat j) * mini_sector_len) (sector_len (version j)) in
+    inl (record {
+      directory = b.directory ∙ a.directory;
+      between = a.between;
+      stream = a.stream;
+      kept = b.mini_stream ∙ a.kept;
+      mini_stream = subst (λ n. Shortens n (mini_stream_of old) a.stream (tables_in old) a.between) (sym minis) a.mini_stream;
+      minifat = subst (λ n. Shortens n old.minifat_sectors new.minifat_sectors a.between (tables_in new)) (sym words)
+          (subst (λ (l : List ℕ). Shortens (minifat_needs mid) old.minifat_sectors l a.between (tables_in new)) (sym b.minifat)
+          (subst (λ (t : TableState). Shortens (minifat_needs mid) old.minifat_sectors mid.minifat_sectors a.between t) (sym b.tables) a.minifat));
+    })
 
 pub moves-then : (old mid new : MiniState) (i : ℕ) → IsStreamOf old i → KeepsAround old mid → MovesContent mid new i → MovesContent old new i
 moves-then old mid new i stream around moves =

@@ -57,7 +57,7 @@ pub tight-then : (old mid new : MiniState) → KeepsTablesTight old mid → tabl
 tight-then old mid new t same = record {
   exact = λ e. subst AreExactTables (sym same) (t.exact e);
   no_shorter = subst (λ (w : TableState). length (tables_in old).fat ≤ length w.fat) (sym same) t.no_shorter;
-  none_free = subst (λ (w : TableState). length (tables_in old).fat < length w.fat → NoneFree w.fat) (sym same) t.none_free;
+  none_free = subst (λ (w : TableState). length (tables_in old).fat < length w.fat → NoneFree w.fat × (length w.fat ≤ (tables_in old).max_sectors)) (sym same) t.none_free;
 }
 
 -- ---- refusals of a write

@@ -1,5 +1,5 @@
 -- The numbers that are left once a stream cannot grow: taking them keeps the other streams, and leaves the tables full.
-use Rattle.std.proofs.Common.{◌≡◌, ◌≤◌, ◌<◌, ◌+◌, ◌/◌, ◌%◌, ◌⊎◌, min, inl, inr, ℕ, List, [], true, false, refl, sym, ◌∙◌, ap, subst, length, arith}
+use Rattle.std.proofs.Common.{◌≡◌, ◌≤◌, ◌<◌, ◌+◌, ◌-◌, ◌⊎◌, min, inl, inr, ℕ, List, [], true, false, refl, sym, ◌∙◌, ap, subst, length, arith}
 use Rattle.std.specs.Prelude.{Err, IfErr, Ok, OnOk, Result}
 use Rattle.std.proofs.lemmas.Bool.{cases_lt}
 use Rattle.std.proofs.lemmas.List.Elements.{Contains-append_left}
@@ -8,38 +8,43 @@ use Rattle.cfb_format.specs.declared.error.Error.TheVariants.{AlreadyExists, Fai
 use Rattle.cfb_format.specs.declared.validate.Validation.{Validation}
 use Rattle.cfb_format.specs.Bytes.{sector_len}
 use Rattle.cfb_format.specs.DirectoryEntry.{Entry, ButContent}
-use Rattle.cfb_format.specs.Full.{IsFullOfMiniSectors, rounded_up}
+use Rattle.cfb_format.specs.Full.{IsFullOfMiniSectors, free_count, max_mini_sectors, rounded_up}
 use Rattle.cfb_format.specs.Siblings.{entry_at}
 use Rattle.cfb_tables.specs.Refused.{ChangeRefused}
 use Rattle.cfb_tables.specs.Tables.{AreFullTables, HasTaken, IsTooFew}
 use Rattle.cfb_tables.proofs.Members.{Contains-nil}
-use Rattle.cfb_tables.proofs.RoomLemmas.{all-taken-is-full}
+use Rattle.cfb_tables.proofs.RoomLemmas.{all-taken-is-full, more-is-too-few}
 use Rattle.cfb_alloc.specs.Alloc.{AllocatorState}
 use Rattle.cfb_alloc.specs.Frame.{Spares}
-use Rattle.cfb_chains.proofs.LentContent.{wanted_is}
-use Rattle.cfb_mini_table.specs.MiniTable.{IsTooFewMini}
-use Rattle.cfb_mini_table.proofs.LawLemmas.{full-of-mini}
+use Rattle.cfb_mini_table.specs.MiniTable.{IsTooFewMini, TakesMini}
 use Rattle.cfb_mini_sectors.specs.State.{HoldsMini, IsChangeable, MiniState, bytes_of, entries_of, parts_of, table_of, tables_in, version_of}
 use Rattle.cfb_mini_sectors.specs.Steps.{IsTooFewFor, MovesRoot, SparesMini, StopsShortOrFull, system_sectors}
 use Rattle.cfb_mini_sectors.specs.Held.{with_table}
 use Rattle.cfb_mini.specs.MiniSectors.{IsStill}
-use Rattle.cfb_content.specs.Contents.{IsStreamOf, KeepsOthers, MovesContent, len_of, sectors_owned}
+use Rattle.cfb_content.specs.Contents.{IsStreamOf, KeepsOthers, MovesContent, len_of, mini_sectors_owned, sectors_owned}
+use Rattle.cfb_content.specs.Laws.{LacksNumbersFor}
 use Rattle.cfb_content.proofs.Kept.{spared-is-kept, spared-sectors-kept}
 use Rattle.cfb_content.proofs.Outlines.{stream-is-no-root}
-use Rattle.cfb_resizing.specs.Turning.{CannotGrow, KeepsAround, StopsOrBegun, StopsOrIsFull}
+use Rattle.cfb_resizing.specs.Turning.{KeepsAround, StopsOrBegun, StopsOrIsFull}
+use Rattle.cfb_resizing.proofs.GrownLengths.{more-minis-too-few}
+use Rattle.cfb_resizing.proofs.TurnedInMinis.{small-lacks}
+use Rattle.cfb_resizing.proofs.TurnedInSectors.{large-lacks}
 use Rattle.cfb_resizing.proofs.MovedToMinis.{still-same}
 
 -- ---- what is lacking
 
-pub lacks-mini : (s : MiniState) (i : ℕ) → CannotGrow s i → len_of s i + 1 < 4096 → IsTooFewFor s 1
-lacks-mini s i (inl (large, full)) short = absurd (omega (arith, large, short))
-lacks-mini s i (inr (inl (last, few))) short = absurd (omega (arith, last, short))
-lacks-mini s i (inr (inr (less, few))) short = few
+-- mini sectors, of which none come free as a small stream grows
+pub lacks-minis : (s : MiniState) (i wanted : ℕ) → len_of s i < wanted → wanted < 4096 → LacksNumbersFor s i wanted → IsTooFewFor s (rounded_up wanted 64)
+lacks-minis s i wanted longer short lacks =
+    let small : len_of s i < 4096 = omega (arith, longer, short) in
+    let few = (small-lacks s i wanted (mini_sectors_owned s i) short small refl).0 lacks in
+    more-minis-too-few s (rounded_up wanted 64 - length (mini_sectors_owned s i)) (rounded_up wanted 64) (omega arith) few
 
-pub lacks-sectors : (s : MiniState) (i : ℕ) → CannotGrow s i → len_of s i + 1 ≡ 4096 → IsTooFew (tables_in s) (rounded_up 4096 (sector_len (version_of s)))
-lacks-sectors s i (inl (large, full)) last = absurd (omega (arith, large, last))
-lacks-sectors s i (inr (inl (at, few))) last = few
-lacks-sectors s i (inr (inr (less, few))) last = absurd (omega (arith, less, last))
+-- or sectors
+pub lacks-sectors : (s : MiniState) (i wanted : ℕ) → 4096 ≤ wanted → LacksNumbersFor s i wanted → IsTooFew (tables_in s) (rounded_up wanted (sector_len (version_of s)))
+lacks-sectors s i wanted large lacks =
+    let few = (large-lacks s i wanted (sectors_owned s i) large refl).0 lacks in
+    more-is-too-few (tables_in s) (rounded_up wanted (sector_len (version_of s)) - length (sectors_owned s i)) (rounded_up wanted (sector_len (version_of s))) (omega arith) few
 
 -- ---- mini sectors
 
@@ -61,16 +66,16 @@ same-or-begun : (old new : MiniState) → (new ≡ old) ⊎ ((table_of new).file
 same-or-begun old new (inl same) = same-still old new same
 same-or-begun old new (inr up) = inr up
 
-pub short-still : (old new : MiniState) (e : Error) → StopsShortOrFull 1 old new e → IsStill old new ⊎ ((table_of new).file.begun ≡ true)
-short-still old new (NotFound d) h = same-still old new h
-short-still old new (AlreadyExists d) h = same-still old new h
-short-still old new (InvalidInput d) h = same-still old new h
-short-still old new (InvalidData d) h = same-still old new h
-short-still old new (Medium m) h = inr h
-short-still old new Memory h = same-or-begun old new h
-short-still old new Full h = same-or-begun old new h.0
-short-still old new Unsound h = same-still old new h
-short-still old new Failed h = same-still old new h
+pub short-still : (old new : MiniState) (count : ℕ) (e : Error) → StopsShortOrFull count old new e → IsStill old new ⊎ ((table_of new).file.begun ≡ true)
+short-still old new count (NotFound d) h = same-still old new h
+short-still old new count (AlreadyExists d) h = same-still old new h
+short-still old new count (InvalidInput d) h = same-still old new h
+short-still old new count (InvalidData d) h = same-still old new h
+short-still old new count (Medium m) h = inr h
+short-still old new count Memory h = same-or-begun old new h
+short-still old new count Full h = same-or-begun old new h.0
+short-still old new count Unsound h = same-still old new h
+short-still old new count Failed h = same-still old new h
 
 same-bytes : (old new : MiniState) → new ≡ old → bytes_of new ≡ bytes_of old
 same-bytes old new same = ap (λ (s : MiniState). bytes_of s) same
@@ -79,30 +84,48 @@ calm-bytes : (old new : MiniState) → (new ≡ old) ⊎ ((table_of new).file.be
 calm-bytes old new (inl same) calm = same-bytes old new same
 calm-bytes old new (inr up) calm = absurd (let clash : true ≡ false = sym up ∙ calm in cc)
 
-pub short-unwritten : (old new : MiniState) (e : Error) → StopsShortOrFull 1 old new e → (table_of new).file.begun ≡ false → bytes_of new ≡ bytes_of old
-short-unwritten old new (NotFound d) h calm = same-bytes old new h
-short-unwritten old new (AlreadyExists d) h calm = same-bytes old new h
-short-unwritten old new (InvalidInput d) h calm = same-bytes old new h
-short-unwritten old new (InvalidData d) h calm = same-bytes old new h
-short-unwritten old new (Medium m) h calm = calm-bytes old new (inr h) calm
-short-unwritten old new Memory h calm = calm-bytes old new h calm
-short-unwritten old new Full h calm = calm-bytes old new h.0 calm
-short-unwritten old new Unsound h calm = same-bytes old new h
-short-unwritten old new Failed h calm = same-bytes old new h
+pub short-unwritten : (old new : MiniState) (count : ℕ) (e : Error) → StopsShortOrFull count old new e → (table_of new).file.begun ≡ false → bytes_of new ≡ bytes_of old
+short-unwritten old new count (NotFound d) h calm = same-bytes old new h
+short-unwritten old new count (AlreadyExists d) h calm = same-bytes old new h
+short-unwritten old new count (InvalidInput d) h calm = same-bytes old new h
+short-unwritten old new count (InvalidData d) h calm = same-bytes old new h
+short-unwritten old new count (Medium m) h calm = calm-bytes old new (inr h) calm
+short-unwritten old new count Memory h calm = calm-bytes old new h calm
+short-unwritten old new count Full h calm = calm-bytes old new h.0 calm
+short-unwritten old new count Unsound h calm = same-bytes old new h
+short-unwritten old new count Failed h calm = same-bytes old new h
 
--- where no mini sector is left, though there may be more of them, sectors are lacking
-module _ (v : Validation) (old new : MiniState) (held : HoldsMini v old) (short : length old.minifat ≤ old.max_mini_sectors) (free : IsFullOfMiniSectors (parts_of old) → ⊥) where
-  minis-left : IsTooFewMini old.max_mini_sectors old.minifat 1 → ⊥
-  minis-left few = let full = (full-of-mini old.max_mini_sectors old.minifat short).0 few in free (full.0, subst (λ n. n ≤ length old.minifat) held.limit full.1)
+-- no mini sector more can be had: none is free, and their number is at its limit
+pub none-left : (s : MiniState) (left : ℕ) → left ≡ free_count s.minifat + (max_mini_sectors (version_of s) - length s.minifat) → left ≡ 0 → IsFullOfMiniSectors (parts_of s)
+none-left s left is zero = (omega (arith, is, zero), omega (arith, is, zero))
 
-  pub short-or-full : (e : Error) → StopsShortOrFull 1 old new e → StopsOrIsFull old new e
+-- all that could be had were taken
+pub all-taken : (s new : MiniState) (limit count left : ℕ) (touched more : List ℕ) → left ≡ free_count s.minifat + (max_mini_sectors (version_of s) - length s.minifat)
+    → IsTooFewFor s count → version_of new ≡ version_of s → TakesMini limit s.minifat new.minifat touched more → length more ≡ min count left → (IsTooFewFor s (min count left) → ⊥)
+    → IsFullOfMiniSectors (parts_of new)
+all-taken s new limit count left touched more is few version taken some enough = elim (cases_lt left count) [
+  | inl fewer ↦
+      let free = taken.left in
+      let long = taken.len in
+      let most = ap max_mini_sectors version in
+      (omega (arith, is, some, fewer, free), omega (arith, is, some, fewer, long, most))
+  | inr all ↦ absurd (let same : count ≡ min count left = omega (arith, all) in enough (subst (λ n. IsTooFewFor s n) same few))
+]
+
+-- where mini sectors are left for so many, sectors are lacking
+module _ (v : Validation) (old new : MiniState) (count left : ℕ) (held : HoldsMini v old) (short : length old.minifat ≤ old.max_mini_sectors)
+    (left-is : left ≡ free_count old.minifat + (max_mini_sectors (version_of old) - length old.minifat)) (fits : count ≤ left) where
+  minis-fit : IsTooFewMini old.max_mini_sectors old.minifat count → ⊥
+  minis-fit few = (let limit = held.limit in omega (arith, few, limit, short, left-is, fits))
+
+  pub short-or-full : (e : Error) → StopsShortOrFull count old new e → StopsOrIsFull old new e
   short-or-full (NotFound d) h = h
   short-or-full (AlreadyExists d) h = h
   short-or-full (InvalidInput d) h = h
   short-or-full (InvalidData d) h = inl h
   short-or-full (Medium m) h = inr h
   short-or-full Memory h = h
-  short-or-full Full h = (h.0, elim h.1 [ inl few ↦ absurd (minis-left few) | inr full ↦ inr full ])
+  short-or-full Full h = (h.0, elim h.1 [ inl few ↦ absurd (minis-fit few) | inr full ↦ inr full ])
   short-or-full Unsound h = h
   short-or-full Failed h = h
 
@@ -149,12 +172,10 @@ module _ (s : MiniState) (i : ℕ) (lent a : AllocatorState) (is-lent : lent ≡
       };
     }
 
-    pub rest-full : (l needed rest : ℕ) → l ≡ sector_len (version_of s) → needed ≡ 4096 / l + min 1 (4096 % l) → CannotGrow s i → len_of s i + 1 ≡ 4096
-        → rest ≤ needed → (IsTooFew lent.tables rest → ⊥) → (rest < needed → IsTooFew lent.tables (rest + 1)) → length more ≡ rest → AreFullTables a.tables
-    rest-full l needed rest l-is needed-is stuck last within fits most count =
-        let all : needed ≡ rounded_up 4096 (sector_len (version_of s)) = wanted_is (version_of s) 4096 needed l l-is needed-is in
-        let lacks : IsTooFew lent.tables needed =
-        subst (λ (b : AllocatorState). IsTooFew b.tables needed) (sym is-lent) (subst (λ n. IsTooFew (tables_in s) n) (sym all) (lacks-sectors s i stuck last)) in
+    pub rest-full : (needed rest : ℕ) → IsTooFew (tables_in s) needed → rest ≤ needed → (IsTooFew lent.tables rest → ⊥) → (rest < needed → IsTooFew lent.tables (rest + 1))
+        → length more ≡ rest → AreFullTables a.tables
+    rest-full needed rest few within fits most count =
+        let lacks : IsTooFew lent.tables needed = subst (λ (b : AllocatorState). IsTooFew b.tables needed) (sym is-lent) few in
         let less : rest < needed = elim (cases_lt rest needed) [
           | inl below ↦ below
           | inr above ↦ absurd (fits (subst (λ n. IsTooFew lent.tables n) (let same : needed ≡ rest = omega (arith, above, within) in same) lacks))

@@ -1,7 +1,7 @@
 -- Tables that a change of one content left tight, and what else of the state it left.
-use Rattle.std.proofs.Common.{◌≡◌, ◌≤◌, ◌⊎◌, inl, inr, ℕ, List, [], ◌++◌, refl, sym, ◌∙◌, ap, subst, length, arith}
-use Rattle.std.specs.Prelude.{Contains, Option, unwrap_or}
-use Rattle.std.proofs.lemmas.Bool.{cases_lt, leb-true}
+use Rattle.std.proofs.Common.{◌≡◌, ◌<◌, ◌≤◌, ◌⊎◌, inl, inr, ℕ, List, [], ◌++◌, refl, sym, ◌∙◌, ap, subst, length, arith}
+use Rattle.std.specs.Prelude.{Contains, Option, false, true, unwrap_or}
+use Rattle.std.proofs.lemmas.Bool.{cases_lt, le-leb, leb-true}
 use Rattle.std.proofs.lemmas.List.Elements.{Contains-append_cases, Contains-append_right}
 use Rattle.cfb_format.specs.Bytes.{free_sector, words_per_sector}
 use Rattle.cfb_format.specs.Chain.{value}
@@ -14,16 +14,17 @@ use Rattle.cfb_tables.proofs.TakenLemmas.{taken-busy}
 use Rattle.cfb_alloc.specs.Alloc.{AllocatorState}
 use Rattle.cfb_alloc.specs.ListedChain.{Lengthens, Shortens}
 use Rattle.cfb_mini_sectors.specs.State.{MiniState, mini_stream_of, tables_in}
-use Rattle.cfb_mini_sectors.specs.Steps.{GrowsFor, KeepsMini, KeepsSystem, system_sectors}
+use Rattle.cfb_mini_sectors.specs.Steps.{GrowsFor, KeepsMini, KeepsSizes, KeepsSystem, system_sectors}
 use Rattle.cfb_mini_sectors.specs.Held.{with_table}
 use Rattle.cfb_mini.specs.MiniSectors.{ChangesFileOnly}
-use Rattle.cfb_content.specs.Contents.{len_of, sectors_owned}
-use Rattle.cfb_resizing.specs.Turning.{KeepsAround, KeepsTablesTight, Turns}
+use Rattle.cfb_content.specs.Contents.{len_of, mini_sectors_owned, sectors_owned}
+use Rattle.cfb_content.proofs.Owned.{empty-owns-nothing}
+use Rattle.cfb_resizing.specs.Turning.{KeepsAround, KeepsTablesTight, LeavesNoMinis, Turns}
 
 -- ---- tables
 
 pub lengthened-tight : (old : MiniState) (a : AllocatorState) (count : ℕ) (list list' : List ℕ) → Lengthens count list list' (tables_in old) a.tables → KeepsTablesTight old (with_table old a)
-lengthened-tight old a count list list' made = record { exact = made.taken.exact; no_shorter = made.taken.longer; none_free = made.taken.none_free }
+lengthened-tight old a count list list' made = record { exact = made.taken.exact; no_shorter = made.taken.longer; none_free = λ longer. (made.taken.none_free longer, made.taken.limited longer) }
 
 pub shortened-tight : (old : MiniState) (a : AllocatorState) (left : ℕ) (list list' : List ℕ) → Shortens left list list' (tables_in old) a.tables → KeepsTablesTight old (with_table old a)
 shortened-tight old a left list list' cut =
@@ -43,6 +44,17 @@ same-tight old new same = record {
   none_free = λ longer. absurd (let n = ap (λ (t : TableState). length t.fat) same in omega (arith, n, longer));
 }
 
+pub sizes-tight : (old new : MiniState) → KeepsSizes (tables_in old) (tables_in new) → KeepsTablesTight old new
+sizes-tight old new sizes =
+    let t = tables_in old in
+    let same = sizes.sectors in
+    record {
+      exact = λ e. subst AreExactTables (sym sizes.rest)
+          (record { fats = e.fats ∙ ap (λ n. rounded_up n (words_per_sector t.version)) (sym same); difats = e.difats });
+      no_shorter = omega (arith, same);
+      none_free = λ longer. absurd (omega (arith, same, longer));
+    }
+
 -- tables of which no number is free have none free when some are taken, and the file does not grow
 none-free-then : (a b : TableState) (touched more : List ℕ) → HasTaken a b touched more → NoneFree a.fat → length b.fat ≤ length a.fat → NoneFree b.fat
 none-free-then a b touched more h none few i lt = elim (Contains-or (touched ++ more ++ h.fats ++ h.difats) i) [
@@ -59,13 +71,16 @@ grown-tight old new count grown =
       exact = λ e. second.exact (first.exact e);
       no_shorter = (let x = first.longer in let y = second.longer in omega (arith, x, y));
       none_free = λ longer. elim (cases_lt (length between.fat) (length (tables_in new).fat)) [
-        | inl more ↦ second.none_free more
-        | inr same ↦ none-free-then between (tables_in new) (ends_of (mini_stream_of old)) (gained (mini_stream_of old) grown.stream) second
-            (first.none_free (omega (arith, longer, same))) same
+        | inl more ↦ (second.none_free more, (let within = second.limited more in let limit = first.same_max in omega (arith, within, limit)))
+        | inr same ↦
+            let earlier : length (tables_in old).fat < length between.fat = omega (arith, longer, same) in (
+              none-free-then between (tables_in new) (ends_of (mini_stream_of old)) (gained (mini_stream_of old) grown.stream) second (first.none_free earlier) same,
+              (let within = first.limited earlier in omega (arith, within, same)),
+            )
       ];
     }
 
--- ---- no growth frees a sector
+-- ---- no growth frees a sector, but that out of mini sectors
 
 taken-stays-full : (a b : TableState) (touched more : List ℕ) → HasTaken a b touched more → NoneFree a.fat → NoneFree b.fat
 taken-stays-full a b touched more h none = elim (cases_lt (length a.fat) (length b.fat)) [
@@ -81,19 +96,34 @@ grown-stays-full old new count grown none =
 same-stays-full : (old new : MiniState) → KeepsSystem old new → NoneFree (tables_in old).fat → NoneFree (tables_in new).fat
 same-stays-full old new system none = subst (λ (t : TableState). NoneFree t.fat) (sym system.tables) none
 
-pub turned-stays-full : (old new : MiniState) (i size start : ℕ) → len_of old i ≤ size → Turns old new i size start → NoneFree (tables_in old).fat → NoneFree (tables_in new).fat
-turned-stays-full old new i size start le (inl t) none =
+-- a shorter length moves it out of none either
+pub leaves-less : (s : MiniState) (i size more : ℕ) → size ≤ more → LeavesNoMinis s i more → LeavesNoMinis s i size
+leaves-less s i size more le (inl empty) = inl empty
+leaves-less s i size more le (inr (inl large)) = inr (inl large)
+leaves-less s i size more le (inr (inr small)) = inr (inr (omega (arith, le, small)))
+
+pub turned-stays-full : (old new : MiniState) (i size start : ℕ) → len_of old i ≤ size → LeavesNoMinis old i size → Turns old new i size start
+    → NoneFree (tables_in old).fat → NoneFree (tables_in new).fat
+turned-stays-full old new i size start le stays (inl t) none =
     taken-stays-full (tables_in old) (tables_in new) (ends_of (sectors_owned old i)) (gained (sectors_owned old i) t.ys) t.longer.taken none
-turned-stays-full old new i size start le (inr (inl t)) none = absurd (let fewer = t.fewer in omega (arith, fewer, le))
-turned-stays-full old new i size start le (inr (inr (inl t))) none = elim t.grown [
+turned-stays-full old new i size start le stays (inr (inl t)) none = absurd (let fewer = t.fewer in omega (arith, fewer, le))
+turned-stays-full old new i size start le stays (inr (inr (inl t))) none = elim t.grown [
   | inl (grows, takes) ↦ grown-stays-full old new t.count grows none
   | inr (same, system, mini) ↦ same-stays-full old new system none
 ]
-turned-stays-full old new i size start le (inr (inr (inr (inl t)))) none = same-stays-full old new t.system none
-turned-stays-full old new i size start le (inr (inr (inr (inr (inl t))))) none =
+turned-stays-full old new i size start le stays (inr (inr (inr (inl t)))) none = absurd (let fewer = t.fewer in omega (arith, fewer, le))
+turned-stays-full old new i size start le stays (inr (inr (inr (inr (inl t))))) none =
     absurd (let large = leb-true 4096 (len_of old i) t.was in let small = t.lies.small in omega (arith, large, small, le))
-turned-stays-full old new i size start le (inr (inr (inr (inr (inr t))))) none =
-    taken-stays-full (tables_in t.mid) (tables_in new) (ends_of []) (gained [] t.ys) t.longer.taken (same-stays-full old t.mid t.system none)
+turned-stays-full old new i size start le stays (inr (inr (inr (inr (inr t))))) none =
+    taken-stays-full (tables_in t.mid) (tables_in new) (ends_of []) (gained [] t.ys) t.longer.taken
+    (subst (λ (s : MiniState). NoneFree (tables_in s).fat) (sym (t.none nothing)) none)
+  where
+    nothing : mini_sectors_owned old i ≡ []
+    nothing = elim stays [
+      | inl empty ↦ (empty-owns-nothing old i empty).mini_sectors_are
+      | inr (inl large) ↦ absurd (let f : true ≡ false = sym (le-leb 4096 (len_of old i) large) ∙ t.was in cc)
+      | inr (inr small) ↦ absurd (let large = t.lies.large in omega (arith, small, large))
+    ]
 
 -- ---- sectors
 

@@ -25,7 +25,7 @@ use Rattle.cfb_alloc.specs.ListedChain.{Lengthens, Shortens}
 use Rattle.cfb_chains.specs.ChainPlaces.{place_along}
 use Rattle.cfb_mini_table.specs.MiniTable.{MiniGivesBack, TakesMini}
 use Rattle.cfb_mini_sectors.specs.State.{HoldsMini, MiniState, bytes_of, content_of, entries_of, mini_stream_of, parts_of, tables_in, version_of}
-use Rattle.cfb_mini_sectors.specs.Steps.{IsZeroMini}
+use Rattle.cfb_mini_sectors.specs.Steps.{IsInMiniStream, IsZeroMini}
 use Rattle.cfb_content.specs.Contents.{SizesChain, WipesMinis, len_of, mini_place_along, mini_sectors_owned, sectors_owned}
 use Rattle.cfb_content.specs.Laws.{StandsResized}
 use Rattle.cfb_content.specs.Uses.{ChangesContent, ChangesUse, Owns}
@@ -38,7 +38,7 @@ use Rattle.cfb_content.proofs.Rewritten.{large-is-resized, resized-len, small-is
 use Rattle.cfb_content.proofs.Snug.{large-needs, small-needs, snug-in-minis, snug-in-sectors}
 use Rattle.cfb_content.proofs.WholeStreams.{no-sectors}
 use Rattle.cfb_resizing.specs.Turning.{LiesTurnedInMinis, LiesTurnedInSectors, Turns, TurnsByCut, TurnsByGrowth, TurnsByMiniCut, TurnsByMiniGrowth, TurnsLarge, TurnsSmall}
-use Rattle.cfb_resizing.proofs.Named.{WasNamed, chain-foreign, mini-stays, mini-stays-there, mini-then, named-changes, system-then}
+use Rattle.cfb_resizing.proofs.Named.{WasNamed, chain-foreign, mini-stays, mini-stays-there, mini-then, named-changes, settles-then, system-then}
 use Rattle.cfb_resizing.proofs.CarriedToSectors.{zeros-stay}
 
 large-by-len : (e : Entry) (size : ℕ) → e.stream_len ≡ size → 4096 ≤ size → is_large e ≡ true
@@ -102,18 +102,14 @@ module _ (v : Validation) (old mid new : MiniState) (i size start : ℕ) (was : 
   -- ---- what it gave back
 
   gave-none : is_large (entry_at (entries_of old) i) ≡ true → WipesMinis old new i
-  gave-none b m c out = absurd (Contains-nil m (subst (λ (l : List ℕ). Contains l m) (large-no-mini old (entry_at (entries_of old) i) b) c))
+  gave-none b m c out inside = absurd (Contains-nil m (subst (λ (l : List ℕ). Contains l m) (large-no-mini old (entry_at (entries_of old) i) b) c))
 
-  gave-zeros : is_large (entry_at (entries_of old) i) ≡ false → mini_stream_of mid ≡ mini_stream_of old → (m : ℕ) → Contains (mini_sectors_owned old i) m
-      → IsZeroMini mid m → IsZeroMini new m
-  gave-zeros b stream m c zero =
-      let e = entry_at (entries_of old) i in
-      let w = maybe-chain old.minifat (e.stream_len == 0) e.start_sector m (subst (λ (l : List ℕ). Contains l m) (small-owned old e b) c) in
-      let room = stream-room v old m was.changeable.held (members-busy old.minifat e.start_sector w.0 w.1 m w.2).1 in
-      let same : length (mini_stream_of mid) * sector_len (version_of mid) ≡ length (mini_stream_of old) * sector_len (version_of old) =
-      λ j. length (stream j) * sector_len (was.around.limits.version j) in
-      zeros-stay mid new m version-is (ap (λ (o : Option (List ℕ)). unwrap_or o []) was.mini.mini_stream)
-      (mini-stays-there v old mid new i was m (subst (λ n. 64 * m < n) (sym same) room)) zero
+  -- what the mini stream still has of it reads as zeros still
+  gave-zeros : (m : ℕ) → IsInMiniStream new m → (IsInMiniStream mid m → IsZeroMini mid m) → IsZeroMini new m
+  gave-zeros m inside zero =
+      let stream : mini_stream_of new ≡ mini_stream_of mid = ap (λ (o : Option (List ℕ)). unwrap_or o []) was.mini.mini_stream in
+      let room : IsInMiniStream mid m = subst (λ n. 64 * m < n) (λ j. length (stream j) * sector_len (version-is j)) inside in
+      zeros-stay mid new m version-is stream (mini-stays-there v old mid new i was m room) (zero room)
 
   -- ---- in sectors
 
@@ -259,18 +255,18 @@ module _ (v : Validation) (old mid new : MiniState) (i size start : ℕ) (was : 
     | inr (same, system, mini) ↦
         same-is-used v i old new [] (mini_sectors_owned old i) change (system-then old mid new system was.system) (mini-then old mid new mini was.mini) (had-small t.was)
         (subst (λ (l : List ℕ). Owns new i [] l) same (owns-small t.ns t.lies))
-  ]) (λ m c out. absurd (out (subst (λ (l : List ℕ). Contains l m) (sym ((owns-small t.ns t.lies).mini_sectors_are ∙ t.listed))
+  ]) (λ m c out inside. absurd (out (subst (λ (l : List ℕ). Contains l m) (sym ((owns-small t.ns t.lies).mini_sectors_are ∙ t.listed))
       (Contains-append_left (mini_sectors_owned old i) (gained (mini_sectors_owned old i) t.ns) m c))))
 
   by-mini-cut : TurnsByMiniCut old mid i size start → WasTurned old new i size
   by-mini-cut t = small-turned t.ns t.lies
-      (small-is-cut v i old new [] (mini_sectors_owned old i) t.ns t.left change (system-then old mid new t.system was.system) t.listed
+      (small-is-cut v i old new [] (mini_sectors_owned old i) t.ns t.left change (settles-then old mid new t.room was.system was.mini.minifat) t.listed
       (minifat-then (λ (w : List ℕ). MiniGivesBack (ends_of (take t.left (mini_sectors_owned old i))) (drop t.left (mini_sectors_owned old i)) old.minifat w) t.given_back)
       (had-small t.was) (owns-small t.ns t.lies))
-      (λ m c out. gave-zeros t.was (ap (λ (o : Option (List ℕ)). unwrap_or o []) t.system.mini_stream) m c
+      (λ m c out inside. gave-zeros m inside
       (elim (Contains-append_cases (take t.left (mini_sectors_owned old i)) (drop t.left (mini_sectors_owned old i)) m
       (subst (λ (l : List ℕ). Contains l m) (sym (take-append-drop t.left (mini_sectors_owned old i))) c)) [
-        | inl stays ↦ absurd (out (subst (λ (l : List ℕ). Contains l m) (sym ((owns-small t.ns t.lies).mini_sectors_are ∙ t.listed)) stays))
+        | inl stays ↦ λ room. absurd (out (subst (λ (l : List ℕ). Contains l m) (sym ((owns-small t.ns t.lies).mini_sectors_are ∙ t.listed)) stays))
         | inr gone ↦ t.wiped m gone
       ]))
 
@@ -289,9 +285,9 @@ module _ (v : Validation) (old mid new : MiniState) (i size start : ℕ) (was : 
 
   made-large : TurnsLarge old mid i size start → WasTurned old new i size
   made-large t = large-turned t.ys t.lies
-      (small-becomes-large v i old t.mid new (mini_sectors_owned old i) t.ys t.count change t.system t.freed (mini-then t.mid mid new t.mini was.mini)
+      (small-becomes-large v i old t.mid new (mini_sectors_owned old i) t.ys t.count change t.room t.freed (mini-then t.mid mid new t.mini was.mini)
       (tables-then (λ (w : TableState). Lengthens t.count [] t.ys (tables_in t.mid) w) t.longer) (had-small t.was) (owns-large t.ys t.lies))
-      (λ m c out. gave-zeros t.was (ap (λ (o : Option (List ℕ)). unwrap_or o []) (t.mini.mini_stream ∙ t.system.mini_stream)) m c (t.wiped m c))
+      (λ m c out inside. gave-zeros m inside (t.wiped m c))
 
   pub turned : Turns old mid i size start → WasTurned old new i size
   turned (inl t) = by-growth t

@@ -23,12 +23,15 @@ use Rattle.cfb_chains.proofs.ChainContent.{taken_index}
 use Rattle.cfb_mini_table.specs.MiniTable.{MiniGivesBack, TakesMini}
 use Rattle.cfb_soundness.specs.Places.{mini_start}
 use Rattle.cfb_mini_sectors.specs.State.{HoldsMini, IsChangeable, MiniState, bytes_of, content_of, entries_of, mini_place, mini_stream_of, table_of, tables_in, version_of}
-use Rattle.cfb_mini_sectors.specs.Steps.{GrowsFor, IsNotHeld, IsTooFewAfterFor, IsTooFewFor, IsZeroMini, KeepsMini, KeepsSystem, SparesMini, minifat_lacks, minifat_len_with, mini_stream_lacks, system_sectors}
+use Rattle.cfb_mini_sectors.specs.Steps.{BeginsSystem, CanGiveRoomBack, GivesRoomBack, GrowsFor, IsInMiniStream, IsNotHeld, IsTooFewAfterFor, IsTooFewFor, IsZeroMini, KeepsMini, KeepsSystem, SettlesRoom, SparesMini, minifat_lacks, minifat_len_with, mini_stream_lacks, system_sectors}
+use Rattle.cfb_mini_sectors.proofs.HeldShortened.{taken-among}
+use Rattle.cfb_mini_sectors.proofs.MiniFrames.{held-places, shorter-place, version-place}
 use Rattle.cfb_mini_sectors.proofs.MiniStreams.{begins}
 use Rattle.cfb_alloc.specs.Alloc.{AllocatorState}
 use Rattle.cfb_alloc.specs.Frame.{Spares}
 use Rattle.cfb_mini_sectors.specs.Pieces.{HasMini, HaveMinis}
 use Rattle.cfb_mini.specs.MiniSectors.{HasMiniSector, KeepsMiniBytesBut}
+use Rattle.cfb_mini.proofs.MiniGiven.{held-can}
 use Rattle.cfb_mini.proofs.MiniKnown.{has-mini, held-stream, mini-has}
 use Rattle.cfb_content.specs.Contents.{IsNotChangeable, IsStreamOf, KeepsOthers, len_of, mini_place_along, mini_sectors_owned, sectors_owned}
 use Rattle.cfb_content.specs.Laws.{LacksNumbersFor}
@@ -78,12 +81,21 @@ own-minis-kept v old new i list change at owned spares mini_spares =
 
 -- ---- a mini chain that was cut
 
+-- room was given back, or none was freed
+pub cut-settles : (v : Validation) (old new : MiniState) (left : ℕ) (list : List ℕ) → HoldsMini v old
+    → (left < length list → CanGiveRoomBack old → GivesRoomBack old new) → (length list ≤ left → new ≡ old) → SettlesRoom old new
+cut-settles v old new left list held room none = elim (cases_lt left (length list)) [
+  | inl fewer ↦ inl (room fewer (held-can v old held))
+  | inr all ↦ inr (subst (λ (s : MiniState). KeepsSystem old s) (sym (none all)) (record { directory = refl; minifat = refl; mini_stream = refl; tables = refl }))
+]
+
 module _ (v : Validation) (old new : MiniState) (i size wanted : ℕ) (list list' : List ℕ) (change : IsChangeable v old) (at : IsStreamOf old i)
     (small : len_of old i < 4096) (shorter : size < len_of old i) (whole : IsWholeMiniChain old (entry_at (entries_of old) i).start_sector (len_of old i) list)
     (wanted-is : wanted ≡ rounded_up size 64) (listed : list' ≡ take wanted list)
-    (given : MiniGivesBack (ends_of (take wanted list)) (drop wanted list) old.minifat new.minifat) (system : KeepsSystem old new)
+    (given : MiniGivesBack (ends_of (take wanted list)) (drop wanted list) old.minifat new.minifat) (room : SettlesRoom old new)
+    (version : version_of new ≡ version_of old) (stays : BeginsSystem old new)
     (left : IsChain new.minifat (first_or_end list') list') (keeps : KeepsMiniBytesBut (drop wanted list) old new)
-    (wiped : (m : ℕ) → Contains (drop wanted list) m → IsZeroMini new m) where
+    (wiped : (m : ℕ) → Contains (drop wanted list) m → IsInMiniStream new m → IsZeroMini new m) where
   cut-owned : mini_sectors_owned old i ≡ list
   cut-owned = owned-minis old i small list whole
 
@@ -93,8 +105,12 @@ module _ (v : Validation) (old new : MiniState) (i size wanted : ℕ) (list list
   left-at : (k : ℕ) → k < size → (k / 64 < wanted) × (k / 64 < length list)
   left-at k lt = (omega (arith, wanted-is, lt), (whole.there k (omega (arith, lt, shorter))).listed)
 
-  same-place : (m : ℕ) → mini_place new m ≡ mini_place old m
-  same-place m = (λ j. mini_start (system.tables j).version (unwrap_or (system.mini_stream j) []) m)
+  -- a mini sector that is left has its place still
+  same-place : (m : ℕ) → Contains list' m → mini_place new m ≡ mini_place old m
+  same-place m c =
+      let own : Contains list m = taken-among wanted list m (subst (λ (l : List ℕ). Contains l m) listed c) in
+      version-place old new m version (shorter-place old new m (held-places old change.held.mini_stream) version stays.mini_stream
+      (members-busy old.minifat (entry_at (entries_of old) i).start_sector list cut-chain m own).0 (members-busy new.minifat (first_or_end list') list' left m c).1)
 
   cut-byte : (k : ℕ) → k < size → (mini_place_along new list' k < length (bytes_of new))
       × (slice_index (bytes_of new) (mini_place_along new list' k) ≡ slice_index (content_of old (entry_at (entries_of old) i)) k)
@@ -104,7 +120,8 @@ module _ (v : Validation) (old new : MiniState) (i size wanted : ℕ) (list list
       let is = left-at k lt in
       let m = slice_index list (k / 64) in
       let number : slice_index list' (k / 64) ≡ m = ap (λ (l : List ℕ). slice_index l (k / 64)) listed ∙ taken_index list wanted (k / 64) is.0 in
-      let same : mini_place_along new list' k ≡ mini_place_along old list k = ap (λ n. mini_place new n + k % 64) number ∙ ap (λ p. p + k % 64) (same-place m) in
+      let kept : Contains list' m = subst (Contains list') number (Contains-get_or list' (k / 64) 0 (below-taken (k / 64) wanted list list' listed is.0 is.1)) in
+      let same : mini_place_along new list' k ≡ mini_place_along old list k = ap (λ n. mini_place new n + k % 64) number ∙ ap (λ p. p + k % 64) (same-place m kept) in
       let there : mini_place_along old list k < length (bytes_of old) = subst (λ (l : List ℕ). mini_place_along old l k < length (bytes_of old)) cut-owned (lies.there k early) in
       let byte : slice_index (bytes_of old) (mini_place_along old list k) ≡ slice_index (content_of old (entry_at (entries_of old) i)) k =
       subst (λ (l : List ℕ). slice_index (bytes_of old) (mini_place_along old l k) ≡ slice_index (content_of old (entry_at (entries_of old) i)) k) cut-owned (lies.bytes k early) in
@@ -143,10 +160,11 @@ module _ (v : Validation) (old new : MiniState) (i size wanted : ℕ) (list list
     was = small-entry old i small;
     ns = list';
     left = wanted;
-    system = system;
+    fewer = shorter;
+    room = room;
     listed = listed ∙ ap (λ (l : List ℕ). take wanted l) (sym cut-owned);
     given_back = subst (λ (l : List ℕ). MiniGivesBack (ends_of (take wanted l)) (drop wanted l) old.minifat new.minifat) (sym cut-owned) given;
-    wiped = subst (λ (l : List ℕ). (m : ℕ) → Contains (drop wanted l) m → IsZeroMini new m) (sym cut-owned) wiped;
+    wiped = subst (λ (l : List ℕ). (m : ℕ) → Contains (drop wanted l) m → IsInMiniStream new m → IsZeroMini new m) (sym cut-owned) wiped;
     lies = mini-cut-lies;
   }))))
 

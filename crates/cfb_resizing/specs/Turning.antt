@@ -10,13 +10,14 @@ use Rattle.cfb_format.specs.Refused.{HasReason, at_every_error}
 use Rattle.cfb_format.specs.Siblings.{entry_at}
 use Rattle.cfb_tables.specs.Changes.{AreDisjoint, NoneFree}
 use Rattle.cfb_tables.specs.Listed.{ends_of, gained}
-use Rattle.cfb_tables.specs.Tables.{AreExactTables, AreFullTables, IsTooFew}
+use Rattle.cfb_tables.specs.Clean.{IsUnnamed}
+use Rattle.cfb_tables.specs.Tables.{AreExactTables, AreFullTables, first_or_end}
 use Rattle.cfb_alloc.specs.Frame.{table_sectors}
 use Rattle.cfb_alloc.specs.ListedChain.{Lengthens, Shortens}
 use Rattle.cfb_chains.specs.ChainPlaces.{place_along}
 use Rattle.cfb_mini_table.specs.MiniTable.{MiniGivesBack, TakesMini}
 use Rattle.cfb_mini_sectors.specs.State.{MiniState, bytes_of, content_of, entries_of, parts_of, table_of, tables_in, version_of}
-use Rattle.cfb_mini_sectors.specs.Steps.{GrowsFor, IsTooFewFor, IsZeroMini, KeepsLimits, KeepsMini, KeepsSystem, MovesRoot, system_sectors}
+use Rattle.cfb_mini_sectors.specs.Steps.{AreStartsUnnamed, GrowsFor, IsInMiniStream, IsZeroMini, KeepsLimits, KeepsMini, KeepsSystem, MovesRoot, SettlesRoom, system_sectors}
 use Rattle.cfb_mini.specs.MiniSectors.{IsStill}
 use Rattle.cfb_content.specs.Contents.{len_of, mini_place_along, mini_sectors_owned, sectors_owned}
 
@@ -88,15 +89,16 @@ pub record TurnsByMiniGrowth (old new : MiniState) (i size start : ℕ) : Type 0
   pub listed : ns ≡ mini_sectors_owned old i ++ gained (mini_sectors_owned old i) ns
   pub lies : LiesTurnedInMinis old new i size start ns
 
--- or was cut, or freed
+-- or was cut, or freed, and the MiniFAT and the mini stream gave back what they did not need
 pub record TurnsByMiniCut (old new : MiniState) (i size start : ℕ) : Type 0 where
   pub was : is_large (entry_at (entries_of old) i) ≡ false
   pub ns : List ℕ
   pub left : ℕ
-  pub system : KeepsSystem old new
+  pub fewer : size < len_of old i
+  pub room : SettlesRoom old new
   pub listed : ns ≡ take left (mini_sectors_owned old i)
   pub given_back : MiniGivesBack (ends_of (take left (mini_sectors_owned old i))) (drop left (mini_sectors_owned old i)) old.minifat new.minifat
-  pub wiped : (m : ℕ) → Contains (drop left (mini_sectors_owned old i)) m → IsZeroMini new m
+  pub wiped : (m : ℕ) → Contains (drop left (mini_sectors_owned old i)) m → IsInMiniStream new m → IsZeroMini new m
   pub lies : LiesTurnedInMinis old new i size start ns
 
 -- a large stream's chain was freed, and then a mini chain began, or none where nothing is left
@@ -111,15 +113,17 @@ pub record TurnsSmall (old new : MiniState) (i size start : ℕ) : Type 0 where
       ⊎ ((ns ≡ []) × KeepsSystem mid new × KeepsMini mid new)
   pub lies : LiesTurnedInMinis old new i size start ns
 
--- a small stream's mini chain was freed, and then a chain began
+-- a small stream's mini chain was freed, if it had one, the MiniFAT and the mini stream gave back what they did not need, and then a chain
+-- began
 pub record TurnsLarge (old new : MiniState) (i size start : ℕ) : Type 0 where
   pub was : is_large (entry_at (entries_of old) i) ≡ false
   pub mid : MiniState
   pub ys : List ℕ
   pub count : ℕ
-  pub system : KeepsSystem old mid
+  pub room : SettlesRoom old mid
+  pub none : mini_sectors_owned old i ≡ [] → mid ≡ old
   pub freed : MiniGivesBack [] (mini_sectors_owned old i) old.minifat mid.minifat
-  pub wiped : (m : ℕ) → Contains (mini_sectors_owned old i) m → IsZeroMini new m
+  pub wiped : (m : ℕ) → Contains (mini_sectors_owned old i) m → IsInMiniStream new m → IsZeroMini new m
   pub mini : KeepsMini mid new
   pub longer : Lengthens count [] ys (tables_in mid) (tables_in new)
   pub lies : LiesTurnedInSectors old new i size start ys
@@ -131,6 +135,25 @@ pub record CarriesToMinis (count : ℕ) (list ns : List ℕ) (old new : MiniStat
   pub freed : Shortens 0 list [] (tables_in old) (tables_in mid)
   pub grown : (GrowsFor count mid new × TakesMini old.max_mini_sectors mid.minifat new.minifat [] ns)
       ⊎ ((ns ≡ []) × KeepsSystem mid new × KeepsMini mid new)
+
+-- a mini chain of these was freed, if there were any, the MiniFAT and the mini stream gave back what they did not need, and then a chain of
+-- so many sectors began
+pub record CarriesToSectors (count : ℕ) (list ids : List ℕ) (old new : MiniState) : Type 0 where
+  pub mid : MiniState
+  pub room : SettlesRoom old mid
+  pub none : list ≡ [] → mid ≡ old
+  pub freed : MiniGivesBack [] list old.minifat mid.minifat
+  pub mini : KeepsMini mid new
+  pub longer : Lengthens count [] ids (tables_in mid) (tables_in new)
+
+-- nothing names the mini chain of these, if there are any, and nothing in the FAT the MiniFAT's first sector or the mini stream's
+pub record GoesUnnamed (s : MiniState) (list : List ℕ) : Type 0 where
+  pub chain : 0 < length list → IsUnnamed s.minifat (first_or_end list)
+  pub starts : AreStartsUnnamed s
+
+-- a change to that length moves the stream out of no mini sectors: it had none, or was large, or stays small
+abbrev pub LeavesNoMinis : MiniState → ℕ → ℕ → Type 0
+LeavesNoMinis s i size = (len_of s i ≡ 0) ⊎ (mini_stream_cutoff ≤ len_of s i) ⊎ (size < mini_stream_cutoff)
 
 -- the content of that stream was given this length in one of these six ways, and starts there now
 abbrev pub Turns : MiniState → MiniState → ℕ → ℕ → ℕ → Type 0
@@ -145,11 +168,11 @@ pub record KeepsAround (old new : MiniState) : Type 0 where
   pub entries : MovesRoot old new
   pub limits : KeepsLimits old new
 
--- exact tables stay exact, no sector is lost, and where some were appended none is free
+-- exact tables stay exact, no sector is lost, and where some were appended none is free, and there are no more than the limit allows
 pub record KeepsTablesTight (old new : MiniState) : Type 0 where
   pub exact : AreExactTables (tables_in old) → AreExactTables (tables_in new)
   pub no_shorter : length (tables_in old).fat ≤ length (tables_in new).fat
-  pub none_free : length (tables_in old).fat < length (tables_in new).fat → NoneFree (tables_in new).fat
+  pub none_free : length (tables_in old).fat < length (tables_in new).fat → NoneFree (tables_in new).fat × (length (tables_in new).fat ≤ (tables_in old).max_sectors)
 
 -- ---- refusals
 
@@ -162,13 +185,6 @@ StopsOrBegun old new = HasReason (record (at_every_error (new ≡ old)) {
   memory = (new ≡ old) ⊎ ((table_of new).file.begun ≡ true);
   invalid_data = (new ≡ old) ⊎ ((table_of new).file.begun ≡ true);
 })
-
--- not one byte more can be had for the stream: a large one has no sector to go on with, one that is to move has too few, and a small one
--- has no mini sector, or none of the sectors for it
-abbrev pub CannotGrow : MiniState → ℕ → Type 0
-CannotGrow s i = ((mini_stream_cutoff ≤ len_of s i) × AreFullTables (tables_in s))
-    ⊎ ((len_of s i + 1 ≡ mini_stream_cutoff) × IsTooFew (tables_in s) (rounded_up mini_stream_cutoff (sector_len (version_of s))))
-    ⊎ ((len_of s i + 1 < mini_stream_cutoff) × IsTooFewFor s 1)
 
 -- the same where `Full` comes with full tables as they are left, or where all mini sectors are in use that there may be: the sectors that
 -- there were, too few, may have been taken then

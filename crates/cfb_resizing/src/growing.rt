@@ -1,9 +1,9 @@
 //! How far a stream can grow with the numbers that are left, and its growth as far as that.
-ghost use Rattle.std.specs.Prelude.{◌≡◌, ◌+◌, ◌<◌, ◌≤◌, ◌⊎◌, ◌↔◌, ◌||◌, length, false, true, IsTrue, IfOk, IfErr, OnOk, OnErr};
+ghost use Rattle.std.specs.Prelude.{◌≡◌, ◌+◌, ◌-◌, ◌<◌, ◌≤◌, ◌⊎◌, ◌↔◌, ◌||◌, length, false, true, IsTrue, IfOk, IfErr, OnOk, OnErr};
 ghost use Rattle.cfb_format.specs.declared.validate.Validation.{Validation};
 ghost use Rattle.cfb_format.specs.Bytes.{max_stream_len, sector_len};
 ghost use Rattle.cfb_format.specs.Content.{mini_stream_cutoff};
-ghost use Rattle.cfb_format.specs.Full.{IsFullOfMiniSectors, rounded_up};
+ghost use Rattle.cfb_format.specs.Full.{IsFullOfMiniSectors, free_count, max_mini_sectors, rounded_up};
 ghost use Rattle.cfb_format.specs.Refused.{CountsFailure};
 ghost use Rattle.cfb_format.specs.Siblings.{entry_at};
 ghost use Rattle.cfb_rules.specs.StreamCalls.{resized};
@@ -11,13 +11,13 @@ ghost use Rattle.cfb_tables.specs.Changes.{NoneFree};
 ghost use Rattle.cfb_tables.specs.Refused.{ChangeRefused};
 ghost use Rattle.cfb_tables.specs.Tables.{AreFullTables, IsTooFew};
 ghost use Rattle.cfb_mini_sectors.specs.State.{HoldsMini, IsChangeable, bytes_of, content_of, entries_of, parts_of, table_of, tables_in, version_of};
-ghost use Rattle.cfb_mini_sectors.specs.Steps.{IsTooFewFor, KeepsLimits};
+ghost use Rattle.cfb_mini_sectors.specs.Steps.{IsSnugMini, IsTooFewFor, KeepsLimits};
 ghost use Rattle.cfb_mini.specs.MiniSectors.{IsStill};
-ghost use Rattle.cfb_content.specs.Contents.{AreAllUsed, IsNotChangeable, IsStreamOf, KeepsFixedHeader, KeepsOthers, MovesContent, SizesChain, len_of};
+ghost use Rattle.cfb_content.specs.Contents.{AreAllUsed, IsNotChangeable, IsStreamOf, IsTooLongFor, KeepsFixedHeader, KeepsOthers, MovesContent, SizesChain, len_of};
 ghost use Rattle.cfb_content.specs.Laws.{LacksNumbersFor};
-ghost use Rattle.cfb_resizing.specs.Turning.{CannotGrow, KeepsAround, KeepsTablesTight, StopsOrIsFull};
+ghost use Rattle.cfb_resizing.specs.Turning.{KeepsAround, KeepsTablesTight, LeavesNoMinis, StopsOrIsFull};
 
-use crate::resizing::{resize_content, unplaced};
+use crate::resizing::{can_resize, resize_content, unplaced};
 use cfb_content::in_minis::whole_mini_chain;
 use cfb_content::listed::whole_chain_len;
 use cfb_content::reading::content_in;
@@ -40,7 +40,7 @@ fn len_in_sectors<F: ReadMedium, A: Heap + Clone>(
     requires longer { len_of mini.now entry < wanted }
     ensures within { IfOk result (λ len. (len_of mini.now entry ≤ len) × (len ≤ wanted)) }
     ensures enough { IfOk result (λ len. LacksNumbersFor mini.now entry len → ⊥) }
-    ensures none { IfOk result (λ len. len ≡ len_of mini.now entry → AreFullTables (tables_in mini.now)) }
+    ensures none { IfOk result (λ len. len ≡ len_of mini.now entry → LacksNumbersFor mini.now entry wanted) }
     ensures err { IfErr result (ChangeRefused (IsNotChangeable mini.now) Unit ⊥ ⊥) }
 {
     let (start, len) = content_in(mini, entry);
@@ -81,7 +81,7 @@ fn len_in_minis<F: ReadMedium, A: Heap + Clone>(
     requires longer { len_of mini.now entry < wanted }
     ensures within { IfOk result (λ len. (len_of mini.now entry ≤ len) × (len ≤ wanted)) }
     ensures enough { IfOk result (λ len. (validation : Validation) → HoldsMini validation mini.now → LacksNumbersFor mini.now entry len → ⊥) }
-    ensures none { IfOk result (λ len. len ≡ len_of mini.now entry → len + 1 < mini_stream_cutoff → IsTooFewFor mini.now 1) }
+    ensures none { IfOk result (λ len. len ≡ len_of mini.now entry → wanted < mini_stream_cutoff → LacksNumbersFor mini.now entry wanted) }
     ensures err { IfErr result (ChangeRefused (IsNotChangeable mini.now) Unit ⊥ ⊥) }
 {
     let (start, len) = content_in(mini, entry);
@@ -105,7 +105,7 @@ fn grown_len<F: ReadMedium, A: Heap + Clone>(
     requires longer { len_of mini.now entry < wanted }
     ensures within { IfOk result (λ len. (len_of mini.now entry ≤ len) × (len ≤ wanted)) }
     ensures enough { IfOk result (λ len. (validation : Validation) → HoldsMini validation mini.now → LacksNumbersFor mini.now entry len → ⊥) }
-    ensures none { IfOk result (λ len. len ≡ len_of mini.now entry → CannotGrow mini.now entry) }
+    ensures none { IfOk result (λ len. len ≡ len_of mini.now entry → LacksNumbersFor mini.now entry wanted) }
     ensures err { IfErr result (ChangeRefused (IsNotChangeable mini.now) Unit ⊥ ⊥) }
 {
     let (_, len) = content_in(mini, entry);
@@ -119,9 +119,9 @@ fn grown_len<F: ReadMedium, A: Heap + Clone>(
     len_in_minis(mini, entry, wanted)
 }
 
-/// Whether no mini sector is free and their number is at its limit.
-fn are_minis_full<F: ReadMedium, A: Heap>(mini: &MiniAllocator<F, A>) -> bool
-    ensures full { IsTrue result ↔ IsFullOfMiniSectors (parts_of mini.now) }
+/// How many mini sectors there can be more: those that are free, and those up to their limit.
+fn minis_left<F: ReadMedium, A: Heap>(mini: &MiniAllocator<F, A>) -> usize
+    ensures left { result ≡ free_count mini.now.minifat + (max_mini_sectors (version_of mini.now) - length mini.now.minifat) }
     ensures within { length mini.now.minifat ≤ mini.now.max_mini_sectors }
 {
     let limit = max_len(mini.version()) as usize;
@@ -131,16 +131,72 @@ fn are_minis_full<F: ReadMedium, A: Heap>(mini: &MiniAllocator<F, A>) -> bool
         .iter()
         .filter(|value| **value == FREE_SECTOR)
         .count();
-    free == 0 && limit <= len
+    free.saturating_add(limit.saturating_sub(len))
 }
 
-/// Takes what is left of the numbers that a stream lacks which cannot grow, so that `Full` comes with full tables.
+/// Takes what is left of so many mini sectors, or of the sectors for them, of which there are too few, so that `Full` comes with full tables,
+/// or with all mini sectors that there may be.
+fn take_minis_left<F: Medium, A: Heap + Clone>(
+    mini: &mut MiniAllocator<F, A>,
+    entry: u32,
+    count: usize,
+) -> Result<(), Error>
+    requires stream { IsStreamOf mini.old entry }
+    requires some { 0 < count }
+    requires few { IsTooFewFor mini.old count }
+    ensures others { IsTrue F.tells → (validation : Validation) → IsChangeable validation mini.old → KeepsOthers entry mini.old mini.new }
+    ensures header { IsTrue F.tells → KeepsFixedHeader mini.old mini.new }
+    ensures around { KeepsAround mini.old mini.new }
+    ensures full { OnOk result (IsFullOfMiniSectors (parts_of mini.new)) }
+    ensures begun { OnOk result ((mini.new ≡ mini.old) ⊎ ((table_of mini.new).file.begun ≡ true)) }
+    ensures refused { (validation : Validation) → HoldsMini validation mini.old → IfErr result (StopsOrIsFull mini.old mini.new) }
+    ensures still { OnErr result (IsStill mini.old mini.new ⊎ ((table_of mini.new).file.begun ≡ true)) }
+    ensures unwritten { IsTrue F.tells → (table_of mini.new).file.begun ≡ false → bytes_of mini.new ≡ bytes_of mini.old }
+    ensures err { IfErr result (ChangeRefused (IsNotChangeable mini.old) Unit Unit Unit) }
+    ensures counts { IsTrue F.tells → CountsFailure F.write_faults result (table_of mini.old).file.failures (table_of mini.new).file.failures }
+{
+    let left = minis_left(mini);
+    if left == 0 {
+        return Ok(());
+    }
+    let mut ids = Vec::new(mini.heap().clone()?);
+    mini.extend_mini_listed(&mut ids, count.min(left))
+}
+
+/// Takes what is left of so many sectors, of which there are too few, so that `Full` comes with full tables.
+fn take_sectors_left<F: Medium, A: Heap + Clone>(
+    mini: &mut MiniAllocator<F, A>,
+    entry: u32,
+    needed: usize,
+) -> Result<(), Error>
+    requires stream { IsStreamOf mini.old entry }
+    requires few { IsTooFew (tables_in mini.old) needed }
+    ensures others { IsTrue F.tells → (validation : Validation) → IsChangeable validation mini.old → KeepsOthers entry mini.old mini.new }
+    ensures header { IsTrue F.tells → KeepsFixedHeader mini.old mini.new }
+    ensures around { KeepsAround mini.old mini.new }
+    ensures full { OnOk result (AreFullTables (tables_in mini.new)) }
+    ensures begun { OnOk result ((mini.new ≡ mini.old) ⊎ ((table_of mini.new).file.begun ≡ true)) }
+    ensures refused { (validation : Validation) → HoldsMini validation mini.old → IfErr result (StopsOrIsFull mini.old mini.new) }
+    ensures still { OnErr result (IsStill mini.old mini.new ⊎ ((table_of mini.new).file.begun ≡ true)) }
+    ensures unwritten { IsTrue F.tells → (table_of mini.new).file.begun ≡ false → bytes_of mini.new ≡ bytes_of mini.old }
+    ensures err { IfErr result (ChangeRefused (IsNotChangeable mini.old) Unit Unit Unit) }
+    ensures counts { IsTrue F.tells → CountsFailure F.write_faults result (table_of mini.old).file.failures (table_of mini.new).file.failures }
+{
+    let allocator = mini.allocator_mut();
+    let rest = allocator.takable(needed);
+    allocator.extend_chain_by(END_OF_CHAIN, rest, SectorInit::Zero)?;
+    Ok(())
+}
+
+/// Takes what is left of the numbers that a stream lacks for this length, so that `Full` comes with full tables.
 fn take_the_rest<F: Medium, A: Heap + Clone>(
     mini: &mut MiniAllocator<F, A>,
     entry: u32,
+    wanted: u64,
 ) -> Result<(), Error>
     requires stream { IsStreamOf mini.old entry }
-    requires stuck { CannotGrow mini.old entry }
+    requires longer { len_of mini.old entry < wanted }
+    requires stuck { LacksNumbersFor mini.old entry wanted }
     ensures others { IsTrue F.tells → (validation : Validation) → IsChangeable validation mini.old → KeepsOthers entry mini.old mini.new }
     ensures header { IsTrue F.tells → KeepsFixedHeader mini.old mini.new }
     ensures around { KeepsAround mini.old mini.new }
@@ -152,30 +208,19 @@ fn take_the_rest<F: Medium, A: Heap + Clone>(
     ensures err { IfErr result (ChangeRefused (IsNotChangeable mini.old) Unit Unit Unit) }
     ensures counts { IsTrue F.tells → CountsFailure F.write_faults result (table_of mini.old).file.failures (table_of mini.new).file.failures }
 {
-    let (_, len) = content_in(mini, entry);
-    let cutoff = MINI_STREAM_CUTOFF as u64;
-    if len >= cutoff {
-        return Ok(());
+    if wanted < MINI_STREAM_CUTOFF as u64 {
+        let count = wanted.div_ceil(MINI_SECTOR_LEN as u64) as usize;
+        return take_minis_left(mini, entry, count);
     }
-    if len + 1 < cutoff {
-        if are_minis_full(mini) {
-            return Ok(());
-        }
-        let mut ids = Vec::new(mini.heap().clone()?);
-        return mini.extend_mini_listed(&mut ids, 1);
-    }
-    let needed = (cutoff as usize).div_ceil(mini.sector_len());
-    let allocator = mini.allocator_mut();
-    let rest = allocator.takable(needed);
-    allocator.extend_chain_by(END_OF_CHAIN, rest, SectorInit::Zero)?;
-    Ok(())
+    let needed = wanted.div_ceil(mini.sector_len() as u64) as usize;
+    take_sectors_left(mini, entry, needed)
 }
 
 /// Makes the stream of that entry longer, padded with zeros, to at most this length, as far as there are numbers for it, and answers
 /// its length then, which is more than it was.
 ///
 /// `Full` only where not one byte more can be had, and then with full tables, or with all mini sectors that there may be in use: the
-/// sectors that there were for it may have been taken. No sector becomes free. `InvalidData`, `Memory` and `Medium` as in `resize_content`,
+/// sectors that there were for it may have been taken. No sector becomes free but where the stream leaves mini sectors. `InvalidData`, `Memory` and `Medium` as in `resize_content`,
 /// and the chain of a stream in sectors is kept as there.
 pub fn grow_content<F: Medium, A: Heap + Clone>(
     mini: &mut MiniAllocator<F, A>,
@@ -196,7 +241,9 @@ pub fn grow_content<F: Medium, A: Heap + Clone>(
     ensures sized { IsTrue F.tells → (validation : Validation) → IsChangeable validation mini.old
         → OnOk result (SizesChain mini.old mini.new entry) }
     ensures tight { OnOk result (KeepsTablesTight mini.old mini.new) }
-    ensures stays_full { IsTrue F.tells → (validation : Validation) → IsChangeable validation mini.old → NoneFree (tables_in mini.old).fat → OnOk result (NoneFree (tables_in mini.new).fat) }
+    ensures snug_mini { IsTrue F.tells → (validation : Validation) → IsChangeable validation mini.old → IsSnugMini mini.old → OnOk result (IsSnugMini mini.new) }
+    ensures stays_full { IsTrue F.tells → (validation : Validation) → IsChangeable validation mini.old → LeavesNoMinis mini.old entry wanted
+        → NoneFree (tables_in mini.old).fat → OnOk result (NoneFree (tables_in mini.new).fat) }
     ensures directory { mini.new.directory.sectors ≡ mini.old.directory.sectors }
     ensures limits { KeepsLimits mini.old mini.new }
     ensures begun { OnOk result ((table_of mini.new).file.begun ≡ true) }
@@ -218,6 +265,56 @@ pub fn grow_content<F: Medium, A: Heap + Clone>(
         resize_content(mini, entry, size)?;
         return Ok(size);
     }
-    take_the_rest(mini, entry)?;
+    take_the_rest(mini, entry, wanted)?;
+    Err(Error::Full)
+}
+
+/// Makes the stream of that entry so long, padded with zeros, by one change, or not at all.
+///
+/// `Full` where there are too few numbers for that, and then with full tables, or with all mini sectors that there may be in use: the
+/// sectors that there were, too few, may have been taken. `InvalidData`, `Memory` and `Medium` as in `resize_content`, and the chain of a
+/// stream in sectors is kept as there.
+pub(crate) fn grow_to<F: Medium, A: Heap + Clone>(
+    mini: &mut MiniAllocator<F, A>,
+    entry: u32,
+    wanted: u64,
+) -> Result<(), Error>
+    requires stream { IsStreamOf mini.old entry }
+    requires longer { len_of mini.old entry < wanted }
+    requires limit { wanted ≤ max_stream_len (version_of mini.old) }
+    ensures len { OnOk result (len_of mini.new entry ≡ wanted) }
+    ensures entries { MovesContent mini.old mini.new entry }
+    ensures content { IsTrue F.tells → (validation : Validation) → IsChangeable validation mini.old
+        → OnOk result (content_of mini.new (entry_at (entries_of mini.new) entry) ≡ resized (content_of mini.old (entry_at (entries_of mini.old) entry)) wanted) }
+    ensures others { IsTrue F.tells → (validation : Validation) → IsChangeable validation mini.old → KeepsOthers entry mini.old mini.new }
+    ensures header { IsTrue F.tells → KeepsFixedHeader mini.old mini.new }
+    ensures holds { IsTrue F.tells → (validation : Validation) → IsChangeable validation mini.old → OnOk result (IsChangeable validation mini.new) }
+    ensures owned { IsTrue F.tells → (validation : Validation) → IsChangeable validation mini.old → AreAllUsed mini.old → OnOk result (AreAllUsed mini.new) }
+    ensures sized { IsTrue F.tells → (validation : Validation) → IsChangeable validation mini.old
+        → OnOk result (SizesChain mini.old mini.new entry) }
+    ensures tight { OnOk result (KeepsTablesTight mini.old mini.new) }
+    ensures snug_mini { IsTrue F.tells → (validation : Validation) → IsChangeable validation mini.old → IsSnugMini mini.old → OnOk result (IsSnugMini mini.new) }
+    ensures stays_full { IsTrue F.tells → (validation : Validation) → IsChangeable validation mini.old → LeavesNoMinis mini.old entry wanted
+        → NoneFree (tables_in mini.old).fat → OnOk result (NoneFree (tables_in mini.new).fat) }
+    ensures directory { mini.new.directory.sectors ≡ mini.old.directory.sectors }
+    ensures limits { KeepsLimits mini.old mini.new }
+    ensures begun { OnOk result ((table_of mini.new).file.begun ≡ true) }
+    ensures refused { IsTrue F.tells → (validation : Validation) → HoldsMini validation mini.old → IfErr result (StopsOrIsFull mini.old mini.new) }
+    ensures still { OnErr result (IsStill mini.old mini.new ⊎ ((table_of mini.new).file.begun ≡ true)) }
+    ensures unwritten { IsTrue F.tells → (table_of mini.new).file.begun ≡ false → bytes_of mini.new ≡ bytes_of mini.old }
+    ensures err { IfErr result (ChangeRefused (IsTrue F.tells → IsNotChangeable mini.old) Unit
+        ((validation : Validation) → HoldsMini validation mini.old → IsTooLongFor mini.old entry wanted) Unit) }
+    ensures counts { IsTrue F.tells
+        → CountsFailure (λ f. F.read_faults f || F.write_faults f) result (table_of mini.old).file.failures (table_of mini.new).file.failures }
+{
+    if !mini.directory().is_placed() {
+        return Err(unplaced(entry));
+    }
+    let fits = can_resize(mini, entry, wanted)?;
+    if fits {
+        resize_content(mini, entry, wanted)?;
+        return Ok(());
+    }
+    take_the_rest(mini, entry, wanted)?;
     Err(Error::Full)
 }

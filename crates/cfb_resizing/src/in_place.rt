@@ -15,7 +15,7 @@ ghost use Rattle.cfb_alloc.specs.ListedChain.{Lengthens};
 ghost use Rattle.cfb_chains.specs.ChainPlaces.{place_along};
 ghost use Rattle.cfb_mini_table.specs.MiniTable.{TakesMini};
 ghost use Rattle.cfb_mini_sectors.specs.State.{HoldsMini, IsChangeable, bytes_of, table_of, tables_in, version_of};
-ghost use Rattle.cfb_mini_sectors.specs.Steps.{GrowsFor, IsNotHeld, IsTooFewFor, KeepsMini, KeepsSystem, SparesMini, system_sectors};
+ghost use Rattle.cfb_mini_sectors.specs.Steps.{GrowsFor, IsNotHeld, IsSnugMini, IsTooFewFor, KeepsMini, KeepsSystem, SparesMini, system_sectors};
 ghost use Rattle.cfb_mini.specs.MiniSectors.{HasMiniSector};
 ghost use Rattle.cfb_content.specs.Contents.{IsNotChangeable, IsStreamOf, KeepsFixedHeader, KeepsOthers, len_of, mini_place_along};
 ghost use Rattle.cfb_content.specs.Laws.{LacksNumbersFor};
@@ -97,6 +97,7 @@ pub(crate) fn grow_in_sectors<F: Medium, A: Heap + Clone>(
     ensures header { IsTrue F.tells → KeepsFixedHeader mini.old mini.new }
     ensures around { KeepsAround mini.old mini.new }
     ensures tight { OnOk result (KeepsTablesTight mini.old mini.new) }
+    ensures snug_mini { IsTrue F.tells → (validation : Validation) → IsChangeable validation mini.old → IsSnugMini mini.old → OnOk result (IsSnugMini mini.new) }
     ensures enough { OnOk result (LacksNumbersFor mini.old entry size → ⊥) }
     ensures refused { IfErr result (StopsOrBegun mini.old mini.new) }
     ensures unwritten { IsTrue F.tells → (table_of mini.new).file.begun ≡ false → bytes_of mini.new ≡ bytes_of mini.old }
@@ -130,6 +131,7 @@ pub(crate) fn cut_in_sectors<F: Medium, A: Heap + Clone>(
     ensures around { KeepsAround mini.old mini.new }
     ensures few { IfOk result (λ start. (list : List ℕ) → IsChain (tables_in mini.new).fat start list → length list ≡ rounded_up size (sector_len (version_of mini.old))) }
     ensures tight { OnOk result (KeepsTablesTight mini.old mini.new) }
+    ensures snug_mini { IsTrue F.tells → (validation : Validation) → IsChangeable validation mini.old → IsSnugMini mini.old → OnOk result (IsSnugMini mini.new) }
     ensures enough { OnOk result (LacksNumbersFor mini.old entry size → ⊥) }
     ensures refused { IfErr result (StopsOrBegun mini.old mini.new) }
     ensures unwritten { IsTrue F.tells → (table_of mini.new).file.begun ≡ false → bytes_of mini.new ≡ bytes_of mini.old }
@@ -191,6 +193,7 @@ fn lengthen_in_minis<F: Medium, A: Heap + Clone>(
     ensures mini_spares { IsTrue F.tells → (validation : Validation) → HoldsMini validation mini.old → SparesMini ids.old.items mini.old mini.new }
     ensures around { KeepsAround mini.old mini.new }
     ensures tight { OnOk result (KeepsTablesTight mini.old mini.new) }
+    ensures snug_mini { IsTrue F.tells → (validation : Validation) → HoldsMini validation mini.old → IsSnugMini mini.old → OnOk result (IsSnugMini mini.new) }
     ensures refused { IfErr result (StopsOrBegun mini.old mini.new) }
     ensures unwritten { IsTrue F.tells → (table_of mini.new).file.begun ≡ false → bytes_of mini.new ≡ bytes_of mini.old }
     ensures err { IfErr result (ChangeRefused (IsNotHeld mini.old) Unit ⊥ Unit) }
@@ -218,6 +221,7 @@ pub(crate) fn grow_in_minis<F: Medium, A: Heap + Clone>(
     ensures header { IsTrue F.tells → KeepsFixedHeader mini.old mini.new }
     ensures around { KeepsAround mini.old mini.new }
     ensures tight { OnOk result (KeepsTablesTight mini.old mini.new) }
+    ensures snug_mini { IsTrue F.tells → (validation : Validation) → IsChangeable validation mini.old → IsSnugMini mini.old → OnOk result (IsSnugMini mini.new) }
     ensures enough { OnOk result (LacksNumbersFor mini.old entry size → ⊥) }
     ensures refused { IfErr result (StopsOrBegun mini.old mini.new) }
     ensures unwritten { IsTrue F.tells → (table_of mini.new).file.begun ≡ false → bytes_of mini.new ≡ bytes_of mini.old }
@@ -257,6 +261,7 @@ pub(crate) fn cut_in_minis<F: Medium, A: Heap + Clone>(
     ensures takes_none { length (tables_in mini.new).fat ≡ length (tables_in mini.old).fat }
     ensures few { IfOk result (λ start. (list : List ℕ) → IsChain mini.new.minifat start list → length list ≡ rounded_up size mini_sector_len) }
     ensures tight { OnOk result (KeepsTablesTight mini.old mini.new) }
+    ensures snug_mini { IsTrue F.tells → (validation : Validation) → IsChangeable validation mini.old → IsSnugMini mini.old → OnOk result (IsSnugMini mini.new) }
     ensures enough { (validation : Validation) → HoldsMini validation mini.old → OnOk result (LacksNumbersFor mini.old entry size → ⊥) }
     ensures refused { IfErr result (StopsOrBegun mini.old mini.new) }
     ensures unwritten { IsTrue F.tells → (table_of mini.new).file.begun ≡ false → bytes_of mini.new ≡ bytes_of mini.old }

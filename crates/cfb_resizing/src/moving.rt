@@ -15,14 +15,13 @@ ghost use Rattle.cfb_alloc.specs.Alloc.{HoldsTables, IsOtherHeaderByte, IsUsable
 ghost use Rattle.cfb_alloc.specs.Frame.{Spares};
 ghost use Rattle.cfb_alloc.specs.ListedChain.{Lengthens};
 ghost use Rattle.cfb_chains.specs.ChainPlaces.{place_along};
-ghost use Rattle.cfb_mini_table.specs.MiniTable.{MiniGivesBack};
 ghost use Rattle.cfb_mini_sectors.specs.State.{HoldsMini, IsChangeable, bytes_of, mini_stream_of, table_of, tables_in, version_of};
-ghost use Rattle.cfb_mini_sectors.specs.Steps.{IsNotHeld, IsTooFewAfterFor, IsZeroMini, SparesMini, system_sectors};
+ghost use Rattle.cfb_mini_sectors.specs.Steps.{IsInMiniStream, IsNotHeld, IsSnugMini, IsTooFewAfterFor, IsZeroMini, SparesMini, system_sectors};
 ghost use Rattle.cfb_mini.specs.MiniSectors.{IsStill};
 ghost use Rattle.cfb_content.specs.Contents.{IsNotChangeable, IsStreamOf, KeepsFixedHeader, KeepsOthers, len_of, mini_place_along};
 ghost use Rattle.cfb_content.specs.Laws.{LacksNumbersFor};
 ghost use Rattle.cfb_content.specs.Parts.{IsThereInMinis, IsThereInSectors, StandAlong};
-ghost use Rattle.cfb_resizing.specs.Turning.{CarriesToMinis, IsPaddedAlong, KeepsAround, KeepsTablesTight, StopsOrBegun, Turns};
+ghost use Rattle.cfb_resizing.specs.Turning.{CarriesToMinis, CarriesToSectors, GoesUnnamed, IsPaddedAlong, KeepsAround, KeepsTablesTight, StopsOrBegun, Turns};
 
 use cfb_alloc::alloc::Allocator;
 use cfb_content::in_minis::{get_from_minis, put_in_minis, whole_mini_chain};
@@ -138,6 +137,8 @@ fn carry_to_minis<F: Medium, A: Heap>(
         → IsUnnamed (tables_in mini.old).fat (first_or_end list.now) → SparesMini [] mini.old mini.new }
     ensures around { KeepsAround mini.old mini.new }
     ensures tight { OnOk result (KeepsTablesTight mini.old mini.new) }
+    ensures snug_mini { IsTrue F.tells → (validation : Validation) → HoldsMini validation mini.old → AreDisjoint (system_sectors mini.old) list.now
+        → IsUnnamed (tables_in mini.old).fat (first_or_end list.now) → IsSnugMini mini.old → OnOk result (IsSnugMini mini.new) }
     ensures first { count ≡ 0 → IfErr result (AfterMedium Unit (mini.new ≡ mini.old)) }
     ensures takes_none { count ≡ 0 → length (tables_in mini.new).fat ≡ length (tables_in mini.old).fat }
     ensures begun { OnOk result ((table_of mini.new).file.begun ≡ true) }
@@ -193,6 +194,7 @@ pub(crate) fn move_to_minis<F: Medium, A: Heap + Clone>(
     ensures first { IsTrue F.tells → size ≡ 0 → IfErr result (AfterMedium Unit (mini.new ≡ mini.old)) }
     ensures takes_none { size ≡ 0 → length (tables_in mini.new).fat ≡ length (tables_in mini.old).fat }
     ensures tight { OnOk result (KeepsTablesTight mini.old mini.new) }
+    ensures snug_mini { IsTrue F.tells → (validation : Validation) → IsChangeable validation mini.old → IsSnugMini mini.old → OnOk result (IsSnugMini mini.new) }
     ensures enough { OnOk result (LacksNumbersFor mini.old entry size → ⊥) }
     ensures refused { IsTrue F.tells → IfErr result (StopsOrBegun mini.old mini.new) }
     ensures still { OnErr result (IsStill mini.old mini.new ⊎ ((table_of mini.new).file.begun ≡ true)) }
@@ -250,7 +252,8 @@ fn begin_in_sectors<F: Medium, A: Heap>(
     put
 }
 
-/// Frees a mini chain, and then begins a chain of so many sectors with these bytes: behind them are zeros. There are numbers for them.
+/// Frees a mini chain, and then begins a chain of so many sectors with these bytes: behind them are zeros. There are numbers for them. What
+/// the MiniFAT and the mini stream do not need any more is free before the chain begins.
 fn carry_to_sectors<F: Medium, A: Heap>(
     mini: &mut MiniAllocator<F, A>,
     list: &mut Vec<u32, A>,
@@ -265,24 +268,20 @@ fn carry_to_sectors<F: Medium, A: Heap>(
     requires usable { IsUsable (tables_in mini.old) }
     requires enough { IsTooFew (tables_in mini.old) count → ⊥ }
     ensures chain { OnOk result (IsChain (tables_in mini.new).fat (first_or_end ids.new.items) ids.new.items) }
-    ensures freed { OnOk result (MiniGivesBack [] list.old.items mini.old.minifat mini.new.minifat) }
-    ensures lengthened { OnOk result (Lengthens count [] ids.new.items (tables_in mini.old) (tables_in mini.new)) }
-    ensures minifat_sectors { mini.new.minifat_sectors ≡ mini.old.minifat_sectors }
-    ensures mini_stream { mini.new.mini_stream ≡ mini.old.mini_stream }
-    ensures padded { IsTrue F.tells → (validation : Validation) → HoldsMini validation mini.old
-        → (0 < length list.old.items → IsUnnamed mini.old.minifat (first_or_end list.old.items))
+    ensures carried { (validation : Validation) → HoldsMini validation mini.old → OnOk result (CarriesToSectors count list.old.items ids.new.items mini.old mini.new) }
+    ensures apart { IsTrue F.tells → (validation : Validation) → HoldsMini validation mini.old → GoesUnnamed mini.old list.old.items
+        → OnOk result (AreDisjoint ids.new.items (system_sectors mini.new)) }
+    ensures padded { IsTrue F.tells → (validation : Validation) → HoldsMini validation mini.old → GoesUnnamed mini.old list.old.items
         → OnOk result (IsPaddedAlong (length bytes.now) (count * sector_len (version_of mini.old)) (λ k. k) (place_along (version_of mini.old) ids.new.items)
         bytes.now (bytes_of mini.new)) }
-    ensures holds { IsTrue F.tells → (validation : Validation) → HoldsMini validation mini.old
-        → (0 < length list.old.items → IsUnnamed mini.old.minifat (first_or_end list.old.items)) → OnOk result (HoldsMini validation mini.new) }
-    ensures wiped { IsTrue F.tells → (validation : Validation) → HoldsMini validation mini.old
-        → (0 < length list.old.items → IsUnnamed mini.old.minifat (first_or_end list.old.items))
-        → OnOk result ((m : ℕ) → Contains list.old.items m → IsZeroMini mini.new m) }
+    ensures holds { IsTrue F.tells → (validation : Validation) → HoldsMini validation mini.old → GoesUnnamed mini.old list.old.items → OnOk result (HoldsMini validation mini.new) }
+    ensures wiped { IsTrue F.tells → (validation : Validation) → HoldsMini validation mini.old → GoesUnnamed mini.old list.old.items
+        → OnOk result ((m : ℕ) → Contains list.old.items m → IsInMiniStream mini.new m → IsZeroMini mini.new m) }
     ensures spares { IsTrue F.tells → Spares (system_sectors mini.old) (table_of mini.old) (table_of mini.new) }
-    ensures mini_spares { IsTrue F.tells → (validation : Validation) → HoldsMini validation mini.old
-        → (0 < length list.old.items → IsUnnamed mini.old.minifat (first_or_end list.old.items)) → SparesMini list.old.items mini.old mini.new }
+    ensures mini_spares { IsTrue F.tells → (validation : Validation) → HoldsMini validation mini.old → GoesUnnamed mini.old list.old.items → SparesMini list.old.items mini.old mini.new }
     ensures around { KeepsAround mini.old mini.new }
     ensures tight { OnOk result (KeepsTablesTight mini.old mini.new) }
+    ensures snug_mini { (validation : Validation) → HoldsMini validation mini.old → IsSnugMini mini.old → OnOk result (IsSnugMini mini.new) }
     ensures begun { OnOk result ((table_of mini.new).file.begun ≡ true) }
     ensures refused { IfErr result (StopsOrBegun mini.old mini.new) }
     ensures unwritten { (table_of mini.new).file.begun ≡ false → bytes_of mini.new ≡ bytes_of mini.old }
@@ -330,6 +329,7 @@ pub(crate) fn move_to_sectors<F: Medium, A: Heap + Clone>(
     ensures header { IsTrue F.tells → KeepsFixedHeader mini.old mini.new }
     ensures around { KeepsAround mini.old mini.new }
     ensures tight { OnOk result (KeepsTablesTight mini.old mini.new) }
+    ensures snug_mini { IsTrue F.tells → (validation : Validation) → IsChangeable validation mini.old → IsSnugMini mini.old → OnOk result (IsSnugMini mini.new) }
     ensures enough { OnOk result (LacksNumbersFor mini.old entry size → ⊥) }
     ensures refused { IsTrue F.tells → IfErr result (StopsOrBegun mini.old mini.new) }
     ensures still { OnErr result (IsStill mini.old mini.new ⊎ ((table_of mini.new).file.begun ≡ true)) }

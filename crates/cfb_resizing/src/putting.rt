@@ -8,12 +8,12 @@ ghost use Rattle.cfb_format.specs.Siblings.{entry_at};
 ghost use Rattle.cfb_tables.specs.Changes.{NoneFree};
 ghost use Rattle.cfb_tables.specs.Refused.{ChangeRefused};
 ghost use Rattle.cfb_mini_sectors.specs.State.{HoldsMini, IsChangeable, bytes_of, content_of, entries_of, table_of, tables_in, version_of};
-ghost use Rattle.cfb_mini_sectors.specs.Steps.{KeepsLimits};
+ghost use Rattle.cfb_mini_sectors.specs.Steps.{IsSnugMini, KeepsLimits};
 ghost use Rattle.cfb_mini.specs.MiniSectors.{IsStill};
-ghost use Rattle.cfb_content.specs.Contents.{AreAllUsed, IsNotChangeable, IsStreamOf, KeepsFixedHeader, KeepsOthers, MovesContent, SizesChain, len_of};
-ghost use Rattle.cfb_resizing.specs.Turning.{KeepsTablesTight, StopsOrIsFull};
+ghost use Rattle.cfb_content.specs.Contents.{AreAllUsed, IsNotChangeable, IsStreamOf, IsTooLongFor, KeepsFixedHeader, KeepsOthers, MovesContent, SizesChain, len_of};
+ghost use Rattle.cfb_resizing.specs.Turning.{KeepsTablesTight, LeavesNoMinis, StopsOrIsFull};
 
-use crate::growing::grow_content;
+use crate::growing::{grow_content, grow_to};
 use cfb_content::reading::content_in;
 use cfb_content::writing::{write_content, write_listed};
 use cfb_format::consts::{MINI_SECTOR_LEN, MINI_STREAM_CUTOFF};
@@ -64,7 +64,9 @@ fn append_content<F: Medium, A: Heap + Clone>(
     ensures sized { IsTrue F.tells → (validation : Validation) → IsChangeable validation mini.old
         → OnOk result (SizesChain mini.old mini.new entry) }
     ensures tight { OnOk result (KeepsTablesTight mini.old mini.new) }
-    ensures stays_full { IsTrue F.tells → (validation : Validation) → IsChangeable validation mini.old → NoneFree (tables_in mini.old).fat → OnOk result (NoneFree (tables_in mini.new).fat) }
+    ensures snug_mini { IsTrue F.tells → (validation : Validation) → IsChangeable validation mini.old → IsSnugMini mini.old → OnOk result (IsSnugMini mini.new) }
+    ensures stays_full { IsTrue F.tells → (validation : Validation) → IsChangeable validation mini.old → LeavesNoMinis mini.old entry (len_of mini.old entry + length bytes.now)
+        → NoneFree (tables_in mini.old).fat → OnOk result (NoneFree (tables_in mini.new).fat) }
     ensures limits { KeepsLimits mini.old mini.new }
     ensures refused { IsTrue F.tells → (validation : Validation) → HoldsMini validation mini.old → IfErr result (StopsOrIsFull mini.old mini.new) }
     ensures still { OnErr result (IsStill mini.old mini.new ⊎ ((table_of mini.new).file.begun ≡ true)) }
@@ -113,7 +115,10 @@ pub fn put_content<F: Medium, A: Heap + Clone>(
     ensures sized { IsTrue F.tells → (validation : Validation) → IsChangeable validation mini.old
         → OnOk result (SizesChain mini.old mini.new entry) }
     ensures tight { OnOk result (KeepsTablesTight mini.old mini.new) }
-    ensures stays_full { IsTrue F.tells → (validation : Validation) → IsChangeable validation mini.old → NoneFree (tables_in mini.old).fat → OnOk result (NoneFree (tables_in mini.new).fat) }
+    ensures snug_mini { IsTrue F.tells → (validation : Validation) → IsChangeable validation mini.old → IsSnugMini mini.old → OnOk result (IsSnugMini mini.new) }
+    ensures stays_full { IsTrue F.tells → (validation : Validation) → IsChangeable validation mini.old → LeavesNoMinis mini.old entry (at + length bytes.now)
+        → NoneFree (tables_in mini.old).fat → OnOk result (NoneFree (tables_in mini.new).fat) }
+    ensures within { (at < len_of mini.old entry) ⊎ (length bytes.now ≡ 0) → tables_in mini.new ≡ tables_in mini.old }
     ensures limits { KeepsLimits mini.old mini.new }
     ensures refused { IsTrue F.tells → (validation : Validation) → HoldsMini validation mini.old → IfErr result (StopsOrIsFull mini.old mini.new) }
     ensures still { OnErr result (IsStill mini.old mini.new ⊎ ((table_of mini.new).file.begun ≡ true)) }
@@ -132,4 +137,52 @@ pub fn put_content<F: Medium, A: Heap + Clone>(
     let count = (bytes.len() as u64).min(len - at) as usize;
     write_content(mini, entry, at, &bytes[..count])?;
     Ok(count)
+}
+
+/// Puts all of `bytes` behind the end of the stream of that entry by one growth, or none of them.
+///
+/// `Full` only where there are too few numbers for all of them, and then with full tables, or with all mini sectors that there may be in use: the
+/// sectors that there were, too few, may have been taken. The other refusals are those of `put_content`.
+pub fn append_all<F: Medium, A: Heap + Clone>(
+    mini: &mut MiniAllocator<F, A>,
+    entry: u32,
+    bytes: &[u8],
+) -> Result<(), Error>
+    requires stream { IsStreamOf mini.old entry }
+    requires limit { len_of mini.old entry + length bytes.now ≤ max_stream_len (version_of mini.old) }
+    ensures len { OnOk result (len_of mini.new entry ≡ len_of mini.old entry + length bytes.now) }
+    ensures none { length bytes.now ≡ 0 → OnErr result ⊥ × (mini.new ≡ mini.old) }
+    ensures entries { MovesContent mini.old mini.new entry }
+    ensures content { IsTrue F.tells → (validation : Validation) → IsChangeable validation mini.old
+        → OnOk result (content_of mini.new (entry_at (entries_of mini.new) entry)
+        ≡ written (content_of mini.old (entry_at (entries_of mini.old) entry)) (len_of mini.old entry) bytes.now) }
+    ensures others { IsTrue F.tells → (validation : Validation) → IsChangeable validation mini.old → KeepsOthers entry mini.old mini.new }
+    ensures header { IsTrue F.tells → KeepsFixedHeader mini.old mini.new }
+    ensures holds { IsTrue F.tells → (validation : Validation) → IsChangeable validation mini.old → OnOk result (IsChangeable validation mini.new) }
+    ensures owned { IsTrue F.tells → (validation : Validation) → IsChangeable validation mini.old → AreAllUsed mini.old → OnOk result (AreAllUsed mini.new) }
+    ensures sized { IsTrue F.tells → (validation : Validation) → IsChangeable validation mini.old
+        → OnOk result (SizesChain mini.old mini.new entry) }
+    ensures tight { OnOk result (KeepsTablesTight mini.old mini.new) }
+    ensures snug_mini { IsTrue F.tells → (validation : Validation) → IsChangeable validation mini.old → IsSnugMini mini.old → OnOk result (IsSnugMini mini.new) }
+    ensures stays_full { IsTrue F.tells → (validation : Validation) → IsChangeable validation mini.old → LeavesNoMinis mini.old entry (len_of mini.old entry + length bytes.now)
+        → NoneFree (tables_in mini.old).fat → OnOk result (NoneFree (tables_in mini.new).fat) }
+    ensures limits { KeepsLimits mini.old mini.new }
+    ensures refused { IsTrue F.tells → (validation : Validation) → HoldsMini validation mini.old → IfErr result (StopsOrIsFull mini.old mini.new) }
+    ensures still { OnErr result (IsStill mini.old mini.new ⊎ ((table_of mini.new).file.begun ≡ true)) }
+    ensures unwritten { IsTrue F.tells → (table_of mini.new).file.begun ≡ false → bytes_of mini.new ≡ bytes_of mini.old }
+    ensures err { IfErr result (ChangeRefused (IsTrue F.tells → IsNotChangeable mini.old) Unit
+        ((validation : Validation) → HoldsMini validation mini.old → IsTooLongFor mini.old entry (len_of mini.old entry + length bytes.now)) Unit) }
+    ensures counts { IsTrue F.tells
+        → CountsFailure (λ f. F.read_faults f || F.write_faults f) result (table_of mini.old).file.failures (table_of mini.new).file.failures }
+{
+    if bytes.is_empty() {
+        return Ok(());
+    }
+    let (_, len) = content_in(mini, entry);
+    let wanted = len + bytes.len() as u64;
+    // Once the stream has grown memory is not to be wanted: it could not go back.
+    let list = list_for(mini, entry, wanted)?;
+    grow_to(mini, entry, wanted)?;
+    write_listed(mini, list, entry, len, bytes)?;
+    Ok(())
 }

@@ -1,5 +1,5 @@
 //! How the content of a stream gets another length: cut, padded, and moved between sectors and mini sectors at 4096 bytes.
-ghost use Rattle.std.specs.Prelude.{◌≡◌, ◌≢◌, ◌<◌, ◌≤◌, ◌+◌, ◌||◌, ◌⊎◌, ℕ, List, length, false, true, IsTrue, IfOk, IfErr, OnOk, OnErr};
+ghost use Rattle.std.specs.Prelude.{◌≡◌, ◌≢◌, ◌<◌, ◌≤◌, ◌+◌, ◌||◌, ◌⊎◌, ◌↔◌, ℕ, List, length, false, true, IsTrue, IfOk, IfErr, OnOk, OnErr};
 ghost use Rattle.cfb_format.specs.declared.validate.Validation.{Validation};
 ghost use Rattle.cfb_format.specs.Bytes.{end_of_chain, max_stream_len, sector_len};
 ghost use Rattle.cfb_format.specs.Chain.{IsChain};
@@ -15,19 +15,21 @@ ghost use Rattle.cfb_tables.specs.Tables.{AreExactTables};
 ghost use Rattle.cfb_alloc.specs.Frame.{Spares};
 ghost use Rattle.cfb_directory.specs.Growing.{ArePlaced};
 ghost use Rattle.cfb_mini_sectors.specs.State.{HoldsMini, IsChangeable, bytes_of, content_of, entries_of, table_of, tables_in, version_of};
-ghost use Rattle.cfb_mini_sectors.specs.Steps.{KeepsLimits, KeepsMini, KeepsSystem};
+ghost use Rattle.cfb_mini_sectors.specs.Steps.{IsSnugMini, KeepsLimits, KeepsMini, KeepsSystem};
 ghost use Rattle.cfb_mini.specs.MiniSectors.{IsStill};
 ghost use Rattle.cfb_content.specs.Contents.{AreAllUsed, IsNotChangeable, IsStreamOf, IsTooLongFor, KeepsFixedHeader, KeepsOthers, MovesContent, SizesChain, WipesMinis, len_of};
 ghost use Rattle.cfb_content.specs.Laws.{LacksNumbersFor};
-ghost use Rattle.cfb_resizing.specs.Turning.{KeepsAround, KeepsTablesTight, StopsOrBegun, Turns};
+ghost use Rattle.cfb_resizing.specs.Turning.{KeepsAround, KeepsTablesTight, LeavesNoMinis, StopsOrBegun, Turns};
 
 use crate::in_place::{cut_in_minis, cut_in_sectors, grow_in_minis, grow_in_sectors};
 use crate::moving::{move_to_minis, move_to_sectors};
+use cfb_content::in_minis::whole_mini_chain;
+use cfb_content::listed::whole_chain_len;
 use cfb_content::reading::content_in;
 use cfb_entries::fields::Fields;
-use cfb_format::consts::MINI_STREAM_CUTOFF;
+use cfb_format::consts::{MINI_SECTOR_LEN, MINI_STREAM_CUTOFF};
 use cfb_format::error::{Detail, Error};
-use cfb_format::medium::Medium;
+use cfb_format::medium::{Medium, ReadMedium};
 use cfb_mini::mini_allocator::MiniAllocator;
 use std::alloc::Allocator as Heap;
 
@@ -40,7 +42,8 @@ pub(crate) fn unplaced(entry: u32) -> Error
 
 /// Gives the stream of that entry this length: it is cut, or padded with zeros. From 4096 bytes on it lies in sectors, below in mini
 /// sectors; what it leaves is free before anything is taken, and mini sectors that it leaves are wiped. Its chain is as long as it needs to
-/// be, but one that goes on has no less than it had. No growth frees a sector. An empty stream has no chain, and starts at END: to empty it
+/// be, but one that goes on has no less than it had. What the MiniFAT and the mini stream do not need any more once mini sectors are free is
+/// given back; no growth frees a sector but one that leaves mini sectors. An empty stream has no chain, and starts at END: to empty it
 /// takes no sector, however that ends. The length that it has changes nothing. All memory is asked for before anything changes, and the
 /// entry's slot is written last.
 ///
@@ -79,9 +82,11 @@ pub fn resize_content<F: Medium, A: Heap + Clone>(
     ensures owned { IsTrue F.tells → (validation : Validation) → IsChangeable validation mini.old → AreAllUsed mini.old → OnOk result (AreAllUsed mini.new) }
     ensures exact { AreExactTables (tables_in mini.old) → OnOk result (AreExactTables (tables_in mini.new)) }
     ensures no_shorter { OnOk result (length (tables_in mini.old).fat ≤ length (tables_in mini.new).fat) }
-    ensures none_free { length (tables_in mini.old).fat < length (tables_in mini.new).fat → OnOk result (NoneFree (tables_in mini.new).fat) }
+    ensures none_free { length (tables_in mini.old).fat < length (tables_in mini.new).fat → OnOk result (NoneFree (tables_in mini.new).fat
+        × (length (tables_in mini.new).fat ≤ (tables_in mini.old).max_sectors)) }
     ensures stays_full { IsTrue F.tells → (validation : Validation) → IsChangeable validation mini.old → len_of mini.old entry ≤ size
-        → NoneFree (tables_in mini.old).fat → OnOk result (NoneFree (tables_in mini.new).fat) }
+        → LeavesNoMinis mini.old entry size → NoneFree (tables_in mini.old).fat → OnOk result (NoneFree (tables_in mini.new).fat) }
+    ensures snug_mini { IsTrue F.tells → (validation : Validation) → IsChangeable validation mini.old → IsSnugMini mini.old → OnOk result (IsSnugMini mini.new) }
     ensures directory { mini.new.directory.sectors ≡ mini.old.directory.sectors }
     ensures limits { KeepsLimits mini.old mini.new }
     ensures enough { size ≢ len_of mini.old entry → (validation : Validation) → HoldsMini validation mini.old → OnOk result (IsTooLongFor mini.old entry size → ⊥) }
@@ -103,6 +108,79 @@ pub fn resize_content<F: Medium, A: Heap + Clone>(
     let _ = (mini.allocator().max_sectors(), mini.minifat_len());
     let start = turn(mini, entry, size)?;
     name_content(mini, entry, start, size)
+}
+
+/// Whether a stream in sectors can get this length: what it leaves is free then.
+fn can_turn_large<F: ReadMedium, A: Heap + Clone>(
+    mini: &MiniAllocator<F, A>,
+    entry: u32,
+    size: u64,
+) -> Result<bool, Error>
+    requires stream { IsStreamOf mini.now entry }
+    requires large { mini_stream_cutoff ≤ len_of mini.now entry }
+    ensures lacks { IfOk result (λ can. IsTrue can ↔ (LacksNumbersFor mini.now entry size → ⊥)) }
+    ensures err { IfErr result (ChangeRefused (IsNotChangeable mini.now) Unit ⊥ ⊥) }
+{
+    let (start, len) = content_in(mini, entry);
+    let have = whole_chain_len(mini.allocator(), start, len)?;
+    if size < MINI_STREAM_CUTOFF as u64 {
+        let count = size.div_ceil(MINI_SECTOR_LEN as u64) as usize;
+        return Ok(mini.can_take(count, have));
+    }
+    let needed = size.div_ceil(mini.sector_len() as u64) as usize;
+    let lacking = needed.saturating_sub(have);
+    Ok(mini.allocator().can_take(lacking, 0))
+}
+
+/// Whether a stream in mini sectors can get this length. Where it leaves them it needs all its sectors anew.
+fn can_turn_small<F: ReadMedium, A: Heap + Clone>(
+    mini: &MiniAllocator<F, A>,
+    entry: u32,
+    size: u64,
+) -> Result<bool, Error>
+    requires stream { IsStreamOf mini.now entry }
+    requires small { len_of mini.now entry < mini_stream_cutoff }
+    ensures lacks { IfOk result (λ can. IsTrue can ↔ (LacksNumbersFor mini.now entry size → ⊥)) }
+    ensures err { IfErr result (ChangeRefused (IsNotChangeable mini.now) Unit ⊥ ⊥) }
+{
+    if size >= MINI_STREAM_CUTOFF as u64 {
+        let needed = size.div_ceil(mini.sector_len() as u64) as usize;
+        return Ok(mini.allocator().can_take(needed, 0));
+    }
+    let (start, len) = content_in(mini, entry);
+    let have = whole_mini_chain(mini, start, len)?.len();
+    let needed = size.div_ceil(MINI_SECTOR_LEN as u64) as usize;
+    let lacking = needed.saturating_sub(have);
+    Ok(mini.can_take(lacking, 0))
+}
+
+/// Whether the stream of that entry can get this length by the numbers that are free or left, as `resize_content` sees it before its first
+/// write: once the sectors are free that it leaves. The length that it has it can have. Nothing changes.
+///
+/// `InvalidData` where the stream's chain is none or the file ends before it, and `Memory`.
+pub fn can_resize<F: ReadMedium, A: Heap + Clone>(
+    mini: &MiniAllocator<F, A>,
+    entry: u32,
+    size: u64,
+) -> Result<bool, Error>
+    requires stream { IsStreamOf mini.now entry }
+    requires limit { size ≤ max_stream_len (version_of mini.now) }
+    ensures same { size ≡ len_of mini.now entry → OnErr result ⊥ × IfOk result (λ can. can ≡ true) }
+    ensures lacks { size ≢ len_of mini.now entry → IfOk result (λ can. IsTrue can ↔ (LacksNumbersFor mini.now entry size → ⊥)) }
+    ensures can { size ≢ len_of mini.now entry → (validation : Validation) → HoldsMini validation mini.now
+        → IfOk result (λ can. IsTrue can ↔ (IsTooLongFor mini.now entry size → ⊥)) }
+    ensures err { IfErr result (ChangeRefused (IsNotChangeable mini.now) Unit ⊥ ⊥) }
+{
+    let (_, len) = content_in(mini, entry);
+    if size == len {
+        return Ok(true);
+    }
+    // Neither table is longer than it may be: so numbers that memory lacks are those that the file lacks.
+    let _ = (mini.allocator().max_sectors(), mini.minifat_len());
+    if len >= MINI_STREAM_CUTOFF as u64 {
+        return can_turn_large(mini, entry, size);
+    }
+    can_turn_small(mini, entry, size)
 }
 
 /// Gives a stream another length than it has where its content lies, and answers where that starts then; the entry does not say so yet.
@@ -127,6 +205,7 @@ fn turn<F: Medium, A: Heap + Clone>(
     ensures few_minis { size < len_of mini.old entry → len_of mini.old entry < mini_stream_cutoff
         → IfOk result (λ start. (list : List ℕ) → IsChain mini.new.minifat start list → length list ≡ rounded_up size mini_sector_len) }
     ensures tight { OnOk result (KeepsTablesTight mini.old mini.new) }
+    ensures snug_mini { IsTrue F.tells → (validation : Validation) → IsChangeable validation mini.old → IsSnugMini mini.old → OnOk result (IsSnugMini mini.new) }
     ensures enough { (validation : Validation) → HoldsMini validation mini.old → OnOk result (LacksNumbersFor mini.old entry size → ⊥) }
     ensures refused { IsTrue F.tells → IfErr result (StopsOrBegun mini.old mini.new) }
     ensures still { OnErr result (IsStill mini.old mini.new ⊎ ((table_of mini.new).file.begun ≡ true)) }
@@ -166,6 +245,7 @@ fn name_content<F: Medium, A: Heap>(
     requires placed { ArePlaced mini.old.directory }
     ensures named { OnOk result (entry_at (entries_of mini.new) entry ≡ record (entry_at (entries_of mini.old) entry) { start_sector = start; stream_len = size }) }
     ensures entries { MovesContent mini.old mini.new entry }
+    ensures root { entry_at (entries_of mini.new) 0 ≡ entry_at (entries_of mini.old) 0 }
     ensures system { KeepsSystem mini.old mini.new }
     ensures mini { KeepsMini mini.old mini.new }
     ensures limits { KeepsLimits mini.old mini.new }

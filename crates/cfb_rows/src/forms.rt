@@ -2,51 +2,31 @@
 
 use crate::lines::{Line, number};
 
-/// What a word has to be.
-#[derive(Clone, Copy, Drop)]
-pub enum Part {
-    Number,
-    /// A number, and `-` for none.
-    Link,
-    /// A number with a sign before it, if need be.
-    Signed,
-    /// Pairs of digits, in sixteens.
-    Digits,
-    Content,
-    /// Seconds from the beginning of 1970 on, with a sign before them, if need be; or, behind `@`, hundreds of nanoseconds from that of 1601 on.
-    Moment,
-    /// Sixteen bytes, as class ids are written.
-    Class,
-    /// Any word: a path, a name, a letter.
-    Word,
-    /// This word.
-    Is(&'static str),
-    /// One of these two.
-    Either(&'static str, &'static str),
+/// Whether a word is what this says: `n` a number; `l` a number, or `-` for none; `s` a number with a sign before it, if need be; `h` pairs of
+/// digits, in sixteens; `c` a content; `m` seconds from the beginning of 1970 on, with a sign before them, if need be, or, behind `@`, hundreds
+/// of nanoseconds from that of 1601 on; `k` sixteen bytes, as class ids are written; `w` any word: a path, a name, a letter. Else it is one of
+/// the words that are named, with slashes between.
+fn is_of_kind(kind: &str, word: &str) -> bool {
+    match kind {
+        "n" => number(word).is_some(),
+        "l" => word == "-" || number(word).is_some(),
+        "s" => word.parse::<i64>().is_ok(),
+        "h" => are_digits(word),
+        "c" => is_content(word),
+        "m" => is_moment(word),
+        "k" => word.len() == 36 && word.split("-").all(are_digits),
+        "w" => !word.is_empty(),
+        _ => is_named(kind, word),
+    }
 }
 
-/// A call with what its words have to be.
-#[derive(Clone, Copy, Drop)]
-pub struct Form {
-    pub call: &'static str,
-    pub parts: &'static [Part],
-}
-
-impl Part {
-    fn fits(&self, word: &str) -> bool {
-        match self {
-            Part::Number => number(word).is_some(),
-            Part::Link => word == "-" || number(word).is_some(),
-            Part::Signed => word.parse::<i64>().is_ok(),
-            Part::Digits => are_digits(word),
-            Part::Content => is_content(word),
-            Part::Moment => is_moment(word),
-            Part::Class => word.len() == 36 && word.split("-").all(are_digits),
-            Part::Word => !word.is_empty(),
-            Part::Is(wanted) => word == *wanted,
-            Part::Either(first, second) => word == *first || word == *second,
+fn is_named(words: &str, word: &str) -> bool {
+    for one in words.split("/") {
+        if one == word {
+            return true;
         }
     }
+    false
 }
 
 fn are_digits(word: &str) -> bool {
@@ -70,24 +50,26 @@ fn is_moment(word: &str) -> bool {
     }
 }
 
-impl Form {
-    fn fits(&self, line: &Line<'_>) -> bool {
-        if self.call != line.call() || self.parts.len().saturating_add(1) != line.count {
+/// Whether a line has this form: its call, and what each further word has to be.
+fn has_form(form: &str, line: &Line<'_>) -> bool {
+    let mut kinds = form.split(" ");
+    if kinds.next() != Some(line.call()) {
+        return false;
+    }
+    let mut count = 1usize;
+    for kind in kinds {
+        if !is_of_kind(kind, line.word_at(count)) {
             return false;
         }
-        for (i, part) in self.parts.iter().enumerate() {
-            if !part.fits(line.word_at(i.saturating_add(1))) {
-                return false;
-            }
-        }
-        true
+        count = count.saturating_add(1);
     }
+    count == line.count
 }
 
-/// Whether a line has one of these forms.
-pub fn fits(forms: &[Form], line: &Line<'_>) -> bool {
-    for form in forms {
-        if form.fits(line) {
+/// Whether a line has one of these forms, between which commas stand.
+pub fn fits(forms: &str, line: &Line<'_>) -> bool {
+    for form in forms.split(",") {
+        if has_form(form, line) {
             return true;
         }
     }
@@ -95,117 +77,21 @@ pub fn fits(forms: &[Form], line: &Line<'_>) -> bool {
 }
 
 /// Lines between sessions.
-#[rattlefmt::skip]
-pub const BETWEEN: [Form; 36] = [
-    Form { call: "create", parts: &[Part::Either("3", "4")] },
-    Form { call: "keep", parts: &[] },
-    Form { call: "back", parts: &[] },
-    Form { call: "same", parts: &[] },
-    Form { call: "copy", parts: &[] },
-    Form { call: "reads", parts: &[] },
-    Form { call: "writes", parts: &[] },
-    Form { call: "flushes", parts: &[] },
-    Form { call: "struck", parts: &[] },
-    Form { call: "resize", parts: &[Part::Number] },
-    Form { call: "bytes", parts: &[Part::Number, Part::Digits] },
-    Form { call: "word", parts: &[Part::Number, Part::Number] },
-    Form { call: "rising", parts: &[Part::Number, Part::Number, Part::Number] },
-    Form { call: "rising", parts: &[Part::Number, Part::Number, Part::Number, Part::Is("every"), Part::Number] },
-    Form { call: "alike", parts: &[Part::Number, Part::Number, Part::Number] },
-    Form { call: "alike", parts: &[Part::Number, Part::Number, Part::Number, Part::Is("every"), Part::Number] },
-    Form { call: "fill", parts: &[Part::Number, Part::Number, Part::Number] },
-    Form { call: "slot", parts: &[Part::Number] },
-    Form { call: "slot", parts: &[Part::Number, Part::Word, Part::Either("storage", "stream"), Part::Either("red", "black"), Part::Link, Part::Link, Part::Link] },
-    Form { call: "links", parts: &[Part::Number, Part::Link, Part::Link, Part::Link] },
-    Form { call: "size", parts: &[] },
-    Form { call: "at", parts: &[Part::Number] },
-    Form { call: "sum", parts: &[] },
-    Form { call: "free", parts: &[Part::Number] },
-    Form { call: "chain", parts: &[Part::Number] },
-    Form { call: "mutate", parts: &[Part::Number, Part::Number] },
-    Form { call: "random", parts: &[Part::Number, Part::Number, Part::Number, Part::Is("by"), Part::Number] },
-    Form { call: "random", parts: &[Part::Number, Part::Number, Part::Number, Part::Is("lacking")] },
-    Form { call: "set", parts: &[Part::Is("buffer"), Part::Number] },
-    Form { call: "set", parts: &[Part::Is("sectors"), Part::Number] },
-    Form { call: "set", parts: &[Part::Is("piece"), Part::Number] },
-    Form { call: "set", parts: &[Part::Is("letter"), Part::Word, Part::Word] },
-    Form { call: "set", parts: &[Part::Is("count"), Part::Number, Part::Number] },
-    Form { call: "set", parts: &[Part::Is("guard"), Part::Number, Part::Number] },
-    Form { call: "set", parts: &[Part::Is("run"), Part::Number, Part::Number] },
-    Form { call: "set", parts: &[Part::Is("plain")] },
-];
+pub const BETWEEN: &str =
+    "create 3/4,keep,back,same,copy,reads,writes,flushes,struck,resize n,bytes n h,word n n,rising n n n,\
+    rising n n n every n,alike n n n,alike n n n every n,fill n n n,slot n,\
+    slot n w storage/stream red/black l l l,links n l l l,size,at n,sum,free n,chain n,mutate n n,\
+    random n n n by n,random n n n lacking,set buffer n,set sectors n,set piece n,set letter w w,set count n n,\
+    set guard n n,set run n n,set plain";
 
 /// Lines on a file.
-#[rattlefmt::skip]
-pub const ON_FILES: [Form; 43] = [
-    Form { call: "put", parts: &[Part::Word, Part::Content] },
-    Form { call: "put", parts: &[Part::Word, Part::Content, Part::Is("by"), Part::Number] },
-    Form { call: "add", parts: &[Part::Word, Part::Content] },
-    Form { call: "add", parts: &[Part::Word, Part::Content, Part::Is("by"), Part::Number] },
-    Form { call: "length", parts: &[Part::Word, Part::Number] },
-    Form { call: "has", parts: &[Part::Word, Part::Content] },
-    Form { call: "open", parts: &[Part::Word] },
-    Form { call: "make", parts: &[Part::Word] },
-    Form { call: "new", parts: &[Part::Word] },
-    Form { call: "storage", parts: &[Part::Word, Part::Moment] },
-    Form { call: "storages", parts: &[Part::Word, Part::Moment] },
-    Form { call: "remove", parts: &[Part::Word] },
-    Form { call: "remove-storage", parts: &[Part::Word] },
-    Form { call: "remove-all", parts: &[Part::Word] },
-    Form { call: "class", parts: &[Part::Word, Part::Class] },
-    Form { call: "bits", parts: &[Part::Word, Part::Number] },
-    Form { call: "created", parts: &[Part::Word, Part::Moment] },
-    Form { call: "modified", parts: &[Part::Word, Part::Moment] },
-    Form { call: "touch", parts: &[Part::Word, Part::Moment] },
-    Form { call: "flush", parts: &[] },
-    Form { call: "exists", parts: &[Part::Word] },
-    Form { call: "is-stream", parts: &[Part::Word] },
-    Form { call: "is-storage", parts: &[Part::Word] },
-    Form { call: "sound", parts: &[] },
-    Form { call: "failed", parts: &[] },
-    Form { call: "version", parts: &[] },
-    Form { call: "count", parts: &[] },
-    Form { call: "len", parts: &[Part::Word] },
-    Form { call: "mini-stream", parts: &[] },
-    Form { call: "walk", parts: &[] },
-    Form { call: "list", parts: &[] },
-    Form { call: "list", parts: &[Part::Word] },
-    Form { call: "below", parts: &[Part::Word] },
-    Form { call: "told", parts: &[] },
-    Form { call: "entry", parts: &[] },
-    Form { call: "entry", parts: &[Part::Word] },
-    Form { call: "fields", parts: &[] },
-    Form { call: "fields", parts: &[Part::Word] },
-    Form { call: "stream", parts: &[Part::Either("open", "read"), Part::Word] },
-    Form { call: "stream", parts: &[Part::Either("make", "new"), Part::Word] },
-    Form { call: "memory", parts: &[Part::Either("none", "ample")] },
-    Form { call: "commands", parts: &[] },
-    Form { call: "end", parts: &[] },
-];
+pub const ON_FILES: &str =
+    "put w c,put w c by n,add w c,add w c by n,length w n,has w c,open w,make w,new w,storage w m,storages w m,\
+    remove w,remove-storage w,remove-all w,class w k,bits w n,created w m,modified w m,touch w m,flush,exists w,\
+    is-stream w,is-storage w,sound,failed,version,count,len w,mini-stream,walk,list,list w,below w,told,entry,\
+    entry w,fields,fields w,stream open/read w,stream make/new w,memory none/ample,commands,end";
 
 /// Lines on a stream.
-#[rattlefmt::skip]
-pub const ON_STREAMS: [Form; 22] = [
-    Form { call: "write", parts: &[Part::Content] },
-    Form { call: "write", parts: &[Part::Content, Part::Is("by"), Part::Number] },
-    Form { call: "once", parts: &[Part::Content] },
-    Form { call: "length", parts: &[Part::Number] },
-    Form { call: "same-length", parts: &[] },
-    Form { call: "flush", parts: &[] },
-    Form { call: "len", parts: &[] },
-    Form { call: "empty", parts: &[] },
-    Form { call: "place", parts: &[] },
-    Form { call: "read", parts: &[Part::Number] },
-    Form { call: "read", parts: &[Part::Number, Part::Content] },
-    Form { call: "lend", parts: &[Part::Content] },
-    Form { call: "lent-up", parts: &[Part::Content] },
-    Form { call: "take", parts: &[Part::Number] },
-    Form { call: "rest", parts: &[Part::Content] },
-    Form { call: "all", parts: &[] },
-    Form { call: "pieces", parts: &[Part::Content] },
-    Form { call: "pieces", parts: &[Part::Content, Part::Is("by"), Part::Number] },
-    Form { call: "at", parts: &[Part::Number] },
-    Form { call: "end", parts: &[Part::Signed] },
-    Form { call: "by", parts: &[Part::Signed] },
-    Form { call: "memory", parts: &[Part::Either("none", "ample")] },
-];
+pub const ON_STREAMS: &str =
+    "write c,write c by n,once c,length n,same-length,flush,len,empty,place,read n,read n c,lend c,lent-up c,\
+    take n,rest c,all,pieces c,pieces c by n,at n,end s,by s,memory none/ample";

@@ -3,9 +3,9 @@ use Rattle.std.specs.Prelude.{ℕ, ◌≡◌, ◌+◌, ◌-◌, ◌*◌, ◌/◌
 use Rattle.std.specs.List.{IsDistinct}
 use Rattle.cfb_format.specs.declared.version.Version.{Version}
 use Rattle.cfb_format.specs.Bytes.{sector_len}
-use Rattle.cfb_format.specs.Medium.{ChangesOnlyBytes}
 use Rattle.cfb_alloc.specs.Alloc.{AllocatorState}
 use Rattle.cfb_runs.specs.Runs.{IsLongestRun, IsRun, place_along}
+pub use Rattle.cfb_table_words.specs.Along.{ChangesOnlyPlaces, ChangesOnlyRun, StandAlong}
 
 -- where byte k of these sectors stands in the file of this allocator
 abbrev pub place_in : AllocatorState → List ℕ → ℕ → ℕ
@@ -48,21 +48,6 @@ pub record IsReadAtOnce (version : Version) (ids : List ℕ) (file_len at count 
   pub there : n ≡ min wanted (file_len - place_along version ids at)
 
 -- ---- what is put
-
--- these bytes stand at their places from byte `at` on
-abbrev pub StandAlong : (ℕ → ℕ) → ℕ → List ℕ → List ℕ → Type 0
-StandAlong place at xs bytes = (k : ℕ) → k < length xs → (place (at + k) < length bytes) × (slice_index bytes (place (at + k)) ≡ slice_index xs k)
-
--- the file loses no byte, and all stay but those at the places of so many bytes from byte `at` on
-pub record ChangesOnlyPlaces (place : ℕ → ℕ) (at count : ℕ) (old new : List ℕ) : Type 0 where
-  pub no_shorter : length old ≤ length new
-  pub others : (i : ℕ) → i < length old → ((k : ℕ) → at ≤ k → k < at + count → place k ≡ i → ⊥) → slice_index new i ≡ slice_index old i
-
--- the file loses no byte, and all stay but those of the longest run of so many bytes from byte `at` on
-pub record ChangesOnlyRun (version : Version) (ids : List ℕ) (at count : ℕ) (old new : List ℕ) : Type 0 where
-  pub run : ℕ
-  pub longest : IsLongestRun version ids at count run
-  pub change : ChangesOnlyBytes (place_along version ids at) run old new
 
 -- a write of these bytes from byte `at` on broke off: a beginning of them stands, a run behind it may hold anything, and all else is as
 -- before

@@ -12,10 +12,10 @@ ghost use Rattle.cfb_alloc.specs.Frame.{Spares, table_sectors};
 ghost use Rattle.cfb_runs.specs.Along.{ChangesOnlyPlaces, ChangesOnlyRun, IsKnown, IsListed, OnlyWrites, StandAlong, StopsAlong, byte_in, place_in};
 ghost use Rattle.cfb_runs.specs.Runs.{IsLongestRun, IsRun};
 
-use crate::run::run_from;
 use cfb_alloc::alloc::Allocator;
 use cfb_format::error::Error;
 use cfb_format::medium::Medium;
+use cfb_table_words::run::run_from;
 use std::alloc::Allocator as Heap;
 
 /// Zeros, which no call has to make anew.

@@ -92,7 +92,7 @@ fn play_line(world: &mut World<'_>, line: &Line<'_>, script: &mut Script<'_>) {
     }
     if begins_session(line) {
         play_session(world, line, script);
-    } else if !fits(&BETWEEN, line) {
+    } else if !fits(BETWEEN, line) {
         world.judge.note_wrong(line, UNKNOWN);
     } else if line.call() == "set" {
         set(world, line);

@@ -574,7 +574,7 @@ pub enum SectorInit {
 }
 
 /// The bytes of a fresh sector, and what is left over.
-fn fresh_sector(version: Version, init: SectorInit) -> [u8; 4096]
+pub fn fresh_sector(version: Version, init: SectorInit) -> [u8; 4096]
     ensures { take (sector_len version) result ≡ init_bytes version init }
 {
     let mut bytes = zeros();

@@ -55,6 +55,11 @@ fn lap<R: Clock>(clock: &R, start: &mut Instant) -> Result<u64> {
     Ok(micros.min(u64::MAX as u128) as u64)
 }
 
+/// The path of the stream of this number.
+fn path_of(alloc: Global, number: usize) -> Result<String> {
+    Ok(format!(in alloc; "/many/{number}")?)
+}
+
 fn new_file(alloc: Global, version: Version) -> Result<File> {
     Ok(CompoundFile::create_with_version(alloc, version, MemoryMedium::new(alloc))?)
 }
@@ -73,18 +78,18 @@ fn times_to_make<R: Clock + AllocGlobal>(rt: &R, file: &mut File) -> Result<[u64
     let mut clock = Instant::now(rt)?;
     file.create_storage("/many", Timestamp::zero())?;
     for number in 0..STREAMS {
-        let path = format!(in rt.alloc(); "/many/{number}")?;
+        let path = path_of(rt.alloc(), number)?;
         fill(file, path.as_str(), &[7; SHORT], 1)?;
     }
     let made = lap(rt, &mut clock)?;
     for number in 0..STREAMS {
-        let path = format!(in rt.alloc(); "/many/{number}")?;
+        let path = path_of(rt.alloc(), number)?;
         let _found = file.is_stream(path.as_str());
     }
     let found = lap(rt, &mut clock)?;
     let mut room = [0; SHORT];
     for number in 0..STREAMS {
-        let path = format!(in rt.alloc(); "/many/{number}")?;
+        let path = path_of(rt.alloc(), number)?;
         read_through(file, path.as_str(), &mut room)?;
     }
     Ok([made, found, lap(rt, &mut clock)?])
@@ -105,7 +110,7 @@ fn times_to_remove<R: Clock + AllocGlobal>(
     let _count = file.walk()?.count();
     let walked = lap(rt, clock)?;
     for number in (0..STREAMS).step_by(2) {
-        let path = format!(in rt.alloc(); "/many/{number}")?;
+        let path = path_of(rt.alloc(), number)?;
         file.remove_stream(path.as_str())?;
     }
     let half = lap(rt, clock)?;

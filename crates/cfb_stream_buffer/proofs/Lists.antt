@@ -1,11 +1,11 @@
 -- Lists laid over one another.
-use Rattle.std.proofs.Common.{refl, ℕ, ◌+◌, ◌-◌, ◌≡◌, ◌≤◌, min, max, List, [], ◌++◌, length, take, drop, replicate, sym, ◌∙◌, ap, arith, inl, inr, add-zero, length-append, length-drop, length-take}
+use Rattle.std.proofs.Common.{refl, ℕ, ◌+◌, ◌-◌, ◌≡◌, ◌<◌, ◌≤◌, min, max, List, [], ◌++◌, length, take, drop, replicate, sym, ◌∙◌, ap, arith, inl, inr, add-zero, length-append, length-drop, length-take}
 use Rattle.std.proofs.lemmas.List.{take-append-drop, take-take, take_all, take-append-le, drop-drop, drop-append-le, drop-take, take_min, drop_all, drop-replicate, append_assoc, append-nil, length-replicate}
 use Rattle.std.proofs.Math.Seq.{take-append-add, drop-append-add, take-add, take-nil}
 use borrow.Rule.Slice.PartMut.{put_mid}
 use Rattle.std.proofs.lemmas.Bool.{cases_lt}
 use Rattle.cfb_rules.specs.StreamCalls.{resized}
-use Rattle.cfb_stream_buffer.specs.Contents.{Stored, laid, stored_after_write}
+use Rattle.cfb_stream_buffer.specs.Contents.{Stored, TakesBytes, laid, stored_after_write}
 
 pub drop_seam : (p q : List ℕ) (k n : ℕ) → length p + k ≡ n → drop n (p ++ q) ≡ drop k q
 drop_seam p q k n e = ap (λ (m : ℕ). drop m (p ++ q)) (sym e) ∙ drop-append-add p q k
@@ -244,3 +244,76 @@ resized-before at n f c within before =
     (take-append-le n (take at c ++ f) (drop (at + length f) c) (omega (arith, length-append (take at c) f, length-take at c))
     ∙ take-append-le n (take at c) f (omega (arith, length-take at c)) ∙ take-take n at c before)
     ∙ ap (λ (k : ℕ). take n c ++ replicate k 0) zeros
+
+-- ---- what lies behind the end is put there first
+
+-- the end of some bytes laid behind a list, and then their beginning over it
+laid-in-turn : (at k : ℕ) (b c : List ℕ) → at + k ≡ length c → k ≤ length b → laid at (take k b) (laid (length c) (drop k b) c) ≡ laid at b c
+laid-in-turn at k b c end fits =
+    let x = take k b in
+    let y = drop k b in
+    let long : length x ≡ k = omega (arith, length-take k b) in
+    let inner : laid (length c) y c ≡ c ++ y =
+    laid-is (length c) y c
+    ∙ ap (λ (xs : List ℕ). xs ++ y ++ drop (length c + length y) c) (take_all (length c) c (omega arith))
+    ∙ ap (λ (xs : List ℕ). c ++ y ++ xs) (drop_all (length c + length y) c (omega arith))
+    ∙ append-nil (c ++ y) in
+    let front : take at (c ++ y) ≡ take at c = take-append-le at c y (omega (arith, end)) in
+    let back : drop (at + length x) (c ++ y) ≡ y = drop_seam c y 0 (at + length x) (omega (arith, long, end)) in
+    let whole : laid at b c ≡ take at c ++ b =
+    laid-is at b c ∙ ap (λ (xs : List ℕ). take at c ++ b ++ xs) (drop_all (at + length b) c (omega (arith, end, fits))) ∙ append-nil (take at c ++ b) in
+    ap (λ (xs : List ℕ). laid at x xs) inner
+    ∙ laid-is at x (c ++ y)
+    ∙ ap (λ (xs : List ℕ). xs ++ x ++ drop (at + length x) (c ++ y)) front
+    ∙ ap (λ (xs : List ℕ). take at c ++ x ++ xs) back
+    ∙ append_assoc (take at c) x y
+    ∙ ap (λ (xs : List ℕ). take at c ++ xs) (take-append-drop k b)
+    ∙ sym whole
+
+-- so many of them lie inside the length
+pub put_in_turn : (s : Stored) (at k : ℕ) (b : List ℕ) → k ≡ min (length b) (s.size - at) → at ≤ s.size → length s.content ≡ s.size
+    → stored_after_write (stored_after_write s s.size (drop k b)) at (take k b) ≡ stored_after_write s at b
+put_in_turn s at k b is within whole = elim (cases_lt k (length b)) [
+  | inl more ↦
+      let end : at + k ≡ s.size = omega (arith, is, more, within) in
+      let size : max (max s.size (s.size + length (drop k b))) (at + length (take k b)) ≡ max s.size (at + length b) =
+      omega (arith, end, more, length-take k b, length-drop k b) in
+      ap (λ (n : ℕ). record s { size = n; content = laid at (take k b) (laid s.size (drop k b) s.content) }) size
+      ∙ ap (λ (n : ℕ). record s { size = max s.size (at + length b); content = laid at (take k b) (laid n (drop k b) s.content) }) (sym whole)
+      ∙ ap (λ (xs : List ℕ). record s { size = max s.size (at + length b); content = xs }) (laid-in-turn at k b s.content (omega (arith, end, whole)) (omega (arith, more)))
+  | inr all ↦
+      ap (λ (xs : List ℕ). stored_after_write (stored_after_write s s.size xs) at (take k b)) (drop_all k b all)
+      ∙ ap (λ (z : Stored). stored_after_write z at (take k b)) (put_none s s.size (omega arith))
+      ∙ ap (λ (xs : List ℕ). stored_after_write s at xs) (take_all k b all)
+]
+
+-- what lies behind the end was put there, or there is nothing
+pub behind_put : (s t : Stored) (k : ℕ) (b : List ℕ) → (k < length b → t ≡ stored_after_write s s.size (drop k b)) → (length b ≤ k → t ≡ s)
+    → t ≡ stored_after_write s s.size (drop k b)
+behind_put s t k b some none = elim (cases_lt k (length b)) [
+  | inl more ↦ some more
+  | inr all ↦ none all ∙ sym (put_none s s.size (omega arith)) ∙ ap (λ (xs : List ℕ). stored_after_write s s.size xs) (sym (drop_all k b all))
+]
+
+-- so many bytes can be put behind the end
+pub taken_behind : (s : Stored) (at k : ℕ) (b : List ℕ) (n : ℕ) → TakesBytes s at (length b) → k < length b → n ≡ length b - k → k ≡ min (length b) (s.size - at)
+    → TakesBytes s s.size n
+taken_behind s at k b n takes more count is = record {
+  unfailed = takes.unfailed;
+  sound = takes.sound;
+  inside = omega arith;
+  fits = omega (arith, takes.fits, takes.inside, more, count, is);
+}
+
+-- and then their beginning inside the length
+pub taken_inside : (s t : Stored) (at k : ℕ) (b : List ℕ) → TakesBytes s at (length b) → length s.content ≡ s.size → t ≡ stored_after_write s s.size (drop k b)
+    → k ≡ min (length b) (s.size - at) → TakesBytes t at (length (take k b)) × (at ≤ length t.content)
+taken_inside s t at k b takes whole is count = (
+  record {
+    unfailed = ap (λ (z : Stored). z.failed) is ∙ takes.unfailed;
+    sound = ap (λ (z : Stored). z.sound) is ∙ takes.sound;
+    inside = omega (arith, ap (λ (z : Stored). z.size) is, takes.inside);
+    fits = omega (arith, ap (λ (z : Stored). z.limit) is, takes.fits, count, length-take k b);
+  },
+  omega (arith, ap (λ (z : Stored). length z.content) is, length-laid s.size (drop k b) s.content (omega (arith, whole)), whole, takes.inside),
+)

@@ -19,10 +19,11 @@ module _ {C : Type 0} (r : reading.Ghosts C) (g : writing.Ghosts C) where
   abbrev pub faults_of : MediumFault → Bool
   faults_of f = r.read_faults f || g.write_faults f
 
-  -- it was read from and written to, under this number alone; and where this was refused all but the count of failures is as it was, or the
-  -- file has failed
+  -- it was read from and written to, under this number alone, by one change at most; and where this was refused all but the count of failures
+  -- is as it was, or the file has failed
   pub record IsWritten {T : Type 0} (old new : C) (id : ℕ) (result : Result T Error) : Type 0 where
     pub told : r.tells new
     pub others : (first : C) → g.keeps id first old → g.keeps id first new
+    pub tight : g.tight old new
     pub counts : CountsFailure faults_of result (r.failures old) (r.failures new)
     pub stays : (r.stored new id).failed ≡ false → OnErr result (r.kept new ≡ r.kept old)

@@ -1,9 +1,9 @@
 //! What buffered streams stand on: lists of bytes in a file, each under a number. Lengths and places
 //! are in bytes.
-ghost use Rattle.std.specs.Prelude.{◌≡◌, ◌<◌, ◌≤◌, ◌||◌, ℕ, Bool, true, false, IfOk, IfErr, OnOk, OnErr, length};
+ghost use Rattle.std.specs.Prelude.{◌≡◌, ◌≢◌, ◌+◌, ◌<◌, ◌≤◌, ◌||◌, ◌↔◌, ℕ, Bool, IsTrue, true, false, IfOk, IfErr, OnOk, OnErr, length};
 ghost use Rattle.cfb_format.specs.Refused.{CountsFailure, IsMemory, IsBreak};
 ghost use Rattle.cfb_format.specs.declared.medium.MediumFault.{MediumFault as Fault};
-ghost use Rattle.cfb_stream_buffer.specs.Contents.{Stored, TakesBytes, TakesLen, ReadsPart, WritesPart, IsMediumFault, IsRefusedRead, KeptOrFailed, Fails, stored_after_resize};
+ghost use Rattle.cfb_stream_buffer.specs.Contents.{Stored, TakesBytes, TakesLen, ReadsPart, WritesPart, IsMediumFault, IsRefusedRead, KeptOrFailed, Fails, stored_after_resize, stored_after_write};
 
 use cfb_format::error::Error;
 
@@ -74,8 +74,13 @@ pub trait ReadContents {
 /// file that has not failed, at a place up to the end and to a length that the version has; it is only
 /// safe anywhere else.
 pub trait Contents: ReadContents {
-    /// Between two states, what is no part of the list under a number has been kept.
+    /// Between two states, what is no part of the list under a number has been kept, by any number of
+    /// calls.
     ghost keeps: { ℕ → Self → Self → Type 0 };
+
+    /// The second state comes of the first by one change at most: where that made the file longer, it
+    /// left nothing in it free.
+    ghost tight: { Self → Self → Type 0 };
 
     /// The faults that the medium can give by writing.
     ghost write_faults: { Fault → Bool };
@@ -92,19 +97,27 @@ pub trait Contents: ReadContents {
         ensures there { Self.has self.new id }
         ensures told { Self.tells self.old → Self.tells self.new }
         ensures others { Self.tells self.old → (first : Self) → keeps id first self.old → keeps id first self.new }
+        ensures tight { Self.tells self.old → (first : Self) → tight first self.old → tight first self.new }
         ensures failures { Self.tells self.old → Self.failures self.new ≡ Self.failures self.old }
         ensures full { is_full self.old → is_full self.new }
+        ensures too_long { (len : ℕ) → is_too_long self.old id len → is_too_long self.new id len }
         ensures fails { Fails (Self.stored self.old id) (Self.stored self.new id) };
 
     /// Puts a beginning of the bytes at a place, which may be the end, and answers how many there are: at
-    /// least one. Where it is refused nothing has changed, or the file has failed: `Medium`, `Memory`, and
-    /// `Full`, which comes at the end alone, where not one byte more can be had.
+    /// least one. Bytes inside the length take no room. Where it is refused nothing has changed, or the file
+    /// has failed: `Medium`, `Memory`, and `Full`, which comes at the end alone, where not one byte more can
+    /// be had.
     fn write_at(&mut self, id: u32, at: u64, bytes: &[u8]) -> Result<usize, Error>
         requires there { Self.has self.old id }
         ensures there { Self.has self.new id }
         ensures bound { IfOk result (λ n. n ≤ length bytes.now) }
         ensures told { Self.tells self.old → Self.tells self.new }
         ensures others { Self.tells self.old → (first : Self) → keeps id first self.old → keeps id first self.new }
+        ensures tight { Self.tells self.old → tight self.old self.new }
+        ensures inside { Self.tells self.old → at + length bytes.now ≤ (Self.stored self.old id).size
+            → (first : Self) → tight first self.old → tight first self.new }
+        ensures same_len { at + length bytes.now ≤ (Self.stored self.old id).size
+            → OnOk result ((Self.stored self.new id).size ≡ (Self.stored self.old id).size) }
         ensures counts { Self.tells self.old → CountsFailure (λ f. Self.read_faults f || write_faults f) result (Self.failures self.old) (Self.failures self.new) }
         ensures ok { Self.tells self.old → TakesBytes (Self.stored self.old id) at (length bytes.now) → 0 < length bytes.now
             → IfOk result (WritesPart (Self.stored self.old id) at bytes.now (Self.stored self.new id)) }
@@ -113,13 +126,39 @@ pub trait Contents: ReadContents {
         ensures stays { Self.tells self.old → (Self.stored self.new id).failed ≡ false
             → OnErr result (Self.kept self.new ≡ Self.kept self.old) };
 
+    /// Puts all of the bytes behind the end, by one change. Where it is refused nothing has changed, or the
+    /// file has failed: `Medium`, `Memory`, and `Full` where not all of them can be had.
+    fn append(&mut self, id: u32, bytes: &[u8]) -> Result<(), Error>
+        requires there { Self.has self.old id }
+        ensures there { Self.has self.new id }
+        ensures told { Self.tells self.old → Self.tells self.new }
+        ensures others { Self.tells self.old → (first : Self) → keeps id first self.old → keeps id first self.new }
+        ensures tight { Self.tells self.old → tight self.old self.new }
+        ensures len { OnOk result ((Self.stored self.new id).size ≡ (Self.stored self.old id).size + length bytes.now) }
+        ensures counts { Self.tells self.old → CountsFailure (λ f. Self.read_faults f || write_faults f) result (Self.failures self.old) (Self.failures self.new) }
+        ensures ok { Self.tells self.old → TakesBytes (Self.stored self.old id) (Self.stored self.old id).size (length bytes.now)
+            → OnOk result (Self.stored self.new id ≡ stored_after_write (Self.stored self.old id) (Self.stored self.old id).size bytes.now) }
+        ensures refused { Self.tells self.old → TakesBytes (Self.stored self.old id) (Self.stored self.old id).size (length bytes.now)
+            → IfErr result (λ e. IsBreak (is_full self.new) e × KeptOrFailed (Self.stored self.old id) (Self.stored self.new id)) }
+        ensures stays { Self.tells self.old → (Self.stored self.new id).failed ≡ false
+            → OnErr result (Self.kept self.new ≡ Self.kept self.old) };
+
+    /// Whether a length can be had now, by the numbers that are free or left. `Memory`.
+    fn can_resize(&self, id: u32, len: u64) -> Result<bool, Error>
+        requires there { Self.has self.now id }
+        ensures ok { Self.tells self.now → TakesLen (Self.stored self.now id) len → len ≢ (Self.stored self.now id).size
+            → IfOk result (λ can. IsTrue can ↔ (is_too_long self.now id len → ⊥)) }
+        ensures refused { Self.tells self.now → IfErr result IsMemory };
+
     /// Cuts it to a length, or pads it with zeros. Where it is refused nothing has changed, or the file has
     /// failed: `Medium`, `Memory`, and `Full` where the length needs more numbers than are left.
     fn resize(&mut self, id: u32, len: u64) -> Result<(), Error>
         requires there { Self.has self.old id }
         ensures there { Self.has self.new id }
         ensures told { Self.tells self.old → Self.tells self.new }
-        ensures others { Self.tells self.old → keeps id self.old self.new }
+        ensures others { Self.tells self.old → (first : Self) → keeps id first self.old → keeps id first self.new }
+        ensures tight { Self.tells self.old → tight self.old self.new }
+        ensures len { OnOk result ((Self.stored self.new id).size ≡ len) }
         ensures counts { Self.tells self.old → CountsFailure (λ f. Self.read_faults f || write_faults f) result (Self.failures self.old) (Self.failures self.new) }
         ensures ok { Self.tells self.old → TakesLen (Self.stored self.old id) len → OnOk result (Self.stored self.new id ≡ stored_after_resize (Self.stored self.old id) len) }
         ensures refused { Self.tells self.old → TakesLen (Self.stored self.old id) len
@@ -135,6 +174,7 @@ pub trait Contents: ReadContents {
         ensures there { Self.has self.new id }
         ensures told { Self.tells self.old → Self.tells self.new }
         ensures others { Self.tells self.old → (first : Self) → keeps id first self.old → keeps id first self.new }
+        ensures tight { Self.tells self.old → (first : Self) → tight first self.old → tight first self.new }
         ensures counts { Self.tells self.old → CountsFailure (λ f. Self.read_faults f || write_faults f) result (Self.failures self.old) (Self.failures self.new) }
         ensures ok { Self.tells self.old → (Self.stored self.old id).failed ≡ false → OnOk result (Self.stored self.new id ≡ Self.stored self.old id) }
         ensures refused { Self.tells self.old → (Self.stored self.old id).failed ≡ false → IfErr result (λ e. IsMediumFault e × Fails (Self.stored self.old id) (Self.stored self.new id)) }
@@ -144,4 +184,9 @@ pub trait Contents: ReadContents {
 
     /// Reading is no change.
     ghost reads_keep: { (id : ℕ) (first old new : Self) → Self.kept new ≡ Self.kept old → keeps id first old → keeps id first new };
+
+    ghost reads_are_tight: { (first old new : Self) → Self.kept new ≡ Self.kept old → tight first old → tight first new };
+
+    /// Nor is no call at all.
+    ghost still_is_tight: { (s : Self) → tight s s };
 }

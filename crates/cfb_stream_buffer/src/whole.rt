@@ -1,5 +1,5 @@
 //! Contents that are read and written whole, call by call, and given up.
-ghost use Rattle.std.specs.Prelude.{◌≡◌, ◌+◌, ◌-◌, ◌^◌, ◌<◌, ◌≤◌, ◌++◌, ◌||◌, true, false, OnOk, OnErr, IfErr, length, take, drop};
+ghost use Rattle.std.specs.Prelude.{◌≡◌, ◌+◌, ◌-◌, ◌^◌, ◌<◌, ◌≤◌, ◌++◌, ◌||◌, ℕ, true, false, OnOk, OnErr, IfErr, length, take, drop};
 ghost use Rattle.cfb_format.specs.Refused.{CountsFailure, IsBreak};
 ghost use Rattle.cfb_stream_buffer.specs.Contents.{Fails, SameLimits, TakesBytes, stored_after_write};
 ghost use Rattle.cfb_stream_buffer.specs.Touched.{IsRead};
@@ -14,8 +14,10 @@ pub fn give_up<C: Contents>(content: &mut C, id: u32, is_lost: bool)
     ensures there { C.has content.new id }
     ensures told { C.tells content.old → C.tells content.new }
     ensures others { C.tells content.old → (first : C) → C.keeps id first content.old → C.keeps id first content.new }
+    ensures tight { C.tells content.old → (first : C) → C.tight first content.old → C.tight first content.new }
     ensures failures { C.tells content.old → C.failures content.new ≡ C.failures content.old }
     ensures full { C.is_full content.old → C.is_full content.new }
+    ensures too_long { (len : ℕ) → C.is_too_long content.old id len → C.is_too_long content.new id len }
     ensures lost { is_lost ≡ true → Fails (C.stored content.old id) (C.stored content.new id) }
     ensures kept { is_lost ≡ false → content.new ≡ content.old }
 {
@@ -102,8 +104,9 @@ fn read_whole<C: ReadContents>(
     Ok(())
 }
 
-/// Writes all of the bytes at a place up to the end, or some of them where this is refused. Inside the
-/// length it is never refused for fullness.
+/// Writes all of the bytes at a place up to the end, or some of them where this is refused: what lies
+/// behind the end by one change, and then what lies inside the length, which takes no room and is never
+/// refused for fullness.
 pub fn write_all<C: Contents>(content: &mut C, id: u32, at: u64, bytes: &[u8]) -> Result<(), Error>
     requires there { C.has content.old id }
     requires bound { at + length bytes.now < 2 ^ 64 }
@@ -111,12 +114,62 @@ pub fn write_all<C: Contents>(content: &mut C, id: u32, at: u64, bytes: &[u8]) -
     ensures told { C.tells content.old → C.tells content.new }
     ensures others { C.tells content.old → (first : C) → C.keeps id first content.old
         → C.keeps id first content.new }
+    ensures tight { C.tells content.old → C.tight content.old content.new }
+    ensures within { C.tells content.old → at + length bytes.now ≤ (C.stored content.old id).size
+        → (first : C) → C.tight first content.old → C.tight first content.new }
+    ensures counts { C.tells content.old → CountsFailure (λ f. C.read_faults f || C.write_faults f) result
+        (C.failures content.old) (C.failures content.new) }
+    ensures ok { C.tells content.old → TakesBytes (C.stored content.old id) at (length bytes.now) → length (C.stored content.old id).content ≡ (C.stored content.old id).size
+        → OnOk result (C.stored content.new id ≡ stored_after_write (C.stored content.old id) at bytes.now) }
+    ensures refused { C.tells content.old → TakesBytes (C.stored content.old id) at (length bytes.now) → length (C.stored content.old id).content ≡ (C.stored content.old id).size
+        → IfErr result (λ e. IsBreak (((C.stored content.old id).size < at + length bytes.now) × C.is_full content.new) e × SameLimits (C.stored content.old id) (C.stored content.new id)) }
+{
+    let room = content.len(id).saturating_sub(at) as usize;
+    let inside = bytes.len().min(room);
+    append_rest(content, id, &bytes[inside..])?;
+    write_inside(content, id, at, &bytes[..inside])?;
+    Ok(())
+}
+
+/// Puts all of the bytes behind the end, if there are any.
+fn append_rest<C: Contents>(content: &mut C, id: u32, bytes: &[u8]) -> Result<(), Error>
+    requires there { C.has content.old id }
+    ensures there { C.has content.new id }
+    ensures told { C.tells content.old → C.tells content.new }
+    ensures others { C.tells content.old → (first : C) → C.keeps id first content.old
+        → C.keeps id first content.new }
+    ensures tight { C.tells content.old → C.tight content.old content.new }
+    ensures len { OnOk result ((C.stored content.new id).size ≡ (C.stored content.old id).size + length bytes.now) }
+    ensures counts { C.tells content.old → CountsFailure (λ f. C.read_faults f || C.write_faults f) result
+        (C.failures content.old) (C.failures content.new) }
+    ensures none { length bytes.now ≡ 0 → OnErr result ⊥ × (content.new ≡ content.old) }
+    ensures ok { C.tells content.old → 0 < length bytes.now → TakesBytes (C.stored content.old id) (C.stored content.old id).size (length bytes.now)
+        → OnOk result (C.stored content.new id ≡ stored_after_write (C.stored content.old id) (C.stored content.old id).size bytes.now) }
+    ensures refused { C.tells content.old → 0 < length bytes.now → TakesBytes (C.stored content.old id) (C.stored content.old id).size (length bytes.now)
+        → IfErr result (λ e. IsBreak (C.is_full content.new) e × SameLimits (C.stored content.old id) (C.stored content.new id)) }
+{
+    if bytes.is_empty() {
+        return Ok(());
+    }
+    content.append(id, bytes)
+}
+
+/// Writes all of the bytes inside the length, or some of them where this is refused.
+fn write_inside<C: Contents>(content: &mut C, id: u32, at: u64, bytes: &[u8]) -> Result<(), Error>
+    requires there { C.has content.old id }
+    requires bound { at + length bytes.now < 2 ^ 64 }
+    requires inside { 0 < length bytes.now → at + length bytes.now ≤ (C.stored content.old id).size }
+    ensures there { C.has content.new id }
+    ensures told { C.tells content.old → C.tells content.new }
+    ensures others { C.tells content.old → (first : C) → C.keeps id first content.old
+        → C.keeps id first content.new }
+    ensures tight { C.tells content.old → (first : C) → C.tight first content.old → C.tight first content.new }
     ensures counts { C.tells content.old → CountsFailure (λ f. C.read_faults f || C.write_faults f) result
         (C.failures content.old) (C.failures content.new) }
     ensures ok { C.tells content.old → TakesBytes (C.stored content.old id) at (length bytes.now) → at ≤ length (C.stored content.old id).content
         → OnOk result (C.stored content.new id ≡ stored_after_write (C.stored content.old id) at bytes.now) }
     ensures refused { C.tells content.old → TakesBytes (C.stored content.old id) at (length bytes.now) → at ≤ length (C.stored content.old id).content
-        → IfErr result (λ e. IsBreak (((C.stored content.old id).size < at + length bytes.now) × C.is_full content.new) e × SameLimits (C.stored content.old id) (C.stored content.new id)) }
+        → IfErr result (λ e. IsBreak ⊥ e × SameLimits (C.stored content.old id) (C.stored content.new id)) }
 {
     let mut done = 0;
     while done < bytes.len() {

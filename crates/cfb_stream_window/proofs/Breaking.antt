@@ -36,6 +36,18 @@ break_more P Q f (InvalidData d) b = absurd b
 break_more P Q f Unsound b = absurd b
 break_more P Q f Failed b = absurd b
 
+-- nor where it is another
+pub break_but : (P Q : Type 0) (e : Error) → (e ≡ Full → ⊥) → IsBreak P e → IsBreak Q e
+break_but P Q (Medium fault) never b = tt
+break_but P Q Memory never b = tt
+break_but P Q Full never b = absurd (never refl)
+break_but P Q (NotFound d) never b = absurd b
+break_but P Q (AlreadyExists d) never b = absurd b
+break_but P Q (InvalidInput d) never b = absurd b
+break_but P Q (InvalidData d) never b = absurd b
+break_but P Q Unsound never b = absurd b
+break_but P Q Failed never b = absurd b
+
 pub not_full : (Q : Type 0) (e : Error) → IsBreak ⊥ e → IsBreak Q e
 not_full Q e b = break_more ⊥ Q (λ (h : ⊥). absurd h) e b
 

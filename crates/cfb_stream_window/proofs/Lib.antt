@@ -4,4 +4,5 @@ pub mod Breaking
 pub mod Reading
 pub mod Writing
 pub mod Ending
+pub mod InTurn
 pub mod Refusing

@@ -2,21 +2,22 @@
 use Rattle.std.proofs.Common.{refl, ℕ, ◌+◌, ◌-◌, ◌≡◌, ◌≢◌, ◌<◌, ◌≤◌, ◌⊎◌, min, max, Bool, true, false, ◌==◌, IsTrue, List, [], ◌++◌, length, take, drop, sym, ◌∙◌, ap, subst, arith, length-append, length-drop, length-take, replicate, nat_lt, nat_le, if◌then◌else◌, inl, inr}
 use Rattle.std.proofs.lemmas.Bool.{cases_lt}
 use Rattle.std.proofs.lemmas.Bool.Decides.{nat_tests}
-use Rattle.std.proofs.lemmas.List.{length-replicate}
+use Rattle.std.proofs.lemmas.List.{append-nil, length-replicate, take_all}
 use Rattle.cfb_format.specs.declared.error.Detail.{Detail}
 use Rattle.cfb_format.specs.declared.error.Error.{Error}
-use Rattle.cfb_format.specs.declared.error.Error.TheVariants.{InvalidInput, Unsound}
+use Rattle.cfb_format.specs.declared.error.Error.TheVariants.{Full, InvalidInput, Unsound}
 use Rattle.cfb_format.specs.declared.medium.MediumFault.{MediumFault}
 use Rattle.cfb_format.specs.Medium.{Rises}
-use Rattle.cfb_format.specs.Refused.{CountsError, IsBreak}
+use Rattle.cfb_format.specs.Refused.{CountsError, IsBreak, IsMemory}
 use Rattle.cfb_rules.specs.Refusal.{invalid_input, not_sound}
 use Rattle.cfb_rules.specs.StreamCalls.{write, set_len, ready, count, Wrote, resized}
 use Rattle.cfb_rules.specs.Runs.{Causes, no_work, overwriting, appending, resizing, work_of}
-use Rattle.cfb_stream_buffer.specs.Contents.{Stored, laid, stored_after_write, stored_after_resize}
-use Rattle.cfb_stream_window.specs.Windows.{Window, LiesOver, Carries, Stays, IsLost, LengthBrokeOff, WriteBrokeOff, Runs, IsCallRefused, state_of, window_kept, window_past, window_settled, window_within, WroteStraight, Resized}
+use Rattle.cfb_stream_buffer.specs.Contents.{Stored, Fails, laid, stored_after_write, stored_after_resize}
+use Rattle.cfb_stream_window.specs.Windows.{Window, LiesOver, Carries, Stays, IsLengthened, IsLost, IsMemoryOrFull, LengthBrokeOff, WriteBrokeOff, Runs, IsCallRefused, settled, state_of, window_kept, window_past, window_settled, window_within, WroteStraight, Resized}
 use Rattle.cfb_stream_buffer.proofs.Lists.{length-laid, laid-nothing, laid-resized, laid-write, resized-before}
+use Rattle.cfb_stream_window.proofs.Carrying.{settled_whole}
 use Rattle.cfb_stream_window.proofs.Asking.{agrees_moved}
-use Rattle.cfb_stream_window.proofs.Breaking.{match_true, match_false, not_full, overwritten_broken, appended_broken}
+use Rattle.cfb_stream_window.proofs.Breaking.{match_true, match_false, not_full, break_but, memory_break, overwritten_broken, appended_broken}
 use Rattle.cfb_stream_window.proofs.Reading.{step_runs, stays, eq_test}
 
 -- ---- writing
@@ -270,6 +271,76 @@ resized_lost full long size s t u w v x e same b l = (
   ),
 )
 
+-- nothing changed but what was lent
+pub unlent : (s t : Stored) (w x : Window) → LiesOver s w → t ≡ s → x ≡ record w { ahead = 0 } → Stays s w t x
+unlent s t w x a same is = subst (λ (z : Stored). Stays s w z x) (sym same) (record {
+  same = refl;
+  carries = subst (λ (z : Window). Carries s w s z) (sym is) (record {
+    list = refl;
+    place = refl;
+    same_size = refl;
+    limit = refl;
+    sound = refl;
+    calm = λ (h : w.pending ≡ false). h;
+    bound = refl;
+    agrees = agrees_moved s w (record w { ahead = 0 }) w.cursor 0 a refl;
+  });
+  ahead = ap (λ (z : Window). z.ahead) is;
+  pending = ap (λ (z : Window). z.pending) is;
+})
+
+-- or it was written out, and then the length could not be had
+pub lost_after : (full : Type 0) (size : ℕ) (s t u : Stored) (w v x : Window) (e : Error) → Resized size s w t v → IsBreak full e → Fails t u → LengthBrokeOff full s w u x e
+lost_after full size s t u w v x e k b f = (
+  b,
+  inr (record { is_failed = f.is_failed; same_limit = f.same_limit ∙ k.limit; same_sound = f.same_sound ∙ k.sound }, tt),
+)
+
+-- no number lacked
+pub lacks_none : (full other : Type 0) (s : Stored) (w : Window) (t : Stored) (x : Window) (e : Error) → (e ≡ Full → ⊥) → LengthBrokeOff full s w t x e → LengthBrokeOff other s w t x e
+lacks_none full other s w t x e never b = (break_but full other e never b.0, b.1)
+
+-- what is pending is written out by the length of the window
+pub resized_own : (c : List ℕ) (n : ℕ) → length c ≡ n → resized c n ≡ c
+resized_own c n is =
+    let none : n - length c ≡ 0 = omega (arith, is) in
+    ap (λ (m : ℕ). take n c ++ replicate m 0) none ∙ append-nil (take n c) ∙ take_all n c (omega (arith, is))
+
+pub resized_settled : (s t : Stored) (w v : Window) → LiesOver s w → s.sound ≡ true → Resized w.size s w t v → t ≡ settled s w
+resized_settled s t w v a sound k =
+    let whole : length (laid w.base w.filled s.content) ≡ w.size = settled_whole s w a sound in
+    let list : t.content ≡ laid w.base w.filled s.content = sym (k.agrees.clean k.calm) ∙ k.list ∙ resized_own (laid w.base w.filled s.content) w.size whole in
+    let size : t.size ≡ w.size = sym (k.agrees.clean_size k.calm) ∙ k.new_size in
+    let limit = k.limit in
+    let still = k.sound in
+    let calm : t.failed ≡ s.failed = k.agrees.unfailed ∙ sym a.unfailed in
+    λ j. record { size = size j; content = list j; limit = limit j; sound = still j; failed = calm j }
+
+-- the length came second
+pub resized_again : (len : ℕ) (s t u : Stored) (w v x : Window) → LiesOver s w → s.sound ≡ true → w.size ≤ len → w.base + w.cursor ≤ w.size → Resized w.size s w t v → Resized len t v u x → Resized len s w u x
+resized_again len s t u w v x a sound longer inside k then' = record {
+  list = then'.list ∙ ap (λ (xs : List ℕ). resized xs len) (k.list ∙ resized_own (laid w.base w.filled s.content) w.size (settled_whole s w a sound));
+  place = omega (arith, then'.place, k.place, longer, inside);
+  new_size = then'.new_size;
+  limit = then'.limit ∙ k.limit;
+  sound = then'.sound ∙ k.sound;
+  ahead = then'.ahead;
+  calm = then'.calm;
+  agrees = then'.agrees;
+}
+
+-- nothing was done for want of memory
+pub unasked : (full : Type 0) (s : Stored) (w x : Window) (e : Error) → LiesOver s w → IsMemory e → x ≡ record w { ahead = 0 } → LengthBrokeOff full s w s x e
+unasked full s w x e a memory is = (memory_break full e memory, inl (unlent s s w x a refl is, λ (p : w.pending ≡ true). subst (λ (z : Error). IsMemoryOrFull z) (sym memory) tt))
+
+-- bytes lie pending behind the end
+pub lengthened_pending : (s : Stored) (w : Window) (size : ℕ) → LiesOver s w → IsLengthened s w size → w.pending ≡ true
+lengthened_pending s w size a long = go w.pending refl
+  where
+    go : (p : Bool) → w.pending ≡ p → p ≡ true
+    go true is = refl
+    go false is = absurd (omega (arith, a.clean_size is, long.0))
+
 -- what the rules ask of `set_len`
 module _ (causes : Causes) (s : Stored) (w : Window) (size : ℕ) (f : s.failed ≡ false) where
   pub same_len_runs : (x : Window) → x ≡ record w { ahead = 0 } → size ≡ w.size → Runs causes s w (set_len size) ready s x
@@ -301,21 +372,3 @@ pub len_work : (s : Stored) (w : Window) (size : ℕ) → size ≢ w.size → wo
 len_work s w size other =
     let e : (size == w.size) ≡ false = grind (arith, nat_tests) in
     ap (λ (b : Bool). if b then no_work else resizing) e
-
--- nothing changed but what was lent
-pub unlent : (s t : Stored) (w x : Window) → LiesOver s w → t ≡ s → x ≡ record w { ahead = 0 } → Stays s w t x
-unlent s t w x a same is = subst (λ (z : Stored). Stays s w z x) (sym same) (record {
-  same = refl;
-  carries = subst (λ (z : Window). Carries s w s z) (sym is) (record {
-    list = refl;
-    place = refl;
-    same_size = refl;
-    limit = refl;
-    sound = refl;
-    calm = λ (h : w.pending ≡ false). h;
-    bound = refl;
-    agrees = agrees_moved s w (record w { ahead = 0 }) w.cursor 0 a refl;
-  });
-  ahead = ap (λ (z : Window). z.ahead) is;
-  pending = ap (λ (z : Window). z.pending) is;
-})

@@ -10,7 +10,7 @@ use Rattle.cfb_stream_buffer.specs.declared.content.ReadContents as reading
 use Rattle.cfb_stream_buffer.specs.declared.content.Contents as writing
 use Rattle.cfb_stream_buffer.specs.Contents.{KeptOrFailed}
 use Rattle.cfb_stream_buffer.specs.Touched.{faults_of}
-use Rattle.cfb_stream_window.specs.Windows.{Window, LiesOver, Suits, Runs, IsCallRefused, run_of}
+use Rattle.cfb_stream_window.specs.Windows.{Window, LiesOver, Suits, Runs, IsCallRefused, IsSettled, run_of}
 
 -- at a refusal of the input, of a file that is not sound or of one that failed earlier so much holds, and so much where bytes can't
 -- be read
@@ -53,11 +53,24 @@ module _ {C : Type 0} (r : reading.Ghosts C) where
   IsRefusedReading old id w call new w' e = IsRefusedFor (causes_of_read old new) old id w call new w' e
 
 module _ {C : Type 0} (r : reading.Ghosts C) (g : writing.Ghosts C) where
-  -- nothing has changed, or the length was changed once, with what comes of it; and where this was refused all but the count of failures is
-  -- as it was, or the file has failed
-  pub record IsResized {T : Type 0} (old new : C) (id : ℕ) (result : Result T Error) : Type 0 where
+  -- What was pending was written out, as a flush does, and then there was one change more. With nothing pending there is that change alone.
+  pub record IsBetween (old : C) (id : ℕ) (w : Window) (mid new : C) : Type 0 where
+    pub told : r.tells mid
+    pub calm : w.pending ≡ false → mid ≡ old
+    pub settles : LiesOver (r.stored old id) w → IsSettled (r.stored old id) w (r.stored mid id)
+    pub before : (first : C) → g.keeps id first old → g.keeps id first mid
+    pub after : (first : C) → g.keeps id first mid → g.keeps id first new
+    pub first : g.tight old mid
+    pub second : g.tight mid new
+
+  abbrev pub InTurn : C → ℕ → Window → C → Type 0
+  InTurn old id w new = (mid : C) × IsBetween old id w mid new
+
+  -- it was read from and written to, under this number alone; and where this was refused all but the count of failures is as it was, or the
+  -- file has failed
+  pub record IsTouched {T : Type 0} (old new : C) (id : ℕ) (result : Result T Error) : Type 0 where
     pub told : r.tells new
-    pub others : (new ≡ old) ⊎ g.keeps id old new
+    pub others : (first : C) → g.keeps id first old → g.keeps id first new
     pub counts : CountsFailure (faults_of r g) result (r.failures old) (r.failures new)
     pub stays : (r.stored new id).failed ≡ false → OnErr result (r.kept new ≡ r.kept old)
 

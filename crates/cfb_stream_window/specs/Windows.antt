@@ -151,6 +151,10 @@ ReadBrokeOff full s w s' w' e = BrokeOff (w.pending ≡ true) ((w.pending ≡ tr
 abbrev pub WriteBrokeOff : Type 0 → Stored → Window → Stored → Window → Error → Type 0
 WriteBrokeOff full s w s' w' e = BrokeOff Unit ((w.pending ≡ false → w.size ≤ w.base + w.cursor) × full) IsMemory s w s' w' e
 
+-- a longer length, with bytes pending behind the end of what is stored: there these may be written out before
+abbrev pub IsLengthened : Stored → Window → ℕ → Type 0
+IsLengthened s w size = (s.size < w.size) × (w.size < size)
+
 -- a change of the length does: whether it can be had is found before anything is written
 abbrev pub LengthBrokeOff : Type 0 → Stored → Window → Stored → Window → Error → Type 0
 LengthBrokeOff full s w s' w' e = BrokeOff Unit full IsMemoryOrFull s w s' w' e

@@ -173,6 +173,8 @@ impl ReadContents for MemoryContents {
 impl Contents for MemoryContents {
     ghost keeps = { λ _ _ _. Unit {0} };
 
+    ghost tight = { λ _ _. Unit {0} };
+
     ghost write_faults = { λ _. true };
 
     ghost is_full = { λ m. m.room ≤ length m.bytes };
@@ -201,6 +203,30 @@ impl Contents for MemoryContents {
         Ok(count)
     }
 
+    #[tactic(auto, using(crate::proofs::Laid::length_laid))]
+    fn append(&mut self, _id: u32, bytes: &[u8]) -> Result<(), Error> {
+        let size = self.bytes.len();
+        if self.missing > 0 || bytes.len() as u64 > self.limit - size as u64 {
+            return Err(Error::Unsound);
+        }
+        let most = self.room_at(size as u64);
+        if bytes.len() as u64 > most {
+            // What there is room for was taken by the time that this is found.
+            self.failed = true;
+            self.room = 0;
+            return Err(Error::Full);
+        }
+        self.count_write()?;
+        if overwrite(&mut self.bytes, size, bytes).is_err() {
+            return Err(Error::Memory);
+        }
+        Ok(())
+    }
+
+    fn can_resize(&self, _id: u32, len: u64) -> Result<bool, Error> {
+        Ok(len <= self.room)
+    }
+
     fn resize(&mut self, _id: u32, len: u64) -> Result<(), Error> {
         if self.missing > 0 || len > self.limit {
             return Err(Error::Unsound);
@@ -224,6 +250,10 @@ impl Contents for MemoryContents {
     }
 
     ghost reads_keep = { λ _ _ _ _ _ _. tt {0} };
+
+    ghost reads_are_tight = { λ _ _ _ _ _. tt {0} };
+
+    ghost still_is_tight = { λ _. tt {0} };
 }
 
 /// Puts all of the bytes at a place, or nothing where memory is refused.
@@ -233,6 +263,8 @@ fn overwrite(bytes: &mut Vec<u8>, at: usize, from: &[u8]) -> Result<(), AllocErr
     requires fits { at + length from.now < 2 ^ 64 }
     ensures ok { OnOk result (bytes.new.items ≡ laid at from.now bytes.old.items) }
     ensures len { length bytes.new.items ≤ max (length bytes.old.items) (at + length from.now) }
+    ensures within { at + length from.now ≤ length bytes.old.items
+        → length bytes.new.items ≡ length bytes.old.items }
     ensures err { OnErr result (bytes.new.items ≡ bytes.old.items) }
 {
     let end = at + from.len();

@@ -1,5 +1,5 @@
 -- What an answer says, drawn from what it says.
-use Rattle.std.specs.Prelude.{Result, Ok, Err}
+use Rattle.std.specs.Prelude.{Result, Ok, Err, IfErr}
 use Rattle.std.specs.Result.{OnOk}
 
 pub on_ok : {T E : Type 0} (P Q : Type 0) (r : Result T E) → (P → Q) → OnOk r P → OnOk r Q
@@ -18,3 +18,13 @@ on_three P Q R S (Err e) f p q r = tt
 pub all_ok : {T E : Type 0} {P : Type 0} (r : Result T E) → P → OnOk r P
 all_ok (Ok x) p = p
 all_ok (Err e) p = tt
+
+-- what holds anyway holds of a refusal
+pub all_err : {T E : Type 0} {P : Type 0} (r : Result T E) → P → IfErr r (λ e. P)
+all_err (Ok x) p = tt
+all_err (Err e) p = p
+
+-- what a refusal says, drawn from what it says
+pub if_err : {T E : Type 0} {P Q : E → Type 0} (r : Result T E) → ((e : E) → P e → Q e) → IfErr r P → IfErr r Q
+if_err (Ok x) f p = tt
+if_err (Err e) f p = f e p

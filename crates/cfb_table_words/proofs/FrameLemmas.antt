@@ -29,7 +29,7 @@ changes_more few many v a b more change = record {
 }
 
 -- the bytes before a sector stay where a sector changes
-before_sector : (v : Version) (sector offset at i : ℕ) → at ≡ sector_start v sector + offset → IsOtherHeaderByte v i → i < at
+pub before_sector : (v : Version) (sector offset at i : ℕ) → at ≡ sector_start v sector + offset → IsOtherHeaderByte v i → i < at
 before_sector V3 sector offset at i there (inl low) = omega (arith, there, low)
 before_sector V3 sector offset at i there (inr (inl mid)) = omega (arith, there, mid.1)
 before_sector V3 sector offset at i there (inr (inr high)) = omega (arith, there, high.1)

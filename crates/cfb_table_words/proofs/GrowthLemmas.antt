@@ -24,7 +24,6 @@ use Rattle.cfb_tables.specs.Tables.{TableState, HasTaken}
 use Rattle.cfb_table_words.proofs.AgreementLemmas.{appended_late, changed_late}
 use Rattle.cfb_table_words.proofs.StrictLemmas.{if_strict, strict_grown}
 use Rattle.cfb_format.proofs.Words.{sector_words-at, whole-end}
-use Rattle.cfb_sectors.specs.declared.sector.SectorInit.{SectorInit}
 use Rattle.cfb_sectors.specs.declared.sector.SectorInit.TheVariants.{Fat}
 use Rattle.cfb_table_words.proofs.DifatWalk.{member_whole}
 use Rattle.cfb_table_words.proofs.DifatWords.{fresh_fat_words}
@@ -247,13 +246,13 @@ fresh_word v bytes list from i filled low high =
     div_from V3 j f h = omega (arith, h)
     div_from V4 j f h = omega (arith, h)
 
-module _ (validation : Validation) (t0 t : TableState) (touched more : List ℕ) (taken : HasTaken t0 t touched more) (s0 s2 : SectorFile) (init : SectorInit) where
+module _ (validation : Validation) (t0 t : TableState) (touched more : List ℕ) (taken : HasTaken t0 t touched more) (s0 s2 : SectorFile) where
   same_v : t.version ≡ t0.version
   same_v = taken.same_version
 
   -- how many sectors there are then
   grown_count : HoldsBut validation [] s0 t0 → 512 ≤ length s0.bytes → length s0.bytes ≤ length s2.bytes → s2.len ≡ length s2.bytes → s2.len ≤ sector_start t.version (length t.fat)
-      → ListsTables validation t.version s2.bytes t.fat_sectors t.difat_sectors → ((i : ℕ) → Contains more i → IsFilled t.version init s2.bytes i)
+      → ListsTables validation t.version s2.bytes t.fat_sectors t.difat_sectors → ((i : ℕ) → Contains more i → sector_start t.version i + sector_len t.version ≤ length s2.bytes)
       → length t.fat ≡ sector_count t.version s2.bytes
   grown_count h long longer measured end listed filled = elim (cases_lt (length t0.fat) (length t.fat)) [
     | inr same ↦
@@ -282,7 +281,7 @@ module _ (validation : Validation) (t0 t : TableState) (touched more : List ℕ)
               (subst (λ (xs : List ℕ). Contains xs i) (sym taken.fat_sectors) (Contains-append_right t0.fat_sectors taken.fats i f))
           | inl r ↦ elim (Contains-append_cases touched more i r) [
             | inl x ↦ absurd (let e = taken.ends i x in let p = value-past t0.fat i ge in omega (arith, e, p))
-            | inr x ↦ (filled i x).whole
+            | inr x ↦ filled i x
           ]
         ]
       ]
@@ -292,7 +291,7 @@ module _ (validation : Validation) (t0 t : TableState) (touched more : List ℕ)
       → HoldsBut validation [] s0 t0 → 512 ≤ length s0.bytes → length s0.bytes ≤ length s2.bytes → IsMeasured s2 → s2.len ≤ sector_start t.version (length t.fat)
       → ListsTables validation t.version s2.bytes t.fat_sectors t.difat_sectors → IsClean t.fat
       → ((k : ℕ) → length t0.fat_sectors ≤ k → k < length t.fat_sectors → IsFilled t.version Fat s2.bytes (slice_index t.fat_sectors k))
-      → ((i : ℕ) → Contains more i → IsFilled t.version init s2.bytes i) → KeepsSectors t.version t0.fat_sectors s0.bytes s2.bytes
+      → ((i : ℕ) → Contains more i → sector_start t.version i + sector_len t.version ≤ length s2.bytes) → KeepsSectors t.version t0.fat_sectors s0.bytes s2.bytes
       → HoldsBut validation late s2 t
   grown_holds late cover h long longer measured end listed clean fats filled keeps =
       let here = subst (λ (w : Version). AgreesBut [] w s0.bytes t0.fat_sectors t0.difat_sectors t0.fat) (sym same_v) h.agrees in

@@ -14,3 +14,6 @@ pub mod HeldLemmas
 pub mod RunWords
 pub mod Stretches
 pub mod StrictLemmas
+pub mod Runs
+pub mod Along
+pub mod FilledSectors

@@ -2,3 +2,5 @@ pub mod Agreement
 pub mod Difat
 pub mod Holding
 pub mod Stretches
+pub mod Runs
+pub mod Along

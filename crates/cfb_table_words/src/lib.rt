@@ -3,5 +3,7 @@
 #![tactic(auto)]
 
 pub mod agreement;
+pub mod filling;
+pub mod run;
 pub mod stretch;
 pub mod writing;

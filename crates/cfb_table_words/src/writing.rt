@@ -1,5 +1,5 @@
 //! Writing what has changed in the tables to the sectors that hold them (MS-CFB 2.3 and 2.5).
-ghost use Rattle.std.specs.Prelude.{◌≡◌, ◌%◌, ℕ, List, [], ◌∷◌, ◌++◌, ◌+◌, ◌*◌, ◌-◌, ◌<◌, ◌≤◌, length, take, drop, true, IsTrue, Contains, OnOk, IfErr, IfOk, nat_eq, nat_lt, slice_index, max, ◌^◌, if◌then◌else◌};
+ghost use Rattle.std.specs.Prelude.{◌≡◌, ◌%◌, ℕ, List, [], ◌∷◌, ◌++◌, ◌+◌, ◌*◌, ◌-◌, ◌<◌, ◌≤◌, length, take, drop, true, IsTrue, Contains, OnOk, IfErr, IfOk, nat_eq, nat_lt, slice_index, max, ◌^◌, ◌⊎◌, if◌then◌else◌};
 ghost use Rattle.std.specs.List.{IsDistinct};
 ghost use Rattle.cfb_format.specs.declared.validate.Validation.{Validation};
 ghost use Rattle.cfb_format.specs.Bytes.{max_regular_sector, is_whole_sector, sector_start, sector_len, words_per_sector};
@@ -13,10 +13,12 @@ ghost use Rattle.cfb_sectors.specs.declared.sector.SectorInit.TheVariants.{Fat};
 ghost use Rattle.cfb_sectors.specs.Sectors.{IsMediumError, IsRaised, sectors_end};
 ghost use Rattle.cfb_tables.specs.Clean.{IsClean};
 ghost use Rattle.cfb_tables.specs.Tables.{TableState, HasTaken, IsCovered};
+ghost use Rattle.cfb_table_words.specs.Along.{AreFilledFrom};
 ghost use Rattle.cfb_table_words.specs.Difat.{ListsTables, difat_places, difat_place, freed_behind, listed_in_header, listed_in_sector, linked, link_place};
 ghost use Rattle.cfb_table_words.specs.Stretches.{LateBut};
 ghost use Rattle.cfb_table_words.specs.Holding.{IsPlaced, IsMeasured, HoldsBut, IsFilled, IsTablesWord, ChangesSectors};
 
+use crate::filling::fill_sectors;
 use crate::stretch::{Stretch, stretch_at};
 use cfb_format::bytes::put_words;
 use cfb_format::consts::{FREE_SECTOR, NUM_DIFAT_ENTRIES_IN_HEADER};
@@ -35,38 +37,6 @@ const HEADER_FIRST_DIFAT: usize = 68;
 const HEADER_DIFAT_COUNT: usize = 72;
 
 const HEADER_DIFAT: usize = 76;
-
-/// Fills these sectors. `Medium`.
-fn fill_sectors<F: Medium>(
-    sectors: &mut Sectors<F>,
-    numbers: &[u32],
-    init: SectorInit,
-) -> Result<(), Error>
-    requires below { (i : ℕ) → Contains numbers.now i → i < sectors.old.num_sectors }
-    ensures kept { sectors.new ≡ record sectors.old {
-      len = sectors.new.len;
-      bytes = sectors.new.bytes;
-      failures = sectors.new.failures;
-      begun = sectors.new.begun;
-    } }
-    ensures measured { IsTrue F.tells
-        → IsMeasured sectors.old → OnOk result (IsMeasured sectors.new) }
-    ensures filled { IsTrue F.tells → OnOk result ((i : ℕ)
-        → Contains numbers.now i → IsFilled sectors.old.version init sectors.new.bytes i) }
-    ensures changes { IsTrue F.tells
-        → ChangesSectors numbers.now sectors.old.version sectors.old.bytes sectors.new.bytes }
-    ensures front { IsTrue F.tells → RangeStays 0 512 sectors.old.bytes sectors.new.bytes }
-    ensures raised { OnOk result (IsRaised (0 < length numbers.now) sectors.old sectors.new) }
-    ensures err { IfErr result IsMediumError }
-    ensures begun { IfErr result (λ e. sectors.new.begun ≡ true) }
-    ensures counts { IsTrue F.tells
-        → CountsFailure F.write_faults result sectors.old.failures sectors.new.failures }
-{
-    for number in numbers {
-        fill_sector(sectors, *number, init)?;
-    }
-    Ok(())
-}
 
 /// Fills a sector. `Medium`.
 fn fill_sector<F: Medium>(
@@ -655,7 +625,8 @@ fn write_table_sectors<F: Medium>(
     Ok(())
 }
 
-/// Adds the table sectors of a change as `write_table_sectors` does, and fills the sectors that it took for chains. `Medium`.
+/// Adds the table sectors of a change as `write_table_sectors` does, and fills the sectors that it took for chains, with the
+/// bytes of `from` first. `Medium`.
 fn add_sectors<F: Medium>(
     sectors: &mut Sectors<F>,
     fat_sectors: &[u32],
@@ -663,6 +634,7 @@ fn add_sectors<F: Medium>(
     before: TableSizes,
     more: &[u32],
     init: SectorInit,
+    from: &[u8],
 ) -> Result<(), Error>
     requires few { length fat_sectors.now ≤ max_regular_sector }
     requires short { length difat_sectors.now ≤ max_regular_sector }
@@ -691,8 +663,8 @@ fn add_sectors<F: Medium>(
         → AreDisjoint fat_sectors.now difat_sectors.now → AreDisjoint fat_sectors.now more.now
         → OnOk result ((k : ℕ) → before.fats ≤ k → k < length fat_sectors.now
         → IsFilled sectors.old.version Fat sectors.new.bytes (slice_index fat_sectors.now k)) }
-    ensures filled { IsTrue F.tells → OnOk result ((i : ℕ)
-        → Contains more.now i → IsFilled sectors.old.version init sectors.new.bytes i) }
+    ensures filled { IsTrue F.tells → IsDistinct nat_eq more.now → OnOk result
+        (AreFilledFrom sectors.old.version init from.now sectors.new.bytes more.now) }
     ensures measured { IsTrue F.tells
         → IsMeasured sectors.old → OnOk result (IsMeasured sectors.new) }
     ensures changes { IsTrue F.tells → ChangesSectors (drop before.fats fat_sectors.now
@@ -712,7 +684,7 @@ fn add_sectors<F: Medium>(
         before.fats,
         before.difats,
     )?;
-    fill_sectors(sectors, more, init)?;
+    fill_sectors(sectors, more, init, from)?;
     let _fact = sectors.num_sectors();
     Ok(())
 }
@@ -764,8 +736,8 @@ fn write_late<F: Medium, A: Allocator>(
     write_values(sectors, tables, touched)
 }
 
-/// Writes what taking sectors changed: the new table sectors and where they are listed, what the new sectors hold, and the values in
-/// the FAT (MS-CFB 2.3 and 2.5). `Medium`.
+/// Writes what taking sectors changed: the new table sectors and where they are listed, what the new sectors hold, which is first the
+/// bytes of `from`, and then the values in the FAT (MS-CFB 2.3 and 2.5). `Medium`.
 pub fn write_taken<F: Medium, A: Allocator>(
     sectors: &mut Sectors<F>,
     tables: &Tables<A>,
@@ -773,6 +745,7 @@ pub fn write_taken<F: Medium, A: Allocator>(
     touched: &[u32],
     more: &[u32],
     init: SectorInit,
+    from: &[u8],
 ) -> Result<(), Error>
     requires placed { IsPlaced sectors.old tables.now }
     requires covered { IsCovered tables.now }
@@ -795,9 +768,14 @@ pub fn write_taken<F: Medium, A: Allocator>(
         → IsClean tables.now.fat → before.fats ≡ length old.fat_sectors
         → before.difats ≡ length old.difat_sectors → HoldsBut validation [] sectors.old old
         → OnOk result (HoldsBut validation [] sectors.new tables.now) }
-    ensures filled { IsTrue F.tells
-        → AreDisjoint tables.now.fat_sectors more.now → OnOk result ((i : ℕ)
-        → Contains more.now i → IsFilled tables.now.version init sectors.new.bytes i) }
+    ensures filled { IsTrue F.tells → IsDistinct nat_eq more.now
+        → AreDisjoint tables.now.fat_sectors more.now → OnOk result
+        (AreFilledFrom tables.now.version init from.now sectors.new.bytes more.now) }
+    ensures ordered { IsTrue F.tells → IsDistinct nat_eq more.now
+        → AreDisjoint tables.now.fat_sectors more.now → IfErr result (λ _.
+        AreFilledFrom tables.now.version init from.now sectors.new.bytes more.now
+        ⊎ ChangesSectors (drop before.fats tables.now.fat_sectors ++ tables.now.difat_sectors
+        ++ more.now) tables.now.version sectors.old.bytes sectors.new.bytes) }
     ensures changes { IsTrue F.tells
         → ChangesSectors (tables.now.fat_sectors ++ tables.now.difat_sectors
         ++ more.now) tables.now.version sectors.old.bytes sectors.new.bytes }
@@ -815,6 +793,7 @@ pub fn write_taken<F: Medium, A: Allocator>(
         before,
         more,
         init,
+        from,
     )?;
     write_late(sectors, tables, before, touched, more)
 }

@@ -1,4 +1,4 @@
-//! Tests of `cfb_sectors` and `cfb_tables`: a crate beside them, because `rt ci` proves the tests of one crate in one
+//! Tests of `cfb_sectors`, `cfb_tables` and `cfb_soundness`: a crate beside them, because `rt ci` proves the tests of one crate in one
 //! job, and begins with them as soon as what they stand on is proved.
 #![tactic(auto)]
 
@@ -8,5 +8,7 @@ mod checked;
 mod fats;
 #[cfg(test)]
 mod sectors;
+#[cfg(test)]
+mod soundness;
 #[cfg(test)]
 mod tables;

@@ -41,7 +41,7 @@ use Rattle.cfb_entry_changes.specs.Standing.{StandStill}
 use Rattle.cfb_entry_changes.proofs.Standing.{streams-kept-then}
 use Rattle.cfb_agreement.specs.Changes.{KeepsStreams, StaysOrFails, object_added_at}
 use Rattle.cfb_agreement.specs.Laws.{with_flags}
-use Rattle.cfb_agreement.specs.Files.{Agrees, FileState, Holds, IsAsMade, IsFullFile, LeavesNoneFree, SameSetting, failures_of, is_failed}
+use Rattle.cfb_agreement.specs.Files.{Agrees, FileState, Holds, IsAsMade, IsFullFile, GrowsTightly, SameSetting, failures_of, is_failed}
 use Rattle.cfb_agreement.proofs.HeldBytes.{held-means-its-tree}
 use Rattle.cfb_sequences.specs.Laws.{all_added_at}
 use Rattle.cfb_sequences.proofs.Ways.{added-on-the-way, all-is-there}
@@ -263,7 +263,7 @@ module _ (tells : Bool) (moment top : ℕ) (all rest more : List (List ℕ)) (na
       → number_from (cases_of new.base) (entries_of new.base) 0 after (first ∷ names) ≡ Some n)
       → KeepsFound mid.base new.base → StandStill mid.base new.base → AllStayBalanced mid.base new.base → len_of new.base 0 ≡ len_of mid.base 0
       → (IsFullForEntry mid.base.directory → ⊥) → (IsTrue tells → Holds mid → KeepsStreams mid.base new.base)
-      → (IsTrue tells → KeepsFixedHeader mid.base new.base) → (IsTrue tells → Holds mid → IsAsMade mid.base → IsAsMade new.base) → LeavesNoneFree mid.base new.base
+      → (IsTrue tells → KeepsFixedHeader mid.base new.base) → (IsTrue tells → Holds mid → IsAsMade mid.base → IsAsMade new.base) → GrowsTightly mid.base new.base
       → length (tables_in mid.base).fat ≤ length (tables_in new.base).fat → (NoneFree (tables_in mid.base).fat → NoneFree (tables_in new.base).fat)
       → (IsTrue tells → Holds mid → Agrees new) → (IsTrue tells → failures_of new ≡ failures_of mid)
       → AddsStorages tells moment all more top n start new
@@ -287,8 +287,8 @@ module _ (tells : Bool) (moment top : ℕ) (all rest more : List (List ℕ)) (na
     root_len = root_len ∙ i.root_len;
     room = inr (room-then tells moment top node all rest start mid i enough);
     grows = λ longer. elim (cases_lt (length (tables_in mid.base).fat) (length (tables_in new.base).fat)) [
-      | inl later ↦ grows later
-      | inr same ↦ stays_full (i.grows (omega (arith, longer, same)))
+      | inl later ↦ let now = grows later in (now.0, (let within = now.1 in let limit = i.setting.limits.max_sectors in omega (arith, within, limit)))
+      | inr same ↦ let then' = i.grows (omega (arith, longer, same)) in (stays_full then'.0, (let within = then'.1 in omega (arith, within, same)))
     ];
     no_shorter = (let a = i.no_shorter in omega (arith, a, no_shorter));
     stays_full = λ full. stays_full (i.stays_full full);

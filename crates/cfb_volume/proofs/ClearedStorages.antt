@@ -24,7 +24,7 @@ use Rattle.cfb_agreement.specs.Files.{FileState, Holds, IsAsMade}
 use Rattle.cfb_agreement.proofs.Flags.{flags-not-read, made-flagged}
 use Rattle.cfb_agreement.proofs.HeldBytes.{changeable-is-held}
 use Rattle.cfb_entry_changes.specs.Clearing.{ClearsStorage, WritesClearing}
-use Rattle.cfb_entry_changes.proofs.Emptied.{cleared-empties-tree, cleared-has-outline, cleared-is-all-used, cleared-is-balanced, cleared-is-changeable, cleared-is-snug}
+use Rattle.cfb_entry_changes.proofs.Emptied.{cleared-empties-tree, cleared-has-outline, cleared-is-all-used, cleared-is-balanced, cleared-is-changeable, cleared-is-snug, cleared-is-snug-mini}
 use Rattle.cfb_volume.specs.Clearing.{emptied_at}
 use Rattle.cfb_volume.proofs.InsertedObjects.{ended, file_with}
 
@@ -86,6 +86,7 @@ module _ (old : FileState) (mid : MiniState) (top : ℕ) (t : ClearsStorage old.
         used = cleared-is-all-used Strict old.base mid top all made.used;
         exact = subst (λ u. AreExactTables u) (sym t.kept.tables) made.exact;
         snug = cleared-is-snug Strict old.base mid top all made.snug;
+        snug_mini = cleared-is-snug-mini old.base mid top t made.snug_mini;
         balanced = all-stay-balanced (cases_of old.base) (cases_of mid) (entries_of old.base) (entries_of mid) t.storage.outline t.storage.is
             (cleared-is-balanced old.base mid top t) made.balanced;
       })

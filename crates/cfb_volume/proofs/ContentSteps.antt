@@ -6,13 +6,13 @@ use Rattle.cfb_format.specs.Reading.{IsOutline}
 use Rattle.cfb_tables.specs.Tables.{AreExactTables}
 use Rattle.cfb_mini_sectors.specs.Held.{with_table}
 use Rattle.cfb_mini_sectors.specs.State.{IsChangeable, MiniState, bytes_of, cases_of, entries_of, table_of, tables_in}
-use Rattle.cfb_mini_sectors.specs.Steps.{KeepsLimits}
+use Rattle.cfb_mini_sectors.specs.Steps.{IsSnugMini, KeepsLimits}
 use Rattle.cfb_mini.specs.MiniSectors.{IsStill}
 use Rattle.cfb_content.specs.Contents.{AreAllUsed, IsStreamOf, KeepsFixedHeader, KeepsOthers, MovesContent, SizesChain}
 use Rattle.cfb_content.proofs.Outlines.{moved-is-outline, stream-stays}
 use Rattle.cfb_content.proofs.Snug.{sized-is-snug}
 use Rattle.cfb_agreement.specs.Changes.{ChangesOneContent, StaysOrFails}
-use Rattle.cfb_agreement.specs.Files.{Agrees, FileState, Holds, IsAsMade, LeavesNoneFree, SameSetting, failures_of, is_failed}
+use Rattle.cfb_agreement.specs.Files.{Agrees, FileState, Holds, IsAsMade, GrowsTightly, SameSetting, failures_of, is_failed}
 use Rattle.cfb_agreement.proofs.ContentChanges.{content-keeps-made}
 use Rattle.cfb_agreement.proofs.Flags.{as-before-same, flags-not-made, flags-not-read}
 use Rattle.cfb_agreement.proofs.HeldBytes.{changeable-is-held}
@@ -36,8 +36,9 @@ pub record WasChanged (old new : MiniState) (i : ℕ) : Type 0 where
   pub holds : (v : Validation) → IsChangeable v old → IsChangeable v new
   pub owned : (v : Validation) → IsChangeable v old → AreAllUsed old → AreAllUsed new
   pub sized : (v : Validation) → IsChangeable v old → SizesChain old new i
+  pub snug_mini : (v : Validation) → IsChangeable v old → IsSnugMini old → IsSnugMini new
   pub exact : AreExactTables (tables_in old) → AreExactTables (tables_in new)
-  pub none_free : LeavesNoneFree old new
+  pub none_free : GrowsTightly old new
 
 -- and of one that was refused
 pub record WasRefused (old new : MiniState) (i : ℕ) : Type 0 where
@@ -81,6 +82,7 @@ module _ (old : FileState) (mid : MiniState) (i : ℕ) (sound : Bool) (limit : �
     made-then made =
         content-keeps-made i old.base mid was.limits was.entries was.stream made (was.holds Strict made.changeable) (was.owned Strict made.changeable made.used) (was.exact made.exact)
         (sized-is-snug old.base mid i was.limits was.entries (was.others Strict made.changeable) was.stream (was.sized Strict made.changeable) made.snug)
+        (was.snug_mini Strict made.changeable made.snug_mini)
 
     module _ (held : Holds old) (certain : old.is_sound ≡ true) where
       pub ended-holds : Holds (file_on sound limit (ended mid))

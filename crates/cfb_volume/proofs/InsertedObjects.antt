@@ -29,7 +29,7 @@ use Rattle.cfb_mini_sectors.specs.Steps.{KeepsLimits, KeepsMini, StopsShort}
 use Rattle.cfb_content.specs.Contents.{KeepsFixedHeader}
 use Rattle.cfb_content.proofs.Refusals.{refused-as}
 use Rattle.cfb_insertion.specs.Putting.{PutsObject, WritesObject}
-use Rattle.cfb_insertion.proofs.Entries.{put-has-outline, put-is-balanced, put-is-exact}
+use Rattle.cfb_insertion.proofs.Entries.{put-has-outline, put-is-balanced, put-is-exact, put-is-snug-mini}
 use Rattle.cfb_insertion.proofs.Fullness.{full-for-entry-is-full}
 use Rattle.cfb_insertion.proofs.Joined.{put-storage-joins-tree, put-stream-joins-tree}
 use Rattle.cfb_insertion.proofs.Sound.{put-is-all-used, put-is-changeable, put-is-snug}
@@ -109,6 +109,7 @@ module _ (old : FileState) (mid : MiniState) (parent n : ℕ) (name : List ℕ) 
         used = put-is-all-used Strict old.base mid parent n name kind moment all made.used;
         exact = put-is-exact old.base mid parent n name kind moment put made.exact;
         snug = put-is-snug Strict old.base mid parent n name kind moment all made.snug;
+        snug_mini = put-is-snug-mini old.base mid parent n name kind moment put made.snug_mini;
         balanced = all-stay-balanced (cases_of old.base) (cases_of mid) (entries_of old.base) (entries_of mid) put.storage.outline put.storage.is
             (put-is-balanced old.base mid parent n name kind moment put) made.balanced;
       })

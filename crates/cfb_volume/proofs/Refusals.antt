@@ -1,9 +1,10 @@
 -- What the layers below refuse, as refusals of the file.
-use Rattle.std.proofs.Common.{◌≡◌, ◌∙◌, ap, ℕ, Bool}
+use Rattle.std.proofs.Common.{◌≡◌, ◌∙◌, refl, ap, subst, ℕ, Bool}
+use Rattle.std.specs.Prelude.{Result, Ok, Err, IfErr}
 use Rattle.cfb_format.specs.declared.error.Error.{Error}
 use Rattle.cfb_format.specs.declared.error.Error.TheVariants.{AlreadyExists, Failed, Full, InvalidData, InvalidInput, Medium, Memory, NotFound, Unsound}
 use Rattle.cfb_format.specs.Full.{IsFull}
-use Rattle.cfb_format.specs.Refused.{AfterMedium, IsBreak}
+use Rattle.cfb_format.specs.Refused.{AfterMedium, IsBreak, IsMemory}
 use Rattle.cfb_tables.specs.Refused.{ChangeRefused}
 use Rattle.cfb_mini_sectors.specs.State.{MiniState, parts_of, tables_in}
 use Rattle.cfb_mini_sectors.specs.Steps.{StopsShort}
@@ -38,6 +39,38 @@ module _ (old new : MiniState) (invalid full whole : Type 0) (sound : invalid �
   write-break is Full h r = (is r, full-as-left new h.1)
   write-break is Unsound h r = r
   write-break is Failed h r = r
+
+  -- so does an end that finds none for all bytes
+  pub append-break : (e : Error) → StopsOrIsFull old new e → ChangeRefused invalid (Unit {0}) full (Unit {0}) e → IsBreak (IsFull (tables_in new).max_sectors (parts_of new)) e
+  append-break (NotFound d) h r = r
+  append-break (AlreadyExists d) h r = r
+  append-break (InvalidInput d) h r = r
+  append-break (InvalidData d) h r = absurd (sound r)
+  append-break (Medium m) h r = tt
+  append-break Memory h r = tt
+  append-break Full h r = full-as-left new h.1
+  append-break Unsound h r = r
+  append-break Failed h r = r
+
+-- so much holds where numbers lacked
+pub why-full : (invalid full : Type 0) (e : Error) → ChangeRefused invalid (Unit {0}) full (Unit {0}) e → e ≡ Full → full
+why-full invalid full e why is = subst (λ (x : Error). ChangeRefused invalid (Unit {0}) full (Unit {0}) x) is why
+
+-- where only bytes that are not sound could be refused beside, memory was
+memory-alone : (invalid : Type 0) → (invalid → ⊥) → (e : Error) → ChangeRefused invalid (Unit {0}) ⊥ ⊥ e → IsMemory e
+memory-alone invalid sound (NotFound d) r = absurd r
+memory-alone invalid sound (AlreadyExists d) r = absurd r
+memory-alone invalid sound (InvalidInput d) r = absurd r
+memory-alone invalid sound (InvalidData d) r = absurd (sound r)
+memory-alone invalid sound (Medium m) r = absurd r
+memory-alone invalid sound Memory r = refl
+memory-alone invalid sound Full r = absurd r
+memory-alone invalid sound Unsound r = absurd r
+memory-alone invalid sound Failed r = absurd r
+
+pub refused-for-memory : {T invalid : Type 0} (r : Result T Error) → (invalid → ⊥) → IfErr r (ChangeRefused invalid (Unit {0}) ⊥ ⊥) → IfErr r IsMemory
+refused-for-memory {T} {invalid} (Ok x) sound why = tt
+refused-for-memory {T} {invalid} (Err e) sound why = memory-alone invalid sound e why
 
 -- what changed nothing in the layers below changed nothing in the file
 pub file-after : (s mid : MiniState) (file : FileState) (sound : Bool) (limit : ℕ) → file_on sound limit s ≡ file → (e : Error)

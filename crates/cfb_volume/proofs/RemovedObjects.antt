@@ -50,7 +50,7 @@ use Rattle.cfb_insertion.proofs.Spared.{put-keeps-streams}
 use Rattle.cfb_entry_changes.specs.Kept.{AllStayBalancedBut, FindsAllBut}
 use Rattle.cfb_entry_changes.specs.Taking.{TakesObject, WritesRemoval}
 use Rattle.cfb_entry_changes.proofs.Moved.{moved-fields, moved-is-found}
-use Rattle.cfb_entry_changes.proofs.Taken.{taken-has-outline, taken-is-all-used, taken-is-changeable, taken-is-not-found, taken-is-snug, taken-keeps-root, taken-leaves-tree}
+use Rattle.cfb_entry_changes.proofs.Taken.{taken-has-outline, taken-is-all-used, taken-is-changeable, taken-is-not-found, taken-is-snug, taken-is-snug-mini, taken-keeps-root, taken-leaves-tree}
 use Rattle.cfb_entry_changes.proofs.TakenBalance.{taken-is-balanced}
 use Rattle.cfb_format.specs.Refused.{IsBreak}
 use Rattle.cfb_volume.specs.Removing.{WasEmptied}
@@ -69,6 +69,7 @@ none-emptied s i ne = record {
   owned = λ v change used. used;
   exact = λ exact. exact;
   snug = λ v change snug. snug;
+  snug_mini = λ v change snug. snug;
   empty = λ e. absurd (ne e);
 }
 
@@ -252,6 +253,7 @@ module _ {old : FileState} {mid new : MiniState} {parent child : ℕ} {name : Li
         used = taken-is-all-used Strict mid new parent name all (r.emptied.owned Strict made.changeable made.used);
         exact = subst (λ u. AreExactTables u) (sym r.taken.kept.tables) (r.emptied.exact made.exact);
         snug = taken-is-snug Strict mid new parent name all (r.emptied.snug Strict made.changeable made.snug);
+        snug_mini = taken-is-snug-mini mid new parent name r.taken (r.emptied.snug_mini Strict made.changeable made.snug_mini);
         balanced = all-but-balanced old.base (ended new) child p p_is remove-balanced made.balanced;
       })
 

@@ -33,7 +33,7 @@ use Rattle.cfb_mini_sectors.specs.State.{MiniState, bytes_of, cases_of, entries_
 use Rattle.cfb_content.specs.Contents.{KeepsContent, KeepsOthers}
 use Rattle.cfb_content.proofs.Kept.{keeps-then}
 use Rattle.cfb_content.proofs.Outlines.{no-root-stream}
-use Rattle.cfb_agreement.specs.Files.{FileState, Holds, LeavesNoneFree}
+use Rattle.cfb_agreement.specs.Files.{FileState, Holds, GrowsTightly}
 use Rattle.cfb_volume.specs.Clearing.{EmptiesStorage, KeepsStreamsBeside, StandsAs}
 use Rattle.cfb_volume.proofs.InsideNames.{inside-stands}
 use Rattle.cfb_volume.proofs.Insides.{inside-apart, inside-below}
@@ -203,5 +203,5 @@ module _ (tells : Bool) (top parent : ℕ) (name : List ℕ) (start mid : FileSt
       subst (λ (u : Tree). Means (cases_of start.base) (bytes_of new) u) gone (here (tree_changed_at (cases_of start.base) (λ objects. nothing) names t) first)
 
 -- where no sector was appended none had to be free
-pub same-grows : (old new : MiniState) → length (tables_in new).fat ≡ length (tables_in old).fat → LeavesNoneFree old new
+pub same-grows : (old new : MiniState) → length (tables_in new).fat ≡ length (tables_in old).fat → GrowsTightly old new
 same-grows old new same longer = absurd (omega (arith, same, longer))

@@ -13,7 +13,7 @@ use Rattle.cfb_content.specs.Contents.{KeepsFixedHeader, len_of}
 use Rattle.cfb_entry_changes.specs.Kept.{AllStayBalanced, KeepsFound}
 use Rattle.cfb_entry_changes.specs.Standing.{StandStill}
 use Rattle.cfb_agreement.specs.Changes.{KeepsStreams}
-use Rattle.cfb_agreement.specs.Files.{FileState, Holds, IsAsMade, LeavesNoneFree, SameSetting, failures_of, is_failed}
+use Rattle.cfb_agreement.specs.Files.{FileState, Holds, IsAsMade, GrowsTightly, SameSetting, failures_of, is_failed}
 use Rattle.cfb_sequences.specs.Laws.{all_added_at}
 
 -- no child of the storage has the first of these names
@@ -37,7 +37,7 @@ pub record AddsStorages (tells : Bool) (moment : ℕ) (all rest : List (List ℕ
   pub balanced : AllStayBalanced start.base now.base
   pub root_len : len_of now.base 0 ≡ len_of start.base 0
   pub room : ((done ≡ []) × (now ≡ start)) ⊎ (IsFullForEntry start.base.directory → ⊥)
-  pub grows : LeavesNoneFree start.base now.base
+  pub grows : GrowsTightly start.base now.base
   pub no_shorter : length (tables_in start.base).fat ≤ length (tables_in now.base).fat
   pub stays_full : NoneFree (tables_in start.base).fat → NoneFree (tables_in now.base).fat
   pub holds : IsTrue tells → Holds start → Holds now

@@ -5,7 +5,7 @@ use Rattle.cfb_format.specs.declared.validate.Validation.{Validation}
 use Rattle.cfb_format.specs.Siblings.{entry_at}
 use Rattle.cfb_tables.specs.Tables.{AreExactTables}
 use Rattle.cfb_mini_sectors.specs.State.{IsChangeable, MiniState, entries_of, tables_in}
-use Rattle.cfb_mini_sectors.specs.Steps.{KeepsLimits}
+use Rattle.cfb_mini_sectors.specs.Steps.{IsSnugMini, KeepsLimits}
 use Rattle.cfb_content.specs.Contents.{AreAllUsed, AreSnug, KeepsOthers, MovesContent, len_of}
 
 -- the object of entry i has no content: a stream's was given back, and all else is as before
@@ -16,5 +16,6 @@ pub record WasEmptied (old new : MiniState) (i : ℕ) : Type 0 where
   pub holds : (v : Validation) → IsChangeable v old → IsChangeable v new
   pub owned : (v : Validation) → IsChangeable v old → AreAllUsed old → AreAllUsed new
   pub snug : (v : Validation) → IsChangeable v old → AreSnug old → AreSnug new
+  pub snug_mini : (v : Validation) → IsChangeable v old → IsSnugMini old → IsSnugMini new
   pub exact : AreExactTables (tables_in old) → AreExactTables (tables_in new)
   pub empty : (entry_at (entries_of old) i).obj_type ≡ Stream → len_of new i ≡ 0

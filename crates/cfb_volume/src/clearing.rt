@@ -14,7 +14,7 @@ ghost use Rattle.cfb_objects.specs.Laws.{BecomesTree};
 ghost use Rattle.cfb_mini_sectors.specs.State.{bytes_of, cases_of, entries_of, tables_in};
 ghost use Rattle.cfb_content.specs.Contents.{IsStreamOf, KeepsFixedHeader, len_of};
 ghost use Rattle.cfb_agreement.specs.Changes.{KeepsStreams, StaysOrFails};
-ghost use Rattle.cfb_agreement.specs.Files.{Agrees, Holds, IsAsMade, LeavesNoneFree, SameSetting, failures_of, is_failed};
+ghost use Rattle.cfb_agreement.specs.Files.{Agrees, Holds, IsAsMade, GrowsTightly, SameSetting, failures_of, is_failed};
 ghost use Rattle.cfb_agreement.specs.Laws.{with_flags};
 ghost use Rattle.cfb_entry_changes.specs.Clearing.{ClearsStorage};
 ghost use Rattle.cfb_entry_changes.specs.Kept.{AllStayBalancedBut};
@@ -265,7 +265,7 @@ impl<F: Medium, A: Heap + Clone> Volume<F, A> {
             → Holds self.old → IsAsMade self.old.base → OnOk result (IsAsMade self.new.base) }
         ensures takes_none { OnOk result (length (tables_in self.new.base).fat
             ≡ length (tables_in self.old.base).fat) }
-        ensures grows { OnOk result (LeavesNoneFree self.old.base self.new.base) }
+        ensures grows { OnOk result (GrowsTightly self.old.base self.new.base) }
         ensures ended { OnOk result (is_failed self.new ≡ false) }
         ensures setting { SameSetting self.old self.new }
         ensures others { IsTrue F.tells → Holds self.old

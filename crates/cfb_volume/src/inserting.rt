@@ -20,7 +20,7 @@ ghost use Rattle.cfb_content.specs.Contents.{KeepsFixedHeader, len_of};
 ghost use Rattle.cfb_entry_changes.specs.Kept.{AllStayBalanced, KeepsFound};
 ghost use Rattle.cfb_entry_changes.specs.Standing.{StandStill};
 ghost use Rattle.cfb_agreement.specs.Changes.{KeepsStreams, StaysOrFails, object_added_at};
-ghost use Rattle.cfb_agreement.specs.Files.{Agrees, Holds, IsAsMade, IsFullFile, LeavesNoneFree, SameSetting, failures_of, is_failed};
+ghost use Rattle.cfb_agreement.specs.Files.{Agrees, Holds, IsAsMade, IsFullFile, GrowsTightly, SameSetting, failures_of, is_failed};
 
 use crate::volume::Volume;
 use cfb_codecs::timestamp::Timestamp;
@@ -81,7 +81,7 @@ impl<F: Medium, A: Heap + Clone> Volume<F, A> {
         ensures header { IsTrue F.tells → KeepsFixedHeader self.old.base self.new.base }
         ensures made { IsTrue F.tells
             → Holds self.old → IsAsMade self.old.base → OnOk result (IsAsMade self.new.base) }
-        ensures grows { OnOk result (LeavesNoneFree self.old.base self.new.base) }
+        ensures grows { OnOk result (GrowsTightly self.old.base self.new.base) }
         ensures no_shorter { OnOk result (length (tables_in self.old.base).fat
             ≤ length (tables_in self.new.base).fat) }
         ensures stays_full { NoneFree (tables_in self.old.base).fat

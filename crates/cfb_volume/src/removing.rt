@@ -18,7 +18,7 @@ ghost use Rattle.cfb_mini.specs.MiniSectors.{IsStill};
 ghost use Rattle.cfb_content.specs.Contents.{KeepsFixedHeader, KeepsOthers, MovesContent, len_of};
 ghost use Rattle.cfb_entry_changes.specs.Kept.{AllStayBalancedBut, FindsAllBut};
 ghost use Rattle.cfb_agreement.specs.Changes.{StaysOrFails};
-ghost use Rattle.cfb_agreement.specs.Files.{Agrees, Holds, IsAsMade, LeavesNoneFree, SameSetting, failures_of, is_failed};
+ghost use Rattle.cfb_agreement.specs.Files.{Agrees, Holds, IsAsMade, GrowsTightly, SameSetting, failures_of, is_failed};
 ghost use Rattle.cfb_volume.specs.Removing.{WasEmptied};
 
 use crate::volume::Volume;
@@ -106,7 +106,7 @@ impl<F: Medium, A: Heap + Clone> Volume<F, A> {
         ensures header { IsTrue F.tells → KeepsFixedHeader self.old.base self.new.base }
         ensures made { IsTrue F.tells → Holds self.old → IsAsMade self.old.base
             → OnOk result (IsAsMade self.new.base) }
-        ensures grows { OnOk result (LeavesNoneFree self.old.base self.new.base) }
+        ensures grows { OnOk result (GrowsTightly self.old.base self.new.base) }
         ensures takes_none { length (tables_in self.new.base).fat ≡ length
             (tables_in self.old.base).fat }
         ensures root_len { IsTrue F.tells

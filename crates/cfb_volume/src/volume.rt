@@ -1,11 +1,12 @@
 //! A file whose memory is what its bytes say.
-ghost use Rattle.std.specs.Prelude.{◌≡◌, ◌≢◌, ◌+◌, ◌-◌, ◌<◌, ◌≤◌, ◌⊎◌, ◌||◌, ◌∷◌, ℕ, List, max, min, length, take, drop, false, true, IsTrue, IfOk, IfErr, IfSome, IsErrAnd, OnOk, OnErr, Some, Option, chars, map};
+ghost use Rattle.std.specs.Prelude.{◌≡◌, ◌≢◌, ◌+◌, ◌-◌, ◌<◌, ◌≤◌, ◌⊎◌, ◌↔◌, ◌||◌, ◌∷◌, ℕ, List, max, min, length, take, drop, false, true, IsTrue, IfOk, IfErr, IfSome, IsErrAnd, OnOk, OnErr, Some, Option, chars, map};
 ghost use Rattle.cfb_format.specs.Bytes.{max_regular_sector, max_stream_len};
 ghost use Rattle.cfb_format.specs.Medium.{part, written};
 ghost use Rattle.cfb_format.specs.Names.{is_valid_name};
 ghost use Rattle.cfb_format.specs.Reading.{IsOutline, Outline};
 ghost use Rattle.cfb_format.specs.Refused.{AfterMedium, CountsFailure, IsInvalidData, IsMediumAnd, IsMemory, IsBreak};
 ghost use Rattle.cfb_format.specs.Siblings.{entry_at};
+ghost use Rattle.cfb_format.specs.declared.error.Error.TheVariants.{Full};
 ghost use Rattle.cfb_format.specs.declared.objtype.ObjType.TheVariants.{Storage, Stream};
 ghost use Rattle.cfb_codecs.specs.EntryModel.{entries_of as entries_in};
 ghost use Rattle.cfb_tables.specs.Changes.{NoneFree};
@@ -22,8 +23,9 @@ ghost use Rattle.cfb_directory.specs.State.{IsFullForEntry};
 ghost use Rattle.cfb_mini_sectors.specs.Held.{with_table};
 ghost use Rattle.cfb_mini_sectors.specs.State.{bytes_of, cases_of, entries_of, table_of, tables_in, version_of};
 ghost use Rattle.cfb_content.specs.Contents.{IsStreamOf, IsTooLongFor, MovesContent, len_of};
+ghost use Rattle.cfb_resizing.specs.Turning.{LeavesNoMinis};
 ghost use Rattle.cfb_agreement.specs.Changes.{ChangesOneContent, KeepsStreams, StaysOrFails, object_added_at};
-ghost use Rattle.cfb_agreement.specs.Files.{Agrees, Holds, IsAsBefore, IsAsMade, IsFullFile, LeavesNoneFree, SameSetting, failures_of, is_failed};
+ghost use Rattle.cfb_agreement.specs.Files.{Agrees, Holds, IsAsBefore, IsAsMade, IsFullFile, GrowsTightly, SameSetting, failures_of, is_failed};
 ghost use Rattle.cfb_agreement.specs.Laws.{with_flags};
 ghost use Rattle.cfb_volume.specs.Answers.{content_at};
 
@@ -36,8 +38,8 @@ use cfb_format::medium::{Medium, ReadMedium};
 use cfb_format::objtype::ObjType;
 use cfb_format::version::Version;
 use cfb_mini::mini_allocator::MiniAllocator;
-use cfb_resizing::putting::put_content;
-use cfb_resizing::resizing::resize_content;
+use cfb_resizing::putting::{append_all, put_content};
+use cfb_resizing::resizing::{can_resize, resize_content};
 use std::alloc::{Allocator as Heap, Global};
 use std::marker::Model;
 
@@ -191,6 +193,20 @@ impl<F: ReadMedium, A: Heap + Clone> Volume<F, A> {
         readable_len(&self.mini, entry)
     }
 
+    /// Whether the stream of that entry can be given this length now, by the numbers that are free or left once the chain that it moves
+    /// away from is free: the test that `resize` makes before it changes anything. The length that it has it can be given. `Memory`.
+    pub fn can_resize(&self, entry: u32, len: u64) -> Result<bool, Error>
+        requires sound { self.now.is_sound ≡ true }
+        requires stream { IsStreamOf self.now.base entry }
+        requires limit { len ≤ max_stream_len (version_of self.now.base) }
+        ensures same { len ≡ len_of self.now.base entry → IfOk result (λ can. can ≡ true) }
+        ensures can { Holds self.now → len ≢ len_of self.now.base entry
+            → IfOk result (λ can. IsTrue can ↔ (IsTooLongFor self.now.base entry len → ⊥)) }
+        ensures err { Holds self.now → IfErr result IsMemory }
+    {
+        can_resize(&self.mini, entry, len)
+    }
+
     /// Reads a beginning of what can be read of the stream of that entry from byte `at` on, as far as `into` has room, and answers how
     /// many bytes that is: at least one where one is wanted and lies before the end. `InvalidData` exactly where the byte there can't be
     /// read; `Memory`; and `Medium` where the medium fails. All is as before then.
@@ -252,7 +268,8 @@ impl<F: Medium, A: Heap> Volume<F, A> {
 
 impl<F: Medium, A: Heap + Clone> Volume<F, A> {
     /// Puts a beginning of `bytes` into the stream of that entry at byte `at`, which is inside it or its end, and answers how many bytes
-    /// that is: at least one where there is one. Behind the end the stream grows, as far as numbers go.
+    /// that is: at least one where there is one. Behind the end the stream grows, as far as numbers go; inside its length no sector is
+    /// taken, nor does one become free.
     ///
     /// `Full` only at the end, where not one byte more can be had; `Memory`; and `Medium` where the medium fails. All is as before then,
     /// or the file has failed.
@@ -276,8 +293,11 @@ impl<F: Medium, A: Heap + Clone> Volume<F, A> {
         ensures no_shorter { OnOk result (length (tables_in self.old.base).fat
             ≤ length (tables_in self.new.base).fat) }
         ensures stays_full { IsTrue F.tells
-            → Holds self.old → NoneFree (tables_in self.old.base).fat
+            → Holds self.old → LeavesNoMinis self.old.base entry (at + length bytes.now)
+            → NoneFree (tables_in self.old.base).fat
             → OnOk result (NoneFree (tables_in self.new.base).fat) }
+        ensures within { (at < len_of self.old.base entry) ⊎ (length bytes.now ≡ 0)
+            → tables_in self.new.base ≡ tables_in self.old.base }
         ensures agrees { IsTrue F.tells → Holds self.old → Agrees self.new }
         ensures ended { OnOk result (is_failed self.new ≡ false) }
         ensures refused { IsTrue F.tells
@@ -290,6 +310,52 @@ impl<F: Medium, A: Heap + Clone> Volume<F, A> {
         let count = put_content(&mut self.mini, entry, at, bytes)?;
         self.mini.end_change();
         Ok(count)
+    }
+
+    /// Puts all of `bytes` at the end of the stream of that entry, which grows once for them: so where a sector is appended none is free.
+    /// No bytes change nothing.
+    ///
+    /// `Full` only where that length needs more numbers than are free or left, and then with none left; `Memory`; and `Medium` where the
+    /// medium fails. All is as before then, or the file has failed.
+    pub fn append(&mut self, entry: u32, bytes: &[u8]) -> Result<(), Error>
+        requires sound { self.old.is_sound ≡ true }
+        requires unfailed { is_failed self.old ≡ false }
+        requires stream { IsStreamOf self.old.base entry }
+        requires fits { len_of self.old.base entry + length bytes.now
+            ≤ max_stream_len (version_of self.old.base) }
+        ensures len { OnOk result (len_of self.new.base entry
+            ≡ len_of self.old.base entry + length bytes.now) }
+        ensures stream { IsStreamOf self.new.base entry }
+        ensures setting { SameSetting self.old self.new }
+        ensures none { length bytes.now ≡ 0 → OnErr result ⊥ × (self.new ≡ self.old) }
+        ensures content { IsTrue F.tells → Holds self.old → OnOk result
+            (content_at self.new entry ≡ written (content_at self.old entry)
+            (len_of self.old.base entry) bytes.now) }
+        ensures entries { MovesContent self.old.base self.new.base entry }
+        ensures changes { IsTrue F.tells
+            → Holds self.old → ChangesOneContent entry self.old self.new }
+        ensures no_shorter { OnOk result (length (tables_in self.old.base).fat
+            ≤ length (tables_in self.new.base).fat) }
+        ensures stays_full { IsTrue F.tells → Holds self.old
+            → LeavesNoMinis self.old.base entry
+            (len_of self.old.base entry + length bytes.now)
+            → NoneFree (tables_in self.old.base).fat
+            → OnOk result (NoneFree (tables_in self.new.base).fat) }
+        ensures agrees { IsTrue F.tells → Holds self.old → Agrees self.new }
+        ensures ended { OnOk result (is_failed self.new ≡ false) }
+        ensures refused { IsTrue F.tells
+            → Holds self.old → OnErr result (StaysOrFails self.old self.new) }
+        ensures err { IsTrue F.tells → Holds self.old
+            → IfErr result (IsBreak (IsFullFile self.new)) }
+        ensures foreseen { IsTrue F.tells → Holds self.old → IfErr result (λ e. e ≡ Full
+            → IsTooLongFor self.old.base entry
+            (len_of self.old.base entry + length bytes.now)) }
+        ensures counts { IsTrue F.tells → CountsFailure (λ f. F.read_faults f
+            || F.write_faults f) result (failures_of self.old) (failures_of self.new) }
+    {
+        append_all(&mut self.mini, entry, bytes)?;
+        self.mini.end_change();
+        Ok(())
     }
 
     /// Gives the stream of that entry this length: it is cut, or padded with zeros. The length that it has changes nothing.

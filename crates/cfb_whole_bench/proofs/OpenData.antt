@@ -20,8 +20,8 @@ use Rattle.cfb_stream_buffer.specs.Contents.{stream_setting_of}
 use Rattle.cfb_stream_buffer.proofs.Lists.{laid-nothing}
 use Rattle.cfb_stream_window.specs.Windows.{Runs}
 use Rattle.cfb_path_changes.specs.Answers.{causes_of}
-use Rattle.cfb_compound_file.specs.Stored.{ChangesStream, KeepsRest}
-use Rattle.cfb_compound_file.specs.StreamAnswers.{GoesOn, IsStreamRefused, OpenStream, StreamRunsBy, causes_of_len, run_in, stored_in, stream_in}
+use Rattle.cfb_compound_file.specs.Stored.{ChangesInTurn, KeepsRest}
+use Rattle.cfb_compound_file.specs.StreamAnswers.{GoesOnInTurn, IsStreamRefused, OpenStream, StreamRunsBy, causes_of_len, run_in, stored_in, stream_in}
 use Rattle.cfb_whole_bench.specs.Changes.{ListAt, Stands, after, after_all, after_set_len, after_write, is_too_long, some_too_long}
 use Rattle.cfb_whole_bench.specs.Laws.{IsAtTheLimit, IsWritten}
 use Rattle.cfb_whole_bench.specs.OneStream.{AreChangesRefused, IsChangeRefused, IsChangedTo, IsFullNow, IsSettled, IsStopped, LacksFor, LacksForOne}
@@ -70,7 +70,7 @@ some_written causes old new bytes n runs some = failed_or (is_failed old.file) r
       | inr b ↦ absurd (let bad : count n ≡ not_done b.0 = b.2 in cc)
     ]
 
-module _ (first : FileState) (entry : ℕ) (s : ListAt) (old new : OpenStream) (is : IsChangedTo first entry s old) (on : GoesOn true old new) where
+module _ (first : FileState) (entry : ℕ) (s : ListAt) (old new : OpenStream) (is : IsChangedTo first entry s old) (on : GoesOnInTurn true old new) where
   rest_of : KeepsRest entry first new.file
   rest_of =
       subst (λ (k : ℕ). KeepsRest k first new.file) is.same_entry
@@ -85,7 +85,7 @@ module _ (first : FileState) (entry : ℕ) (s : ListAt) (old new : OpenStream) (
   -- the call was served
   pub goes_on : (after : ListAt) → is_failed new.file ≡ false → Stands after (stream_in new) → IsStream (stream_setting_of (stored_in old)) (stream_in new) → IsChangedTo first entry after new
   goes_on after calm stands bounds =
-      let changes : ChangesStream old.entry old.file new.file = on.changes refl in
+      let changes : ChangesInTurn old.entry old.file new.file = on.changes refl in
       record {
         same_entry = on.entry ∙ is.same_entry;
         sound = changes.content.setting.is_sound ∙ is.sound;
@@ -269,7 +269,7 @@ pub record IsBeforeRest (first : FileState) (entry : ℕ) (to : ListAt) (rest : 
 
 -- a beginning of them was written
 pub written_on : (first : FileState) (entry : ℕ) (to : ListAt) (rest left : List ℕ) (causes : Causes) (n : ℕ) (old new : OpenStream) → IsBeforeRest first entry to rest old
-    → GoesOn true old new → StreamRunsBy causes old (write rest) (count n) new → left ≡ drop n rest → IsBeforeRest first entry to left new
+    → GoesOnInTurn true old new → StreamRunsBy causes old (write rest) (count n) new → left ≡ drop n rest → IsBeforeRest first entry to left new
 written_on first entry to rest left causes n old new b on runs same =
     let w = wrote first entry b.here old new b.changed on causes rest n runs in
     record {
@@ -290,7 +290,7 @@ written_all first entry to (x ∷ rest) now b none = absurd (omega (arith, none)
 
 -- the next one can't be
 pub write_ends : (first : FileState) (entry : ℕ) (s : ListAt) (bytes : Bor (List ℕ)) (rest : List ℕ) (old new : OpenStream) (e : Error)
-    → IsBeforeRest first entry (after_write s bytes.now) rest old → GoesOn true old new
+    → IsBeforeRest first entry (after_write s bytes.now) rest old → GoesOnInTurn true old new
     → IsStreamRefused (causes_of old.file new.file) is_refused_growth old (write rest) new e → IsChangeRefused first entry s (Write bytes) new e
 write_ends first entry s bytes rest old new e b on refused =
     stopped_so (IsFullNow first entry IsFullFile new) (IsFullNow first entry IsFullFile new) ((0 < length rest) × (max_stream_len (version_of first.base) ≤ b.here.at))
@@ -301,7 +301,7 @@ write_ends first entry s bytes rest old new e b on refused =
 
 -- ---- what a length that is set answers
 
-module _ (first : FileState) (entry : ℕ) (s : ListAt) (old new : OpenStream) (is : IsChangedTo first entry s old) (on : GoesOn true old new) where
+module _ (first : FileState) (entry : ℕ) (s : ListAt) (old new : OpenStream) (is : IsChangedTo first entry s old) (on : GoesOnInTurn true old new) where
   pub set_if_done : {T : Type 0} (causes : Causes) (len : ℕ) (result : Result T Error) → OnOk result (StreamRunsBy causes old (set_len len) ready new)
       → OnOk result (IsChangedTo first entry (after_set_len s len) new)
   set_if_done causes len (Ok x) runs = set first entry s old new is on causes len runs

@@ -14,6 +14,7 @@ mod acts;
 mod compacts;
 mod files;
 mod library;
+mod lines;
 mod lists;
 mod opening;
 mod puts;

@@ -27,6 +27,8 @@ impl<A: Allocator> Window<A> {
             → IfErr result (IsLost (((C.stored content.old id).size < self.old.base + length self.old.filled) × C.is_full content.new) (C.stored content.old id) self.old (C.stored content.new id)) }
         ensures pending { OnErr result (self.old.pending ≡ true) }
         ensures lost { OnErr result ((C.stored content.new id).failed ≡ true) }
+        ensures within { C.tells content.old → self.old.base + length self.old.filled ≤ (C.stored content.old id).size
+            → (first : C) → C.tight first content.old → C.tight first content.new }
         ensures room { self.new.room ≡ self.old.room }
         ensures bound { self.new.bound ≡ self.old.bound }
     {
@@ -320,6 +322,8 @@ impl<A: Allocator> Window<A> {
         ensures window { OnOk result (self.new ≡ window_settled self.old) }
         ensures refused { IsReady C.ReadContents content.old id self.old → IfErr result (IsLost (C.is_full content.new) (C.stored content.old id) self.old (C.stored content.new id)) }
         ensures inside { IsReady C.ReadContents content.old id self.old → self.old.base + length self.old.filled ≤ (C.stored content.old id).size → IfErr result (IsBreak ⊥) }
+        ensures within { C.tells content.old → self.old.base + length self.old.filled ≤ (C.stored content.old id).size
+            → (first : C) → C.tight first content.old → C.tight first content.new }
         ensures calm { self.old.pending ≡ false → content.new ≡ content.old }
         ensures pending { OnErr result (self.old.pending ≡ true) }
         ensures lost { OnErr result ((C.stored content.new id).failed ≡ true) }

@@ -1,9 +1,10 @@
 //! Writing to a buffered stream, and giving it another length.
-ghost use Rattle.std.specs.Prelude.{◌≡◌, ◌+◌, ◌-◌, ◌*◌, ◌^◌, ◌<◌, ◌≤◌, min, max, [], true, false, OnOk, OnErr, IfOk, IfErr, length, take};
+ghost use Rattle.std.specs.Prelude.{◌≡◌, ◌≢◌, ◌+◌, ◌-◌, ◌*◌, ◌^◌, ◌<◌, ◌≤◌, ◌⊎◌, ◌↔◌, min, max, [], true, false, IsTrue, OnOk, OnErr, IfOk, IfErr, length, take};
 ghost use Rattle.cfb_format.specs.Refused.{IsMemory, IsBreak};
 ghost use Rattle.cfb_rules.specs.StreamCalls.{write, count};
-ghost use Rattle.cfb_stream_window.specs.Windows.{Carries, WriteBrokeOff, LengthBrokeOff, IsSettled, HasBufferRoom, window_kept, window_past, window_within, WroteStraight, Resized};
-ghost use Rattle.cfb_stream_window.specs.Answers.{IsOpen, IsReady, IsResized, RunsOn, IsRefusedOn, RunsSettingLen, IsLengthRefusedOn, GoesOn};
+ghost use Rattle.cfb_stream_window.specs.Windows.{Carries, WriteBrokeOff, LengthBrokeOff, IsLengthened, IsSettled, HasBufferRoom, window_kept, window_past, window_within, WroteStraight, Resized};
+ghost use Rattle.cfb_stream_window.specs.Answers.{IsOpen, IsReady, IsTouched, InTurn, RunsOn, IsRefusedOn, RunsSettingLen, IsLengthRefusedOn, GoesOn};
+ghost use Rattle.cfb_stream_buffer.specs.Contents.{Fails, TakesLen};
 ghost use Rattle.cfb_stream_buffer.specs.Touched.{IsWritten};
 
 use super::{STRAIGHT, Window};
@@ -12,6 +13,11 @@ use cfb_format::error::{Detail, Error};
 use cfb_stream_buffer::content::Contents;
 use cfb_stream_buffer::whole::give_up;
 use std::alloc::Allocator;
+
+/// Beside a list's length so much room has to be had where bytes are written out before it gets longer. A
+/// list below 4096 bytes lies apart (MS-CFB 2.4): it takes at most eight sectors of 512 bytes, or one of
+/// 4096, and one sector of a table. A longer one keeps its sectors.
+const ROOM_BESIDE: u64 = 8192;
 
 impl<A: Allocator> Window<A> {
     /// Writes a beginning of the bytes at the position, at least one, and answers how many. Writing no
@@ -40,7 +46,9 @@ impl<A: Allocator> Window<A> {
             → IfErr result (λ e. e ≡ Error.Full → ⊥) }
         ensures bound { self.new.bound ≡ self.old.bound }
         ensures lean { self.new.room ≤ max self.old.room (min (4 * self.old.room) self.old.bound) }
-        ensures around { C.tells content.old → IsWritten C.ReadContents C.Contents.own content.old content.new id result }
+        ensures around { C.tells content.old → IsTouched C.ReadContents C.Contents.own content.old content.new id result }
+        ensures between { C.tells content.old → InTurn C.ReadContents C.Contents.own content.old id self.old content.new }
+        ensures once { C.tells content.old → length bytes.now < 65536 → C.tight content.old content.new }
     {
         if content.is_failed(id) {
             return Err(Error::Failed);
@@ -152,7 +160,8 @@ impl<A: Allocator> Window<A> {
         requires there { C.has content.old id }
         requires fits { self.old.base + self.old.cursor + length bytes.now < 2 ^ 64 }
         ensures there { C.has content.new id }
-        ensures around { C.tells content.old → IsWritten C.ReadContents C.Contents.own content.old content.new id result }
+        ensures around { C.tells content.old → IsTouched C.ReadContents C.Contents.own content.old content.new id result }
+        ensures between { C.tells content.old → InTurn C.ReadContents C.Contents.own content.old id self.old content.new }
         ensures most { IfOk result (λ n. n ≤ length bytes.now) }
         ensures ok { IsReady C.ReadContents content.old id self.old → (C.stored content.old id).sound ≡ true → self.old.base + self.old.cursor + length bytes.now ≤ (C.stored content.old id).limit → 0 < length bytes.now
             → IfOk result (λ n. (1 ≤ n) × WroteStraight (take n bytes.now) (C.stored content.old id) self.old (C.stored content.new id) self.new) }
@@ -193,8 +202,8 @@ impl<A: Allocator> Window<A> {
 
     /// Cuts the stream to a length, or pads it with zeros; the position becomes the length where it was
     /// past it. The present length does nothing. `Failed`; `InvalidInput` past the greatest length;
-    /// `Unsound`; `Medium`, `Memory`, and `Full` where the length needs more numbers than are left, which is
-    /// found before anything is written.
+    /// `Unsound`; `Medium`, `Memory`, and `Full` where the length needs more numbers than are left: nothing
+    /// has changed then, or the length is longer, bytes were pending behind the end, and the file has failed.
     pub fn set_len<C: Contents>(&mut self, content: &mut C, id: u32, len: u64) -> Result<(), Error>
         requires there { C.has content.old id }
         ensures there { C.has content.new id }
@@ -203,10 +212,12 @@ impl<A: Allocator> Window<A> {
         ensures goes_on { IsOpen C.ReadContents content.old id self.old → GoesOn C.ReadContents content.old content.new id self.new }
         ensures same { len ≡ self.old.size → content.new ≡ content.old }
         ensures foreseen { IsOpen C.ReadContents content.old id self.old
-            → IfErr result (λ e. e ≡ Error.Full → content.new ≡ content.old) }
+            → IfErr result (λ e. e ≡ Error.Full → (content.new ≡ content.old) ⊎ (IsLengthened (C.stored content.old id) self.old len × ((C.stored content.new id).failed ≡ true))) }
         ensures bound { self.new.bound ≡ self.old.bound }
         ensures room { self.new.room ≡ self.old.room }
-        ensures around { C.tells content.old → IsResized C.ReadContents C.Contents.own content.old content.new id result }
+        ensures around { C.tells content.old → IsTouched C.ReadContents C.Contents.own content.old content.new id result }
+        ensures between { C.tells content.old → InTurn C.ReadContents C.Contents.own content.old id self.old content.new }
+        ensures once { C.tells content.old → (IsLengthened (C.stored content.old id) self.old len → ⊥) → C.tight content.old content.new }
     {
         if content.is_failed(id) {
             return Err(Error::Failed);
@@ -221,7 +232,115 @@ impl<A: Allocator> Window<A> {
         if !content.is_sound(id) {
             return Err(Error::Unsound);
         }
+        if self.is_lengthened(content, id, len) {
+            self.lengthen(content, id, len)?;
+            return Ok(());
+        }
         self.resize(content, id, len)?;
+        Ok(())
+    }
+
+    /// Whether bytes are pending behind the end of the list, and the length is longer than it is with them.
+    fn is_lengthened<C: Contents>(&self, content: &C, id: u32, len: u64) -> bool
+        requires there { C.has content.now id }
+        ensures { IsTrue result ↔ ((self.now.pending ≡ true) × IsLengthened (C.stored content.now id) self.now len) }
+    {
+        self.pending && content.len(id) < self.size && self.size < len
+    }
+
+    /// Gives the list a longer length, where bytes are pending behind its end. They are written out before,
+    /// as by a flush, where there is room for both.
+    fn lengthen<C: Contents>(&mut self, content: &mut C, id: u32, len: u64) -> Result<(), Error>
+        requires there { C.has content.old id }
+        requires pending { self.old.pending ≡ true }
+        requires behind { (C.stored content.old id).size < self.old.size }
+        requires longer { self.old.size < len }
+        ensures there { C.has content.new id }
+        ensures around { C.tells content.old → IsTouched C.ReadContents C.Contents.own content.old content.new id result }
+        ensures between { C.tells content.old → InTurn C.ReadContents C.Contents.own content.old id self.old content.new }
+        ensures ok { IsReady C.ReadContents content.old id self.old → (C.stored content.old id).sound ≡ true → len ≤ (C.stored content.old id).limit
+            → OnOk result (Resized len (C.stored content.old id) self.old (C.stored content.new id) self.new) }
+        ensures refused { IsReady C.ReadContents content.old id self.old → (C.stored content.old id).sound ≡ true → len ≤ (C.stored content.old id).limit
+            → IfErr result (LengthBrokeOff (C.is_too_long content.new id len) (C.stored content.old id) self.old (C.stored content.new id) self.new) }
+        ensures foreseen { IsReady C.ReadContents content.old id self.old → (C.stored content.old id).sound ≡ true → len ≤ (C.stored content.old id).limit
+            → IfErr result (λ e. e ≡ Error.Full → (content.new ≡ content.old) ⊎ ((C.stored content.new id).failed ≡ true)) }
+        ensures bound { self.new.bound ≡ self.old.bound }
+        ensures room { self.new.room ≡ self.old.room }
+    {
+        match self.can_write_out(content, id, len) {
+            Ok(true) => self.write_out_and_resize(content, id, len),
+            Ok(false) => self.resize(content, id, len),
+            Err(e) => {
+                self.ahead = 0;
+                Err(e)
+            }
+        }
+    }
+
+    /// Whether there is room to write out what is pending, and for the length after that.
+    fn can_write_out<C: Contents>(&self, content: &C, id: u32, len: u64) -> Result<bool, Error>
+        requires there { C.has content.now id }
+        ensures ok { C.tells content.now → TakesLen (C.stored content.now id) self.now.size → self.now.size ≢ (C.stored content.now id).size
+            → IfOk result (λ can. can ≡ true → C.is_too_long content.now id self.now.size → ⊥) }
+        ensures refused { C.tells content.now → IfErr result IsMemory }
+    {
+        let is_roomy = content.can_resize(id, len.saturating_add(ROOM_BESIDE))?;
+        if !is_roomy {
+            return Ok(false);
+        }
+        content.can_resize(id, self.size)
+    }
+
+    /// Writes out what is pending, within the length that the list has with it, and then gives the list its
+    /// length.
+    fn write_out_and_resize<C: Contents>(
+        &mut self,
+        content: &mut C,
+        id: u32,
+        len: u64,
+    ) -> Result<(), Error>
+        requires there { C.has content.old id }
+        requires pending { self.old.pending ≡ true }
+        requires behind { (C.stored content.old id).size < self.old.size }
+        requires longer { self.old.size < len }
+        requires fits { C.tells content.old → TakesLen (C.stored content.old id) self.old.size → C.is_too_long content.old id self.old.size → ⊥ }
+        ensures there { C.has content.new id }
+        ensures around { C.tells content.old → IsTouched C.ReadContents C.Contents.own content.old content.new id result }
+        ensures between { C.tells content.old → InTurn C.ReadContents C.Contents.own content.old id self.old content.new }
+        ensures ok { IsReady C.ReadContents content.old id self.old → (C.stored content.old id).sound ≡ true → len ≤ (C.stored content.old id).limit
+            → OnOk result (Resized len (C.stored content.old id) self.old (C.stored content.new id) self.new) }
+        ensures refused { IsReady C.ReadContents content.old id self.old → (C.stored content.old id).sound ≡ true → len ≤ (C.stored content.old id).limit
+            → IfErr result (LengthBrokeOff (C.is_too_long content.new id len) (C.stored content.old id) self.old (C.stored content.new id) self.new) }
+        ensures foreseen { IsReady C.ReadContents content.old id self.old → (C.stored content.old id).sound ≡ true → len ≤ (C.stored content.old id).limit
+            → IfErr result (λ e. e ≡ Error.Full → (content.new ≡ content.old) ⊎ ((C.stored content.new id).failed ≡ true)) }
+        ensures bound { self.new.bound ≡ self.old.bound }
+        ensures room { self.new.room ≡ self.old.room }
+    {
+        let _at = self.position();
+        let size = self.len();
+        self.resize(content, id, size)?;
+        self.resize_again(content, id, len)?;
+        Ok(())
+    }
+
+    /// Gives the list its length, where bytes were written out before: where this is refused the file has
+    /// failed.
+    fn resize_again<C: Contents>(&mut self, content: &mut C, id: u32, len: u64) -> Result<(), Error>
+        requires there { C.has content.old id }
+        ensures there { C.has content.new id }
+        ensures around { C.tells content.old → IsWritten C.ReadContents C.Contents.own content.old content.new id result }
+        ensures ok { IsReady C.ReadContents content.old id self.old → (C.stored content.old id).sound ≡ true → len ≤ (C.stored content.old id).limit
+            → OnOk result (Resized len (C.stored content.old id) self.old (C.stored content.new id) self.new) }
+        ensures refused { IsReady C.ReadContents content.old id self.old → (C.stored content.old id).sound ≡ true → len ≤ (C.stored content.old id).limit
+            → IfErr result (λ e. IsBreak (C.is_too_long content.new id len) e × Fails (C.stored content.old id) (C.stored content.new id)) }
+        ensures lost { OnErr result ((C.stored content.new id).failed ≡ true) }
+        ensures bound { self.new.bound ≡ self.old.bound }
+        ensures room { self.new.room ≡ self.old.room }
+    {
+        if let Err(e) = self.resize(content, id, len) {
+            content.fail(id);
+            return Err(e);
+        }
         Ok(())
     }
 
@@ -230,7 +349,7 @@ impl<A: Allocator> Window<A> {
     fn resize<C: Contents>(&mut self, content: &mut C, id: u32, len: u64) -> Result<(), Error>
         requires there { C.has content.old id }
         ensures there { C.has content.new id }
-        ensures around { C.tells content.old → IsResized C.ReadContents C.Contents.own content.old content.new id result }
+        ensures around { C.tells content.old → IsWritten C.ReadContents C.Contents.own content.old content.new id result }
         ensures ok { IsReady C.ReadContents content.old id self.old → (C.stored content.old id).sound ≡ true → len ≤ (C.stored content.old id).limit
             → OnOk result (Resized len (C.stored content.old id) self.old (C.stored content.new id) self.new) }
         ensures refused { IsReady C.ReadContents content.old id self.old → (C.stored content.old id).sound ≡ true → len ≤ (C.stored content.old id).limit

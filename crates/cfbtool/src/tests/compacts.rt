@@ -47,7 +47,7 @@ const NAMES: &[(usize, u8)] = &[
 #[rattlefmt::skip]
 static COMPACTED: &[Step<'static>] = &[
     // a stream of 4095 bytes, then with one more, and then without it again
-    Content(4095), Runs(NEW_WITH_CONTENT), Runs(ONE_MORE), Len(20 * 512),
+    Content(4095), Runs(NEW_WITH_CONTENT), Runs(ONE_MORE), Len(12 * 512),
     Runs(COPY), At("@g"), Len(5632), Note, Longer(7), Runs(COPIED), Stays,
     Content(4095), Runs(ONE_LESS), At("@h"), Len(6144),
 ];

@@ -3,18 +3,23 @@ use Rattle.cfb_alloc.specs.Alloc.{AllocatorState}
 use Rattle.cfb_alloc.specs.ListedChain.{Shortens}
 use Rattle.cfb_alloc.proofs.Answering.{on_ok}
 use Rattle.cfb_alloc.proofs.ChainView.{chain_few}
+use Rattle.cfb_alloc.proofs.ListedLemmas.{can_shorten}
 use Rattle.cfb_tables.specs.Clean.{IsUnnamed}
 use Rattle.cfb_tables.specs.Tables.{TableState, first_or_end}
 use Rattle.cfb_chains.proofs.ChainLists.{listed_chain, listed_found, made_or_not, start_is}
 use Rattle.cfb_chains.proofs.chain.shorten_list.Goals as goal
 
 pub cut_listed-cut-requires : goal.cut_listed-cut-requires
-cut_listed-cut-requires g c = record { chain = listed_chain c.args.allocator.now.tables.fat c.args.start.now c.args.ids.now.items c.requires.chained }
+cut_listed-cut-requires g c =
+    let fat = c.args.allocator.now.tables.fat in
+    let ids = c.args.ids.now.items in
+    record { chain = can_shorten fat ids c.args.count (listed_chain fat c.args.start.now ids c.requires.chained) }
 
 pub returns-clause-chained : goal.returns-clause-chained
 returns-clause-chained g c =
     listed_found c.cut_listed-cut.new.self.tables.fat c.first_number.result c.cut_listed-cut.new.ids.items
-    (c.first_number.ensures ∙ ap first_or_end c.deref.ensures.value) c.cut_listed-cut.ensures.chain
+    (c.first_number.ensures ∙ ap first_or_end c.deref.ensures.value)
+    (c.cut_listed-cut.ensures.chain (listed_chain c.args.allocator.now.tables.fat c.args.start.now c.args.ids.now.items c.requires.chained))
 
 pub returns-clause-few : goal.returns-clause-few
 returns-clause-few g c = chain_few _ _ _ (returns-clause-chained g c)

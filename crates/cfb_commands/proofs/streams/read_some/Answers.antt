@@ -36,7 +36,7 @@ returns-in_err-count-clause-works g c =
     room ∙ (λ j. min c.args.wanted (c.len.ensures.value j - c.position.ensures.value j)) in
     let inside : (stream_in old).position ≤ (stream_in old).len = subst (λ (at : ℕ). at ≤ (stream_in old).len) c.position.ensures.value c.position.ensures.inside in
     rw (p.1, p.2) (λ told nothing. shorter old new _ c.args.wanted less here inside
-    (refused_on old (read less) new (goes_told _ old new told c.read.ensures.goes_on) _ c.in_err-count.field-0.0 (c.in_err-count.ensures.refused told)))
+    (refused_on old (read less) new (goes_told _ old (read less) new told c.read.ensures.goes_on) _ c.in_err-count.field-0.0 (c.in_err-count.ensures.refused told)))
 
 pub returns-clause-works : goal.returns-clause-works
 returns-clause-works g c =
@@ -52,7 +52,7 @@ returns-clause-works g c =
     c.truncate.ensures.items ∙ given_back c.in_ok-count.count _ c.read.new.into _ c.in_ok-count.ensures.most (grind (arith, common_steps)) in
     λ told nothing. subst (λ (bytes : List ℕ). IsWorkedOn old (read c.args.wanted) (got bytes) new) (sym back)
     (shorter old new (got (take c.in_ok-count.count c.read.new.into)) c.args.wanted less here inside
-    (served_on old (read less) new (goes_told _ old new told c.read.ensures.goes_on) (got (take c.in_ok-count.count c.read.new.into)) refl (c.in_ok-count.ensures.runs told)
+    (served_on old (read less) new (goes_told _ old (read less) new told c.read.ensures.goes_on) (got (take c.in_ok-count.count c.read.new.into)) refl (c.in_ok-count.ensures.runs told)
     (c.in_ok-count.ensures.counts told) (λ quiet. as_before old.file new.file (c.read.ensures.calm told quiet))))
 
 pub returns-in_err-clone-clause-given : goal.returns-in_err-clone-clause-given

@@ -1,7 +1,7 @@
 use Rattle.cfb_stream_window.specs.Windows.{run_of, state_of}
 use Rattle.cfb_compound_file.specs.Stored.{stored_of}
 use Rattle.cfb_compound_file.proofs.OpenStreams.{closes_tree, rest_then}
-use Rattle.cfb_compound_file.proofs.StoredStreams.{nothing_changes}
+use Rattle.cfb_compound_file.proofs.StoredStreams.{changed_once, nothing_goes}
 use Rattle.cfb_compound_file.proofs.StreamCalls.{closed_content, closed_suits, closing_failed, refused_then, refused_with}
 use Rattle.cfb_compound_file.proofs.stream.finish.Goals as goal
 
@@ -26,10 +26,10 @@ returns-clause-tree g c = λ told first.
     (refused_then _ _ c.close-closed.result (c.close-closed.ensures.refused (record { told = told; suits = c.requires.is_open told })) (λ e why. closing_failed _ (run_of s w) why.refusal _ why.closes)))
 
 pub returns-clause-changes : goal.returns-clause-changes
-returns-clause-changes g c = λ told. (c.close-closed.ensures.around told).others _ (nothing_changes _ _)
+returns-clause-changes g c = λ told. changed_once _ _ _ (c.close-closed.ensures.around told).others (c.close-closed.ensures.around told).tight
 
 pub returns-clause-rest : goal.returns-clause-rest
-returns-clause-rest g c = λ told first k. rest_then _ _ _ first ((c.close-closed.ensures.around told).others _ (nothing_changes _ _)) k
+returns-clause-rest g c = λ told first k. rest_then _ _ _ first ((c.close-closed.ensures.around told).others _ (nothing_goes _ _)) k
 
 pub returns-clause-counts : goal.returns-clause-counts
 returns-clause-counts g c = λ told. (c.close-closed.ensures.around told).counts

@@ -1,4 +1,5 @@
 use Rattle.cfb_content.proofs.Snug.{empty-is-snug, kept-is-snug, same-is-sized, sized-is-snug}
+use Rattle.cfb_content.proofs.SnugMini.{growth-is-snug-mini, kept-is-snug-mini}
 use Rattle.cfb_content.proofs.laws.chains_fit_their_lengths.Goals as goal
 
 pub returns-clause-kept : goal.returns-clause-kept
@@ -12,3 +13,9 @@ returns-clause-sized c = sized-is-snug
 
 pub returns-clause-same : goal.returns-clause-same
 returns-clause-same c = same-is-sized
+
+pub returns-clause-mini_longer : goal.returns-clause-mini_longer
+returns-clause-mini_longer c = growth-is-snug-mini
+
+pub returns-clause-mini_kept : goal.returns-clause-mini_kept
+returns-clause-mini_kept c = kept-is-snug-mini

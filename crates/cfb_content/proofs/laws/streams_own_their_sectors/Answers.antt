@@ -1,4 +1,4 @@
-use Rattle.cfb_content.proofs.Apart.{own-is-apart, stream-start-unnamed}
+use Rattle.cfb_content.proofs.Apart.{own-is-apart, starts-unnamed, stream-start-unnamed}
 use Rattle.cfb_content.proofs.Readable.{large-is-there, small-is-there}
 use Rattle.cfb_content.proofs.laws.streams_own_their_sectors.Goals as goal
 
@@ -13,3 +13,6 @@ returns-clause-large c = large-is-there
 
 pub returns-clause-small : goal.returns-clause-small
 returns-clause-small c = small-is-there
+
+pub returns-clause-system : goal.returns-clause-system
+returns-clause-system c = starts-unnamed

@@ -3,11 +3,14 @@ use Rattle.cfb_content.specs.Contents.{len_of}
 use Rattle.cfb_agreement.specs.Files.{Holds, failures_of}
 use Rattle.cfb_volume.specs.Answers.{content_at}
 use Rattle.cfb_copies.specs.Steps.{FillsStream, IsReadOnly}
+use Rattle.cfb_copies.proofs.Settled.{IsSettled}
 use Rattle.cfb_copies.proofs.pieces.copy_bytes.Given as goal
 
 abbrev pub invariant-loop-at : goal.invariant-loop-at
 invariant-loop-at g l = record {
   within : l.at ≤ l.len;
+  -- the stream lies where it is to lie, or is empty
+  settled : IsSettled l.len l.at;
   whole : l.len ≡ len_of l.fn.source.base l.from;
   reads : IsReadOnly g.F.ReadMedium.tells l.fn.source l.source;
   calm : IsTrue g.F.ReadMedium.tells → failures_of l.source ≡ failures_of l.fn.source;

@@ -1,4 +1,4 @@
-use Rattle.cfb_entry_changes.proofs.Emptied.{cleared-empties-tree, cleared-is-all-used, cleared-is-changeable, cleared-is-snug}
+use Rattle.cfb_entry_changes.proofs.Emptied.{cleared-empties-tree, cleared-is-all-used, cleared-is-changeable, cleared-is-snug, cleared-is-snug-mini}
 use Rattle.cfb_entry_changes.proofs.laws.clearings_empty_the_meant_storage.Goals as goal
 
 pub returns-clause-changeable : goal.returns-clause-changeable
@@ -12,3 +12,6 @@ returns-clause-tree c = cleared-empties-tree
 
 pub returns-clause-snug : goal.returns-clause-snug
 returns-clause-snug c = cleared-is-snug
+
+pub returns-clause-snug_mini : goal.returns-clause-snug_mini
+returns-clause-snug_mini c = cleared-is-snug-mini

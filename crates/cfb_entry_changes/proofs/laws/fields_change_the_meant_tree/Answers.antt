@@ -1,4 +1,4 @@
-use Rattle.cfb_entry_changes.proofs.Marked.{marked-changes-tree, marked-is-all-used, marked-is-changeable, marked-is-snug}
+use Rattle.cfb_entry_changes.proofs.Marked.{marked-changes-tree, marked-is-all-used, marked-is-changeable, marked-is-snug, marked-is-snug-mini}
 use Rattle.cfb_entry_changes.proofs.laws.fields_change_the_meant_tree.Goals as goal
 
 pub returns-clause-changeable : goal.returns-clause-changeable
@@ -12,3 +12,6 @@ returns-clause-tree c = marked-changes-tree
 
 pub returns-clause-snug : goal.returns-clause-snug
 returns-clause-snug c = marked-is-snug
+
+pub returns-clause-snug_mini : goal.returns-clause-snug_mini
+returns-clause-snug_mini c = marked-is-snug-mini

@@ -1,4 +1,4 @@
-use Rattle.cfb_entry_changes.proofs.Taken.{taken-is-all-used, taken-is-changeable, taken-is-snug, taken-leaves-tree}
+use Rattle.cfb_entry_changes.proofs.Taken.{taken-is-all-used, taken-is-changeable, taken-is-snug, taken-is-snug-mini, taken-leaves-tree}
 use Rattle.cfb_entry_changes.proofs.laws.removals_leave_the_meant_tree.Goals as goal
 
 pub returns-clause-changeable : goal.returns-clause-changeable
@@ -12,3 +12,6 @@ returns-clause-tree c = taken-leaves-tree
 
 pub returns-clause-snug : goal.returns-clause-snug
 returns-clause-snug c = taken-is-snug
+
+pub returns-clause-snug_mini : goal.returns-clause-snug_mini
+returns-clause-snug_mini c = taken-is-snug-mini

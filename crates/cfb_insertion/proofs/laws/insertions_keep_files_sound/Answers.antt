@@ -1,4 +1,4 @@
-use Rattle.cfb_insertion.proofs.Entries.{put-is-exact, put-leaves-none-free}
+use Rattle.cfb_insertion.proofs.Entries.{put-is-exact, put-is-snug-mini, put-grows-tightly}
 use Rattle.cfb_insertion.proofs.Sound.{put-is-all-used, put-is-changeable, put-is-snug}
 use Rattle.cfb_insertion.proofs.laws.insertions_keep_files_sound.Goals as goal
 
@@ -14,5 +14,8 @@ returns-clause-exact c = put-is-exact
 pub returns-clause-snug : goal.returns-clause-snug
 returns-clause-snug c = put-is-snug
 
+pub returns-clause-snug_mini : goal.returns-clause-snug_mini
+returns-clause-snug_mini c = put-is-snug-mini
+
 pub returns-clause-grows : goal.returns-clause-grows
-returns-clause-grows c = put-leaves-none-free
+returns-clause-grows c = put-grows-tightly

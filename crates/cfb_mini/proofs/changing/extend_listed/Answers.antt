@@ -676,3 +676,14 @@ returns-in_err-grow_sectors-clause-above g c = c.grow_sectors.ensures.above c.re
 
 pub returns-clause-above : goal.returns-clause-above
 returns-clause-above g c = c.grow_sectors.ensures.above c.requires.above
+
+-- ---- the mini stream's list goes on
+
+pub returns-in_err-prepare_extension-clause-goes_on : goal.returns-in_err-prepare_extension-clause-goes_on
+returns-in_err-prepare_extension-clause-goes_on g c = same_listed c.args.stream.now.items c.args.stream.now.items refl
+
+pub returns-in_err-grow_sectors-clause-goes_on : goal.returns-in_err-grow_sectors-clause-goes_on
+returns-in_err-grow_sectors-clause-goes_on g c = c.grow_sectors.ensures.goes_on
+
+pub returns-clause-goes_on : goal.returns-clause-goes_on
+returns-clause-goes_on g c = c.grow_sectors.ensures.goes_on

@@ -142,3 +142,6 @@ returns-clause-above g c least =
     least-kept (c.deref.result.now ++ c.deref-2.result.now) (c.grow_both-grown.new.minifat_sectors.items ++ c.grow_both-grown.new.stream.items) c.above_both.result
     (λ j. sym c.deref.ensures.value j ++ sym c.deref-2.ensures.value j)
     (c.above_both.ensures (least-kept (sectors ++ stream) (take c.len-words.result c.deref.result.now ++ take c.len-minis.result c.deref-2.result.now) c.args.above.now (λ j. first j ++ second j) least))
+
+pub returns-clause-goes_on : goal.returns-clause-goes_on
+returns-clause-goes_on g c = c.grow_both-grown.ensures.listed_stream

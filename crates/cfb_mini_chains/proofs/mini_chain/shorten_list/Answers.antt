@@ -22,17 +22,18 @@ returns-clause-few g c = chain_few _ _ _ (returns-clause-chained g c)
 pub returns-clause-cut : goal.returns-clause-cut
 returns-clause-cut g c =
     let e = c.cut_mini_listed-cut in
-    shortened e.result c.args.count c.args.ids.now.items e.new.ids.items c.args.minialloc.now e.new.self e.ensures.listed e.ensures.given_back e.ensures.system e.ensures.measured
+    shortened e.result c.args.count c.args.ids.now.items e.new.ids.items c.args.minialloc.now e.new.self e.ensures.listed e.ensures.given_back e.ensures.sizes e.ensures.stays
+    e.ensures.room e.ensures.measured e.ensures.snug
 
 pub returns-clause-directory : goal.returns-clause-directory
 returns-clause-directory g c =
     let e = c.cut_mini_listed-cut.ensures in
-    record { sectors = e.system.directory; entries = e.entries; limits = e.limits }
+    record { sectors = e.directory; entries = e.entries; limits = e.limits }
 
 pub returns-clause-holds : goal.returns-clause-holds
-returns-clause-holds g c told validation h unnamed =
+returns-clause-holds g c told validation h starts unnamed =
     let minifat = c.args.minialloc.now.minifat in
-    c.cut_mini_listed-cut.ensures.holds told validation h
+    c.cut_mini_listed-cut.ensures.holds told validation h starts
     (λ none. subst (IsUnnamed minifat) (start_is minifat c.args.start.now c.args.ids.now.items c.requires.chained) (unnamed none))
 
 pub returns-clause-kept : goal.returns-clause-kept

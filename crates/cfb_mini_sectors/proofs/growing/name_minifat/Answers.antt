@@ -8,7 +8,7 @@ use Rattle.cfb_alloc.specs.Alloc.{AllocatorState}
 use Rattle.cfb_alloc.proofs.Answering.{all_ok, on_ok}
 use Rattle.cfb_alloc.proofs.Frames.{spares-then}
 use Rattle.cfb_alloc.proofs.Listed.{not_in_nil}
-use Rattle.cfb_mini_sectors.proofs.MinifatNamed.{both_words, first_is, first_named, first_stays}
+use Rattle.cfb_mini_sectors.proofs.MinifatNamed.{both_words, first_named, first_stays}
 use Rattle.cfb_mini_sectors.proofs.growing.name_minifat.Goals as goal
 
 pub returns-in_err-name_first-clause-others : goal.returns-in_err-name_first-clause-others
@@ -25,7 +25,7 @@ returns-clause-spares g c told =
 pub returns-clause-first : goal.returns-clause-first
 returns-clause-first g c told new = all_ok c.write_header_word.result
     (first_named c.args.allocator.now.file.bytes c.name_first.new.allocator.file.bytes c.write_header_word.new.self.file.bytes _ c.name_first.ensures.fits
-    (c.in_ok-name_first.ensures.ok told new) (c.write_header_word.ensures.others told) ∙ sym (first_is c.args.sectors.now c.requires.some))
+    (c.in_ok-name_first.ensures.ok told new) (c.write_header_word.ensures.others told) ∙ c.first_number.ensures)
 
 pub returns-clause-first_kept : goal.returns-clause-first_kept
 returns-clause-first_kept g c told old long =

@@ -13,9 +13,10 @@ use Rattle.cfb_content.specs.Contents.{IsNotChangeable, IsTooLongFor}
 use Rattle.cfb_content.proofs.Fullness.{enough-is-not-too-long}
 use Rattle.cfb_content.proofs.FixedHeader.{header-stays}
 use Rattle.cfb_content.proofs.Kept.{nothing-is-moved}
-use Rattle.cfb_content.proofs.Refusals.{invalid-refused}
+use Rattle.cfb_content.proofs.Refusals.{invalid-refused, refused-as}
 use Rattle.cfb_content.proofs.StreamEntry.{stream-inside}
 use Rattle.cfb_resizing.proofs.TakenRest.{begun-or-full, root-moves-content}
+use Rattle.cfb_resizing.proofs.Tightness.{leaves-less}
 use Rattle.cfb_resizing.proofs.growing.grow_content.Goals as goal
 
 pub content_in-len-requires : goal.content_in-len-requires
@@ -57,6 +58,16 @@ returns-in_err-resize_content-clause-refused g c told v held =
     (λ long. enough-is-not-too-long v s i size held limited c.minifat_len.ensures.short (c.in_ok-size.ensures.enough v held) (long v held))
     (c.in_err-resize_content.ensures.refused told) c.in_err-resize_content.ensures.err)
 
+pub returns-in_err-resize_content-clause-err : goal.returns-in_err-resize_content-clause-err
+returns-in_err-resize_content-clause-err g c =
+    let p = err_from_is_err_and c.from_residual-in_err-resize_content.result c.from_residual-in_err-resize_content.ensures.1 in
+    rw (p.1, p.2) (refused-as _ _ _ _ _ _ _ _ (λ bad. bad) (λ u. u) (λ long. tt) (λ u. u) c.in_err-resize_content.field-0.0 c.in_err-resize_content.ensures.err)
+
+pub returns-then-size-len-clause-tight : goal.returns-then-size-len-clause-tight
+returns-then-size-len-clause-tight g c =
+    let made = c.in_ok-resize_content.ensures in
+    record { exact = made.exact; no_shorter = made.no_shorter; none_free = made.none_free }
+
 pub returns-then-size-len-clause-content : goal.returns-then-size-len-clause-content
 returns-then-size-len-clause-content g c told v change =
     let s = c.args.mini.now in
@@ -72,13 +83,23 @@ pub returns-then-size-len-clause-sized : goal.returns-then-size-len-clause-sized
 returns-then-size-len-clause-sized g c told v change = c.in_ok-resize_content.ensures.sized told v change
 
 pub returns-then-size-len-clause-stays_full : goal.returns-then-size-len-clause-stays_full
-returns-then-size-len-clause-stays_full g c told v change none =
-    c.in_ok-resize_content.ensures.stays_full told v change (omega (arith, c.content_in-len.ensures.len, c.if-size-len.true)) none
+returns-then-size-len-clause-stays_full g c told v change stays none =
+    c.in_ok-resize_content.ensures.stays_full told v change (omega (arith, c.content_in-len.ensures.len, c.if-size-len.true))
+    (leaves-less c.args.mini.now c.args.entry c.in_ok-size.size c.args.wanted c.in_ok-size.ensures.within.1 stays) none
 
 -- ---- one that can't
+
+pub take_the_rest-requires-clause-stuck : goal.take_the_rest-requires-clause-stuck
+take_the_rest-requires-clause-stuck g c =
+    let within = c.in_ok-size.ensures.within in
+    let low = within.0 in
+    c.in_ok-size.ensures.none (omega (arith, low, c.content_in-len.ensures.len, c.if-size-len.false))
 
 pub returns-clause-entries : goal.returns-clause-entries
 returns-clause-entries g c = root-moves-content c.args.mini.now c.take_the_rest.new.mini c.args.entry c.requires.stream c.take_the_rest.ensures.around.entries
 
 pub returns-clause-refused : goal.returns-clause-refused
 returns-clause-refused g c told v held = (c.in_ok-take_the_rest.ensures.begun, c.in_ok-take_the_rest.ensures.full)
+
+pub returns-then-size-len-clause-snug_mini : goal.returns-then-size-len-clause-snug_mini
+returns-then-size-len-clause-snug_mini g c told v change snug = c.in_ok-resize_content.ensures.snug_mini told v change snug

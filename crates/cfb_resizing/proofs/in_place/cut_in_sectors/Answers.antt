@@ -3,9 +3,10 @@ use Rattle.std.proofs.lemmas.Result.{err_from_is_err_and}
 use Rattle.cfb_format.specs.Bytes.{sector_len}
 use Rattle.cfb_format.specs.Chain.{IsChain}
 use Rattle.cfb_format.specs.Full.{rounded_up}
-use Rattle.cfb_tables.specs.Tables.{first_or_end}
+use Rattle.cfb_tables.specs.Tables.{TableState, first_or_end}
 use Rattle.cfb_alloc.specs.Alloc.{AllocatorState}
 use Rattle.cfb_alloc.specs.ListedChain.{Shortens}
+use Rattle.cfb_alloc.proofs.ListedLemmas.{can_shorten}
 use Rattle.cfb_mini_sectors.proofs.MiniStreams.{begins}
 use Rattle.cfb_content.proofs.Kept.{nothing-is-moved}
 use Rattle.cfb_content.proofs.Refusals.{refused-as}
@@ -14,6 +15,7 @@ use Rattle.cfb_content.proofs.FixedHeader.{bytes-keep-header, table-keeps-header
 use Rattle.cfb_resizing.proofs.CutShort.{cut-takes-few}
 use Rattle.cfb_resizing.proofs.Tightness.{shortened-tight}
 use Rattle.cfb_resizing.proofs.TurnedInSectors.{cut-has-all, cut-held, cut-keeps-tables, cut-spares-others, cut-turned, not-usable}
+use Rattle.cfb_resizing.proofs.SnugMinis.{table-snug}
 use Rattle.cfb_resizing.proofs.in_place.cut_in_sectors.Goals as goal
 
 pub returns-in_err-ids-clause-others : goal.returns-in_err-ids-clause-others
@@ -33,10 +35,12 @@ returns-in_err-ids-clause-err g c =
 pub cut_listed-requires : goal.cut_listed-requires
 cut_listed-requires g c =
     let ids = c.in_ok-ids.ids.items in
+    let lent = c.open_whole_chain.new.allocator in
     let chain = c.in_ok-ids.ensures.whole.chain in
     record {
-      chain = subst (λ (a : AllocatorState). IsChain a.tables.fat (first_or_end ids) ids) (sym c.open_whole_chain.ensures.unchanged)
-          (subst (λ n. IsChain c.allocator_mut-allocator.result.now.tables.fat n ids) (begins c.allocator_mut-allocator.result.now.tables.fat c.content_in-start.result.0 ids chain.follows) chain);
+      chain = can_shorten lent.tables.fat ids c.div_ceil-wanted.result
+          (subst (λ (a : AllocatorState). IsChain a.tables.fat (first_or_end ids) ids) (sym c.open_whole_chain.ensures.unchanged)
+          (subst (λ n. IsChain c.allocator_mut-allocator.result.now.tables.fat n ids) (begins c.allocator_mut-allocator.result.now.tables.fat c.content_in-start.result.0 ids chain.follows) chain));
     }
 
 pub returns-in_err-cut_listed-clause-others : goal.returns-in_err-cut_listed-clause-others
@@ -61,7 +65,9 @@ returns-clause-turned g c told v change =
     rw c.end_chain.ensures (cut-turned c.args.mini.now c.args.entry c.args.size c.div_ceil-wanted.result c.content_in-start.result.0 c.content_in-start.result.1 c.sector_len.result
     c.allocator_mut-allocator.result.now c.open_whole_chain.new.allocator c.cut_listed.new.self c.in_ok-ids.ids.items c.cut_listed.new.ids.items c.requires.stream c.requires.large c.requires.shorter
     c.allocator_mut-allocator.ensures.value (c.open_whole_chain.ensures.unchanged ∙ c.allocator_mut-allocator.ensures.value) c.content_in-start.ensures.start c.content_in-start.ensures.len c.in_ok-ids.ensures.whole c.sector_len.ensures c.div_ceil-wanted.ensures
-    c.in_ok-cut_listed.ensures.shortened (c.cut_listed.ensures.changes told) v change held c.cut_listed.ensures.chain)
+    c.in_ok-cut_listed.ensures.shortened (c.cut_listed.ensures.changes told) v change held (c.cut_listed.ensures.chain (subst (λ (a : AllocatorState). IsChain a.tables.fat (first_or_end c.in_ok-ids.ids.items) c.in_ok-ids.ids.items) (sym c.open_whole_chain.ensures.unchanged)
+    (subst (λ n. IsChain c.allocator_mut-allocator.result.now.tables.fat n c.in_ok-ids.ids.items)
+    (begins c.allocator_mut-allocator.result.now.tables.fat c.content_in-start.result.0 c.in_ok-ids.ids.items c.in_ok-ids.ensures.whole.chain.follows) c.in_ok-ids.ensures.whole.chain))))
 
 pub returns-clause-holds : goal.returns-clause-holds
 returns-clause-holds g c told v change =
@@ -100,7 +106,9 @@ returns-clause-few g c list chain =
     let few = cut-takes-few c.allocator_mut-allocator.result.now.tables.version c.allocator_mut-allocator.result.now.tables.fat c.cut_listed.new.self.tables.fat c.allocator_mut-allocator.result.now.file.len
     c.content_in-start.result.0 c.content_in-start.result.1 c.args.size c.div_ceil-wanted.result c.sector_len.result c.in_ok-ids.ids.items c.cut_listed.new.ids.items list
     (omega (arith, large)) (omega (arith, c.requires.shorter, c.content_in-start.ensures.len)) c.in_ok-ids.ensures.whole (c.sector_len.ensures ∙ sym same) c.div_ceil-wanted.ensures
-    c.in_ok-cut_listed.ensures.shortened.listed c.cut_listed.ensures.chain
+    c.in_ok-cut_listed.ensures.shortened.listed (c.cut_listed.ensures.chain (subst (λ (a : AllocatorState). IsChain a.tables.fat (first_or_end c.in_ok-ids.ids.items) c.in_ok-ids.ids.items) (sym c.open_whole_chain.ensures.unchanged)
+    (subst (λ n. IsChain c.allocator_mut-allocator.result.now.tables.fat n c.in_ok-ids.ids.items)
+    (begins c.allocator_mut-allocator.result.now.tables.fat c.content_in-start.result.0 c.in_ok-ids.ids.items c.in_ok-ids.ensures.whole.chain.follows) c.in_ok-ids.ensures.whole.chain)))
     (subst (λ (a : AllocatorState). IsChain a.tables.fat c.content_in-start.result.0 list) c.end_chain.ensures chain) in
     few ∙ ap (rounded_up c.args.size) same
 
@@ -114,3 +122,9 @@ returns-in_err-cut_listed-clause-header g c told = table-keeps-header _ c.args.m
 pub returns-clause-header : goal.returns-clause-header
 returns-clause-header g c told =
     rw c.end_chain.ensures (table-keeps-header _ c.args.mini.now c.open_whole_chain.new.allocator c.cut_listed.new.self (c.open_whole_chain.ensures.unchanged ∙ c.allocator_mut-allocator.ensures.value) (c.cut_listed.ensures.spares told))
+
+pub returns-clause-snug_mini : goal.returns-clause-snug_mini
+returns-clause-snug_mini g c told v change snug =
+    let same = c.open_whole_chain.ensures.unchanged ∙ c.allocator_mut-allocator.ensures.value in
+    rw c.end_chain.ensures (table-snug c.args.mini.now c.cut_listed.new.self
+    (ap (λ (t : TableState). t.version) c.in_ok-cut_listed.ensures.shortened.given_back.rest ∙ ap (λ (a : AllocatorState). a.tables.version) same) snug)

@@ -16,6 +16,7 @@ use Rattle.cfb_resizing.specs.Turning.{Turns}
 use Rattle.cfb_content.proofs.FixedHeader.{bytes-keep-header, header-stays, spared-since-keeps-header}
 use Rattle.cfb_resizing.proofs.LengthenedMinis.{not-both}
 use Rattle.cfb_resizing.proofs.TurnedInMinis.{grow-minis-lacks, grow-minis-others, grow-minis-room, grow-minis-starts, grow-minis-there, grow-minis-turned, not-held, not-in-stream}
+use Rattle.cfb_mini_sectors.specs.Steps.{IsSnugMini}
 use Rattle.cfb_resizing.proofs.in_place.grow_in_minis.Goals as goal
 
 pub content_in-start-requires : goal.content_in-start-requires
@@ -152,3 +153,8 @@ returns-in_err-lengthen_in_minis-clause-header g c told = spared-since-keeps-hea
 
 pub returns-clause-header : goal.returns-clause-header
 returns-clause-header g c told = spared-since-keeps-header _ c.args.mini.now c.reserve.new.self c.lengthen_in_minis.new.mini c.reserve.ensures.unchanged (c.lengthen_in_minis.ensures.spares told)
+
+pub returns-clause-snug_mini : goal.returns-clause-snug_mini
+returns-clause-snug_mini g c told v change snug =
+    c.in_ok-lengthen_in_minis.ensures.snug_mini told v (subst (λ (m : MiniState). HoldsMini v m) (sym c.reserve.ensures.unchanged) change.held)
+    (subst IsSnugMini (sym c.reserve.ensures.unchanged) snug)

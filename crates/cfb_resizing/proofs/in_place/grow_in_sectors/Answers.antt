@@ -1,4 +1,4 @@
-use Rattle.std.proofs.Common.{refl, ◌-◌, ◌∙◌, length, subst, sym}
+use Rattle.std.proofs.Common.{refl, ◌-◌, ◌∙◌, length, subst, sym, ap}
 use Rattle.std.proofs.lemmas.Result.{err_from_is_err_and}
 use Rattle.cfb_format.specs.Bytes.{sector_len}
 use Rattle.cfb_format.specs.Chain.{IsChain}
@@ -13,6 +13,7 @@ use Rattle.cfb_content.proofs.WholeStreams.{not-whole}
 use Rattle.cfb_content.proofs.FixedHeader.{bytes-keep-header, table-keeps-header}
 use Rattle.cfb_resizing.proofs.Tightness.{lengthened-tight}
 use Rattle.cfb_resizing.proofs.TurnedInSectors.{grow-held, grow-lacks, grow-spares-others, grow-there, grow-turned, not-usable}
+use Rattle.cfb_resizing.proofs.SnugMinis.{table-snug}
 use Rattle.cfb_resizing.proofs.in_place.grow_in_sectors.Goals as goal
 
 pub returns-in_err-ids-clause-others : goal.returns-in_err-ids-clause-others
@@ -106,3 +107,9 @@ returns-in_err-lengthen_in_sectors-clause-header g c told = table-keeps-header _
 pub returns-clause-header : goal.returns-clause-header
 returns-clause-header g c told =
     rw c.end_chain.ensures (table-keeps-header _ c.args.mini.now c.open_whole_chain.new.allocator c.lengthen_in_sectors.new.allocator (c.open_whole_chain.ensures.unchanged ∙ c.allocator_mut-allocator.ensures.value) (c.lengthen_in_sectors.ensures.spares told))
+
+pub returns-clause-snug_mini : goal.returns-clause-snug_mini
+returns-clause-snug_mini g c told v change snug =
+    let same = c.open_whole_chain.ensures.unchanged ∙ c.allocator_mut-allocator.ensures.value in
+    rw c.end_chain.ensures (table-snug c.args.mini.now c.lengthen_in_sectors.new.allocator
+    (c.lengthen_in_sectors.ensures.version ∙ ap (λ (a : AllocatorState). a.tables.version) same) snug)

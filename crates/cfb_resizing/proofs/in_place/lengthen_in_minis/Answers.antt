@@ -16,6 +16,7 @@ use Rattle.cfb_content.proofs.Changing.{growth-stays}
 use Rattle.cfb_content.proofs.Refusals.{refused-as}
 use Rattle.cfb_resizing.proofs.LengthenedMinis.{minis-lengthened-mini-spare, minis-lengthened-padded, minis-lengthened-spare, minis-lengthened-tight, minis-tail-placed, tail-unwritten}
 use Rattle.cfb_resizing.proofs.Tightness.{file-around, file-mini, file-system}
+use Rattle.cfb_resizing.proofs.SnugMinis.{extended-snug, file-snug}
 use Rattle.cfb_resizing.proofs.in_place.lengthen_in_minis.Goals as goal
 
 pub zero_in_minis-requires : goal.zero_in_minis-requires
@@ -75,7 +76,7 @@ returns-clause-padded g c told v held there =
     on_ok _ _ c.zero_in_minis.result
     (λ put. minis-lengthened-padded c.args.mini.now c.extend_mini_listed.new.self c.args.lacking c.args.ids.now.items c.extend_mini_listed.new.ids.items
     c.extend_mini_listed.ensures.listed chain c.zero_in_minis.new.mini c.zero_in_minis.ensures.kept v c.deref.result.now c.args.size c.args.len c.len.result c.saturating_mul-room.result
-    c.min.result c.deref.ensures.value held now c.requires.chain c.extend_mini_listed.ensures.limits.version (c.extend_mini_listed.ensures.mini_spares told v held)
+    c.min.result c.deref.ensures.value held now c.requires.chain c.extend_mini_listed.ensures.limits.version c.extend_mini_listed.ensures.goes_on
     (c.extend_mini_listed.ensures.bytes told v held) (c.in_ok-extend_mini_listed.ensures.filled told v held) have c.saturating_mul-room.ensures c.min.ensures c.ranges.size.fits
     c.requires.lacking c.in_ok-extend_mini_listed.ensures.count there put (c.zero_in_minis.ensures.others told))
     (c.zero_in_minis.ensures.put told v now (subst (λ (l : List ℕ). IsDistinct nat_eq l) (sym c.deref.ensures.value) chain.distinct))
@@ -119,3 +120,12 @@ pub returns-clause-counts : goal.returns-clause-counts
 returns-clause-counts g c told =
     subst (λ (n : ℕ). CountsFailure g.F.Medium.write_faults c.zero_in_minis.result n (table_of c.zero_in_minis.new.mini).file.failures) (c.in_ok-extend_mini_listed.ensures.counts told)
     (c.zero_in_minis.ensures.counts told)
+
+pub returns-clause-snug_mini : goal.returns-clause-snug_mini
+returns-clause-snug_mini g c told v held snug =
+    let s = c.args.mini.now in
+    let mid = c.extend_mini_listed.new.self in
+    all_ok c.zero_in_minis.result (file-snug mid c.zero_in_minis.new.mini c.zero_in_minis.ensures.kept
+    (extended-snug v s mid c.args.lacking c.args.ids.now.items c.extend_mini_listed.new.ids.items (λ z. (c.extend_mini_listed.ensures.none z).1)
+    c.in_ok-extend_mini_listed.ensures.grown c.in_ok-extend_mini_listed.ensures.taken c.in_ok-extend_mini_listed.ensures.count c.in_ok-extend_mini_listed.ensures.measured
+    c.extend_mini_listed.ensures.limits (c.in_ok-extend_mini_listed.ensures.holds told v held) snug))

@@ -22,6 +22,7 @@ use Rattle.cfb_resizing.proofs.CarriedToMinis.{begun-all, broken-as-long, broken
 use Rattle.cfb_resizing.proofs.CarriedToSectors.{apart-spares-mini}
 use Rattle.cfb_resizing.proofs.LengthenedMinis.{not-both}
 use Rattle.cfb_resizing.proofs.Tightness.{file-mini, file-system}
+use Rattle.cfb_resizing.proofs.SnugMinis.{extended-snug, file-snug, table-snug}
 use Rattle.cfb_resizing.proofs.moving.carry_to_minis.Goals as goal
 
 pub put_in_minis-requires : goal.put_in_minis-requires
@@ -200,3 +201,18 @@ pub returns-clause-unwritten : goal.returns-clause-unwritten
 returns-clause-unwritten g c not =
     absurd (not-both (table_of c.put_in_minis.new.mini).file.begun (begun-all c.extend_mini_listed.new.self c.put_in_minis.new.mini (length c.args.bytes.now) (c.in_ok-extend_mini_listed.ensures.begun.0 (c.in_ok-free_listed.ensures.begun.1 c.requires.some))
     (λ none. (c.put_in_minis.ensures.none none).1) c.put_in_minis.ensures.begun) not)
+
+pub returns-clause-snug_mini : goal.returns-clause-snug_mini
+returns-clause-snug_mini g c told v held apart unnamed snug =
+    let s = c.args.mini.now in
+    let a = c.free_listed.new.self in
+    let mid = c.extend_mini_listed.new.self in
+    let lent-held = given-lent s c.allocator_mut.result.now a c.args.list.now c.allocator_mut.ensures.value c.in_ok-free_listed.ensures.freed v held in
+    let freed-held = given-held s c.allocator_mut.result.now a c.args.list.now c.allocator_mut.ensures.value c.in_ok-free_listed.ensures.freed v held apart
+    (c.in_ok-free_listed.ensures.holds told v lent-held (subst (λ (b : AllocatorState). IsUnnamed b.tables.fat (first_or_end c.args.list.now)) (sym c.allocator_mut.ensures.value) unnamed))
+    (c.free_listed.ensures.spares told) (c.free_listed.ensures.changes told) in
+    let version = ap (λ (t : TableState). t.version) c.in_ok-free_listed.ensures.freed.rest ∙ ap (λ (b : AllocatorState). b.tables.version) c.allocator_mut.ensures.value in
+    all_ok c.put_in_minis.result (file-snug mid c.put_in_minis.new.mini c.put_in_minis.ensures.kept
+    (extended-snug v (with_table s a) mid c.args.count c.args.ids.now.items c.extend_mini_listed.new.ids.items (λ z. (c.extend_mini_listed.ensures.none z).1)
+    c.in_ok-extend_mini_listed.ensures.grown c.in_ok-extend_mini_listed.ensures.taken c.in_ok-extend_mini_listed.ensures.count c.in_ok-extend_mini_listed.ensures.measured
+    c.extend_mini_listed.ensures.limits (c.in_ok-extend_mini_listed.ensures.holds told v freed-held) (table-snug s a version snug)))

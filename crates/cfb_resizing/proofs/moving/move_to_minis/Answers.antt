@@ -19,6 +19,7 @@ use Rattle.cfb_resizing.proofs.CarriedToMinis.{after-then, kept-after}
 use Rattle.cfb_resizing.proofs.MovedToMinis.{few-still, leave-apart, leave-asked, leave-lacks, leave-others, leave-some, leave-turned, still-same}
 use Rattle.cfb_resizing.proofs.MovedToSectors.{still-around, still-kept, still-stops, still-tight}
 use Rattle.cfb_resizing.proofs.TurnedInMinis.{not-held}
+use Rattle.cfb_mini_sectors.specs.Steps.{IsSnugMini}
 use Rattle.cfb_resizing.proofs.moving.move_to_minis.Goals as goal
 
 pub content_in-start-requires : goal.content_in-start-requires
@@ -296,3 +297,14 @@ returns-clause-header g c told =
     let first = c.reserve.ensures.unchanged in
     let same = c.in_ok-content.ensures.same told ∙ first in
     spared-since-keeps-header _ c.args.mini.now c.taken_from_sectors.new.mini c.carry_to_minis.new.mini same (c.carry_to_minis.ensures.spares told)
+
+pub returns-clause-snug_mini : goal.returns-clause-snug_mini
+returns-clause-snug_mini g c told v change snug =
+    let wanted : c.div_ceil-count.result ≡ rounded_up c.args.size 64 = omega (arith, c.div_ceil-count.ensures) in
+    let found = subst (λ (l : List ℕ). IsWholeChain c.allocator.result.now.tables.version c.allocator.result.now.tables.fat c.allocator.result.now.file.len
+    c.content_in-start.result.0 c.content_in-start.result.1 l) (sym c.deref-3.ensures.value) c.in_ok-old.ensures.whole in
+    let first = c.reserve.ensures.unchanged in
+    let same = c.in_ok-content.ensures.same told ∙ first in
+    leave-asked c.args.mini.now c.taken_from_sectors.new.mini c.carry_to_minis.new.mini c.args.entry c.args.size c.div_ceil-count.result c.content_in-start.result.0 c.content_in-start.result.1
+    c.allocator.result.now c.deref-3.result.now c.requires.stream c.requires.large c.requires.small c.allocator.ensures c.content_in-start.ensures.start c.content_in-start.ensures.len
+    found wanted (λ m. IsSnugMini m → IsSnugMini c.carry_to_minis.new.mini) same v change (c.in_ok-carry_to_minis.ensures.snug_mini told v) snug

@@ -14,6 +14,7 @@ use Rattle.cfb_resizing.specs.Turning.{StopsOrBegun, Turns}
 use Rattle.cfb_content.proofs.FixedHeader.{bytes-keep-header, header-stays, spared-since-keeps-header}
 use Rattle.cfb_resizing.proofs.MovedToSectors.{move-held, move-lacks, move-others, move-starts, move-turned, still-around, still-kept, still-stops, still-tight}
 use Rattle.cfb_resizing.proofs.TurnedInSectors.{not-usable}
+use Rattle.cfb_mini_sectors.specs.Steps.{IsSnugMini}
 use Rattle.cfb_resizing.proofs.moving.move_to_sectors.Goals as goal
 
 pub content_in-start-requires : goal.content_in-start-requires
@@ -109,8 +110,8 @@ returns-clause-turned g c told v change =
     c.sector_len.result c.in_ok-old.old.items c.requires.stream c.requires.small c.requires.large c.content_in-start.ensures.start c.content_in-start.ensures.len c.in_ok-old.ensures.whole
     c.sector_len.ensures c.div_ceil-count.ensures
     c.carry_to_sectors.new.ids.items c.deref-2.result.now c.in_ok-content.content.items c.deref.result.now (with_table c.args.mini.now c.reserve.new.self) same first
-    c.deref.ensures.value c.deref-2.ensures.value v change c.in_ok-carry_to_sectors.ensures.freed c.in_ok-carry_to_sectors.ensures.lengthened
-    c.carry_to_sectors.ensures.minifat_sectors c.carry_to_sectors.ensures.mini_stream c.carry_to_sectors.ensures.around c.in_ok-carry_to_sectors.ensures.chain
+    c.deref.ensures.value c.deref-2.ensures.value v change (c.in_ok-carry_to_sectors.ensures.carried v) (c.in_ok-carry_to_sectors.ensures.apart told v)
+    c.carry_to_sectors.ensures.around c.in_ok-carry_to_sectors.ensures.chain
     (c.in_ok-carry_to_sectors.ensures.holds told v) c.in_ok-content.ensures.len (c.in_ok-content.ensures.got told) (c.in_ok-carry_to_sectors.ensures.padded told v)
     (c.in_ok-carry_to_sectors.ensures.wiped told v))
 
@@ -178,3 +179,9 @@ returns-clause-header g c told =
     let first = ap (λ (b : AllocatorState). with_table c.args.mini.now b) (c.reserve.ensures.unchanged ∙ c.allocator_mut.ensures.value) in
     let same = c.in_ok-content.ensures.same told ∙ first in
     spared-since-keeps-header _ c.args.mini.now c.taken_from_minis.new.mini c.carry_to_sectors.new.mini same (c.carry_to_sectors.ensures.spares told)
+
+pub returns-clause-snug_mini : goal.returns-clause-snug_mini
+returns-clause-snug_mini g c told v change snug =
+    let first = ap (λ (b : AllocatorState). with_table c.args.mini.now b) (c.reserve.ensures.unchanged ∙ c.allocator_mut.ensures.value) in
+    let same = c.in_ok-content.ensures.same told ∙ first in
+    (subst (λ (m : MiniState). HoldsMini v m → IsSnugMini m → IsSnugMini c.carry_to_sectors.new.mini) same (c.in_ok-carry_to_sectors.ensures.snug_mini v)) change.held snug

@@ -15,6 +15,8 @@ use Rattle.cfb_content.proofs.Readable.{whole-of}
 use Rattle.cfb_content.proofs.Refusals.{refused-as}
 use Rattle.cfb_content.proofs.StreamEntry.{stream-inside}
 use Rattle.cfb_resizing.proofs.PutBehind.{appended, filed-entries, filed-sized, filed-tables, filed-used}
+use Rattle.cfb_resizing.proofs.Tightness.{leaves-less}
+use Rattle.cfb_resizing.proofs.SnugMinis.{filed-snug}
 use Rattle.cfb_resizing.proofs.putting.append_content.Goals as goal
 
 pub content_in-len-requires : goal.content_in-len-requires
@@ -92,6 +94,12 @@ returns-clause-sized g c told v change =
     filed-sized c.grow_content.new.mini c.write_listed.new.mini c.in_ok-write_listed.ensures.rest c.args.mini.now c.args.entry (c.in_ok-grown.ensures.sized told v change)
 
 pub returns-clause-stays_full : goal.returns-clause-stays_full
-returns-clause-stays_full g c told v change none =
+returns-clause-stays_full g c told v change stays none =
+    let s = c.args.mini.now in
+    let wanted = c.content_in-len.result.1 + length c.args.bytes.now in
     subst (λ (t : TableState). NoneFree t.fat) (sym (filed-tables c.grow_content.new.mini c.write_listed.new.mini c.in_ok-write_listed.ensures.rest))
-    (c.in_ok-grown.ensures.stays_full told v change none)
+    (c.in_ok-grown.ensures.stays_full told v change
+    (leaves-less s c.args.entry wanted (len_of s c.args.entry + length c.args.bytes.now) (omega (arith, c.content_in-len.ensures.len)) stays) none)
+
+pub returns-clause-snug_mini : goal.returns-clause-snug_mini
+returns-clause-snug_mini g c told v change snug = filed-snug c.grow_content.new.mini c.write_listed.new.mini c.in_ok-write_listed.ensures.rest (c.in_ok-grown.ensures.snug_mini told v change snug)

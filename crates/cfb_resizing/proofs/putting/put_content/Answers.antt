@@ -1,5 +1,6 @@
-use Rattle.std.proofs.Common.{◌≡◌, List, refl, sym, ◌∙◌, ap, subst, take, arith}
+use Rattle.std.proofs.Common.{◌≡◌, ◌+◌, List, inl, inr, refl, sym, ◌∙◌, ap, subst, length, take, arith}
 use Rattle.std.specs.Prelude.{IfOk}
+use Rattle.std.proofs.lemmas.Bool.{eqb-false}
 use Rattle.std.proofs.lemmas.List.{length-take}
 use Rattle.cfb_format.specs.DirectoryEntry.{Entry}
 use Rattle.cfb_format.specs.Medium.{written}
@@ -15,6 +16,8 @@ use Rattle.cfb_content.proofs.Rewritten.{written-none}
 use Rattle.cfb_content.proofs.Snug.{same-is-sized}
 use Rattle.cfb_content.proofs.StreamEntry.{stream-inside}
 use Rattle.cfb_resizing.proofs.PutBehind.{filed-entries, filed-sized, filed-tables, filed-used}
+use Rattle.cfb_resizing.proofs.Tightness.{leaves-less}
+use Rattle.cfb_resizing.proofs.SnugMinis.{filed-snug}
 use Rattle.cfb_resizing.proofs.putting.put_content.Goals as goal
 
 pub content_in-len-requires : goal.content_in-len-requires
@@ -51,6 +54,19 @@ returns-then-at-len-clause-content g c told v change =
     subst (λ at. IfOk c.append_content.result (λ n. content_of new (entry_at (entries_of new) i) ≡ written (content_of s (entry_at (entries_of s) i)) at (take n c.args.bytes.now))) same
     (c.append_content.ensures.content told v change)
 
+pub returns-then-at-len-clause-stays_full : goal.returns-then-at-len-clause-stays_full
+returns-then-at-len-clause-stays_full g c told v change stays none =
+    let s = c.args.mini.now in
+    let i = c.args.entry in
+    c.append_content.ensures.stays_full told v change
+    (leaves-less s i (len_of s i + length c.args.bytes.now) (c.args.at + length c.args.bytes.now) (omega (arith, c.content_in-len.ensures.len, c.if-at-len.true)) stays) none
+
+pub returns-then-at-len-clause-within : goal.returns-then-at-len-clause-within
+returns-then-at-len-clause-within g c inside = absurd (elim inside [
+  | inl before ↦ omega (arith, before, c.content_in-len.ensures.len, c.if-at-len.true)
+  | inr none ↦ eqb-false (length c.args.bytes.now) 0 (sym c.is_empty.ensures ∙ c.if-is_empty.false) none
+])
+
 -- ---- inside the length
 
 pub returns-clause-content : goal.returns-clause-content
@@ -71,5 +87,8 @@ returns-clause-sized g c told v change =
     (same-is-sized v s s c.args.entry change c.requires.stream refl refl refl refl)
 
 pub returns-clause-stays_full : goal.returns-clause-stays_full
-returns-clause-stays_full g c told v change none =
+returns-clause-stays_full g c told v change stays none =
     subst (λ (t : TableState). NoneFree t.fat) (sym (filed-tables c.args.mini.now c.write_content.new.mini c.in_ok-write_content.ensures.rest)) none
+
+pub returns-clause-snug_mini : goal.returns-clause-snug_mini
+returns-clause-snug_mini g c told v change snug = filed-snug c.args.mini.now c.write_content.new.mini c.in_ok-write_content.ensures.rest snug

@@ -1,8 +1,10 @@
-use Rattle.std.proofs.Common.{inl, inr, rules}
+use Rattle.std.proofs.Common.{List, ap, inl, inr, rules}
 use Rattle.std.proofs.lemmas.Result.{on_ok_weaker}
+use Rattle.cfb_format.specs.DirectoryEntry.{Entry}
+use Rattle.cfb_format.specs.Siblings.{entry_at}
 use Rattle.cfb_content.proofs.Outlines.{same-entries-moved, stream-is-no-root}
 use Rattle.cfb_content.proofs.StreamEntry.{stream-inside}
-use Rattle.cfb_resizing.proofs.Named.{named-at, named-is-valid, named-moves}
+use Rattle.cfb_resizing.proofs.Named.{named-at, named-is-valid, named-moves, named-root}
 use Rattle.cfb_resizing.proofs.resizing.name_content.Goals as goal
 
 pub with_dir_entry_mut-requires-clause-inside : goal.with_dir_entry_mut-requires-clause-inside
@@ -31,3 +33,9 @@ returns-clause-holds g c told validation held small =
     c.with_dir_entry_mut.ensures.holds told validation held
     (λ f post. named-is-valid s i c.args.start c.args.size c.requires.stream validation held small f (search rules))
     (λ zero. absurd (stream-is-no-root s i c.requires.stream zero))
+
+pub returns-clause-root : goal.returns-clause-root
+returns-clause-root g c = elim c.with_dir_entry_mut.ensures.entries [
+  | inl same ↦ ap (λ (es : List Entry). entry_at es 0) same
+  | inr w ↦ named-root c.args.mini.now c.args.entry c.args.start c.args.size c.requires.stream c.with_dir_entry_mut.new.self w.0 (search rules) w.2
+]

@@ -29,6 +29,8 @@ use Rattle.cfb_resizing.proofs.CarriedToMinis.{kept-after, medium-after}
 use Rattle.cfb_resizing.proofs.Named.{WasNamed, moves-then, named-changes, named-keeps-others, placed-stays}
 use Rattle.cfb_resizing.proofs.Tightness.{turned-stays-full}
 use Rattle.cfb_resizing.proofs.Turned.{WasTurned, always-on-ok, turned, turned-whole}
+use Rattle.cfb_format.specs.DirectoryEntry.{Entry}
+use Rattle.cfb_content.proofs.SnugMini.{kept-is-snug-mini}
 use Rattle.cfb_resizing.proofs.resizing.resize_content.Goals as goal
 
 pub content_in-len-requires : goal.content_in-len-requires
@@ -196,12 +198,12 @@ pub returns-clause-none_free : goal.returns-clause-none_free
 returns-clause-none_free g c longer =
     let same = sym c.name_content.ensures.system.tables in
     let old = length (tables_in c.args.mini.now).fat in
-    always-on-ok c.name_content.result (subst (λ (t : TableState). old < length t.fat → NoneFree t.fat) same c.in_ok-start.ensures.tight.none_free longer)
+    always-on-ok c.name_content.result (subst (λ (t : TableState). old < length t.fat → NoneFree t.fat × (length t.fat ≤ (tables_in c.args.mini.now).max_sectors)) same c.in_ok-start.ensures.tight.none_free longer)
 
 pub returns-clause-stays_full : goal.returns-clause-stays_full
-returns-clause-stays_full g c told validation change longer none =
+returns-clause-stays_full g c told validation change longer stays none =
     let s = c.args.mini.now in
-    let full = turned-stays-full s c.turn.new.mini c.args.entry c.args.size c.in_ok-start.start longer (c.in_ok-start.ensures.turned told validation change) none in
+    let full = turned-stays-full s c.turn.new.mini c.args.entry c.args.size c.in_ok-start.start longer stays (c.in_ok-start.ensures.turned told validation change) none in
     always-on-ok c.name_content.result (subst (λ (t : TableState). NoneFree t.fat) (sym c.name_content.ensures.system.tables) full)
 
 pub returns-clause-enough : goal.returns-clause-enough
@@ -222,3 +224,9 @@ pub returns-clause-header : goal.returns-clause-header
 returns-clause-header g c told =
     header-then c.args.mini.now c.turn.new.mini c.name_content.new.mini c.turn.ensures.around.limits.version (c.turn.ensures.header told)
     (spared-keeps-header _ c.turn.new.mini c.name_content.new.mini (c.name_content.ensures.spares told))
+
+pub returns-clause-snug_mini : goal.returns-clause-snug_mini
+returns-clause-snug_mini g c told validation change snug =
+    let named = c.name_content.ensures in
+    always-on-ok c.name_content.result (kept-is-snug-mini c.turn.new.mini c.name_content.new.mini named.limits.version named.mini
+    (ap (λ (e : Entry). e.start_sector) named.root) (ap (λ (e : Entry). e.stream_len) named.root) (c.in_ok-start.ensures.snug_mini told validation change snug))

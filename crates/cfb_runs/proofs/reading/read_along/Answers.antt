@@ -1,5 +1,4 @@
-use Rattle.std.proofs.Common.{◌≡◌, ◌≤◌, ◌<◌, ◌+◌, ◌-◌, ◌/◌, ℕ, List, refl, sym, ◌∙◌, ap, subst, arith, length, take, drop, length-take, length-drop, get_or-take, inl, inr}
-use Rattle.cfb_format.specs.declared.version.Version.{Version}
+use Rattle.std.proofs.Common.{◌≡◌, ◌<◌, ◌+◌, ◌-◌, ◌/◌, ℕ, List, refl, sym, ◌∙◌, ap, subst, arith, length, drop, length-take, length-drop, get_or-take, inl, inr}
 use Rattle.cfb_format.specs.Bytes.{sector_len}
 use Rattle.cfb_sectors.specs.Sectors.{SectorFile}
 use Rattle.cfb_tables.specs.Tables.{TableState}
@@ -9,7 +8,6 @@ use Rattle.std.proofs.lemmas.Bool.{cases_lt}
 use Rattle.std.proofs.lemmas.Result.{err_from_is_err_and}
 use Rattle.cfb_format.specs.Medium.{written}
 use Rattle.cfb_format.proofs.ByteLemmas.{length-written, part_at, put_mid_written, written_at, written_below}
-use Rattle.cfb_runs.specs.Along.{IsThereInSectors}
 use Rattle.cfb_runs.specs.Runs.{place_along}
 use Rattle.cfb_runs.proofs.reading.read_along.Goals as goal
 

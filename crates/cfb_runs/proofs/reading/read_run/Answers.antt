@@ -1,4 +1,4 @@
-use Rattle.std.proofs.Common.{◌≡◌, ◌∙◌, ◌≤◌, ◌+◌, ℕ, ap, arith, length, length-take, subst}
+use Rattle.std.proofs.Common.{◌∙◌, ap, arith, length, length-take, subst}
 use Rattle.cfb_format.specs.declared.version.Version.{Version}
 use Rattle.cfb_runs.specs.Runs.{IsLongestRun, place_along}
 use Rattle.cfb_runs.proofs.reading.read_run.Goals as goal

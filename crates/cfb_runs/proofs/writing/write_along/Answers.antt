@@ -1,4 +1,4 @@
-use Rattle.std.proofs.Common.{◌≡◌, ◌≤◌, ◌<◌, ◌+◌, ◌-◌, ◌*◌, ◌/◌, ◌%◌, ℕ, List, inr, refl, sym, ◌∙◌, ap, subst, arith, length, take}
+use Rattle.std.proofs.Common.{◌≡◌, ◌≤◌, ◌<◌, ◌+◌, ◌*◌, ◌/◌, ℕ, inr, refl, sym, ◌∙◌, ap, subst, arith, length, take}
 use Rattle.std.specs.Prelude.{IsTrue, slice_index}
 use Rattle.cfb_format.specs.declared.version.Version.{Version}
 use Rattle.cfb_format.specs.Bytes.{sector_len}
@@ -11,7 +11,7 @@ use Rattle.cfb_alloc.proofs.Frames.{spares-then}
 use Rattle.cfb_alloc.proofs.Spared.{spares_refl}
 use Rattle.cfb_runs.specs.Along.{ChangesOnlyPlaces, ChangesOnlyRun}
 use Rattle.cfb_runs.specs.Runs.{IsLongestRun, place_along}
-use Rattle.cfb_runs.proofs.Runs.{found_byte, listed_index, next_place, offset_short, rest_short}
+use Rattle.cfb_runs.proofs.Runs.{found_byte, listed_index, next_place, rest_short}
 use Rattle.cfb_runs.proofs.Along.{all_err, kept_after, only_more, only_refl, only_run, rest_at, rest_long, rest_of, rest_size, run_more, run_only, stands_none, stops_here}
 use Rattle.cfb_runs.proofs.writing.write_along.Goals as goal
 

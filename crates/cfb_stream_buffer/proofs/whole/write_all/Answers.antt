@@ -1,48 +1,66 @@
-use Rattle.std.proofs.Common.{refl, ◌≡◌, ◌+◌, ◌-◌, ◌∙◌, ℕ, List, length, take, drop, sym, ap, arith, length-drop, length-take}
+use Rattle.std.proofs.Common.{◌≡◌, ◌+◌, ◌-◌, ◌<◌, ◌≤◌, ◌∙◌, ℕ, List, length, take, drop, sym, ap, subst, arith, length-drop, length-take}
 use Rattle.std.proofs.lemmas.List.{take_all}
+use Rattle.std.proofs.lemmas.Result.{err_from_is_err_and}
 use Rattle.cfb_stream_buffer.specs.Contents.{Stored, TakesBytes, stored_after_write}
-use Rattle.cfb_stream_buffer.proofs.Lists.{put_more, put_none}
+use Rattle.cfb_stream_buffer.proofs.Breaks.{not_full}
+use Rattle.cfb_stream_buffer.proofs.Lists.{behind_put, put_in_turn, taken_behind, taken_inside}
 use Rattle.cfb_stream_buffer.proofs.whole.write_all.Goals as goal
 
-pub loop-done-init : goal.loop-done-init
-loop-done-init g c = record {
-  within = omega arith;
-  there = c.requires.there;
-  told = λ h. h;
-  others = λ h first k. k;
-  calm = λ h. refl;
-  written = λ h takes placed. sym (put_none _ _ takes.inside);
-}
-
-pub loop-done-preserved : goal.loop-done-preserved
-loop-done-preserved g c =
+pub returns-clause-ok : goal.returns-clause-ok
+returns-clause-ok g c = λ told takes whole.
     let s = g.C.ReadContents.stored c.args.content.now c.args.id in
-    let i = c.loop-done.invariant in
-    let e = c.in_ok-count.ensures in
-    let d = c.loop-done.done in
-    let n = c.in_ok-count.count in
-    let bytes = c.args.bytes.now in
-    let left = length bytes - d in
-    let rest : take left (drop d bytes) ≡ drop d bytes = take_all left (drop d bytes) (omega (arith, length-drop d bytes)) in
-    let len : length (take left (drop d bytes)) ≡ left = omega (arith, ap (λ (xs : List ℕ). length xs) rest, length-drop d bytes) in
-    record {
-      within = omega (arith, e.bound, len);
-      there = e.there;
-      told = λ h. e.told (i.told h);
-      others = λ h first k. e.others (i.told h) first (i.others h first k);
-      calm = λ h. e.counts (i.told h) ∙ i.calm h;
-      written = λ h takes placed.
-          let now = i.written h takes placed in
-          let before : length (take d bytes) ≡ d = omega (arith, length-take d bytes) in
-          let there : TakesBytes (g.C.ReadContents.stored c.loop-done.content c.args.id) (c.args.at + d) (length (take left (drop d bytes))) = record {
-            unfailed = ap (λ (z : Stored). z.failed) now ∙ takes.unfailed;
-            sound = ap (λ (z : Stored). z.sound) now ∙ takes.sound;
-            inside = omega (arith, ap (λ (z : Stored). z.size) now, before);
-            fits = omega (arith, ap (λ (z : Stored). z.limit) now, takes.fits, len);
-          } in
-          let w = e.ok (i.told h) there (omega (arith, len)) in
-          w.puts
-          ∙ ap (λ (z : Stored). stored_after_write z (c.args.at + d) (take n (take left (drop d bytes)))) now
-          ∙ ap (λ (xs : List ℕ). stored_after_write (stored_after_write s c.args.at (take d bytes)) (c.args.at + d) (take n xs)) rest
-          ∙ put_more s c.args.at d n bytes (omega arith) placed;
-    }
+    let t = g.C.ReadContents.stored c.append_rest.new.content c.args.id in
+    let b = c.args.bytes.now in
+    let k = c.min-inside.result in
+    let rest : take (length b - k) (drop k b) ≡ drop k b = take_all (length b - k) (drop k b) (omega (arith, length-drop k b)) in
+    let long = ap (λ (xs : List ℕ). length xs) rest in
+    let a = c.in_ok-append_rest.ensures in
+    let put : t ≡ stored_after_write s s.size (drop k b) = behind_put s t k b
+    (λ more. a.ok told (omega (arith, more, long, length-drop k b)) (taken_behind s c.args.at k b _ takes more (omega (arith, long, length-drop k b)) (omega arith)) ∙ ap (λ (xs : List ℕ). stored_after_write s s.size xs) rest)
+    (λ all. ap (λ content. g.C.ReadContents.stored content c.args.id) (a.none (omega (arith, all, long, length-drop k b))).1) in
+    let front = taken_inside s t c.args.at k b takes whole put (omega arith) in
+    c.in_ok-write_inside.ensures.ok (a.told told) front.0 front.1
+    ∙ ap (λ (z : Stored). stored_after_write z c.args.at (take k b)) put
+    ∙ put_in_turn s c.args.at k b (omega arith) takes.inside whole
+
+pub returns-in_err-write_inside-clause-refused : goal.returns-in_err-write_inside-clause-refused
+returns-in_err-write_inside-clause-refused g c = λ told takes whole.
+    let s = g.C.ReadContents.stored c.args.content.now c.args.id in
+    let t = g.C.ReadContents.stored c.append_rest.new.content c.args.id in
+    let b = c.args.bytes.now in
+    let k = c.min-inside.result in
+    let rest : take (length b - k) (drop k b) ≡ drop k b = take_all (length b - k) (drop k b) (omega (arith, length-drop k b)) in
+    let long = ap (λ (xs : List ℕ). length xs) rest in
+    let a = c.in_ok-append_rest.ensures in
+    let put : t ≡ stored_after_write s s.size (drop k b) = behind_put s t k b
+    (λ more. a.ok told (omega (arith, more, long, length-drop k b)) (taken_behind s c.args.at k b _ takes more (omega (arith, long, length-drop k b)) (omega arith)) ∙ ap (λ (xs : List ℕ). stored_after_write s s.size xs) rest)
+    (λ all. ap (λ content. g.C.ReadContents.stored content c.args.id) (a.none (omega (arith, all, long, length-drop k b))).1) in
+    let front = taken_inside s t c.args.at k b takes whole put (omega arith) in
+    let why = c.in_err-write_inside.ensures.refused (a.told told) front.0 front.1 in
+    let p = err_from_is_err_and c.from_residual-in_err-write_inside.result c.from_residual-in_err-write_inside.ensures.1 in
+    rw (p.1, p.2) (
+      not_full _ _ why.0,
+      record { same_limit = why.1.same_limit ∙ ap (λ (z : Stored). z.limit) put; same_sound = why.1.same_sound ∙ ap (λ (z : Stored). z.sound) put },
+    )
+
+pub returns-in_err-append_rest-clause-within : goal.returns-in_err-append_rest-clause-within
+returns-in_err-append_rest-clause-within g c = λ told inside first kept.
+    let b = c.args.bytes.now in
+    let k = c.min-inside.result in
+    absurd (c.in_err-append_rest.ensures.none (omega (arith, inside, length-take (length b - k) (drop k b), length-drop k b))).0
+
+pub returns-in_err-write_inside-clause-within : goal.returns-in_err-write_inside-clause-within
+returns-in_err-write_inside-clause-within g c = λ told inside first kept.
+    let b = c.args.bytes.now in
+    let k = c.min-inside.result in
+    let a = c.in_ok-append_rest.ensures in
+    let same = (a.none (omega (arith, inside, length-take (length b - k) (drop k b), length-drop k b))).1 in
+    c.in_err-write_inside.ensures.tight (a.told told) first (subst (λ content. g.C.Contents.tight first content) (sym same) kept)
+
+pub returns-clause-within : goal.returns-clause-within
+returns-clause-within g c = λ told inside first kept.
+    let b = c.args.bytes.now in
+    let k = c.min-inside.result in
+    let a = c.in_ok-append_rest.ensures in
+    let same = (a.none (omega (arith, inside, length-take (length b - k) (drop k b), length-drop k b))).1 in
+    c.in_ok-write_inside.ensures.tight (a.told told) first (subst (λ content. g.C.Contents.tight first content) (sym same) kept)

@@ -2,6 +2,7 @@ use Rattle.std.proofs.Common.{arith, ap, subst, ◌≤◌, ◌≡◌, ◌++◌, 
 use Rattle.std.proofs.lemmas.List.Elements.{Contains-get_or, Contains-append_left, Contains-append_right}
 use Rattle.cfb_format.specs.declared.version.Version.{Version}
 use Rattle.cfb_sectors.specs.declared.sector.SectorInit.TheVariants.{Fat}
+use Rattle.cfb_table_words.specs.Along.{AreFilledFrom}
 use Rattle.cfb_table_words.specs.Holding.{ChangesSectors}
 use Rattle.cfb_sectors.specs.Sectors.{SectorFile}
 use Rattle.cfb_table_words.proofs.DifatLemmas.{listing_stays}
@@ -67,3 +68,8 @@ returns-clause-fats g c told once apart other k from lt =
     let change = subst (λ (u : Version). ChangesSectors c.args.more.now u mid.bytes new.bytes) same (c.fill_sectors.ensures.changes told) in
     stays_filled v Fat (get_or list k 0) mid.bytes new.bytes (change.sectors (get_or list k 0) (λ m. other (get_or list k 0) (Contains-get_or list k 0 lt) m))
     (c.in_ok-write_table_sectors.ensures.filled told once apart k from lt)
+
+pub returns-clause-filled : goal.returns-clause-filled
+returns-clause-filled g c told once =
+    subst (λ (u : Version). AreFilledFrom u c.args.init c.args.from.now c.fill_sectors.new.sectors.bytes c.args.more.now)
+    (ap (λ (f : SectorFile). f.version) c.write_table_sectors.ensures.kept) (c.in_ok-fill_sectors.ensures.filled told once)

@@ -6,14 +6,16 @@ use Rattle.cfb_format.specs.declared.version.Version.{Version}
 use Rattle.cfb_format.specs.Bytes.{sector_start}
 use Rattle.std.proofs.Math.Seq.{take-append_seam}
 use Rattle.cfb_sectors.specs.declared.sector.SectorInit.TheVariants.{Fat}
+use Rattle.cfb_table_words.specs.Along.{AreFilledFrom}
 use Rattle.cfb_table_words.specs.Holding.{ChangesSectors, HoldsBut, IsFilled}
 use Rattle.cfb_tables.specs.Changes.{AreDisjoint}
 use Rattle.cfb_table_words.specs.Difat.{ListsTables}
 use Rattle.cfb_sectors.specs.Sectors.{SectorFile}
-use Rattle.cfb_table_words.proofs.Answering.{all_ok}
+use Rattle.cfb_table_words.proofs.Answering.{all_err, all_ok}
+use Rattle.cfb_table_words.proofs.FilledSectors.{filled_stays, filled_whole_each}
 use Rattle.cfb_table_words.proofs.FrameLemmas.{changes_more, changes_trans}
 use Rattle.cfb_table_words.proofs.GrowthLemmas.{grown_holds, grown_fats_once, grown_difats_once, grown_apart, fats_apart_more, difats_apart_more, late_covers, old_fats_kept}
-use Rattle.cfb_table_words.proofs.HeldLemmas.{header_long, in_dropped, stays_filled}
+use Rattle.cfb_table_words.proofs.HeldLemmas.{header_long, in_dropped}
 use Rattle.cfb_table_words.proofs.writing.write_taken.Goals as goal
 
 pub add_sectors-requires-clause-below : goal.add_sectors-requires-clause-below
@@ -30,6 +32,12 @@ pub add_sectors-requires-clause-more : goal.add_sectors-requires-clause-more
 add_sectors-requires-clause-more g c i m = let lt = c.requires.more i m in omega (arith, lt, c.requires.placed.count)
 
 -- what adding sectors changes, said of the tables
+just_added : (k : ℕ) (list own list' own' more : List ℕ) (v w : Version) (a b : List ℕ) → list' ≡ list → own' ≡ own → w ≡ v → ChangesSectors (drop k list' ++ own' ++ more) w a b
+    → ChangesSectors (drop k list ++ own ++ more) v a b
+just_added k list own list' own' more v w a b e1 e2 same change =
+    subst (λ (u : Version). ChangesSectors (drop k list ++ own ++ more) u a b) same
+    (subst (λ (xs : List ℕ). ChangesSectors (drop k xs ++ own ++ more) w a b) e1 (subst (λ (ys : List ℕ). ChangesSectors (drop k list' ++ ys ++ more) w a b) e2 change))
+
 added : (k : ℕ) (list own list' own' more : List ℕ) (v w : Version) (a b : List ℕ) → list' ≡ list → own' ≡ own → w ≡ v → ChangesSectors (drop k list' ++ own' ++ more) w a b
     → ChangesSectors (list ++ own ++ more) v a b
 added k list own list' own' more v w a b e1 e2 same change =
@@ -41,8 +49,7 @@ added k list own list' own' more v w a b e1 e2 same change =
         | inr d ↦ Contains-append_right list own i d
       ])
     ])
-    (subst (λ (u : Version). ChangesSectors (drop k list ++ own ++ more) u a b) same
-    (subst (λ (xs : List ℕ). ChangesSectors (drop k xs ++ own ++ more) w a b) e1 (subst (λ (ys : List ℕ). ChangesSectors (drop k list' ++ ys ++ more) w a b) e2 change)))
+    (just_added k list own list' own' more v w a b e1 e2 same change)
 
 pub returns-in_err-add_sectors-clause-changes : goal.returns-in_err-add_sectors-clause-changes
 returns-in_err-add_sectors-clause-changes g c told =
@@ -65,16 +72,36 @@ returns-clause-changes g c told =
     (λ i m. Contains-append_left (t.fat_sectors ++ t.difat_sectors) c.args.more.now i (Contains-append_left t.fat_sectors t.difat_sectors i m))
     (subst (λ (u : Version). ChangesSectors t.fat_sectors u mid.bytes new.bytes) same (c.write_late.ensures.changes told)))
 
-pub returns-clause-filled : goal.returns-clause-filled
-returns-clause-filled g c told apart =
+pub returns-in_err-add_sectors-clause-ordered : goal.returns-in_err-add_sectors-clause-ordered
+returns-in_err-add_sectors-clause-ordered g c told once apart =
     let t = c.args.tables.now in
+    all_err c.from_residual.result
+    (inr (just_added c.args.before.fats t.fat_sectors t.difat_sectors c.fat_sectors.result.now c.difat_sectors.result.now c.args.more.now t.version c.args.sectors.now.version
+    c.args.sectors.now.bytes c.add_sectors.new.sectors.bytes c.fat_sectors.ensures c.difat_sectors.ensures c.requires.placed.same_version (c.add_sectors.ensures.changes told)))
+
+pub returns-clause-filled : goal.returns-clause-filled
+returns-clause-filled g c told once apart =
+    let t = c.args.tables.now in
+    let more = c.args.more.now in
     let mid = c.add_sectors.new.sectors in
     let new = c.write_late.new.sectors in
     let first = c.requires.placed.same_version in
     let same = ap (λ (f : SectorFile). f.version) c.add_sectors.ensures.kept ∙ first in
     let change = subst (λ (u : Version). ChangesSectors t.fat_sectors u mid.bytes new.bytes) same (c.write_late.ensures.changes told) in
-    all_ok c.write_late.result (λ i m. stays_filled t.version c.args.init i mid.bytes new.bytes (change.sectors i (λ n. apart i n m))
-    (subst (λ (u : Version). IsFilled u c.args.init mid.bytes i) first (c.in_ok-add_sectors.ensures.filled told i m)))
+    all_ok c.write_late.result (filled_stays t.version c.args.init c.args.from.now mid.bytes new.bytes more change.no_shorter (λ i m. change.sectors i (λ n. apart i n m))
+    (subst (λ (u : Version). AreFilledFrom u c.args.init c.args.from.now mid.bytes more) first (c.in_ok-add_sectors.ensures.filled told once)))
+
+pub returns-clause-ordered : goal.returns-clause-ordered
+returns-clause-ordered g c told once apart =
+    let t = c.args.tables.now in
+    let more = c.args.more.now in
+    let mid = c.add_sectors.new.sectors in
+    let new = c.write_late.new.sectors in
+    let first = c.requires.placed.same_version in
+    let same = ap (λ (f : SectorFile). f.version) c.add_sectors.ensures.kept ∙ first in
+    let change = subst (λ (u : Version). ChangesSectors t.fat_sectors u mid.bytes new.bytes) same (c.write_late.ensures.changes told) in
+    all_err c.write_late.result (inl (filled_stays t.version c.args.init c.args.from.now mid.bytes new.bytes more change.no_shorter (λ i m. change.sectors i (λ n. apart i n m))
+    (subst (λ (u : Version). AreFilledFrom u c.args.init c.args.from.now mid.bytes more) first (c.in_ok-add_sectors.ensures.filled told once))))
 
 pub returns-clause-holds : goal.returns-clause-holds
 returns-clause-holds g c told validation old taken clean fats difats h =
@@ -115,11 +142,12 @@ returns-clause-holds g c told validation old taken clean fats difats h =
     (subst (λ (ys : List ℕ). ChangesSectors (drop c.args.before.fats r1 ++ ys ++ more) s0.version s0.bytes s2.bytes) e2 (c.add_sectors.ensures.changes told))) in
     let full = c.in_ok-add_sectors.ensures.fats told list_once apart list_more in
     let mid : HoldsBut validation (drop c.args.before.difats t.difat_sectors ++ (drop c.args.before.fats t.fat_sectors ++ (more ++ (touched ++ [])))) s2 t =
-    grown_holds validation old t touched more taken s0 s2 c.args.init _ (late_covers validation old t touched more taken s0 h c.args.before.fats c.args.before.difats fats difats)
+    grown_holds validation old t touched more taken s0 s2 _ (late_covers validation old t touched more taken s0 h c.args.before.fats c.args.before.difats fats difats)
     h long change.no_shorter measured end listed' clean
     (λ k from lt. subst (λ (u : Version). IsFilled u Fat s2.bytes (slice_index t.fat_sectors k)) first
     (subst (λ (xs : List ℕ). IsFilled s0.version Fat s2.bytes (slice_index xs k)) e1
     (full k (omega (arith, from, fats)) (subst (λ (xs : List ℕ). k < length xs) (sym e1) lt))))
-    (λ i m. subst (λ (u : Version). IsFilled u c.args.init s2.bytes i) first (c.in_ok-add_sectors.ensures.filled told i m))
+    (filled_whole_each v c.args.init c.args.from.now s2.bytes more
+    (subst (λ (u : Version). AreFilledFrom u c.args.init c.args.from.now s2.bytes more) first (c.in_ok-add_sectors.ensures.filled told taken.once)))
     (old_fats_kept validation old t touched more taken s0 h c.args.before.fats v s0.bytes s2.bytes fats change) in
     c.write_late.ensures.ok told validation [] mid

@@ -8,7 +8,7 @@ use Rattle.cfb_compound_file.specs.Streams.{open_of}
 use Rattle.cfb_command_steps.specs.Promised.{IsWorkedOn}
 use Rattle.cfb_command_steps.proofs.Before.{same_before}
 use Rattle.cfb_commands.specs.Commands.{refusal_of, stream_answer}
-use Rattle.cfb_commands.proofs.Operations.{goes_told, worked_on}
+use Rattle.cfb_commands.proofs.Operations.{comes_told, goes_told, short_write, worked_on}
 use Rattle.cfb_commands.proofs.Quiet.{writes_none}
 use Rattle.cfb_tool.proofs.WholeWrites.{IsBegun, begun_done, begun_more, begun_none, begun_refused, emptied, takes_some}
 use Rattle.cfb_tool.proofs.content.write_all.Goals as goal
@@ -27,7 +27,7 @@ loop-rest-preserved g c =
       begun = λ told. subst (λ (left : List ℕ). IsBegun (λ f. g.F.ReadMedium.read_faults f || g.F.Medium.write_faults f) (open_of c.args.stream.now) c.args.bytes.now left next) (sym c.behind-rest.ensures)
           (begun_more _ (open_of c.args.stream.now) c.args.bytes.now rest now next (i.begun told) c.in_ok-count.count
           (subst (λ (r : Result ℕ Error). IsWorkedOn now (write rest) (stream_answer count r) next) c.in_ok-count.was
-          (worked_on now (write rest) next (goes_told _ now next told c.write.ensures.goes_on) count (λ n. refl) _ c.write.result
+          (worked_on now (write rest) next (comes_told _ now (write rest) next told c.write.ensures.goes_on (λ short. c.write.ensures.once told (short_write _ short))) count (λ n. refl) _ c.write.result
           (c.write.ensures.runs told) (c.write.ensures.refused told) (c.write.ensures.counts told)
           (λ quiet. same_before now.file next.file (c.write.ensures.none (writes_none (stream_in now) rest quiet))))));
     }
@@ -40,7 +40,7 @@ returns-in_err-count-clause-works g c =
     let rest = c.loop-rest.rest.now in
     rw (p.1, p.2) (λ told. begun_refused _ (open_of c.args.stream.now) c.args.bytes.now rest now next (c.loop-rest.invariant.begun told) (refusal_of c.in_err-count.field-0.0)
     (subst (λ (r : Result ℕ Error). IsWorkedOn now (write rest) (stream_answer count r) next) c.in_err-count.was
-    (worked_on now (write rest) next (goes_told _ now next told c.write.ensures.goes_on) count (λ n. refl) _ c.write.result
+    (worked_on now (write rest) next (comes_told _ now (write rest) next told c.write.ensures.goes_on (λ short. c.write.ensures.once told (short_write _ short))) count (λ n. refl) _ c.write.result
     (c.write.ensures.runs told) (c.write.ensures.refused told) (c.write.ensures.counts told)
     (λ quiet. same_before now.file next.file (c.write.ensures.none (writes_none (stream_in now) rest quiet))))))
 

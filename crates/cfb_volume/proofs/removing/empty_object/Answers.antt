@@ -54,6 +54,7 @@ returns-in_ok-resize_content-in-Stream-clause-emptied g c told =
       exact = ok.exact;
       snug = λ v change snug. sized-is-snug c.args.mini.now c.resize_content.new.mini c.args.entry e.limits e.entries (e.others told v change)
           (stream g (goal.at.returns-in_ok-resize_content-in-Stream-clause-emptied g c).In-Stream) (ok.sized told v change) snug;
+      snug_mini = λ v change snug. ok.snug_mini told v change snug;
       empty = λ stream. ok.len;
     }
 

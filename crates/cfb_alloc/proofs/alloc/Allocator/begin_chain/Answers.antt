@@ -5,6 +5,7 @@ use Rattle.cfb_tables.specs.Tables.{IsTooFew}
 use Rattle.cfb_alloc.proofs.AllocLemmas.{others_refl, others_unchanged, placed_reserved, placed_written, places_known, others_written, held_counted, fats_apart_shown, clean_taken, fats_known, difats_known, refused_changed}
 use Rattle.cfb_tables.proofs.Members.{Contains-here}
 use Rattle.cfb_alloc.proofs.Spared.{spares_refl, spares_unchanged, taken_written}
+use Rattle.cfb_table_words.proofs.FilledSectors.{filled_each}
 use Rattle.cfb_alloc.proofs.alloc.Allocator.begin_chain.Goals as goal
 
 pub returns-in_err-before-clause-others : goal.returns-in_err-before-clause-others
@@ -53,8 +54,8 @@ returns-clause-enough g c few = c.in_ok-sector.ensures.enough (subst (λ (a : Al
 pub returns-clause-filled : goal.returns-clause-filled
 returns-clause-filled g c told validation h =
     let x = c.in_ok-sector.sector in
-    c.in_ok-write_taken.ensures.filled told
-    (fats_apart_shown (x ∷ []) refl c.self.view_is c.in_ok-sector.ensures.taken validation h) x (Contains-here x [])
+    let taken = c.in_ok-sector.ensures.taken in
+    filled_each _ _ _ (x ∷ []) (c.in_ok-write_taken.ensures.filled told taken.once (fats_apart_shown (x ∷ []) refl c.self.view_is taken validation h)) x (Contains-here x [])
 
 pub returns-clause-holds : goal.returns-clause-holds
 returns-clause-holds g c told validation h =

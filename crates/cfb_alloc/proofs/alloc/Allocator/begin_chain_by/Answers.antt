@@ -7,6 +7,7 @@ use Rattle.cfb_tables.specs.Tables.{HasTaken, first_or_end}
 use Rattle.cfb_tables.proofs.ChainLemmas.{chain_of}
 use Rattle.cfb_tables.proofs.TakenLemmas.{taken-nothing}
 use Rattle.cfb_alloc.proofs.Spared.{spares_refl, spares_unchanged, taken_written}
+use Rattle.cfb_table_words.proofs.FilledSectors.{filled_each}
 use Rattle.cfb_alloc.proofs.alloc.Allocator.begin_chain_by.Goals as goal
 
 pub returns-in_err-before-clause-others : goal.returns-in_err-before-clause-others
@@ -71,9 +72,12 @@ invariant_of-self-2 g c = (
 
 pub returns-clause-filled : goal.returns-clause-filled
 returns-clause-filled g c told validation h i m =
-    c.in_ok-write_taken.ensures.filled told
-    (fats_apart_shown c.deref.result.now c.deref.ensures.value c.self.view_is (taken_reserved c.reserve.ensures.unchanged c.in_ok-list.ensures.taken) validation h) i
-    (subst (λ (xs : List ℕ). Contains xs i) (sym c.deref.ensures.value) m)
+    let now = c.deref.result.now in
+    let same = c.deref.ensures.value in
+    let taken = (taken_reserved c.reserve.ensures.unchanged c.in_ok-list.ensures.taken) in
+    let known = shown_taken now same c.self.view_is taken in
+    filled_each _ _ _ now (c.in_ok-write_taken.ensures.filled told known.once (fats_apart_shown now same c.self.view_is taken validation h)) i
+    (subst (λ (xs : List ℕ). Contains xs i) (sym same) m)
 
 pub returns-clause-holds : goal.returns-clause-holds
 returns-clause-holds g c told validation h =

@@ -8,6 +8,7 @@ use Rattle.cfb_alloc.proofs.FreeingLemmas.{breaks_by_medium}
 use Rattle.cfb_tables.proofs.AttachLemmas.{last-known, extended}
 use Rattle.cfb_tables.proofs.Members.{Contains-here}
 use Rattle.cfb_alloc.proofs.Spared.{last_among, spares_refl, spares_unchanged, taken_for_chain}
+use Rattle.cfb_table_words.proofs.FilledSectors.{filled_each}
 use Rattle.cfb_alloc.proofs.alloc.Allocator.extend_chain.Goals as goal
 
 pub returns-in_err-before-clause-others : goal.returns-in_err-before-clause-others
@@ -81,8 +82,8 @@ returns-clause-extended g c =
 pub returns-clause-filled : goal.returns-clause-filled
 returns-clause-filled g c told validation h =
     let x = c.in_ok-sector.sector in
-    c.in_ok-write_taken.ensures.filled told
-    (fats_apart_shown (x ∷ []) refl c.self.view_is c.in_ok-sector.ensures.taken validation h) x (Contains-here x [])
+    let taken = c.in_ok-sector.ensures.taken in
+    filled_each _ _ _ (x ∷ []) (c.in_ok-write_taken.ensures.filled told taken.once (fats_apart_shown (x ∷ []) refl c.self.view_is taken validation h)) x (Contains-here x [])
 
 pub returns-clause-holds : goal.returns-clause-holds
 returns-clause-holds g c told validation h =

@@ -1,11 +1,18 @@
-use Rattle.std.proofs.Common.{ap}
+use Rattle.std.proofs.Common.{ap, subst, sym}
 use Rattle.cfb_mini_sectors.specs.State.{cases_of, entries_of}
+use Rattle.cfb_content.specs.Contents.{IsTooLongFor}
 use Rattle.cfb_agreement.specs.Files.{FileState}
-use Rattle.cfb_compound_file.proofs.StoredStreams.{fails_then, stream_stays}
+use Rattle.cfb_compound_file.proofs.StoredStreams.{fails_then, fails_tight, stream_stays}
 use Rattle.cfb_compound_file.proofs.contents.CompoundFileContents.fail.Goals as goal
 
 pub returns-clause-others : goal.returns-clause-others
 returns-clause-others g c = rw (← c.self.view_is) (λ _ first k. fails_then _ first _ _ _ c.fail.ensures k)
+
+pub returns-clause-tight : goal.returns-clause-tight
+returns-clause-tight g c = rw (← c.self.view_is) (λ _ first k. fails_tight first c.self.inside.volume c.fail.new.self _ c.fail.ensures k)
+
+pub returns-clause-too_long : goal.returns-clause-too_long
+returns-clause-too_long g c = rw (← c.self.view_is) (λ len long. subst (λ (z : FileState). IsTooLongFor z.base c.args._id len) (sym c.fail.ensures) long)
 
 pub returns-clause-there : goal.returns-clause-there
 returns-clause-there g c =

@@ -1,5 +1,5 @@
 use Rattle.std.proofs.Common.{◌∙◌, sym}
-use Rattle.cfb_compound_file.proofs.StoredStreams.{agrees_with_flags, flushed_kept, flushes_then, stream_stays}
+use Rattle.cfb_compound_file.proofs.StoredStreams.{agrees_with_flags, flushed_kept, flushes_then, flushes_tight, stream_stays}
 use Rattle.cfb_compound_file.proofs.contents.CompoundFileContents.flush.Goals as goal
 
 pub invariant_of-self : goal.invariant_of-self
@@ -7,6 +7,9 @@ invariant_of-self g c = λ told. agrees_with_flags _ _ _ _ (c.flush.ensures.rest
 
 pub returns-clause-others : goal.returns-clause-others
 returns-clause-others g c = rw (← c.self.view_is) (λ told first k. flushes_then _ first _ _ _ _ (sym c.is_failed.ensures ∙ c.if-is_failed.false) (c.flush.ensures.rest told) k)
+
+pub returns-clause-tight : goal.returns-clause-tight
+returns-clause-tight g c = rw (← c.self.view_is) (λ told first k. flushes_tight first c.self.inside.volume c.flush.new.self _ _ (sym c.is_failed.ensures ∙ c.if-is_failed.false) (c.flush.ensures.rest told) k)
 
 pub returns-clause-there : goal.returns-clause-there
 returns-clause-there g c = stream_stays _ _ _ c.flush.ensures.entries c.flush.ensures.setting.limits.cases (rw (← c.self.view_is) at c.requires.there)

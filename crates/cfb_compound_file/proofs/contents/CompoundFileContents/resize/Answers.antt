@@ -1,17 +1,18 @@
 use Rattle.std.proofs.Common.{◌≡◌, ◌∙◌, sym, subst}
 use Rattle.cfb_content.specs.Contents.{IsTooLongFor}
 use Rattle.cfb_agreement.specs.Files.{FileState}
-use Rattle.cfb_compound_file.proofs.StoredStreams.{broken_kept, change_refused, changes_at_once, full_then, nothing_changes, resized_done, stream_there}
+use Rattle.cfb_compound_file.specs.Flags.{still_is_tight}
+use Rattle.cfb_compound_file.proofs.StoredStreams.{broken_kept, change_refused, changes_in_turn, full_then, resized_done, stream_there}
 use Rattle.cfb_compound_file.proofs.contents.CompoundFileContents.resize.Goals as goal
 
-pub returns-then-is_failed-clause-others : goal.returns-then-is_failed-clause-others
-returns-then-is_failed-clause-others g c = rw (← c.self.view_is) (λ _. nothing_changes _ _)
+pub returns-then-is_failed-clause-tight : goal.returns-then-is_failed-clause-tight
+returns-then-is_failed-clause-tight g c = rw (← c.self.view_is) (λ _. still_is_tight c.self.inside.volume)
 
-pub returns-then-not-is_sound-clause-others : goal.returns-then-not-is_sound-clause-others
-returns-then-not-is_sound-clause-others g c = rw (← c.self.view_is) (λ _. nothing_changes _ _)
+pub returns-then-not-is_sound-clause-tight : goal.returns-then-not-is_sound-clause-tight
+returns-then-not-is_sound-clause-tight g c = rw (← c.self.view_is) (λ _. still_is_tight c.self.inside.volume)
 
-pub returns-then-stream_len_mask-len-clause-others : goal.returns-then-stream_len_mask-len-clause-others
-returns-then-stream_len_mask-len-clause-others g c = rw (← c.self.view_is) (λ _. nothing_changes _ _)
+pub returns-then-stream_len_mask-len-clause-tight : goal.returns-then-stream_len_mask-len-clause-tight
+returns-then-stream_len_mask-len-clause-tight g c = rw (← c.self.view_is) (λ _. still_is_tight c.self.inside.volume)
 
 pub resize-requires-clause-stream : goal.resize-requires-clause-stream
 resize-requires-clause-stream g c = stream_there _ _ c.entries-entries.ensures.in_order (rw (← c.self.view_is) at c.requires.there)
@@ -23,7 +24,12 @@ pub returns-clause-others : goal.returns-clause-others
 returns-clause-others g c =
     let unfailed = sym c.is_failed.ensures ∙ c.if-is_failed.false in
     let sound = sym c.is_sound.ensures ∙ c.if-not-is_sound.false in
-    rw (← c.self.view_is) (λ told. changes_at_once _ _ _ sound unfailed (c.resize.ensures.changes told (c.self.invariant told unfailed)))
+    rw (← c.self.view_is) (λ told first k. changes_in_turn _ first _ _ sound unfailed (c.resize.ensures.changes told (c.self.invariant told unfailed)) k)
+
+pub returns-clause-tight : goal.returns-clause-tight
+returns-clause-tight g c =
+    let unfailed = sym c.is_failed.ensures ∙ c.if-is_failed.false in
+    rw (← c.self.view_is) (λ told. (c.resize.ensures.changes told (c.self.invariant told unfailed)).grows)
 
 pub returns-clause-counts : goal.returns-clause-counts
 returns-clause-counts g c = rw (← c.self.view_is) (λ told. c.resize.ensures.counts told)

@@ -1,8 +1,9 @@
-use Rattle.std.proofs.Common.{◌≡◌, ◌≤◌, ◌∙◌, ap, arith, false, sym, true}
+use Rattle.std.proofs.Common.{◌≡◌, ◌≤◌, ◌∙◌, ap, arith, false, length, sym, true}
 use Rattle.cfb_format.specs.Bytes.{max_stream_len}
 use Rattle.cfb_agreement.specs.Files.{IsFullFile}
 use Rattle.cfb_content.specs.Contents.{len_of}
-use Rattle.cfb_compound_file.proofs.StoredStreams.{broken_kept, change_refused, changes_in_turn, stream_inside, stream_there, write_done, write_no_shorter, write_stays_full}
+use Rattle.cfb_compound_file.specs.Flags.{still_is_tight}
+use Rattle.cfb_compound_file.proofs.StoredStreams.{broken_kept, change_refused, changes_in_turn, stream_inside, stream_there, tables_tight, write_done, write_inside, write_same_len}
 use Rattle.cfb_compound_file.proofs.contents.CompoundFileContents.write_at.Goals as goal
 
 pub len-requires : goal.len-requires
@@ -18,11 +19,30 @@ pub returns-clause-others : goal.returns-clause-others
 returns-clause-others g c =
     let unfailed = sym c.is_failed.ensures ∙ c.if-is_failed.false in
     let sound = sym c.is_sound.ensures ∙ c.if-not-is_sound.false in
-    let e = c.write.ensures in
-    rw (← c.self.view_is) (λ told first k.
-    let held = c.self.invariant told unfailed in
-    changes_in_turn _ first _ _ sound unfailed (e.changes told held) (write_no_shorter _ _ c.write.result e.no_shorter (e.refused told held))
-    (write_stays_full _ _ c.write.result (e.stays_full told held) (e.refused told held)) k)
+    rw (← c.self.view_is) (λ told first k. changes_in_turn _ first _ _ sound unfailed (c.write.ensures.changes told (c.self.invariant told unfailed)) k)
+
+pub returns-then-is_failed-clause-tight : goal.returns-then-is_failed-clause-tight
+returns-then-is_failed-clause-tight g c = rw (← c.self.view_is) (λ _. still_is_tight c.self.inside.volume)
+
+pub returns-then-not-is_sound-clause-tight : goal.returns-then-not-is_sound-clause-tight
+returns-then-not-is_sound-clause-tight g c = rw (← c.self.view_is) (λ _. still_is_tight c.self.inside.volume)
+
+pub returns-then-not-is_inside-clause-tight : goal.returns-then-not-is_inside-clause-tight
+returns-then-not-is_inside-clause-tight g c = rw (← c.self.view_is) (λ _. still_is_tight c.self.inside.volume)
+
+pub returns-clause-tight : goal.returns-clause-tight
+returns-clause-tight g c =
+    let unfailed = sym c.is_failed.ensures ∙ c.if-is_failed.false in
+    rw (← c.self.view_is) (λ told. (c.write.ensures.changes told (c.self.invariant told unfailed)).grows)
+
+pub returns-clause-inside : goal.returns-clause-inside
+returns-clause-inside g c =
+    let unfailed = sym c.is_failed.ensures ∙ c.if-is_failed.false in
+    rw (← c.self.view_is) (λ told within first k. tables_tight first c.self.inside.volume c.write.new.self unfailed
+    (c.write.ensures.within (write_inside c.args.at (length c.args.bytes.now) (len_of c.self.inside.volume.base c.args.id) within)) k)
+
+pub returns-clause-same_len : goal.returns-clause-same_len
+returns-clause-same_len g c = rw (← c.self.view_is) (λ within. write_same_len c.self.inside.volume c.write.new.self c.args.id c.args.at (length c.args.bytes.now) c.write.result within c.write.ensures.count c.write.ensures.len)
 
 pub returns-clause-counts : goal.returns-clause-counts
 returns-clause-counts g c = rw (← c.self.view_is) (λ told. c.write.ensures.counts told)

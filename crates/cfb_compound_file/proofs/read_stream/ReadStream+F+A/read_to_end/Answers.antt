@@ -1,6 +1,5 @@
 use Rattle.std.proofs.Common.{refl}
-use Rattle.cfb_compound_file.specs.Flags.{reads_keep}
-use Rattle.cfb_compound_file.proofs.StoredStreams.{nothing_changes}
+use Rattle.cfb_compound_file.proofs.StoredStreams.{reads_change}
 use Rattle.cfb_compound_file.proofs.StreamCalls.{goes_on_by, refused_or_not, refused_with, settles_none}
 use Rattle.cfb_compound_file.proofs.read_stream.ReadStream+F+A.read_to_end.Goals as goal
 
@@ -15,7 +14,7 @@ returns-clause-refused g c = λ told. refused_with _ _ _ _ _ c.read_to_end.resul
     (λ e why counts stays. record { rules = why.rules; stops = why.stops; stays = stays; untouched = why.untouched; counts = counts })
 
 pub returns-clause-goes_on : goal.returns-clause-goes_on
-returns-clause-goes_on g c = goes_on_by _ _ _ refl c.read_to_end.ensures.bound (λ told. reads_keep _ _ _ _ (c.read_to_end.ensures.around told).kept (nothing_changes _ _))
+returns-clause-goes_on g c = goes_on_by _ _ _ refl c.read_to_end.ensures.bound (λ told. reads_change _ _ _ (c.read_to_end.ensures.around told).kept)
 
 pub returns-clause-kept : goal.returns-clause-kept
 returns-clause-kept g c = λ told. (c.read_to_end.ensures.around told).kept

@@ -1,5 +1,5 @@
 use Rattle.std.proofs.Common.{◌≤◌, refl, arith}
-use Rattle.cfb_compound_file.proofs.StoredStreams.{nothing_changes}
+use Rattle.cfb_compound_file.proofs.StoredStreams.{changed_once}
 use Rattle.cfb_compound_file.proofs.StreamCalls.{goes_on_by, stays_or_fails}
 use Rattle.cfb_compound_file.proofs.stream.Stream+F+A.fill_buf.Goals as goal
 
@@ -11,7 +11,7 @@ returns-in-Ok g c = (
     record {
       same_file = refl;
       runs = λ told. rw c.rest.ensures (c.in-Ok.ensures.runs (record { told = told; suits = c.args.self.now.is_open told }));
-      goes_on = goes_on_by _ _ _ refl c.fill.ensures.bound (λ told. (c.fill.ensures.around told).others _ (nothing_changes _ _));
+      goes_on = goes_on_by _ _ _ refl c.fill.ensures.bound (λ told. changed_once _ _ _ (c.fill.ensures.around told).others (c.fill.ensures.around told).tight);
       counts = λ told. (c.in-Ok.ensures.around told).counts;
       calm = λ told calm. (c.fill.ensures.calm told calm).kept;
       buffers = record { held = c.fill.ensures.held; grown = λ _. c.fill.ensures.grown; straight = λ (many : 65536 ≤ 0). absurd (omega (arith, many)); lean = c.fill.ensures.lean; settles = λ told. c.in-Ok.ensures.settles (record { told = told; suits = c.args.self.now.is_open told }) };
@@ -28,7 +28,7 @@ returns-in-Err g c = (
     record {
       same_file = refl;
       runs = λ told. (let why = c.in-Err.ensures.refused (record { told = told; suits = c.args.self.now.is_open told }) in record { rules = why.rules; stops = why.stops; stays = stays_or_fails _ _ (c.in-Err.ensures.around told).stays; untouched = why.untouched; counts = (c.in-Err.ensures.around told).counts });
-      goes_on = goes_on_by _ _ _ refl c.fill.ensures.bound (λ told. (c.fill.ensures.around told).others _ (nothing_changes _ _));
+      goes_on = goes_on_by _ _ _ refl c.fill.ensures.bound (λ told. changed_once _ _ _ (c.fill.ensures.around told).others (c.fill.ensures.around told).tight);
       counts = λ told. (c.in-Err.ensures.around told).counts;
       calm = λ told calm. (c.fill.ensures.calm told calm).kept;
       buffers = record { held = c.fill.ensures.held; grown = λ _. c.fill.ensures.grown; straight = λ (many : 65536 ≤ 0). absurd (omega (arith, many)); lean = c.fill.ensures.lean; settles = λ told. tt };

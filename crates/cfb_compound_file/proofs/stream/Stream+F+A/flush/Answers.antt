@@ -2,7 +2,7 @@ use Rattle.std.proofs.Common.{refl}
 use Rattle.cfb_stream_window.specs.Windows.{state_of}
 use Rattle.cfb_compound_file.specs.Stored.{stored_of}
 use Rattle.cfb_compound_file.proofs.OpenStreams.{closes_tree}
-use Rattle.cfb_compound_file.proofs.StoredStreams.{nothing_changes}
+use Rattle.cfb_compound_file.proofs.StoredStreams.{changed_once}
 use Rattle.cfb_compound_file.proofs.StreamCalls.{closed_content, flushing_failed, goes_on_by, refused_then, refused_with}
 use Rattle.cfb_compound_file.proofs.stream.Stream+F+A.flush.Goals as goal
 
@@ -17,7 +17,7 @@ returns-clause-refused g c = λ told. refused_with _ _ _ _ _ c.flush-flushed.res
     (λ e why counts stays. record { rules = why.rules; stops = why.stops; stays = stays; untouched = why.untouched; counts = counts })
 
 pub returns-clause-goes_on : goal.returns-clause-goes_on
-returns-clause-goes_on g c = goes_on_by _ _ _ refl c.flush-flushed.ensures.bound (λ told. (c.flush-flushed.ensures.around told).others _ (nothing_changes _ _))
+returns-clause-goes_on g c = goes_on_by _ _ _ refl c.flush-flushed.ensures.bound (λ told. changed_once _ _ _ (c.flush-flushed.ensures.around told).others (c.flush-flushed.ensures.around told).tight)
 
 pub returns-clause-counts : goal.returns-clause-counts
 returns-clause-counts g c = λ told. (c.flush-flushed.ensures.around told).counts

@@ -1,5 +1,5 @@
 use Rattle.std.proofs.Common.{refl}
-use Rattle.cfb_compound_file.proofs.StoredStreams.{nothing_changes}
+use Rattle.cfb_compound_file.proofs.StoredStreams.{changed_once}
 use Rattle.cfb_compound_file.proofs.StreamCalls.{goes_on_by, refused_with}
 use Rattle.cfb_compound_file.proofs.stream.Stream+F+A.read_to_end.Goals as goal
 
@@ -14,7 +14,7 @@ returns-clause-refused g c = λ told. refused_with _ _ _ _ _ c.read_to_end.resul
     (λ e why counts stays. record { rules = why.rules; stops = why.stops; stays = stays; untouched = why.untouched; counts = counts })
 
 pub returns-clause-goes_on : goal.returns-clause-goes_on
-returns-clause-goes_on g c = goes_on_by _ _ _ refl c.read_to_end.ensures.bound (λ told. (c.read_to_end.ensures.around told).others _ (nothing_changes _ _))
+returns-clause-goes_on g c = goes_on_by _ _ _ refl c.read_to_end.ensures.bound (λ told. changed_once _ _ _ (c.read_to_end.ensures.around told).others (c.read_to_end.ensures.around told).tight)
 
 pub returns-clause-calm : goal.returns-clause-calm
 returns-clause-calm g c = λ told calm. (c.read_to_end.ensures.calm told calm).kept

@@ -1,5 +1,5 @@
 use Rattle.std.proofs.Common.{refl}
-use Rattle.cfb_compound_file.proofs.StoredStreams.{nothing_changes}
+use Rattle.cfb_compound_file.proofs.StoredStreams.{changed_once}
 use Rattle.cfb_compound_file.proofs.StreamCalls.{goes_on_by, refused_with}
 use Rattle.cfb_compound_file.proofs.stream.Stream+F+A.seek.Goals as goal
 
@@ -14,7 +14,7 @@ returns-clause-refused g c = λ told. refused_with _ _ _ _ _ c.seek.result (c.se
     (λ e why counts stays. record { rules = why.rules; stops = why.stops; stays = stays; untouched = why.untouched; counts = counts })
 
 pub returns-clause-goes_on : goal.returns-clause-goes_on
-returns-clause-goes_on g c = goes_on_by _ _ _ refl c.seek.ensures.bound (λ told. (c.seek.ensures.around told).others _ (nothing_changes _ _))
+returns-clause-goes_on g c = goes_on_by _ _ _ refl c.seek.ensures.bound (λ told. changed_once _ _ _ (c.seek.ensures.around told).others (c.seek.ensures.around told).tight)
 
 pub returns-clause-counts : goal.returns-clause-counts
 returns-clause-counts g c = λ told. (c.seek.ensures.around told).counts

@@ -1,6 +1,6 @@
-use Rattle.std.proofs.Common.{inl, inr, refl}
-use Rattle.cfb_compound_file.proofs.StoredStreams.{nothing_changes}
-use Rattle.cfb_compound_file.proofs.StreamCalls.{goes_on_by, refused_with}
+use Rattle.std.proofs.Common.{refl}
+use Rattle.cfb_compound_file.proofs.StoredStreams.{changed_once}
+use Rattle.cfb_compound_file.proofs.StreamCalls.{between_by, goes_in_turn_by, refused_with}
 use Rattle.cfb_compound_file.proofs.stream.Stream+F+A.set_len.Goals as goal
 
 pub invariant_of-self : goal.invariant_of-self
@@ -14,10 +14,13 @@ returns-clause-refused g c = λ told. refused_with _ _ _ _ _ c.set_len.result (c
     (λ e why counts stays. record { rules = why.rules; stops = why.stops; stays = stays; untouched = why.untouched; counts = counts })
 
 pub returns-clause-goes_on : goal.returns-clause-goes_on
-returns-clause-goes_on g c = goes_on_by _ _ _ refl c.set_len.ensures.bound (λ told. elim (c.set_len.ensures.around told).others [
-  | inl same ↦ rw same (nothing_changes _ _)
-  | inr changed ↦ changed
-])
+returns-clause-goes_on g c = goes_in_turn_by _ _ _ refl c.set_len.ensures.bound
+    (λ told. (let k = c.set_len.ensures.between told in between_by _ _ k.0 _ k.1.before k.1.after k.1.first k.1.second))
+    (λ told. (c.set_len.ensures.between told).1.calm)
+    (λ told unfailed. (c.set_len.ensures.between told).1.settles (c.args.self.now.is_open told unfailed))
+
+pub returns-clause-once : goal.returns-clause-once
+returns-clause-once g c = λ told short. changed_once _ _ _ (c.set_len.ensures.around told).others (c.set_len.ensures.once told short)
 
 pub returns-clause-counts : goal.returns-clause-counts
 returns-clause-counts g c = λ told. (c.set_len.ensures.around told).counts

@@ -1,6 +1,6 @@
 use Rattle.std.proofs.Common.{refl}
-use Rattle.cfb_compound_file.proofs.StoredStreams.{nothing_changes}
-use Rattle.cfb_compound_file.proofs.StreamCalls.{goes_on_by, refused_with}
+use Rattle.cfb_compound_file.proofs.StoredStreams.{changed_once}
+use Rattle.cfb_compound_file.proofs.StreamCalls.{between_by, goes_in_turn_by, refused_with}
 use Rattle.cfb_compound_file.proofs.stream.Stream+F+A.write.Goals as goal
 
 pub invariant_of-self : goal.invariant_of-self
@@ -14,7 +14,13 @@ returns-clause-refused g c = λ told. refused_with _ _ _ _ _ c.write.result (c.w
     (λ e why counts stays. record { rules = why.rules; stops = why.stops; stays = stays; untouched = why.untouched; counts = counts })
 
 pub returns-clause-goes_on : goal.returns-clause-goes_on
-returns-clause-goes_on g c = goes_on_by _ _ _ refl c.write.ensures.bound (λ told. (c.write.ensures.around told).others _ (nothing_changes _ _))
+returns-clause-goes_on g c = goes_in_turn_by _ _ _ refl c.write.ensures.bound
+    (λ told. (let k = c.write.ensures.between told in between_by _ _ k.0 _ k.1.before k.1.after k.1.first k.1.second))
+    (λ told. (c.write.ensures.between told).1.calm)
+    (λ told unfailed. (c.write.ensures.between told).1.settles (c.args.self.now.is_open told unfailed))
+
+pub returns-clause-once : goal.returns-clause-once
+returns-clause-once g c = λ told short. changed_once _ _ _ (c.write.ensures.around told).others (c.write.ensures.once told short)
 
 pub returns-clause-counts : goal.returns-clause-counts
 returns-clause-counts g c = λ told. (c.write.ensures.around told).counts

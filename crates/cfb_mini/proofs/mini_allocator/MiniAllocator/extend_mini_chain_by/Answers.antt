@@ -1,4 +1,4 @@
-use Rattle.std.proofs.Common.{ℕ, List, ◌∷◌, ◌++◌, [], sym, ◌∙◌, ap, subst}
+use Rattle.std.proofs.Common.{ℕ, List, ◌∷◌, ◌++◌, [], refl, sym, ◌∙◌, ap, subst}
 use Rattle.std.specs.Prelude.{Contains}
 use Rattle.std.proofs.lemmas.Result.{err_from_is_err_and}
 use Rattle.cfb_format.specs.Chain.{IsChain}
@@ -7,7 +7,9 @@ use Rattle.cfb_tables.specs.Tables.{ending, first_or_end}
 use Rattle.cfb_alloc.proofs.AllocLemmas.{refused-less}
 use Rattle.cfb_alloc.proofs.Spared.{spares_refl}
 use Rattle.cfb_mini_table.specs.MiniTable.{TakesMini}
+use Rattle.cfb_mini_sectors.specs.State.{mini_stream_of}
 use Rattle.cfb_mini_sectors.specs.Steps.{IsZeroMini, SparesMini}
+use Rattle.cfb_mini_sectors.proofs.MinifatGrown.{same_listed}
 use Rattle.cfb_mini.proofs.MiniBegun.{ends-at-none, ends-none, ends-one, gained-all, gained-rest, held-alone}
 use Rattle.cfb_mini.proofs.MiniWritten.{spares-mini-refl}
 use Rattle.cfb_mini.proofs.mini_allocator.MiniAllocator.extend_mini_chain_by.Goals as goal
@@ -134,3 +136,11 @@ returns-clause-mini_spares g c told validation h =
 
 pub returns-clause-enough : goal.returns-clause-enough
 returns-clause-enough g c some = c.in_ok-extend_mini_listed-2.ensures.enough some
+
+-- ---- the mini stream's list goes on
+
+pub returns-in_err-clone-clause-goes_on : goal.returns-in_err-clone-clause-goes_on
+returns-in_err-clone-clause-goes_on g c = same_listed (mini_stream_of c.args.self.now) (mini_stream_of c.args.self.now) refl
+
+pub returns-in_err-push-clause-goes_on : goal.returns-in_err-push-clause-goes_on
+returns-in_err-push-clause-goes_on g c = same_listed (mini_stream_of c.args.self.now) (mini_stream_of c.args.self.now) refl

@@ -1,9 +1,10 @@
-use Rattle.std.proofs.Common.{◌≡◌, [], Some, refl, sym, ◌∙◌, subst}
+use Rattle.std.proofs.Common.{◌≡◌, [], ◌++◌, Some, refl, sym, ◌∙◌, subst}
 use Rattle.cfb_alloc.specs.Frame.{Spares}
 use Rattle.cfb_alloc.proofs.Spared.{spares_refl}
-use Rattle.cfb_tables.specs.Listed.{ends_of}
-use Rattle.cfb_mini_sectors.specs.State.{HoldsMini, MiniState, table_of}
+use Rattle.cfb_tables.specs.Listed.{ends_of, gained}
+use Rattle.cfb_mini_sectors.specs.State.{HoldsMini, MiniState, mini_stream_of, table_of}
 use Rattle.cfb_mini_sectors.specs.Steps.{SparesMini, system_sectors}
+use Rattle.cfb_mini_sectors.proofs.MinifatGrown.{same_listed}
 use Rattle.cfb_mini_sectors.proofs.MiniFrames.{nothing-touched}
 use Rattle.cfb_mini.specs.Changing.{mini_of}
 use Rattle.cfb_mini.specs.MiniSectors.{KeepsMiniBytesBut}
@@ -61,3 +62,23 @@ returns-clause-bytes g c told validation h =
 pub extend_listed-requires-clause-above : goal.extend_listed-requires-clause-above
 extend_listed-requires-clause-above g c =
     of-some (λ v. v.items) c.self.inside.mini_stream c.in-Some.stream c.self.inside.minifat_sectors.items c.self.inside.above c.in-Some.is c.self.invariant
+
+-- ---- the mini stream's list goes on
+
+pub returns-then-count-eq0-clause-goes_on : goal.returns-then-count-eq0-clause-goes_on
+returns-then-count-eq0-clause-goes_on g c = same_listed (mini_stream_of c.args.self.now) (mini_stream_of c.args.self.now) refl
+
+pub returns-in_default-clause-goes_on : goal.returns-in_default-clause-goes_on
+returns-in_default-clause-goes_on g c =
+    let s = c.args.self.now in
+    subst (λ (x : MiniState). mini_stream_of x ≡ mini_stream_of s ++ gained (mini_stream_of s) (mini_stream_of x)) (sym c.self.view_is)
+    (same_listed (mini_stream_of s) (mini_stream_of s) refl)
+
+pub returns-clause-goes_on : goal.returns-clause-goes_on
+returns-clause-goes_on g c =
+    let inside = c.self.inside in
+    let s = mini_of inside.directory inside.table inside.minifat_sectors.items (Some c.in-Some.stream.items) in
+    let stream = c.extend_listed.new.stream.items in
+    let kept = sym (some-items inside.mini_stream c.in-Some.stream c.in-Some.is (λ v. v.items)) in
+    let old : s ≡ c.args.self.now = (λ j. mini_of inside.directory inside.table inside.minifat_sectors.items (kept j)) ∙ c.self.view_is in
+    subst (λ (x : MiniState). stream ≡ mini_stream_of x ++ gained (mini_stream_of x) stream) old c.extend_listed.ensures.goes_on

@@ -28,10 +28,16 @@ pub returns-then-count-len-clause-mini_spares : goal.returns-then-count-len-clau
 returns-then-count-len-clause-mini_spares g c told validation h = spares-mini-refl (ids_of c.args.self.now) (state_of c.args.self.now)
 
 pub returns-then-count-len-clause-wiped : goal.returns-then-count-len-clause-wiped
-returns-then-count-len-clause-wiped g c told validation h m gone =
+returns-then-count-len-clause-wiped g c told validation h m gone inside =
     let all = c.if-count-len.true in
     let len = c.len.ensures in
     absurd (none_dropped (ids_of c.args.self.now) c.args.count m (omega (arith, all, len)) gone)
+
+pub returns-then-count-len-clause-counted : goal.returns-then-count-len-clause-counted
+returns-then-count-len-clause-counted g c told fewer validation h =
+    let all = c.if-count-len.true in
+    let len = c.len.ensures in
+    absurd (omega (arith, all, len, fewer))
 
 pub returns-then-count-len-clause-bytes : goal.returns-then-count-len-clause-bytes
 returns-then-count-len-clause-bytes g c told validation h m busy out = Stays_refl _ _ _

@@ -65,7 +65,7 @@ returns-clause-places g c told validation h =
     let counted = e.grown.count in
     if_ok _ _ c.write_within-2.result
     (λ n wrote. grown_written validation now grown now.chained h (gained (ids_of now) (ids_of grown)) (gained (mini_stream_of (state_of now)) (mini_stream_of (state_of grown)))
-    e.directory.limits.version (e.mini_spares told validation h).mini_stream e.ids (omega (arith, missing, counted)) (e.bytes told validation h) (e.filled told validation h)
+    e.directory.limits.version e.goes_on e.ids (omega (arith, missing, counted)) (e.bytes told validation h) (e.filled told validation h)
     new n c.args.from.now e.position (e.spares told).no_shorter w.kept w.chain.0 (w.others told) wrote)
     (w.places told validation (e.holds told validation h))
 
@@ -75,7 +75,7 @@ returns-clause-others g c told validation h =
     let grown = c.grow.new.self in
     let e = c.in_ok-grow.ensures in
     others_then validation now grown c.write_within-2.new.self (length c.args.from.now) (gained (ids_of now) (ids_of grown))
-    (gained (mini_stream_of (state_of now)) (mini_stream_of (state_of grown))) h e.directory.limits.version (e.mini_spares told validation h).mini_stream e.position e.ids
+    (gained (mini_stream_of (state_of now)) (mini_stream_of (state_of grown))) h e.directory.limits.version e.goes_on e.position e.ids
     e.grown.taken.fresh (λ m busy. still_busy _ _ _ _ _ m e.grown.taken busy) (e.bytes told validation h)
     (c.write_within-2.ensures.other_mini told validation (e.holds told validation h))
 

@@ -1,4 +1,4 @@
-use Rattle.std.proofs.Common.{◌≢◌, ◌≤◌, ◌∙◌, sym, ap, arith, refl, inl}
+use Rattle.std.proofs.Common.{◌≢◌, ◌≤◌, ◌∙◌, sym, ap, arith, refl, inl, inr}
 use Rattle.std.proofs.lemmas.Result.{err_from_is_err_and}
 use Rattle.cfb_rules.specs.StreamCalls.{set_len}
 use Rattle.cfb_stream_window.specs.Answers.{IsOpen, IsReady}
@@ -57,6 +57,57 @@ returns-in_err-resize-clause-refused g c = λ (h : IsOpen g.C.ReadContents c.arg
     let sound = sym c.is_sound.ensures ∙ c.if-not-is_sound.false in
     let e = c.in_err-resize.ensures in
     let why = e.refused r sound fits in
+    let p = err_from_is_err_and c.from_residual-in_err-resize.result c.from_residual-in_err-resize.ensures.1 in
+    rw (p.1, p.2) (broke_for _ _ _ _ _ _ _ _ _
+    (length_broken _ _ _ _ _ _ _ _ (set_len c.args.len) _ (len_work (g.C.ReadContents.stored c.args.content.now c.args.id) c.args.self.now c.args.len other) f (e.around h.told).counts why) _ _ IsMemoryOrFull why)
+
+pub returns-then-is_lengthened-clause-runs : goal.returns-then-is_lengthened-clause-runs
+returns-then-is_lengthened-clause-runs g c = λ (h : IsOpen g.C.ReadContents c.args.content.now c.args.id c.args.self.now).
+    let f = sym c.is_failed.ensures ∙ c.if-is_failed.false in
+    let r : IsReady g.C.ReadContents c.args.content.now c.args.id c.args.self.now = record { told = h.told; agrees = h.suits f } in
+    let size = ap (λ (z : Window). z.size) c.self.view_is in
+    let other : c.args.len ≢ c.args.self.now.size = omega (arith, size, c.if-len-self.false) in
+    let fits : c.args.len ≤ (g.C.ReadContents.stored c.args.content.now c.args.id).limit = omega (arith, c.limit.ensures) in
+    let sound = sym c.is_sound.ensures ∙ c.if-not-is_sound.false in
+    resized_runs _ _ _ c.args.len f _ _ other fits sound (c.in_ok-lengthen.ensures.ok r sound fits)
+
+pub returns-in_err-lengthen-clause-refused : goal.returns-in_err-lengthen-clause-refused
+returns-in_err-lengthen-clause-refused g c = λ (h : IsOpen g.C.ReadContents c.args.content.now c.args.id c.args.self.now).
+    let f = sym c.is_failed.ensures ∙ c.if-is_failed.false in
+    let r : IsReady g.C.ReadContents c.args.content.now c.args.id c.args.self.now = record { told = h.told; agrees = h.suits f } in
+    let size = ap (λ (z : Window). z.size) c.self.view_is in
+    let other : c.args.len ≢ c.args.self.now.size = omega (arith, size, c.if-len-self.false) in
+    let fits : c.args.len ≤ (g.C.ReadContents.stored c.args.content.now c.args.id).limit = omega (arith, c.limit.ensures) in
+    let sound = sym c.is_sound.ensures ∙ c.if-not-is_sound.false in
+    let e = c.in_err-lengthen.ensures in
+    let why = e.refused r sound fits in
     let p = err_from_is_err_and c.from_residual.result c.from_residual.ensures.1 in
     rw (p.1, p.2) (broke_for _ _ _ _ _ _ _ _ _
     (length_broken _ _ _ _ _ _ _ _ (set_len c.args.len) _ (len_work (g.C.ReadContents.stored c.args.content.now c.args.id) c.args.self.now c.args.len other) f (e.around h.told).counts why) _ _ IsMemoryOrFull why)
+
+pub returns-in_err-lengthen-clause-foreseen : goal.returns-in_err-lengthen-clause-foreseen
+returns-in_err-lengthen-clause-foreseen g c = λ (h : IsOpen g.C.ReadContents c.args.content.now c.args.id c.args.self.now).
+    let f = sym c.is_failed.ensures ∙ c.if-is_failed.false in
+    let r : IsReady g.C.ReadContents c.args.content.now c.args.id c.args.self.now = record { told = h.told; agrees = h.suits f } in
+    let fits : c.args.len ≤ (g.C.ReadContents.stored c.args.content.now c.args.id).limit = omega (arith, c.limit.ensures) in
+    let sound = sym c.is_sound.ensures ∙ c.if-not-is_sound.false in
+    let p = err_from_is_err_and c.from_residual.result c.from_residual.ensures.1 in
+    rw (p.1, p.2) (λ full. elim (c.in_err-lengthen.ensures.foreseen r sound fits full) [
+      | inl same ↦ inl same
+      | inr failed ↦ inr ((c.is_lengthened.ensures.0 c.if-is_lengthened.true).1, failed)
+    ])
+
+pub returns-in_err-resize-clause-foreseen : goal.returns-in_err-resize-clause-foreseen
+returns-in_err-resize-clause-foreseen g c = λ (h : IsOpen g.C.ReadContents c.args.content.now c.args.id c.args.self.now).
+    let f = sym c.is_failed.ensures ∙ c.if-is_failed.false in
+    let r : IsReady g.C.ReadContents c.args.content.now c.args.id c.args.self.now = record { told = h.told; agrees = h.suits f } in
+    let fits : c.args.len ≤ (g.C.ReadContents.stored c.args.content.now c.args.id).limit = omega (arith, c.limit.ensures) in
+    let sound = sym c.is_sound.ensures ∙ c.if-not-is_sound.false in
+    let p = err_from_is_err_and c.from_residual-in_err-resize.result c.from_residual-in_err-resize.ensures.1 in
+    rw (p.1, p.2) (λ full. inl (c.in_err-resize.ensures.foreseen r sound fits full))
+
+pub returns-then-is_lengthened-clause-once : goal.returns-then-is_lengthened-clause-once
+returns-then-is_lengthened-clause-once g c = λ told short. absurd (short (c.is_lengthened.ensures.0 c.if-is_lengthened.true).1)
+
+pub returns-in_err-lengthen-clause-once : goal.returns-in_err-lengthen-clause-once
+returns-in_err-lengthen-clause-once g c = λ told short. absurd (short (c.is_lengthened.ensures.0 c.if-is_lengthened.true).1)

@@ -1,7 +1,8 @@
 use Rattle.std.proofs.Common.{◌≡◌, ◌≤◌, ◌<◌, ◌+◌, ◌∙◌, ℕ, length, take, max, true, ap, sym, arith, length-take}
 use Rattle.cfb_stream_window.specs.Answers.{IsReady}
 use Rattle.cfb_stream_buffer.specs.Contents.{TakesBytes, stored_after_write}
-use Rattle.cfb_stream_window.specs.Windows.{Window}
+use Rattle.cfb_stream_window.specs.Windows.{LiesOver, Window}
+use Rattle.cfb_stream_window.proofs.InTurn.{once_between, settled_if}
 use Rattle.cfb_stream_window.proofs.Writing.{straight_to}
 use Rattle.cfb_stream_window.proofs.window.Window.write_straight.Goals as goal
 
@@ -25,4 +26,46 @@ returns-in-Ok-clause-ok g c = λ (h : IsReady g.C.ReadContents c.args.content.no
           (ap (λ (z : Window). z.ahead) left.window) (omega (arith, len, e.bound, fits)) _ _
           (put.puts ∙ ap (λ (b : ℕ). stored_after_write t b (take n c.args.bytes.now)) at)
           (c.pass.ensures ∙ ap (λ (m : ℕ). record v { base = v.base + m; size = max v.size (v.base + m) }) (sym len)),
+    )
+
+pub returns-in_err-leave-clause-between : goal.returns-in_err-leave-clause-between
+returns-in_err-leave-clause-between g c = λ told. once_between g.C.ReadContents g.C.Contents g.met.C.Contents.still_is_tight _ _ _ _ _ told (c.in_err-leave.ensures.around told)
+
+pub returns-in-Ok-clause-between : goal.returns-in-Ok-clause-between
+returns-in-Ok-clause-between g c = λ told.
+    let s = g.C.ReadContents.stored c.args.content.now c.args.id in
+    let t = g.C.ReadContents.stored c.leave.new.content c.args.id in
+    let left = c.in_ok-leave.ensures in
+    let out = left.around told in
+    let e = c.in-Ok.ensures in (
+      c.leave.new.content,
+      record {
+        told = out.told;
+        calm = left.calm;
+        settles = λ (a : LiesOver s c.args.self.now). settled_if s t c.args.self.now (λ calm. ap (λ content. g.C.ReadContents.stored content c.args.id) (left.calm calm)) (left.stored (record { told = told; agrees = a }));
+        before = out.others;
+        after = e.others out.told;
+        first = out.tight;
+        second = e.tight out.told;
+      },
+    )
+
+pub returns-in-Err-clause-between : goal.returns-in-Err-clause-between
+returns-in-Err-clause-between g c = λ told.
+    let s = g.C.ReadContents.stored c.args.content.now c.args.id in
+    let t = g.C.ReadContents.stored c.leave.new.content c.args.id in
+    let left = c.in_ok-leave.ensures in
+    let out = left.around told in
+    let e = c.in-Err.ensures in
+    let up = c.give_up.ensures in (
+      c.leave.new.content,
+      record {
+        told = out.told;
+        calm = left.calm;
+        settles = λ (a : LiesOver s c.args.self.now). settled_if s t c.args.self.now (λ calm. ap (λ content. g.C.ReadContents.stored content c.args.id) (left.calm calm)) (left.stored (record { told = told; agrees = a }));
+        before = out.others;
+        after = λ first h. up.others (e.told out.told) first (e.others out.told first h);
+        first = out.tight;
+        second = up.tight (e.told out.told) _ (e.tight out.told);
+      },
     )

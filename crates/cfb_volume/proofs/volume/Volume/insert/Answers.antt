@@ -18,9 +18,9 @@ use Rattle.cfb_mini_sectors.specs.State.{HoldsMini, MiniState, bytes_of, cases_o
 use Rattle.cfb_mini_sectors.specs.Steps.{KeepsMini, StopsShort}
 use Rattle.cfb_content.specs.Contents.{KeepsFixedHeader, len_of}
 use Rattle.cfb_content.proofs.FixedHeader.{spared-keeps-header}
-use Rattle.cfb_insertion.proofs.Entries.{put-is-balanced, put-is-found, put-is-new, put-keeps-root, put-leaves-none-free}
+use Rattle.cfb_insertion.proofs.Entries.{put-is-balanced, put-is-found, put-is-new, put-keeps-root, put-grows-tightly}
 use Rattle.cfb_agreement.specs.Changes.{KeepsStreams, object_added_at}
-use Rattle.cfb_agreement.specs.Files.{Agrees, FileState, Holds, IsAsMade, IsFullFile, LeavesNoneFree}
+use Rattle.cfb_agreement.specs.Files.{Agrees, FileState, Holds, IsAsMade, IsFullFile, GrowsTightly}
 use Rattle.cfb_format.specs.Refused.{IsBreak}
 use Rattle.cfb_entry_changes.specs.Kept.{AllStayBalanced, KeepsFound}
 use Rattle.cfb_entry_changes.specs.Standing.{StandStill}
@@ -143,8 +143,8 @@ returns-clause-grows g c =
     let mid = c.insert_dir_entry.new.self in
     let put = puts-object c.self.inside.mini c.args.self.now.base mid c.args.parent c.in_ok-number.number (chars c.args.name.now) c.args.kind c.args.moment
     (ap (λ (f : FileState). f.base) c.self.view_is) c.requires.parent c.requires.kind w.inserted w.balanced w.kept w.lengthened w.mini w.limits in
-    subst (λ (s : MiniState). LeavesNoneFree c.args.self.now.base s) (sym c.end_change.ensures)
-    (put-leaves-none-free c.args.self.now.base mid c.args.parent c.in_ok-number.number (chars c.args.name.now) c.args.kind c.args.moment put)
+    subst (λ (s : MiniState). GrowsTightly c.args.self.now.base s) (sym c.end_change.ensures)
+    (put-grows-tightly c.args.self.now.base mid c.args.parent c.in_ok-number.number (chars c.args.name.now) c.args.kind c.args.moment put)
 
 pub returns-clause-balanced : goal.returns-clause-balanced
 returns-clause-balanced g c =

@@ -117,6 +117,7 @@ changed g c told =
       holds = λ v change. ok.holds told v change;
       owned = λ v change all. ok.owned told v change all;
       sized = λ v change. ok.sized told v change;
+      snug_mini = λ v change snug. ok.snug_mini told v change snug;
       exact = λ x. ok.exact x;
       none_free = λ longer. ok.none_free longer;
     }) c.requires.stream

@@ -1,4 +1,4 @@
-use Rattle.std.proofs.Common.{◌≡◌, ◌≤◌, ◌+◌, max, sym, ◌∙◌, ap, subst, length, take}
+use Rattle.std.proofs.Common.{◌≡◌, ◌<◌, ◌≤◌, ◌+◌, ◌⊎◌, max, sym, ◌∙◌, ap, subst, length, take}
 use Rattle.std.specs.Prelude.{IsTrue}
 use Rattle.std.proofs.lemmas.Result.{err_from_is_err_and}
 use Rattle.cfb_format.specs.declared.validate.Validation.TheVariants.{Permissive}
@@ -9,6 +9,7 @@ use Rattle.cfb_tables.specs.Changes.{NoneFree}
 use Rattle.cfb_mini_sectors.specs.State.{IsChangeable, MiniState, content_of, entries_of, table_of, tables_in, version_of}
 use Rattle.cfb_mini_sectors.specs.Steps.{KeepsLimits}
 use Rattle.cfb_content.specs.Contents.{IsNotChangeable, IsStreamOf, MovesContent, len_of}
+use Rattle.cfb_resizing.specs.Turning.{LeavesNoMinis}
 use Rattle.cfb_agreement.specs.Changes.{ChangesOneContent}
 use Rattle.cfb_agreement.specs.Files.{FileState, Holds, SameSetting}
 use Rattle.cfb_volume.proofs.ContentSteps.{WasChanged, WasRefused, ended-changes, ended-entries, ended-holds, ended-setting, ended-stream, file_on, refused-agrees, refused-changes, refused-setting, refused-stays, refused-stream}
@@ -101,6 +102,7 @@ changed g c told =
       holds = λ v change. ok.holds told v change;
       owned = λ v change all. ok.owned told v change all;
       sized = λ v change. ok.sized told v change;
+      snug_mini = λ v change snug. ok.snug_mini told v change snug;
       exact = λ x. ok.tight.exact x;
       none_free = λ longer. ok.tight.none_free longer;
     }) c.requires.stream
@@ -168,7 +170,21 @@ returns-clause-no_shorter g c =
     (subst (λ (f : FileState). length (tables_in f.base).fat ≤ length (tables_in c.put_content.new.mini).fat) c.self.view_is c.in_ok-count.ensures.tight.no_shorter)
 
 pub returns-clause-stays_full : goal.returns-clause-stays_full
-returns-clause-stays_full g c told held none =
+returns-clause-stays_full g c told held leaves none =
     let sound = subst (λ (f : FileState). IsChangeable Permissive f.base) (sym c.self.view_is) (held.sound c.requires.sound) in
     subst (λ (s : MiniState). NoneFree (tables_in s).fat) (sym c.end_change.ensures)
-    (c.in_ok-count.ensures.stays_full told Permissive sound (subst (λ (f : FileState). NoneFree (tables_in f.base).fat) (sym c.self.view_is) none))
+    (c.in_ok-count.ensures.stays_full told Permissive sound
+    (subst (λ (f : FileState). LeavesNoMinis f.base c.args.entry (c.args.at + length c.args.bytes.now)) (sym c.self.view_is) leaves)
+    (subst (λ (f : FileState). NoneFree (tables_in f.base).fat) (sym c.self.view_is) none))
+
+-- ---- inside the length
+
+pub returns-in_err-count-clause-within : goal.returns-in_err-count-clause-within
+returns-in_err-count-clause-within g c inside =
+    subst (λ (f : FileState). (c.args.at < len_of f.base c.args.entry) ⊎ (length c.args.bytes.now ≡ 0) → tables_in c.put_content.new.mini ≡ tables_in f.base) c.self.view_is
+    c.put_content.ensures.within inside
+
+pub returns-clause-within : goal.returns-clause-within
+returns-clause-within g c inside = ap (λ (s : MiniState). tables_in s) c.end_change.ensures
+    ∙ subst (λ (f : FileState). (c.args.at < len_of f.base c.args.entry) ⊎ (length c.args.bytes.now ≡ 0) → tables_in c.put_content.new.mini ≡ tables_in f.base) c.self.view_is
+    c.put_content.ensures.within inside

@@ -1,0 +1,70 @@
+use Rattle.std.proofs.Common.{◌≡◌, ◌∙◌, ap, arith, false, sym, true}
+use Rattle.cfb_format.specs.Bytes.{max_stream_len}
+use Rattle.cfb_agreement.specs.Files.{IsFullFile}
+use Rattle.cfb_compound_file.specs.Flags.{still_is_tight}
+use Rattle.cfb_compound_file.proofs.StoredStreams.{append_done, broken_kept, change_refused, changes_in_turn, stream_inside, stream_there}
+use Rattle.cfb_compound_file.proofs.contents.CompoundFileContents.append.Goals as goal
+
+pub len-len-requires : goal.len-len-requires
+len-len-requires g c = record { inside = stream_inside _ _ (rw (← c.self.view_is) at c.requires.there) }
+
+pub append-requires-clause-stream : goal.append-requires-clause-stream
+append-requires-clause-stream g c = stream_there _ _ c.entries-entries.ensures.in_order (rw (← c.self.view_is) at c.requires.there)
+
+pub invariant_of-self : goal.invariant_of-self
+invariant_of-self g c = λ told. c.append.ensures.agrees told (c.self.invariant told (sym c.is_failed.ensures ∙ c.if-is_failed.false))
+
+pub returns-clause-others : goal.returns-clause-others
+returns-clause-others g c =
+    let unfailed = sym c.is_failed.ensures ∙ c.if-is_failed.false in
+    let sound = sym c.is_sound.ensures ∙ c.if-not-is_sound.false in
+    rw (← c.self.view_is) (λ told first k. changes_in_turn _ first _ _ sound unfailed (c.append.ensures.changes told (c.self.invariant told unfailed)) k)
+
+pub returns-then-is_failed-clause-tight : goal.returns-then-is_failed-clause-tight
+returns-then-is_failed-clause-tight g c = rw (← c.self.view_is) (λ _. still_is_tight c.self.inside.volume)
+
+pub returns-then-not-is_sound-clause-tight : goal.returns-then-not-is_sound-clause-tight
+returns-then-not-is_sound-clause-tight g c = rw (← c.self.view_is) (λ _. still_is_tight c.self.inside.volume)
+
+pub returns-then-not-is_inside-clause-tight : goal.returns-then-not-is_inside-clause-tight
+returns-then-not-is_inside-clause-tight g c = rw (← c.self.view_is) (λ _. still_is_tight c.self.inside.volume)
+
+pub returns-clause-tight : goal.returns-clause-tight
+returns-clause-tight g c =
+    let unfailed = sym c.is_failed.ensures ∙ c.if-is_failed.false in
+    rw (← c.self.view_is) (λ told. (c.append.ensures.changes told (c.self.invariant told unfailed)).grows)
+
+pub returns-clause-len : goal.returns-clause-len
+returns-clause-len g c = rw (← c.self.view_is) c.append.ensures.len
+
+pub returns-clause-counts : goal.returns-clause-counts
+returns-clause-counts g c = rw (← c.self.view_is) (λ told. c.append.ensures.counts told)
+
+pub returns-clause-ok : goal.returns-clause-ok
+returns-clause-ok g c =
+    let unfailed = sym c.is_failed.ensures ∙ c.if-is_failed.false in
+    let sound = sym c.is_sound.ensures ∙ c.if-not-is_sound.false in
+    let e = c.append.ensures in
+    let stream = stream_there _ _ c.entries-entries.ensures.in_order (rw (← c.self.view_is) at c.requires.there) in
+    rw (← c.self.view_is) (λ told takes.
+    let held = c.self.invariant told unfailed in
+    append_done _ _ _ _ c.append.result e.setting held sound stream unfailed e.len (e.content told held) e.ended)
+
+pub returns-clause-refused : goal.returns-clause-refused
+returns-clause-refused g c =
+    let unfailed = sym c.is_failed.ensures ∙ c.if-is_failed.false in
+    let e = c.append.ensures in
+    let full = IsFullFile c.append.new.self in
+    rw (← c.self.view_is) (λ told takes.
+    let held = c.self.invariant told unfailed in
+    change_refused full full _ _ _ c.append.result (λ why. why) e.setting (e.err told held) (e.refused told held))
+
+pub returns-then-not-is_inside-clause-refused : goal.returns-then-not-is_inside-clause-refused
+returns-then-not-is_inside-clause-refused g c = rw (← c.self.view_is) (λ told takes.
+    let inside = c.is_inside.ensures.1 (omega (arith, c.len-len.ensures), omega (arith, takes.fits, c.len-len.ensures, c.stream_len_mask-limit.ensures, ap max_stream_len c.version.ensures)) in
+    absurd (let w : false ≡ true = sym c.if-not-is_inside.true ∙ inside in cc))
+
+pub returns-clause-stays : goal.returns-clause-stays
+returns-clause-stays g c =
+    let unfailed = sym c.is_failed.ensures ∙ c.if-is_failed.false in
+    rw (← c.self.view_is) (λ told. broken_kept _ _ c.append.result (c.append.ensures.refused told (c.self.invariant told unfailed)))

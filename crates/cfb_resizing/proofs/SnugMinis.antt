@@ -1,0 +1,45 @@
+-- The MiniFAT and the mini stream keep exactly the sectors that they need.
+use Rattle.std.proofs.Common.{◌≡◌, ◌≤◌, ◌<◌, inl, inr, ℕ, List, refl, sym, ap, subst, length, arith}
+use Rattle.std.proofs.lemmas.Bool.{cases_lt}
+use Rattle.cfb_format.specs.declared.validate.Validation.{Validation}
+use Rattle.cfb_format.specs.Siblings.{entry_at}
+use Rattle.cfb_tables.specs.Listed.{ends_of, gained}
+use Rattle.cfb_alloc.specs.Alloc.{AllocatorState}
+use Rattle.cfb_mini_table.specs.MiniTable.{TakesMini}
+use Rattle.cfb_mini_sectors.specs.State.{HoldsMini, MiniState, entries_of, root_len_of, table_of, version_of}
+use Rattle.cfb_mini_sectors.specs.Steps.{GrowsFor, IsMeasuredMini, IsSnugMini, KeepsLimits}
+use Rattle.cfb_mini_sectors.specs.Held.{with_table}
+use Rattle.cfb_mini.specs.MiniSectors.{ChangesFileOnly}
+use Rattle.cfb_resizing.proofs.Tightness.{file-mini}
+use Rattle.cfb_content.proofs.SnugMini.{growth-is-snug-mini, kept-is-snug-mini}
+
+-- where the tables of the FAT and the file alone have changed
+pub table-snug : (s : MiniState) (a : AllocatorState) → a.tables.version ≡ version_of s → IsSnugMini s → IsSnugMini (with_table s a)
+table-snug s a version snug =
+    kept-is-snug-mini s (with_table s a) version (record { minifat = refl; minifat_sectors = refl; mini_stream = refl }) refl refl snug
+
+-- and where the file alone has
+pub file-snug : (mid new : MiniState) → ChangesFileOnly mid new → IsSnugMini mid → IsSnugMini new
+file-snug mid new file snug =
+    kept-is-snug-mini mid new (ap (λ (s : MiniState). version_of s) file) (file-mini mid mid new file)
+    (ap (λ (s : MiniState). (entry_at (entries_of s) 0).start_sector) file) (ap (λ (s : MiniState). root_len_of s) file) snug
+
+pub filed-snug : (mid new : MiniState) → new ≡ with_table mid (record (table_of mid) { file = (table_of new).file }) → IsSnugMini mid → IsSnugMini new
+filed-snug mid new file snug = subst IsSnugMini (sym file) (table-snug mid (record (table_of mid) { file = (table_of new).file }) refl snug)
+
+-- where mini sectors were taken, or none
+pub extended-snug : (v : Validation) (s mid : MiniState) (count : ℕ) (list list' : List ℕ) → (count ≡ 0 → mid ≡ s) → (0 < count → GrowsFor count s mid)
+    → (0 < count → TakesMini s.max_mini_sectors s.minifat mid.minifat (ends_of list) (gained list list')) → length (gained list list') ≡ count
+    → (0 < count → IsMeasuredMini mid) → KeepsLimits s mid → HoldsMini v mid → IsSnugMini s → IsSnugMini mid
+extended-snug v s mid count list list' none grown taken counted measured limits held snug = elim (cases_lt 0 count) [
+  | inl some ↦ growth-is-snug-mini v s.max_mini_sectors count (ends_of list) (gained list list') s mid held limits.version (grown some) (taken some)
+      (omega (arith, some, counted)) counted (measured some) snug
+  | inr few ↦ subst IsSnugMini (sym (none (omega (arith, few)))) snug
+]
+
+-- where some were freed, or none
+pub freed-snug : (s mid : MiniState) (left n : ℕ) → (left < n → IsSnugMini mid) → (n ≤ left → mid ≡ s) → IsSnugMini s → IsSnugMini mid
+freed-snug s mid left n freed none snug = elim (cases_lt left n) [
+  | inl fewer ↦ freed fewer
+  | inr all ↦ subst IsSnugMini (sym (none all)) snug
+]

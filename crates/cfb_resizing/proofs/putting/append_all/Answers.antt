@@ -1,0 +1,141 @@
+use Rattle.std.proofs.Common.{◌≡◌, ◌+◌, List, refl, sym, ◌∙◌, ap, subst, length, arith}
+use Rattle.std.proofs.lemmas.Bool.{eqb-true}
+use Rattle.std.proofs.lemmas.Result.{err_from_is_err_and}
+use Rattle.cfb_format.specs.DirectoryEntry.{Entry}
+use Rattle.cfb_format.specs.Medium.{written}
+use Rattle.cfb_format.specs.Siblings.{entry_at}
+use Rattle.cfb_tables.specs.Changes.{NoneFree}
+use Rattle.cfb_tables.specs.Tables.{TableState}
+use Rattle.cfb_mini_sectors.specs.State.{content_of, entries_of}
+use Rattle.cfb_content.specs.Contents.{IsTooLongFor, len_of}
+use Rattle.cfb_content.proofs.FixedHeader.{header-stays, header-then}
+use Rattle.cfb_content.proofs.Kept.{nothing-is-moved, others-kept-then}
+use Rattle.cfb_content.proofs.Outlines.{stream-stays}
+use Rattle.cfb_content.proofs.Readable.{whole-of}
+use Rattle.cfb_content.proofs.Refusals.{refused-as}
+use Rattle.cfb_content.proofs.Rewritten.{written-none}
+use Rattle.cfb_content.proofs.Snug.{same-is-sized}
+use Rattle.cfb_content.proofs.StreamEntry.{stream-inside}
+use Rattle.cfb_resizing.proofs.PutBehind.{appended, filed-entries, filed-sized, filed-tables, filed-used, stops-behind}
+use Rattle.cfb_resizing.proofs.Tightness.{leaves-less}
+use Rattle.cfb_resizing.proofs.SnugMinis.{filed-snug}
+use Rattle.cfb_resizing.proofs.putting.append_all.Goals as goal
+
+pub content_in-len-requires : goal.content_in-len-requires
+content_in-len-requires g c = record { inside = stream-inside c.args.mini.now c.args.entry c.requires.stream }
+
+pub returns-in_err-list-clause-others : goal.returns-in_err-list-clause-others
+returns-in_err-list-clause-others g c told v change = nothing-is-moved c.args.entry c.args.mini.now
+
+pub returns-in_err-list-clause-header : goal.returns-in_err-list-clause-header
+returns-in_err-list-clause-header g c told = header-stays c.args.mini.now c.args.mini.now refl
+
+-- ---- nothing is to be put
+
+pub returns-then-is_empty-clause-content : goal.returns-then-is_empty-clause-content
+returns-then-is_empty-clause-content g c told v change =
+    let s = c.args.mini.now in
+    let whole = whole-of v s c.args.entry change c.requires.stream in
+    written-none (content_of s (entry_at (entries_of s) c.args.entry)) c.args.bytes.now (len_of s c.args.entry) (eqb-true (length c.args.bytes.now) 0 (sym c.is_empty.ensures ∙ c.if-is_empty.true)) (omega (arith, whole))
+
+pub returns-then-is_empty-clause-others : goal.returns-then-is_empty-clause-others
+returns-then-is_empty-clause-others g c told v change = nothing-is-moved c.args.entry c.args.mini.now
+
+pub returns-then-is_empty-clause-header : goal.returns-then-is_empty-clause-header
+returns-then-is_empty-clause-header g c told = header-stays c.args.mini.now c.args.mini.now refl
+
+pub returns-then-is_empty-clause-sized : goal.returns-then-is_empty-clause-sized
+returns-then-is_empty-clause-sized g c told v change =
+    same-is-sized v c.args.mini.now c.args.mini.now c.args.entry change c.requires.stream refl refl refl refl
+
+-- ---- it cannot grow
+
+pub returns-in_err-grow_to-clause-err : goal.returns-in_err-grow_to-clause-err
+returns-in_err-grow_to-clause-err g c =
+    let p = err_from_is_err_and c.from_residual-in_err-grow_to.result c.from_residual-in_err-grow_to.ensures.1 in
+    let s = c.args.mini.now in
+    let i = c.args.entry in
+    rw (p.1, p.2) (refused-as _ _ _ _ _ _ _ _ (λ bad. bad) (λ u. u)
+    (λ long v held. subst (λ n. IsTooLongFor s i (n + length c.args.bytes.now)) c.content_in-len.ensures.len (long v held))
+    (λ u. u) c.in_err-grow_to.field-0.0 c.in_err-grow_to.ensures.err)
+
+-- ---- it has grown
+
+pub write_listed-requires-clause-stream : goal.write_listed-requires-clause-stream
+write_listed-requires-clause-stream g c =
+    let grown = c.grow_to.ensures in
+    stream-stays c.args.mini.now c.grow_to.new.mini c.args.entry c.args.entry grown.limits.cases grown.entries c.requires.stream
+
+pub returns-in_err-write_listed-clause-others : goal.returns-in_err-write_listed-clause-others
+returns-in_err-write_listed-clause-others g c told v change =
+    let grown = c.grow_to.ensures in
+    others-kept-then c.args.entry c.args.mini.now c.grow_to.new.mini c.write_listed.new.mini grown.limits grown.entries (grown.others told v change)
+    (c.write_listed.ensures.others told v (c.in_ok-grow_to.ensures.holds told v change))
+
+pub returns-in_err-write_listed-clause-header : goal.returns-in_err-write_listed-clause-header
+returns-in_err-write_listed-clause-header g c told =
+    header-then c.args.mini.now c.grow_to.new.mini c.write_listed.new.mini c.grow_to.ensures.limits.version
+    (c.grow_to.ensures.header told) (c.write_listed.ensures.header told)
+
+pub returns-in_err-write_listed-clause-err : goal.returns-in_err-write_listed-clause-err
+returns-in_err-write_listed-clause-err g c =
+    let p = err_from_is_err_and c.from_residual-in_err-write_listed.result c.from_residual-in_err-write_listed.ensures.1 in
+    rw (p.1, p.2) (refused-as _ _ _ _ _ _ _ _ (λ bad told v change. bad v (c.in_ok-grow_to.ensures.holds told v change)) (λ u. u) (λ no. absurd no) (λ u. u)
+    c.in_err-write_listed.field-0.0 c.in_err-write_listed.ensures.err)
+
+pub returns-in_err-write_listed-clause-refused : goal.returns-in_err-write_listed-clause-refused
+returns-in_err-write_listed-clause-refused g c told v held =
+    let p = err_from_is_err_and c.from_residual-in_err-write_listed.result c.from_residual-in_err-write_listed.ensures.1 in
+    rw (p.1, p.2) (stops-behind c.args.mini.now c.grow_to.new.mini c.write_listed.new.mini c.in_err-write_listed.field-0.0 c.in_ok-grow_to.ensures.begun
+    c.in_err-write_listed.ensures.refused c.in_err-write_listed.ensures.err)
+
+pub returns-clause-content : goal.returns-clause-content
+returns-clause-content g c told v change =
+    let s = c.args.mini.now in
+    let mid = c.grow_to.new.mini in
+    let new = c.write_listed.new.mini in
+    let i = c.args.entry in
+    let len = c.content_in-len.result.1 in
+    let was = content_of s (entry_at (entries_of s) i) in
+    let from = c.args.bytes.now in
+    let len-is = c.content_in-len.ensures.len in
+    let wanted = len + length from in
+    let whole : length was ≡ len = whole-of v s i change c.requires.stream ∙ sym len-is in
+    ap (λ (es : List Entry). content_of new (entry_at es i)) (filed-entries mid new c.in_ok-write_listed.ensures.rest)
+    ∙ c.in_ok-write_listed.ensures.content told v (c.in_ok-grow_to.ensures.holds told v change)
+    ∙ ap (λ l. written l len from) (c.in_ok-grow_to.ensures.content told v change)
+    ∙ appended was from len wanted whole refl
+    ∙ ap (λ n. written was n from) len-is
+
+pub returns-clause-others : goal.returns-clause-others
+returns-clause-others g c told v change =
+    let grown = c.grow_to.ensures in
+    others-kept-then c.args.entry c.args.mini.now c.grow_to.new.mini c.write_listed.new.mini grown.limits grown.entries (grown.others told v change)
+    (c.write_listed.ensures.others told v (c.in_ok-grow_to.ensures.holds told v change))
+
+pub returns-clause-header : goal.returns-clause-header
+returns-clause-header g c told =
+    header-then c.args.mini.now c.grow_to.new.mini c.write_listed.new.mini c.grow_to.ensures.limits.version
+    (c.grow_to.ensures.header told) (c.write_listed.ensures.header told)
+
+pub returns-clause-holds : goal.returns-clause-holds
+returns-clause-holds g c told v change = c.in_ok-write_listed.ensures.holds told v (c.in_ok-grow_to.ensures.holds told v change)
+
+pub returns-clause-owned : goal.returns-clause-owned
+returns-clause-owned g c told v change all =
+    filed-used c.grow_to.new.mini c.write_listed.new.mini c.in_ok-write_listed.ensures.rest (c.in_ok-grow_to.ensures.owned told v change all)
+
+pub returns-clause-sized : goal.returns-clause-sized
+returns-clause-sized g c told v change =
+    filed-sized c.grow_to.new.mini c.write_listed.new.mini c.in_ok-write_listed.ensures.rest c.args.mini.now c.args.entry (c.in_ok-grow_to.ensures.sized told v change)
+
+pub returns-clause-stays_full : goal.returns-clause-stays_full
+returns-clause-stays_full g c told v change stays none =
+    let s = c.args.mini.now in
+    let wanted = c.content_in-len.result.1 + length c.args.bytes.now in
+    subst (λ (t : TableState). NoneFree t.fat) (sym (filed-tables c.grow_to.new.mini c.write_listed.new.mini c.in_ok-write_listed.ensures.rest))
+    (c.in_ok-grow_to.ensures.stays_full told v change
+    (leaves-less s c.args.entry wanted (len_of s c.args.entry + length c.args.bytes.now) (omega (arith, c.content_in-len.ensures.len)) stays) none)
+
+pub returns-clause-snug_mini : goal.returns-clause-snug_mini
+returns-clause-snug_mini g c told v change snug = filed-snug c.grow_to.new.mini c.write_listed.new.mini c.in_ok-write_listed.ensures.rest (c.in_ok-grow_to.ensures.snug_mini told v change snug)

@@ -1,6 +1,0 @@
-//! Tests of `cfb_soundness`: a crate beside it, because `rt ci` proves the tests of one crate in one job, and begins with
-//! them as soon as what they stand on is proved.
-#![tactic(auto)]
-
-#[cfg(test)]
-mod files;

@@ -1,0 +1,198 @@
+use Rattle.std.proofs.Common.{◌≡◌, ◌≤◌, ◌+◌, false, sym, ◌∙◌, ap, subst, length}
+use Rattle.std.specs.Prelude.{IsTrue}
+use Rattle.std.proofs.lemmas.Result.{err_from_is_err_and}
+use Rattle.cfb_format.specs.declared.validate.Validation.{Validation}
+use Rattle.cfb_format.specs.declared.validate.Validation.TheVariants.{Permissive}
+use Rattle.cfb_format.specs.Bytes.{max_stream_len}
+use Rattle.cfb_format.specs.Medium.{written}
+use Rattle.cfb_format.specs.Siblings.{entry_at}
+use Rattle.cfb_tables.specs.Changes.{NoneFree}
+use Rattle.cfb_mini_sectors.specs.State.{HoldsMini, IsChangeable, MiniState, content_of, entries_of, table_of, tables_in, version_of}
+use Rattle.cfb_mini_sectors.specs.Steps.{KeepsLimits}
+use Rattle.cfb_content.specs.Contents.{IsNotChangeable, IsStreamOf, IsTooLongFor, MovesContent, len_of}
+use Rattle.cfb_resizing.specs.Turning.{LeavesNoMinis}
+use Rattle.cfb_agreement.specs.Changes.{ChangesOneContent}
+use Rattle.cfb_agreement.specs.Files.{FileState, Holds, SameSetting}
+use Rattle.cfb_volume.proofs.ContentSteps.{WasChanged, WasRefused, ended, ended-changes, ended-entries, ended-holds, ended-same, ended-setting, ended-stream, file_on, refused-agrees, refused-changes, refused-setting, refused-stays, refused-stream}
+use Rattle.cfb_volume.proofs.Refusals.{append-break, why-full}
+use Rattle.cfb_volume.proofs.volume.Volume.append.Goals as goal
+
+pub append_all-requires-clause-stream : goal.append_all-requires-clause-stream
+append_all-requires-clause-stream g c = subst (λ (f : FileState). IsStreamOf f.base c.args.entry) (sym c.self.view_is) c.requires.stream
+
+pub append_all-requires-clause-limit : goal.append_all-requires-clause-limit
+append_all-requires-clause-limit g c = subst (λ (f : FileState). len_of f.base c.args.entry + length c.args.bytes.now ≤ max_stream_len (version_of f.base)) (sym c.self.view_is) c.requires.fits
+
+-- ---- it was refused
+
+refused : (g : _) (c : goal.After-from_residual g) → IsTrue g.F.ReadMedium.tells → WasRefused c.args.self.now.base c.append_all.new.mini c.args.entry
+refused g c told =
+    let e = c.append_all.ensures in
+    subst (λ (f : FileState). WasRefused f.base c.append_all.new.mini c.args.entry) c.self.view_is (record {
+      limits = e.limits;
+      entries = e.entries;
+      others = λ v change. e.others told v change;
+      header = e.header told;
+      still = c.in_err-append_all.ensures.still;
+      unwritten = λ calm. e.unwritten told calm;
+    })
+
+pub returns-in_err-append_all-clause-stream : goal.returns-in_err-append_all-clause-stream
+returns-in_err-append_all-clause-stream g c =
+    let mid = c.append_all.new.mini in
+    refused-stream c.args.self.now mid c.args.entry c.self.inside.is_sound c.self.inside.buffer_limit
+    (ap (λ (f : FileState). f.is_sound) c.self.view_is) (ap (λ (f : FileState). f.buffer_limit) c.self.view_is)
+    (subst (λ (f : FileState). KeepsLimits f.base mid) c.self.view_is c.append_all.ensures.limits)
+    (subst (λ (f : FileState). MovesContent f.base mid c.args.entry) c.self.view_is c.append_all.ensures.entries) c.requires.stream
+
+pub returns-in_err-append_all-clause-setting : goal.returns-in_err-append_all-clause-setting
+returns-in_err-append_all-clause-setting g c =
+    let mid = c.append_all.new.mini in
+    refused-setting c.args.self.now mid c.args.entry c.self.inside.is_sound c.self.inside.buffer_limit
+    (ap (λ (f : FileState). f.is_sound) c.self.view_is) (ap (λ (f : FileState). f.buffer_limit) c.self.view_is)
+    (subst (λ (f : FileState). KeepsLimits f.base mid) c.self.view_is c.append_all.ensures.limits)
+
+pub returns-in_err-append_all-clause-entries : goal.returns-in_err-append_all-clause-entries
+returns-in_err-append_all-clause-entries g c = subst (λ (f : FileState). MovesContent f.base c.append_all.new.mini c.args.entry) c.self.view_is c.append_all.ensures.entries
+
+pub returns-in_err-append_all-clause-changes : goal.returns-in_err-append_all-clause-changes
+returns-in_err-append_all-clause-changes g c told held =
+    refused-changes c.args.self.now c.append_all.new.mini c.args.entry c.self.inside.is_sound c.self.inside.buffer_limit
+    (ap (λ (f : FileState). f.is_sound) c.self.view_is) (ap (λ (f : FileState). f.buffer_limit) c.self.view_is)
+    (refused g c told) c.requires.unfailed held c.requires.sound
+
+pub returns-in_err-append_all-clause-agrees : goal.returns-in_err-append_all-clause-agrees
+returns-in_err-append_all-clause-agrees g c told held =
+    refused-agrees c.args.self.now c.append_all.new.mini c.args.entry c.self.inside.is_sound c.self.inside.buffer_limit
+    (ap (λ (f : FileState). f.is_sound) c.self.view_is) (ap (λ (f : FileState). f.buffer_limit) c.self.view_is)
+    (refused g c told) c.requires.unfailed held
+
+pub returns-in_err-append_all-clause-refused : goal.returns-in_err-append_all-clause-refused
+returns-in_err-append_all-clause-refused g c told held =
+    let p = err_from_is_err_and c.from_residual.result c.from_residual.ensures.1 in
+    rw p.1 (refused-stays c.args.self.now c.append_all.new.mini c.args.entry c.self.inside.is_sound c.self.inside.buffer_limit
+    (ap (λ (f : FileState). f.is_sound) c.self.view_is) (ap (λ (f : FileState). f.buffer_limit) c.self.view_is)
+    (refused g c told) c.requires.unfailed)
+
+pub returns-in_err-append_all-clause-err : goal.returns-in_err-append_all-clause-err
+returns-in_err-append_all-clause-err g c told held =
+    let p = err_from_is_err_and c.from_residual.result c.from_residual.ensures.1 in
+    let s = c.self.inside.mini in
+    let mid = c.append_all.new.mini in
+    let i = c.args.entry in
+    let sound : IsChangeable Permissive s = subst (λ (f : FileState). IsChangeable Permissive f.base) (sym c.self.view_is) (held.sound c.requires.sound) in
+    rw (p.1, p.2) (append-break s mid (IsTrue g.F.ReadMedium.tells → IsNotChangeable s) ((validation : Validation) → HoldsMini validation s → IsTooLongFor s i (len_of s i + length c.args.bytes.now)) (Unit {0}) (λ none. none told Permissive sound)
+    c.in_err-append_all.field-0.0 (c.in_err-append_all.ensures.refused told Permissive sound.held) c.in_err-append_all.ensures.err)
+
+pub returns-in_err-append_all-clause-foreseen : goal.returns-in_err-append_all-clause-foreseen
+returns-in_err-append_all-clause-foreseen g c told held =
+    let p = err_from_is_err_and c.from_residual.result c.from_residual.ensures.1 in
+    let s = c.self.inside.mini in
+    let i = c.args.entry in
+    let sound : IsChangeable Permissive s = subst (λ (f : FileState). IsChangeable Permissive f.base) (sym c.self.view_is) (held.sound c.requires.sound) in
+    rw (p.1, p.2) (λ is. subst (λ (f : FileState). IsTooLongFor f.base i (len_of f.base i + length c.args.bytes.now)) c.self.view_is
+    (why-full (IsTrue g.F.ReadMedium.tells → IsNotChangeable s) ((validation : Validation) → HoldsMini validation s → IsTooLongFor s i (len_of s i + length c.args.bytes.now))
+    c.in_err-append_all.field-0.0 c.in_err-append_all.ensures.err is Permissive sound.held))
+
+pub returns-in_err-append_all-clause-none : goal.returns-in_err-append_all-clause-none
+returns-in_err-append_all-clause-none g c none = absurd (c.in_err-append_all.ensures.none none).0
+
+-- ---- it went well
+
+changed : (g : _) (c : goal.After-end_change g) → IsTrue g.F.ReadMedium.tells → WasChanged c.args.self.now.base c.append_all.new.mini c.args.entry
+changed g c told =
+    let e = c.append_all.ensures in
+    let ok = c.in_ok-append_all.ensures in
+    subst (λ (f : FileState). IsStreamOf f.base c.args.entry → WasChanged f.base c.append_all.new.mini c.args.entry) c.self.view_is (λ at. record {
+      stream = at;
+      limits = e.limits;
+      entries = e.entries;
+      others = λ v change. e.others told v change;
+      header = e.header told;
+      holds = λ v change. ok.holds told v change;
+      owned = λ v change all. ok.owned told v change all;
+      sized = λ v change. ok.sized told v change;
+      snug_mini = λ v change snug. ok.snug_mini told v change snug;
+      exact = λ x. ok.tight.exact x;
+      none_free = λ longer. ok.tight.none_free longer;
+    }) c.requires.stream
+
+pub returns-clause-stream : goal.returns-clause-stream
+returns-clause-stream g c =
+    let mid = c.append_all.new.mini in
+    subst (λ (s : MiniState). IsStreamOf s c.args.entry) (sym c.end_change.ensures)
+    (ended-stream c.args.self.now mid c.args.entry c.self.inside.is_sound c.self.inside.buffer_limit
+    (ap (λ (f : FileState). f.is_sound) c.self.view_is) (ap (λ (f : FileState). f.buffer_limit) c.self.view_is)
+    (subst (λ (f : FileState). KeepsLimits f.base mid) c.self.view_is c.append_all.ensures.limits)
+    (subst (λ (f : FileState). MovesContent f.base mid c.args.entry) c.self.view_is c.append_all.ensures.entries) c.requires.stream)
+
+pub returns-clause-setting : goal.returns-clause-setting
+returns-clause-setting g c =
+    let mid = c.append_all.new.mini in
+    subst (λ (s : MiniState). SameSetting c.args.self.now (file_on c.self.inside.is_sound c.self.inside.buffer_limit s)) (sym c.end_change.ensures)
+    (ended-setting c.args.self.now mid c.args.entry c.self.inside.is_sound c.self.inside.buffer_limit
+    (ap (λ (f : FileState). f.is_sound) c.self.view_is) (ap (λ (f : FileState). f.buffer_limit) c.self.view_is)
+    (subst (λ (f : FileState). KeepsLimits f.base mid) c.self.view_is c.append_all.ensures.limits))
+
+pub returns-clause-entries : goal.returns-clause-entries
+returns-clause-entries g c =
+    let mid = c.append_all.new.mini in
+    subst (λ (s : MiniState). MovesContent c.args.self.now.base s c.args.entry) (sym c.end_change.ensures)
+    (ended-entries c.args.self.now mid c.args.entry c.self.inside.is_sound c.self.inside.buffer_limit
+    (ap (λ (f : FileState). f.is_sound) c.self.view_is) (ap (λ (f : FileState). f.buffer_limit) c.self.view_is)
+    (subst (λ (f : FileState). MovesContent f.base mid c.args.entry) c.self.view_is c.append_all.ensures.entries))
+
+pub returns-clause-changes : goal.returns-clause-changes
+returns-clause-changes g c told held =
+    subst (λ (s : MiniState). ChangesOneContent c.args.entry c.args.self.now (file_on c.self.inside.is_sound c.self.inside.buffer_limit s)) (sym c.end_change.ensures)
+    (ended-changes c.args.self.now c.append_all.new.mini c.args.entry c.self.inside.is_sound c.self.inside.buffer_limit
+    (ap (λ (f : FileState). f.is_sound) c.self.view_is) (ap (λ (f : FileState). f.buffer_limit) c.self.view_is)
+    (changed g c told) held c.requires.sound)
+
+pub returns-clause-agrees : goal.returns-clause-agrees
+returns-clause-agrees g c told held calm =
+    subst (λ (s : MiniState). Holds (file_on c.self.inside.is_sound c.self.inside.buffer_limit s)) (sym c.end_change.ensures)
+    (ended-holds c.args.self.now c.append_all.new.mini c.args.entry c.self.inside.is_sound c.self.inside.buffer_limit
+    (ap (λ (f : FileState). f.is_sound) c.self.view_is) (ap (λ (f : FileState). f.buffer_limit) c.self.view_is)
+    (changed g c told) held c.requires.sound)
+
+pub returns-clause-ended : goal.returns-clause-ended
+returns-clause-ended g c = ap (λ (s : MiniState). (table_of s).file.begun) c.end_change.ensures
+
+pub returns-clause-len : goal.returns-clause-len
+returns-clause-len g c =
+    ap (λ (s : MiniState). len_of s c.args.entry) c.end_change.ensures ∙ c.in_ok-append_all.ensures.len
+    ∙ ap (λ (f : FileState). len_of f.base c.args.entry + length c.args.bytes.now) c.self.view_is
+
+pub returns-clause-none : goal.returns-clause-none
+returns-clause-none g c none =
+    let s = c.self.inside.mini in
+    let unchanged = (c.in_ok-append_all.ensures.none none).1 in
+    let calm : (table_of s).file.begun ≡ false = subst (λ (f : FileState). (table_of f.base).file.begun ≡ false) (sym c.self.view_is) c.requires.unfailed in (
+      tt,
+      ap (λ (x : MiniState). file_on c.self.inside.is_sound c.self.inside.buffer_limit x) (c.end_change.ensures ∙ ap ended unchanged ∙ ended-same s calm) ∙ c.self.view_is,
+    )
+
+pub returns-clause-content : goal.returns-clause-content
+returns-clause-content g c told held =
+    let mid = c.append_all.new.mini in
+    let i = c.args.entry in
+    let from = c.args.bytes.now in
+    let sound = subst (λ (f : FileState). IsChangeable Permissive f.base) (sym c.self.view_is) (held.sound c.requires.sound) in
+    subst (λ (s : MiniState). content_of s (entry_at (entries_of s) i)
+    ≡ written (content_of c.args.self.now.base (entry_at (entries_of c.args.self.now.base) i)) (len_of c.args.self.now.base i) from) (sym c.end_change.ensures)
+    (subst (λ (f : FileState). content_of mid (entry_at (entries_of mid) i) ≡ written (content_of f.base (entry_at (entries_of f.base) i)) (len_of f.base i) from) c.self.view_is
+    (c.in_ok-append_all.ensures.content told Permissive sound))
+
+pub returns-clause-no_shorter : goal.returns-clause-no_shorter
+returns-clause-no_shorter g c =
+    subst (λ (s : MiniState). length (tables_in c.args.self.now.base).fat ≤ length (tables_in s).fat) (sym c.end_change.ensures)
+    (subst (λ (f : FileState). length (tables_in f.base).fat ≤ length (tables_in c.append_all.new.mini).fat) c.self.view_is c.in_ok-append_all.ensures.tight.no_shorter)
+
+pub returns-clause-stays_full : goal.returns-clause-stays_full
+returns-clause-stays_full g c told held leaves none =
+    let sound = subst (λ (f : FileState). IsChangeable Permissive f.base) (sym c.self.view_is) (held.sound c.requires.sound) in
+    subst (λ (s : MiniState). NoneFree (tables_in s).fat) (sym c.end_change.ensures)
+    (c.in_ok-append_all.ensures.stays_full told Permissive sound
+    (subst (λ (f : FileState). LeavesNoMinis f.base c.args.entry (len_of f.base c.args.entry + length c.args.bytes.now)) (sym c.self.view_is) leaves)
+    (subst (λ (f : FileState). NoneFree (tables_in f.base).fat) (sym c.self.view_is) none))
