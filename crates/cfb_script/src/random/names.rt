@@ -1,6 +1,6 @@
 //! Names of objects, and lists of them.
 
-use crate::numbers::Numbers;
+use crate::random::numbers::Numbers;
 use std::alloc::{AllocError, Allocator};
 
 /// How many names a path has at most.

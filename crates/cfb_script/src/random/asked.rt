@@ -1,7 +1,7 @@
 //! What a file says of its objects.
 
-use crate::calls::Call;
-use crate::tree::{Object, Tree};
+use crate::random::calls::Call;
+use crate::random::tree::{Object, Tree};
 use cfb::{Command, CompoundFile, Entries, Entry, Medium};
 use std::alloc::{AllocError, Allocator, Global};
 

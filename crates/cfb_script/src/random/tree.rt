@@ -1,7 +1,7 @@
 //! A plain tree in memory: what each call answers and makes of it, by the rules of calls by path.
 
-use crate::calls::{Call, What};
-use crate::names::Names;
+use crate::random::calls::{Call, What};
+use crate::random::names::Names;
 use cfb::Entry;
 use std::alloc::{AllocError, Allocator, Global};
 use uuid::Uuid;

@@ -1,9 +1,9 @@
 //! Replies to calls, compared with what a tree says.
 
-use crate::calls::{Call, What};
-use crate::names::Names;
-use crate::tree::{ABSENT, DONE, INPUT, Object, Tree};
-use crate::works::{Worked, refused};
+use crate::random::calls::{Call, What};
+use crate::random::names::Names;
+use crate::random::tree::{ABSENT, DONE, INPUT, Object, Tree};
+use crate::random::works::{Worked, refused};
 use cfb::{Entry, Error, Reply, StreamReply};
 use std::alloc::{AllocError, Allocator};
 

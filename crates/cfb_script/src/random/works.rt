@@ -1,6 +1,6 @@
 //! What is done with an open stream, and what it is to answer.
 
-use crate::numbers::Numbers;
+use crate::random::numbers::Numbers;
 use cfb::{Error, StreamOp, StreamReply};
 use std::alloc::{AllocError, Allocator};
 use std::io::SeekFrom;

@@ -1,6 +1,4 @@
 //! Random lists of commands on files in memory, each reply compared with that of a plain tree.
-#![tactic(auto)]
-
 mod asked;
 mod calls;
 pub mod lists;

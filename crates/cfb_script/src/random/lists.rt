@@ -1,10 +1,10 @@
 //! Lists of calls, and what comes of them.
 
-use crate::asked::{commands_of, says};
-use crate::calls::Call;
-use crate::numbers::Numbers;
-use crate::replies::Ear;
-use crate::tree::Tree;
+use crate::random::asked::{commands_of, says};
+use crate::random::calls::Call;
+use crate::random::numbers::Numbers;
+use crate::random::replies::Ear;
+use crate::random::tree::Tree;
 use cfb::{Command, CompoundFile, Error, Medium, MemoryMedium, OpenOptions, Reply, Version, run};
 use cfb_rows::answers::{Answer, refusal};
 use cfb_rows::lines::Line;

@@ -1,8 +1,8 @@
 //! Calls, as they are drawn, and the commands that they are.
 
-use crate::names::Names;
-use crate::numbers::Numbers;
-use crate::works::{WORKS, Work};
+use crate::random::names::Names;
+use crate::random::numbers::Numbers;
+use crate::random::works::{WORKS, Work};
 use cfb::{Command, Opening, StreamOp, Timestamp};
 use std::alloc::{AllocError, Allocator};
 use uuid::Uuid;
