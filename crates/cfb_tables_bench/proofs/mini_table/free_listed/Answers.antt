@@ -1,7 +1,7 @@
 use Rattle.std.proofs.Common.{sym, subst}
 use Rattle.cfb_mini_table.specs.MiniTable.{AreBusy}
 use Rattle.cfb_mini_table.proofs.FreedLemmas.{chain-busy}
-use Rattle.cfb_mini_bench.proofs.table.free_listed.Goals as goal
+use Rattle.cfb_tables_bench.proofs.mini_table.free_listed.Goals as goal
 
 pub free_listed-requires : goal.free_listed-requires
 free_listed-requires g c =

@@ -1,7 +1,7 @@
 use Rattle.std.proofs.Common.{◌≡◌, ◌<◌, List, ℕ, length, ap, arith}
 use Rattle.cfb_mini_table.specs.MiniTable.{MiniTableState}
 use Rattle.cfb_mini_table.proofs.StateLemmas.{listed-chain, listed-ended}
-use Rattle.cfb_mini_bench.proofs.table.extend_listed.Goals as goal
+use Rattle.cfb_tables_bench.proofs.mini_table.extend_listed.Goals as goal
 
 pub extend_prepared-requires-clause-ended : goal.extend_prepared-requires-clause-ended
 extend_prepared-requires-clause-ended g c some =

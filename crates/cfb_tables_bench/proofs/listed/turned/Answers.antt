@@ -3,7 +3,7 @@ use Rattle.cfb_format.specs.Chain.{IsChain}
 use Rattle.cfb_tables.specs.Tables.{first_or_end}
 use Rattle.cfb_tables.proofs.ChainLemmas.{chain_of}
 use Rattle.cfb_alloc.proofs.ListedLemmas.{can_shorten}
-use Rattle.cfb_alloc_bench.proofs.listed.turned.Goals as goal
+use Rattle.cfb_tables_bench.proofs.listed.turned.Goals as goal
 
 pub cut_listed-requires : goal.cut_listed-requires
 cut_listed-requires g c =
