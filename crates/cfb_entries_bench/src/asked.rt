@@ -1,8 +1,8 @@
 //! What is asked of a directory in memory.
 ghost use Rattle.std.specs.Prelude.{◌≡◌, length, IfOk};
 
+use crate::directories::{is_stream, reached_at};
 use cfb_codecs::direntry::DirEntry;
-use cfb_entries_bench::directories::{is_stream, reached_at};
 use cfb_format::error::{Detail, Error};
 use cfb_listing::entries::Entries;
 use cfb_listing::entry::{Entry, entry_of};

@@ -1,9 +1,9 @@
 //! Directories that are listed and walked.
 use crate::asked::{count_of, listed, taken_from, told_at};
+use crate::directories::{Given, directory};
 use crate::places::placed;
 use cfb_codecs::direntry::DirEntry;
 use cfb_codecs::timestamp::Timestamp;
-use cfb_entries_bench::directories::{Given, directory};
 use cfb_format::color::Color::{Black, Red};
 use cfb_format::consts::NO_STREAM as NONE;
 use cfb_format::error::Error;

@@ -1,7 +1,7 @@
 //! How many sectors objects need.
+use crate::directories::{Given, directory};
 use cfb_codecs::direntry::DirEntry;
 use cfb_copy_sizes::needs::is_too_large;
-use cfb_entries_bench::directories::{Given, directory};
 use cfb_format::color::Color::Black;
 use cfb_format::consts::NO_STREAM as NONE;
 use cfb_format::error::Error;

@@ -1,7 +1,7 @@
 //! Directories that are walked by the numbers of their entries.
+use crate::directories::{Given, chain, directory};
 use cfb_codecs::direntry::DirEntry;
 use cfb_codecs::path::CaseMapper;
-use cfb_entries_bench::directories::{Given, chain, directory};
 use cfb_format::color::Color::{Black, Red};
 use cfb_format::consts::NO_STREAM as NONE;
 use cfb_format::error::Error;
