@@ -273,7 +273,8 @@ impl<'a, F: Medium, A: Heap> MiniChain<'a, F, A> {
             → CountsFailure F.write_faults result (table_of (state_of self.old)).file.failures
             (table_of (state_of self.new)).file.failures }
     {
-        if from.is_empty() || self.position >= self.len() {
+        let room = (from.len() as u64).min(self.len() - self.position);
+        if room == 0 {
             return Ok(0);
         }
         self.write_here(from)

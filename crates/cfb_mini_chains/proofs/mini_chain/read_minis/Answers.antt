@@ -1,7 +1,8 @@
 use Rattle.std.proofs.Common.{◌≡◌, ◌/◌, ◌%◌, ◌++◌, ◌∙◌, inl, inr, arith, drop, length-take}
 use Rattle.std.proofs.lemmas.List.{take-append-le}
 use Rattle.std.proofs.lemmas.Result.{err_from_is_err_and}
-use Rattle.std.specs.Prelude.{slice_index}
+use Rattle.std.specs.Prelude.{Ok, slice_index}
+use Rattle.cfb_mini.proofs.MiniStretches.{begun_rest}
 use Rattle.cfb_mini_chains.proofs.MiniChainAnswers.{invalid_reason, medium_reason}
 use Rattle.cfb_mini_chains.proofs.MiniChainHeld.{byte_or}
 use Rattle.cfb_mini_chains.proofs.MiniChainRuns.{run_together}
@@ -21,6 +22,11 @@ returns-clause-ok g c told =
     let new = c.read_mini_run.new.into in
     let size = c.read_mini_run.auto.into in
     take-append-le n new (drop run c.args.into.now) (omega (arith, e.some, size)) ∙ e.ok told
+
+pub returns-clause-rest : goal.returns-clause-rest
+returns-clause-rest g c =
+    let e = c.in_ok-count.ensures in
+    begun_rest (Ok c.in_ok-count.count) c.mini_run-run.result c.args.into.now c.read_mini_run.new.into c.read_mini_run.auto.into e.some e.rest
 
 pub returns-in_err-count-clause-err : goal.returns-in_err-count-clause-err
 returns-in_err-count-clause-err g c =
