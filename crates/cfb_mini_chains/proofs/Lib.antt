@@ -1,5 +1,6 @@
 pub mod MiniChainPlaces
 pub mod MiniChainHeld
+pub mod MiniChainRuns
 mod MiniStreamBegun
 pub mod MiniChainFrames
 pub mod MiniChainBytes

@@ -41,7 +41,7 @@ broken_medium broken kept Full is r = absurd (omega (arith, is))
 broken_medium broken kept Unsound is r = absurd (omega (arith, is))
 broken_medium broken kept Failed is r = absurd (omega (arith, is))
 
-invalid_reason : (P : Type 0) (e : Error) → IsInvalidData e → (P → ⊥) → ChangeRefused (P → ⊥) ⊥ ⊥ Unit e
+pub invalid_reason : (P : Type 0) (e : Error) → IsInvalidData e → (P → ⊥) → ChangeRefused (P → ⊥) ⊥ ⊥ Unit e
 invalid_reason P (InvalidData d) is none = none
 invalid_reason P (NotFound d) is none = absurd (omega (arith, is))
 invalid_reason P (AlreadyExists d) is none = absurd (omega (arith, is))

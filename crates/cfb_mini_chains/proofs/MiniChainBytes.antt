@@ -1,32 +1,37 @@
 -- What a write and a set length make of each byte of a lent mini chain.
-use Rattle.std.proofs.Common.{◌≡◌, ◌≢◌, ◌≤◌, ◌<◌, ◌+◌, ◌-◌, ◌*◌, ◌/◌, ◌%◌, ◌⊎◌, inl, inr, ℕ, zero, suc, List, [], ◌∷◌, ◌++◌, refl, sym, ◌∙◌, ap, subst, length, take, drop, replicate, arith, length-append, length-take, length-drop, get_or-take, get_or-drop}
-use Rattle.std.specs.Prelude.{Some, Contains, Vec, slice_index, nat_eq}
+use Rattle.std.proofs.Common.{◌≡◌, ◌≢◌, ◌≤◌, ◌<◌, ◌+◌, ◌-◌, ◌*◌, ◌/◌, ◌%◌, ◌⊎◌, inl, inr, max, min, ℕ, zero, suc, List, [], ◌∷◌, ◌++◌, refl, sym, ◌∙◌, ap, subst, length, take, drop, replicate, arith, length-append, length-take, length-drop, get_or-take, get_or-drop}
+use Rattle.std.specs.Prelude.{Some, Contains, Err, IfOk, Ok, Result, Vec, slice_index, nat_eq, true}
 use Rattle.std.specs.List.{IsDistinct}
 use Rattle.std.proofs.lemmas.Bool.{cases_lt}
 use Rattle.std.proofs.lemmas.List.{get_or_default, get_or_past, get_or-replicate, length-replicate}
+use Rattle.cfb_format.specs.declared.error.Error.{Error}
 use Rattle.cfb_format.specs.declared.validate.Validation.{Validation}
 use Rattle.cfb_format.specs.declared.version.Version.{Version}
+use Rattle.cfb_format.specs.declared.version.Version.TheVariants.{V3, V4}
 use Rattle.cfb_format.specs.Bytes.{byte_at, sector_len, free_sector}
 use Rattle.cfb_format.specs.Chain.{value, chain_from}
 use Rattle.cfb_format.specs.Full.{rounded_up}
 use Rattle.cfb_format.specs.Medium.{ChangesOnlyBytes, written}
 use Rattle.cfb_format.specs.declared.medium.ReadMedium as medium
 use Rattle.cfb_format.proofs.ByteLemmas.{length-written, written_above, written_at, written_below}
-use Rattle.cfb_tables.proofs.Members.{Contains-nil, Contains-one}
+use Rattle.cfb_sectors.specs.Sectors.{SectorFile}
+use Rattle.cfb_tables.proofs.Members.{Contains-nil}
 use Rattle.cfb_alloc.proofs.ChainView.{found_chain}
 use Rattle.cfb_alloc.proofs.Listed.{place_once}
 use Rattle.cfb_chains.specs.declared.chain.Numbers as numbers
-use Rattle.cfb_chains.proofs.PlacedBytes as chain
+use Rattle.cfb_table_words.proofs.Runs.{placed_once}
 use Rattle.cfb_soundness.specs.Places.{mini_start}
-use Rattle.cfb_mini_sectors.specs.State.{MiniState, HoldsMini, bytes_of, mini_place, mini_stream_of, version_of}
+use Rattle.cfb_mini_sectors.specs.State.{MiniState, HoldsMini, bytes_of, mini_place, mini_stream_of, table_of, version_of}
 use Rattle.cfb_mini_sectors.specs.Steps.{IsZeroMini, SparesMini, mini_stream_needs}
 use Rattle.cfb_mini_sectors.proofs.MiniFrames.{held-places, place-stays, shorter-place, version-place}
 use Rattle.cfb_mini_chains.proofs.MiniStreamBegun.{begun-distinct, begun-whole}
 use Rattle.cfb_mini.specs.MiniSectors.{ChangesFileOnly, KeepsMiniBytesBut}
-use Rattle.cfb_mini_chains.specs.LentMiniChain.{state_of, start_sector_of, ids_of, len_of, position_of, file_bytes_of, mini_sector_at, place_at, place_of, byte_of, HoldsWanted, ChangesOnlyWanted, OthersStay, HasWritten, HasResized}
+use Rattle.cfb_mini_chains.specs.LentMiniChain.{state_of, start_sector_of, ids_of, left_of, len_of, position_of, file_bytes_of, mini_sector_at, place_at, place_of, byte_of, HoldsWanted, ChangesOnlyWanted, OthersStay, HasWritten, HasResized}
+use Rattle.cfb_mini_chains.specs.MiniRunsAlong.{ChangesTogether, StandTogether, minis_along}
 use Rattle.cfb_mini_chains.specs.declared.mini_chain.MiniChain.{MiniChain}
 use Rattle.cfb_mini_chains.proofs.MiniChainHeld.{held_distinct, held_whole, member_below, member_busy}
-use Rattle.cfb_mini_chains.proofs.MiniChainPlaces.{beside_stream, fits_along, gained_member, in_stream, index_before, kept_own, mini_along, mini_member, taken_at}
+use Rattle.cfb_mini_chains.proofs.MiniChainPlaces.{gained_member, index_before, kept_own, mini_along, mini_inside, mini_member, taken_at}
+use Rattle.cfb_mini_chains.proofs.MiniChainRuns.{along_has, together_fits}
 
 -- ---- a write within a mini sector, by places
 
@@ -43,31 +48,59 @@ later_place v sectors ids p j short =
     let r : (p + j) % 64 ≡ p % 64 + j = omega (arith, short) in
     (λ i. mini_start v sectors (slice_index ids (q i)) + r i) ∙ omega arith
 
-module _ (v : Version) (sectors ids a : List ℕ) (p : ℕ) (f : List ℕ) (short : p % 64 + length f ≤ 64) where
+byte_index : (v : Version) (m r n : ℕ) → r < 64 → 64 * m + 64 ≤ n * sector_len v → (64 * m + r) / sector_len v < n
+byte_index V3 m r n short fits = omega (arith, short, fits)
+byte_index V4 m r n short fits = omega (arith, short, fits)
+
+-- two bytes stand at two places, where the mini sectors differ, and so do the sectors; the mini stream has all of the mini sectors
+placed_apart : (v : Version) (sectors ids : List ℕ) → IsDistinct nat_eq ids → IsDistinct nat_eq sectors → ((m : ℕ) → Contains ids m → 64 * m + 64 ≤ length sectors * sector_len v)
+    → (i k : ℕ) → i < length ids * 64 → k < length ids * 64 → i ≢ k → place v sectors ids i ≢ place v sectors ids k
+placed_apart v sectors ids once sectors_once whole i k low high ne same =
+    let one = mini_along v sectors (slice_index ids (i / 64)) (i % 64) (short_rest i) in
+    let two = mini_along v sectors (slice_index ids (k / 64)) (k % 64) (short_rest k) in
+    let here = byte_index v (slice_index ids (i / 64)) (i % 64) (length sectors) (short_rest i) (whole (slice_index ids (i / 64)) (mini_member ids i low)) in
+    let there = byte_index v (slice_index ids (k / 64)) (k % 64) (length sectors) (short_rest k) (whole (slice_index ids (k / 64)) (mini_member ids k high)) in
+    placed_once v sectors (64 * slice_index ids (i / 64) + i % 64) (64 * slice_index ids (k / 64) + k % 64) sectors_once here there (differ i k low high ne)
+    (one ∙ same ∙ sym two)
+  where
+    differ : (i k : ℕ) → i < length ids * 64 → k < length ids * 64 → i ≢ k → 64 * slice_index ids (i / 64) + i % 64 ≢ 64 * slice_index ids (k / 64) + k % 64
+    differ i k low high ne is =
+        let number : slice_index ids (i / 64) ≡ slice_index ids (k / 64) = omega (arith, is) in
+        let index = place_once ids once (i / 64) (k / 64) (mini_inside i (length ids) low) (mini_inside k (length ids) high) number in
+        ne (omega (arith, is, number, index))
+
+-- bytes that stand one behind the other are put
+module _ (v : Version) (sectors ids a : List ℕ) (p : ℕ) (f : List ℕ) (follow : (j : ℕ) → j < length f → place v sectors ids (p + j) ≡ place v sectors ids p + j) where
   pub put_there : (j : ℕ) → j < length f
       → (place v sectors ids (p + j) < length (written a (place v sectors ids p) f)) × (slice_index (written a (place v sectors ids p) f) (place v sectors ids (p + j)) ≡ slice_index f j)
   put_there j less =
-      let later = later_place v sectors ids p j (omega (arith, short, less)) in
+      let later = follow j less in
       let long = length-written a (place v sectors ids p) f in (
         omega (arith, later, long, less),
         ap (slice_index (written a (place v sectors ids p) f)) later ∙ written_at a (place v sectors ids p) f j less,
       )
 
-  -- the mini sectors differ, and so do the sectors; the mini stream has all of the mini sectors
+  -- each other byte of them stays
   pub kept_beside : IsDistinct nat_eq ids → IsDistinct nat_eq sectors → ((m : ℕ) → Contains ids m → 64 * m + 64 ≤ length sectors * sector_len v)
-      → p < length ids * 64 → (k : ℕ) → k < length ids * 64 → (k < p) ⊎ (p + length f ≤ k)
+      → p + length f ≤ length ids * 64 → (k : ℕ) → k < length ids * 64 → (k < p) ⊎ (p + length f ≤ k)
       → slice_index (written a (place v sectors ids p) f) (place v sectors ids k) ≡ slice_index a (place v sectors ids k)
-  kept_beside once sectors_once whole inside k low other =
-      let from = mini_along v sectors (slice_index ids (p / 64)) (p % 64) (short_rest p) in
-      let at = mini_along v sectors (slice_index ids (k / 64)) (k % 64) (short_rest k) in
-      let here = whole (slice_index ids (p / 64)) (mini_member ids p inside) in
-      let there = whole (slice_index ids (k / 64)) (mini_member ids k low) in
-      let p_short = short_rest p in
-      let k_short = short_rest k in
-      let kept = chain.kept_beside v sectors a (in_stream ids p) f sectors_once (omega (arith, here, p_short))
-      (fits_along v (slice_index ids (p / 64)) (p % 64) (length f) p_short short)
-      (in_stream ids k) (omega (arith, there, k_short)) (beside_stream ids k p (length f) once low inside short other) in
-      (λ j. slice_index (written a (sym from j) f) (sym at j)) ∙ kept ∙ ap (slice_index a) at
+  kept_beside once sectors_once whole fits k low other =
+      let at = place v sectors ids p in
+      let q = place v sectors ids k in
+      elim (cases_lt q at) [
+        | inl below ↦ written_below a at f q below
+        | inr from ↦
+            elim (cases_lt q (at + length f)) [
+              | inr above ↦ written_above a at f q above
+              | inl inside ↦
+                  (let j = q - at in
+                  let less : j < length f = omega (arith, from, inside) in
+                  let next = follow j less in
+                  absurd (placed_apart v sectors ids once sectors_once whole k (p + j) low (omega (arith, fits, less))
+                  (λ same. elim other [ inl before ↦ omega (arith, before, same) | inr behind ↦ omega (arith, behind, same, less) ])
+                  (omega (arith, next, from))))
+            ]
+      ]
 
 -- ---- zeros from a byte to the end of its mini sector
 
@@ -88,6 +121,9 @@ module _ (v : Version) (sectors ids a b : List ℕ) (len : ℕ) (once : IsDistin
   zeros_fit : len % 64 + length zeros ≤ 64
   zeros_fit = let short = short_rest len in let count = zero_count in omega (arith, short, count)
 
+  zeros_follow : (j : ℕ) → j < length zeros → place v sectors ids (len + j) ≡ place v sectors ids len + j
+  zeros_follow j less = let fit = zeros_fit in later_place v sectors ids len j (omega (arith, fit, less))
+
   tail_inside : 0 < len % 64 → len < length ids * 64
   tail_inside parted = omega (arith, within, parted)
 
@@ -96,7 +132,8 @@ module _ (v : Version) (sectors ids a b : List ℕ) (len : ℕ) (once : IsDistin
     | inl full ↦ ap (λ (xs : List ℕ). slice_index xs (place v sectors ids k)) (none full)
     | inr parted ↦
         ap (λ (xs : List ℕ). slice_index xs (place v sectors ids k)) (some parted)
-        ∙ kept_beside v sectors ids a len zeros zeros_fit once sectors_once whole (tail_inside parted) k (omega (arith, below, within)) (inl below)
+        ∙ kept_beside v sectors ids a len zeros zeros_follow once sectors_once whole
+        (let inside = tail_inside parted in let fit = zeros_fit in omega (arith, inside, fit)) k (omega (arith, below, within)) (inl below)
   ]
 
   pub zero_there : (k : ℕ) → len ≤ k → k < rounded_up len 64 * 64 → (place v sectors ids k < length b) × (slice_index b (place v sectors ids k) ≡ 0)
@@ -105,7 +142,7 @@ module _ (v : Version) (sectors ids a b : List ℕ) (len : ℕ) (once : IsDistin
     | inr parted ↦
         (let count = zero_count in
         let less : k - len < length zeros = omega (arith, parted, count, behind, high) in
-        let put = put_there v sectors ids a len zeros zeros_fit (k - len) less in
+        let put = put_there v sectors ids a len zeros zeros_follow (k - len) less in
         let is : len + (k - len) ≡ k = omega (arith, behind) in
         let there : (place v sectors ids k < length (written a (place v sectors ids len) zeros)) × (slice_index (written a (place v sectors ids len) zeros) (place v sectors ids k) ≡ slice_index zeros (k - len)) =
         subst (λ m. (place v sectors ids m < length (written a (place v sectors ids len) zeros)) × (slice_index (written a (place v sectors ids len) zeros) (place v sectors ids m) ≡ slice_index zeros (k - len))) is put in
@@ -150,21 +187,21 @@ module _ {F A : Type 0} {g : medium.Ghosts F} {l : numbers.Ghosts (Vec ℕ A)} w
   IsChained c = chain_from (state_of c).minifat (start_sector_of c) ≡ Some (ids_of c)
 
   -- another byte of the file than those that were written
-  pub only_wanted : (old new : MiniChain F A (Vec ℕ A) g l) (count m : ℕ) → ChangesOnlyBytes (place_of old) m (file_bytes_of old) (file_bytes_of new) → m ≤ count
-      → position_of old + m ≤ len_of old → position_of old % 64 + m ≤ 64 → ChangesOnlyWanted count old new
-  only_wanted old new count m change few fits short = record {
-    no_shorter = change.no_shorter;
+  pub only_wanted : (old new : MiniChain F A (Vec ℕ A) g l) (count : ℕ) → ChangesTogether (ids_of old) (position_of old) count (state_of old) (state_of new) → ChangesOnlyWanted count old new
+  only_wanted old new count change = record {
+    no_shorter = change.change.no_shorter;
     others = λ i within other.
         let at = place_of old in
         elim (cases_lt i at) [
-          | inl below ↦ change.below i within below
+          | inl below ↦ change.change.below i within below
           | inr from ↦
-              elim (cases_lt i (at + m)) [
+              elim (cases_lt i (at + change.n)) [
                 | inl inside ↦
                     (let p = position_of old in
-                    let later = later_place (version_of (state_of old)) (mini_stream_of (state_of old)) (ids_of old) p (i - at) (omega (arith, short, from, inside)) in
-                    absurd (other (p + (i - at)) (omega arith) (omega (arith, few, from, inside)) (omega (arith, fits, from, inside)) (later ∙ omega (arith, from))))
-                | inr above ↦ change.above i within above
+                    let less : i - at < change.n = omega (arith, from, inside) in
+                    absurd (other (p + (i - at)) (omega arith) (omega (arith, change.few, less)) (change.together.listed (i - at) less)
+                    (change.together.follow (i - at) less ∙ omega (arith, from))))
+                | inr above ↦ change.change.above i within above
               ]
         ];
   }
@@ -175,17 +212,13 @@ module _ {F A : Type 0} {g : medium.Ghosts F} {l : numbers.Ghosts (Vec ℕ A)} w
     others = λ i within other. ap (λ (xs : List ℕ). slice_index xs i) same;
   }
 
-  -- mini sectors other than the one at the position
-  pub others_stay : (old new : MiniChain F A (Vec ℕ A) g l) (count : ℕ) → 0 < count → position_of old < len_of old
-      → SparesMini (mini_sector_at old (position_of old) ∷ []) (state_of old) (state_of new) → OthersStay count old new
-  others_stay old new count some inside spares m busy other =
-      spares.bytes m busy (λ c. other (record {
-        byte = position_of old;
-        behind = omega arith;
-        wanted = omega (arith, some);
-        there = inside;
-        here = Contains-one (mini_sector_at old (position_of old)) m c;
-      }))
+  -- mini sectors that have none of so many bytes from the position on
+  pub others_stay : (old new : MiniChain F A (Vec ℕ A) g l) (count : ℕ) → 0 < count
+      → SparesMini (minis_along (ids_of old) (position_of old) count) (state_of old) (state_of new) → OthersStay count old new
+  others_stay old new count some spares m busy other =
+      spares.bytes m busy (λ c.
+      let has = along_has (ids_of old) (position_of old) count m some c in
+      other (record { byte = has.byte; behind = has.behind; wanted = has.wanted; there = has.there; here = has.here }))
 
   -- the mini sectors of a held mini chain are in the mini stream
   pub chain_whole : (validation : Validation) (c : MiniChain F A (Vec ℕ A) g l) → IsChained c → HoldsMini validation (state_of c)
@@ -214,26 +247,27 @@ module _ {F A : Type 0} {g : medium.Ghosts F} {l : numbers.Ghosts (Vec ℕ A)} w
     }
 
     module _ (validation : Validation) (chained : IsChained old) (h : HoldsMini validation (state_of old)) (m : ℕ) (from : List ℕ)
-        (put : file_bytes_of new ≡ written (file_bytes_of old) (place_of old) (take m from)) (inside : position_of old < len_of old)
-        (short : position_of old % 64 + m ≤ 64) (few : m ≤ length from) where
+        (put : file_bytes_of new ≡ written (file_bytes_of old) (place_of old) (take m from)) (some : 0 < m) (few : m ≤ length from)
+        (together : StandTogether (state_of old) (ids_of old) (position_of old) m) where
       count : length (take m from) ≡ m
       count = let is = length-take m from in omega (arith, few, is)
 
-      fits : position_of old % 64 + length (take m from) ≤ 64
-      fits = let is = count in omega (arith, is, short)
+      follow : (j : ℕ) → j < length (take m from) → place_at old (position_of old + j) ≡ place_of old + j
+      follow j less = let is = count in together.follow j (omega (arith, less, is))
 
       kept_other : (k : ℕ) → k < len_of old → (k < position_of old) ⊎ (position_of old + m ≤ k) → byte_of new k ≡ byte_of old k
       kept_other k low other =
           let is = count in
+          let fits = together_fits (state_of old) (ids_of old) (position_of old) m some together in
           let apart : (k < position_of old) ⊎ (position_of old + length (take m from) ≤ k) = elim other [ inl below ↦ inl below | inr above ↦ inr (omega (arith, above, is)) ] in
           (λ j. slice_index (put j) (same_place k j))
-          ∙ kept_beside (version_of (state_of old)) (mini_stream_of (state_of old)) (ids_of old) (file_bytes_of old) (position_of old) (take m from) fits
-          (chain_distinct old chained) (held_distinct validation (state_of old) h) (chain_whole validation old chained h) inside k low apart
+          ∙ kept_beside (version_of (state_of old)) (mini_stream_of (state_of old)) (ids_of old) (file_bytes_of old) (position_of old) (take m from) follow
+          (chain_distinct old chained) (held_distinct validation (state_of old) h) (chain_whole validation old chained h) (omega (arith, fits, is)) k low apart
 
       there : (j : ℕ) → j < m → (place_at new (position_of old + j) < length (file_bytes_of new)) × (byte_of new (position_of old + j) ≡ slice_index from j)
       there j less =
           let is = count in
-          let stands = put_there (version_of (state_of old)) (mini_stream_of (state_of old)) (ids_of old) (file_bytes_of old) (position_of old) (take m from) fits j (omega (arith, is, less)) in
+          let stands = put_there (version_of (state_of old)) (mini_stream_of (state_of old)) (ids_of old) (file_bytes_of old) (position_of old) (take m from) follow j (omega (arith, is, less)) in
           let at = same_place (position_of old + j) in
           let long = ap (λ (xs : List ℕ). length xs) put in
           let within = stands.0 in (
@@ -249,6 +283,18 @@ module _ {F A : Type 0} {g : medium.Ghosts F} {l : numbers.Ghosts (Vec ℕ A)} w
         gap = λ as_long k low other past. kept_other k low other ∙ get_or_past (file_bytes_of old) (place_at old k) 0 past;
         fresh = λ k low high behind. let is = same_len in absurd (omega (arith, is, low, high));
       }
+
+    pub wrote_some : (validation : Validation) → IsChained old → HoldsMini validation (state_of old) → (r : Result ℕ Error) (from : List ℕ)
+        → IfOk r (λ m. (table_of (state_of new)).file ≡ record (table_of (state_of old)).file {
+          bytes = written (file_bytes_of old) (place_of old) (take m from);
+          len = max (table_of (state_of old)).file.len (place_of old + m);
+          begun = true;
+        })
+        → IfOk r (λ m. 0 < m) → IfOk r (λ m. m ≤ min (length from) (left_of old)) → IfOk r (StandTogether (state_of old) (ids_of old) (position_of old))
+        → IfOk r (λ m. HasWritten m from old new)
+    wrote_some validation chained h (Err e) from put some few together = tt
+    wrote_some validation chained h (Ok m) from put some few together =
+        wrote_here validation chained h m from (ap (λ (f : SectorFile). f.bytes) put) some (omega (arith, few)) together
 
   -- ---- growth, and a write then
 

@@ -11,7 +11,7 @@ use Rattle.cfb_sectors.proofs.SectorLemmas.{Stays_trans}
 use Rattle.cfb_sectors.proofs.WordLemmas.{word_apart}
 use Rattle.cfb_tables.specs.Listed.{gained}
 use Rattle.cfb_tables.specs.Tables.{HasTaken, TableState}
-use Rattle.cfb_tables.proofs.Members.{Contains-one, Contains-or, in_three, first_of_three, value-below}
+use Rattle.cfb_tables.proofs.Members.{Contains-or, in_three, first_of_three, value-below}
 use Rattle.cfb_alloc.specs.Frame.{Spares}
 use Rattle.cfb_alloc.proofs.Frames.{spares-less, spares-then}
 use Rattle.cfb_mini_table.specs.MiniTable.{TakesMini}
@@ -20,11 +20,14 @@ use Rattle.cfb_mini_sectors.specs.Steps.{BeginsSystem, GrowsFor, KeepsHeader, Ke
 use Rattle.cfb_mini_sectors.proofs.MiniFrames.{held-places, shorter-place, spares-less as minis-less, version-place}
 use Rattle.cfb_mini_chains.proofs.MiniStreamBegun.{begun-among}
 use Rattle.cfb_mini.specs.MiniSectors.{ChangesFileOnly, KeepsDirectory, KeepsMiniBytesBut}
+use Rattle.cfb_mini_chains.specs.MiniRunsAlong.{minis_along}
+use Rattle.cfb_mini_chains.proofs.MiniChainRuns.{along_among}
 
 -- ---- other mini sectors
 
-pub one_spared : (own : List ℕ) (m : ℕ) (old new : MiniState) → Contains own m → SparesMini (m ∷ []) old new → SparesMini own old new
-one_spared own m old new member = minis-less (m ∷ []) own old new (λ i c. subst (Contains own) (Contains-one m i c) member)
+-- those that have one of so many bytes
+pub along_spared : (ids : List ℕ) (at count : ℕ) (old new : MiniState) → 0 < count → SparesMini (minis_along ids at count) old new → SparesMini ids old new
+along_spared ids at count old new some = minis-less (minis_along ids at count) ids old new (λ m c. along_among ids at count m some c)
 
 -- ---- the bytes of mini sectors in use
 

@@ -129,6 +129,3 @@ enough_room p n m more is = omega (arith, is)
 
 pub some_needed : (p n m : ℕ) → 0 < rounded_up (p + n - m * 64) 64 → p ≤ m * 64 → 0 < n
 some_needed p n m some within = omega (arith, some, within)
-
-pub step_inside : (k m n : ℕ) → k < m * 64 → k % 64 + n ≤ 64 → k + n ≤ m * 64
-step_inside k m n inside short = omega (arith, inside, short)

@@ -31,10 +31,6 @@ mini_along v sectors m r short =
     (λ j. sector_start v (slice_index sectors (stream_quotient v m r short j)) + stream_rest v m r short j)
     ∙ omega arith
 
-pub fits_along : (v : Version) (m r n : ℕ) → r < 64 → r + n ≤ 64 → (64 * m + r) % sector_len v + n ≤ sector_len v
-fits_along V3 m r n inside short = omega arith
-fits_along V4 m r n inside short = omega arith
-
 -- the mini stream has all of a mini sector of which it has a byte
 pub whole_mini : (v : Version) (m n : ℕ) → 64 * m < n * sector_len v → 64 * m + 64 ≤ n * sector_len v
 whole_mini V3 m n h = omega arith
@@ -47,44 +43,11 @@ behind_header V4 sectors m r = omega arith
 
 -- ---- the mini sectors of a mini chain
 
--- which byte of the mini stream byte k of the mini chain is
-abbrev pub in_stream : List ℕ → ℕ → ℕ
-in_stream ids k = 64 * slice_index ids (k / 64) + k % 64
-
 pub mini_inside : (k n : ℕ) → k < n * 64 → k / 64 < n
 mini_inside k n h = omega arith
 
 pub mini_member : (ids : List ℕ) (k : ℕ) → k < length ids * 64 → Contains ids (slice_index ids (k / 64))
 mini_member ids k inside = Contains-get_or ids (k / 64) 0 (mini_inside k (length ids) inside)
-
--- another byte of it than those that are written lies beside them in the mini stream
-pub beside_stream : (ids : List ℕ) (k p n : ℕ) → IsDistinct nat_eq ids → k < length ids * 64 → p < length ids * 64 → p % 64 + n ≤ 64
-    → (k < p) ⊎ (p + n ≤ k) → (in_stream ids k < in_stream ids p) ⊎ (in_stream ids p + n ≤ in_stream ids k)
-beside_stream ids k p n once low inside short other =
-    elim (cases_eq (k / 64) (p / 64)) [
-      | inl same ↦
-          let at = ap (λ q. slice_index ids q) same in
-          elim other [ inl below ↦ inl (omega (arith, at, same, below)) | inr above ↦ inr (omega (arith, at, same, above)) ]
-      | inr differ ↦
-          elim (cases_lt (slice_index ids (k / 64)) (slice_index ids (p / 64))) [
-            | inl less ↦ inl (omega (arith, less))
-            | inr more ↦
-                let another : slice_index ids (k / 64) ≢ slice_index ids (p / 64) =
-                λ e. differ (place_once ids once (k / 64) (p / 64) (mini_inside k (length ids) low) (mini_inside p (length ids) inside) e) in
-                elim (cases_lt (slice_index ids (p / 64)) (slice_index ids (k / 64))) [
-                  | inl less ↦ inr (omega (arith, less, short))
-                  | inr not_less ↦ absurd (another (omega (arith, more, not_less)))
-                ]
-          ]
-    ]
-
--- bytes that follow each other in one mini sector
-pub later_stream : (ids : List ℕ) (p j : ℕ) → p % 64 + j < 64 → in_stream ids (p + j) ≡ in_stream ids p + j
-later_stream ids p j short =
-    let q : (p + j) / 64 ≡ p / 64 = omega (arith, short) in
-    let r : (p + j) % 64 ≡ p % 64 + j = omega (arith, short) in
-    let at = ap (λ n. slice_index ids n) q in
-    omega (arith, at, r)
 
 -- ---- growth and cuts
 

@@ -1,6 +1,6 @@
 -- What is read of a mini chain.
-use Rattle.std.proofs.Common.{◌≡◌, ◌≤◌, ◌<◌, ◌+◌, ◌*◌, ◌/◌, ◌%◌, ◌-◌, inl, inr, min, ℕ, zero, suc, List, ◌∷◌, [], refl, sym, ◌∙◌, ap, subst, length, take, drop, arith, drop-cons, add-one, length-take, length-drop}
-use Rattle.std.specs.Prelude.{if◌then◌else◌, Result, Ok, Err, IfOk, IsErrAnd, OnOk, Option, Some, None, option_and_then, slice_index, unwrap_or}
+use Rattle.std.proofs.Common.{◌≡◌, ◌≤◌, ◌<◌, ◌+◌, ◌*◌, ◌/◌, ◌%◌, ℕ, zero, suc, List, ◌∷◌, [], refl, sym, ◌∙◌, ap, subst, length, take, drop, arith, drop-cons, add-one, length-take, length-drop}
+use Rattle.std.specs.Prelude.{if◌then◌else◌, Option, Some, None, option_and_then, slice_index, unwrap_or}
 use Rattle.std.specs.Option.{option_map_or}
 use Rattle.std.proofs.lemmas.Bool.{lt-ltb}
 use Rattle.std.proofs.lemmas.Option.{slice_get-get_or}
@@ -9,12 +9,10 @@ use Rattle.cfb_format.specs.declared.version.Version.TheVariants.{V3, V4}
 use Rattle.cfb_format.specs.Bytes.{byte_at, sector_len, sector_start}
 use Rattle.cfb_format.specs.Content.{in_file, place_in_chain, placed_from}
 use Rattle.cfb_format.specs.Medium.{part}
-use Rattle.cfb_format.specs.declared.error.Error.{Error}
-use Rattle.cfb_format.specs.Refused.{IsInvalidData}
 use Rattle.cfb_chains.specs.ChainPlaces.{place_along}
 use Rattle.cfb_mini_sectors.specs.State.{MiniState, bytes_of, mini_place, mini_stream_of, table_of, version_of}
 use Rattle.cfb_mini.specs.MiniSectors.{HasMiniByte, HasMiniSector, place_in_mini_sectors}
-use Rattle.cfb_mini_chains.proofs.MiniChainHeld.{byte_or}
+use Rattle.cfb_mini_chains.specs.MiniRunsAlong.{StandTogether, place_along_minis}
 use Rattle.cfb_mini_chains.proofs.MiniChainPlaces.{mini_along, whole_mini}
 
 index_inside : (v : Version) (k m : ℕ) → k < m * sector_len v → k / sector_len v < m
@@ -74,12 +72,11 @@ mini_placed s ids k inside has there =
     some_of n V3 x h = omega (arith, h)
     some_of n V4 x h = omega (arith, h)
 
--- what was read of a mini sector is what stands in the mini chain from there on
-pub read_is_placed : (s : MiniState) (ids : List ℕ) (k n : ℕ) (into : List ℕ) → k < length ids * 64 → k % 64 + n ≤ 64 → (0 < n → HasMiniSector s (slice_index ids (k / 64)))
-    → n ≤ length into → take n into ≡ part (bytes_of s) (mini_place s (slice_index ids (k / 64)) + k % 64) n
+-- bytes that stand one behind the other and were read are what stands in the mini chain from there on
+pub read_is_placed : (s : MiniState) (ids : List ℕ) (k n : ℕ) (into : List ℕ) → StandTogether s ids k n → n ≤ length into → take n into ≡ part (bytes_of s) (place_along_minis s ids k) n
     → take n into ≡ placed_from (bytes_of s) (place_in_mini_sectors s ids) k n
-read_is_placed s ids k n into inside short has within read =
-    let at = mini_place s (slice_index ids (k / 64)) + k % 64 in
+read_is_placed s ids k n into together within read =
+    let at = place_along_minis s ids k in
     let count = ap (λ (xs : List ℕ). length xs) read in
     let left = length-take n into in
     let right = length-take n (drop at (bytes_of s)) in
@@ -87,40 +84,14 @@ read_is_placed s ids k n into inside short has within read =
     let fits : 0 < n → at + n ≤ length (bytes_of s) = λ some. omega (arith, count, left, right, behind, within, some) in
     read ∙ sym (placed_part (bytes_of s) (place_in_mini_sectors s ids) n k at
     (λ j less.
-    let some : 0 < n = omega (arith, less) in
-    let long = fits some in
-    let q : (k + j) / 64 ≡ k / 64 = omega (arith, short, less) in
-    let r : (k + j) % 64 ≡ k % 64 + j = omega (arith, short, less) in
-    let here = ap (λ i. mini_place s (slice_index ids i)) q in
-    mini_placed s ids (k + j) (omega (arith, inside, short, less)) (subst (λ i. HasMiniSector s (slice_index ids i)) (sym q) (has some)) (omega (arith, here, r, long, less))
-    ∙ ap (λ p. Some p) (omega (arith, here, r)))
+    let long = fits (omega (arith, less)) in
+    let here = together.follow j less in
+    mini_placed s ids (k + j) (together.listed j less) (together.there j less) (omega (arith, here, long, less)) ∙ ap (λ p. Some p) here)
     fits)
 
--- bytes that follow one that is there in the same mini sector
-pub later_there : (s : MiniState) (ids : List ℕ) (k j : ℕ) → k % 64 + j < 64 → HasMiniSector s (slice_index ids (k / 64))
-    → mini_place s (slice_index ids (k / 64)) + k % 64 + j < (table_of s).file.len → HasMiniByte s (slice_index ids ((k + j) / 64)) ((k + j) % 64)
-later_there s ids k j short has reached =
-    let q : (k + j) / 64 ≡ k / 64 = omega (arith, short) in
-    let r : (k + j) % 64 ≡ k % 64 + j = omega (arith, short) in
-    let here = ap (λ i. mini_place s (slice_index ids i)) q in
-    record {
-      mini_sector = subst (λ i. HasMiniSector s (slice_index ids i)) (sym q) has;
-      reached = omega (arith, here, r, reached);
-    }
-
--- a read of a mini sector gives a byte only where there is one
-pub read_there : (s : MiniState) (m offset len : ℕ) (r : Result ℕ Error) → 0 < len → offset < 64
-    → (0 < min len (64 - offset) → (HasMiniByte s m offset → ⊥) → IsErrAnd r IsInvalidData) → OnOk r (HasMiniByte s m offset)
-read_there s m offset len (Err e) some within cut = tt
-read_there s m offset len (Ok n) some within cut =
-    elim (byte_or s m offset) [ inl has ↦ has | inr none ↦ absurd (cut (omega (arith, some, within)) none) ]
-
-pub read_some : (s : MiniState) (m offset len : ℕ) (r : Result ℕ Error) → 0 < len → offset < 64
-    → IfOk r (λ n. n ≡ min (min len (64 - offset)) ((table_of s).file.len - (mini_place s m + offset)))
-    → (0 < min len (64 - offset) → (HasMiniByte s m offset → ⊥) → IsErrAnd r IsInvalidData) → IfOk r (λ n. 0 < n)
-read_some s m offset len (Err e) some within count cut = tt
-read_some s m offset len (Ok n) some within count cut =
-    elim (byte_or s m offset) [
-      | inl has ↦ (let reached = has.reached in omega (arith, some, within, count, reached))
-      | inr none ↦ absurd (cut (omega (arith, some, within)) none)
-    ]
+-- and those that the file goes on to are there
+pub together_there : (s : MiniState) (ids : List ℕ) (k n : ℕ) → StandTogether s ids k n → place_along_minis s ids k + n ≤ (table_of s).file.len
+    → (j : ℕ) → j < n → HasMiniByte s (slice_index ids ((k + j) / 64)) ((k + j) % 64)
+together_there s ids k n together reached j less =
+    let here = together.follow j less in
+    record { mini_sector = together.there j less; reached = omega (arith, here, reached, less) }

@@ -1,5 +1,5 @@
 -- What is seen of a mini chain whose mini allocator is lent: one list of bytes with a position (MS-CFB 2.4).
-use Rattle.std.specs.Prelude.{◌≡◌, ◌≢◌, ◌<◌, ◌≤◌, ◌⊎◌, ℕ, ◌+◌, ◌-◌, ◌*◌, ◌/◌, ◌%◌, min, List, [], ◌++◌, length, take, Result, Vec, slice_index, nat_lt, if◌then◌else◌}
+use Rattle.std.specs.Prelude.{◌≡◌, ◌≢◌, ◌<◌, ◌≤◌, ◌⊎◌, ℕ, ◌+◌, ◌-◌, ◌*◌, ◌/◌, ◌%◌, min, List, [], ◌++◌, length, take, Result, Vec, slice_index}
 use Rattle.std.specs.Borrow.{RattleType, MutBor, Fml, RestsIfErr}
 use Rattle.std.specs.declared.alloc.Allocator as heap
 use Rattle.cfb_format.specs.Bytes.{free_sector}
@@ -62,10 +62,7 @@ module _ {F A : Type 0} {g : medium.Ghosts F} {n : numbers.Ghosts (Vec ℕ A)} w
   abbrev pub IsThere : MiniChain F A (Vec ℕ A) g n → ℕ → Type 0
   IsThere c k = HasMiniByte (state_of c) (mini_sector_at c k) (k % mini_sector_len)
 
-  -- how many bytes the mini sector at the position has from there on, none at the end, and where in the file they begin
-  abbrev pub room_of : MiniChain F A (Vec ℕ A) g n → ℕ
-  room_of c = if nat_lt (position_of c) (len_of c) then mini_sector_len - position_of c % mini_sector_len else 0
-
+  -- where in the file the bytes from the position on begin
   abbrev pub place_of : MiniChain F A (Vec ℕ A) g n → ℕ
   place_of c = place_at c (position_of c)
 

@@ -1,1 +1,2 @@
+pub mod MiniRunsAlong
 pub mod LentMiniChain

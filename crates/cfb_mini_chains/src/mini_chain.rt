@@ -15,12 +15,14 @@ ghost use Rattle.cfb_tables.specs.Refused.{ChangeRefused, WalkRefused};
 ghost use Rattle.cfb_mini_sectors.specs.State.{HoldsMini, bytes_of, mini_place, mini_stream_of, table_of};
 ghost use Rattle.cfb_mini_sectors.specs.Steps.{AreStartsUnnamed, IsInMiniStream, IsNotHeld, IsTooFewFor, IsZeroMini, KeepsHeader, SparesMini, StopsShort, StopsShortOrFull, system_sectors};
 ghost use Rattle.cfb_mini.specs.MiniSectors.{ChangesFileOnly, HasMiniByte, HasMiniSector, IsStill, KeepsDirectory, KeepsMiniBytesBut, LengthensMini, ShortensMini, place_in_mini_sectors};
+ghost use Rattle.cfb_mini_chains.specs.MiniRunsAlong.{ChangesTogether, StandTogether, minis_along, place_along_minis};
 
 use cfb_chains::chain::Numbers;
 use cfb_format::consts::MINI_SECTOR_LEN;
 use cfb_format::error::{Detail, Error};
 use cfb_format::medium::{Medium, ReadMedium};
 use cfb_mini::mini_allocator::MiniAllocator;
+use cfb_mini::mini_runs::mini_run;
 use cfb_mini_sectors::pieces::are_known_minis;
 use cfb_tables::ends::first_number;
 use std::alloc::{Allocator as Heap, Global};
@@ -66,7 +68,7 @@ impl<'a, F: ReadMedium, A: Heap + Clone> MiniChain<'a, F, A> {
 }
 
 impl<'a, F: ReadMedium, A: Heap> MiniChain<'a, F, A> {
-    ghost use Rattle.cfb_mini_chains.specs.LentMiniChain.{minialloc_of, state_of, start_sector_of, ids_of, len_of, left_of, position_of, room_of, mini_sector_at, file_bytes_of, IsThere};
+    ghost use Rattle.cfb_mini_chains.specs.LentMiniChain.{minialloc_of, state_of, start_sector_of, ids_of, len_of, left_of, position_of, mini_sector_at, file_bytes_of, IsThere};
 
     /// The number of its first mini sector, or END where it has none.
     pub fn start_sector_id(&self) -> u32
@@ -133,29 +135,9 @@ impl<'a, F: ReadMedium, A: Heap> MiniChain<'a, F, A> {
         self.ids.numbers().get(index as usize).copied().unwrap_or(0)
     }
 
-    /// How far into its mini sector the next byte lies.
-    fn offset_here(&self) -> usize
-        ensures offset { result ≡ position_of self.now % mini_sector_len }
-        ensures short { result < mini_sector_len }
-    {
-        (self.position % MINI_SECTOR_LEN as u64) as usize
-    }
-
-    /// How many bytes its mini sector has from the next byte on, and 0 at the end.
-    fn room_here(&self) -> usize
-        ensures room { result ≡ room_of self.now }
-        ensures inside { 0 < result → position_of self.now < len_of self.now }
-        ensures within { 0 < result
-            → position_of self.now % mini_sector_len + result ≤ mini_sector_len }
-    {
-        if self.position >= self.len() {
-            return 0;
-        }
-        MINI_SECTOR_LEN - self.offset_here()
-    }
-
-    /// Reads a beginning of what there is from the position on, as far as `into` has room, goes on behind it, and answers how many
-    /// bytes that is: none exactly where `into` is empty or the end is reached, and none behind one that the file does not have.
+    /// Reads a beginning of what there is from the position on, by one call of the medium, goes on behind it, and answers how many
+    /// bytes that is: as many as follow each other in the file, as far as `into` has room, none exactly where `into` is empty or the
+    /// end is reached, and none behind one that the file does not have.
     /// `InvalidData` exactly where the byte at the position is not there: the mini stream has no such mini sector, or the file ends
     /// before it; and `Medium` where the medium fails. The position then stays.
     pub fn read(&mut self, into: &mut [u8]) -> Result<usize, Error>
@@ -192,7 +174,7 @@ impl<'a, F: ReadMedium, A: Heap> MiniChain<'a, F, A> {
         self.read_here(into)
     }
 
-    /// Reads what is there of the mini sector at the position from there on, as far as `into` has room.
+    /// Reads what is there from the position on, as far as it follows each other in the file and `into` has room.
     fn read_here(&mut self, into: &mut [u8]) -> Result<usize, Error>
         requires some { 0 < length into.old }
         requires inside { position_of self.old < len_of self.old }
@@ -221,9 +203,7 @@ impl<'a, F: ReadMedium, A: Heap> MiniChain<'a, F, A> {
             → CountsFailure F.read_faults result (table_of (state_of self.old)).file.failures
             (table_of (state_of self.new)).file.failures }
     {
-        let mini = self.mini_sector_at(self.position);
-        let offset = self.offset_here();
-        let count = read_mini_sector(self.minialloc, mini, offset, into)?;
+        let count = read_minis(self.minialloc, self.ids.numbers(), self.position, into)?;
         self.position += count as u64;
         Ok(count)
     }
@@ -244,10 +224,10 @@ impl<'a, F: ReadMedium, A: Heap> MiniChain<'a, F, A> {
 impl<'a, F: Medium, A: Heap> MiniChain<'a, F, A> {
     ghost use Rattle.cfb_mini_chains.specs.LentMiniChain.{minialloc_of, state_of, start_sector_of, ids_of, len_of, position_of, left_of, mini_sector_at, file_bytes_of, place_at, place_of, IsPlaced, ChangesOnlyWanted, OthersStay, HasWritten};
 
-    /// Writes a beginning of `from` over what the mini chain has from the position on, goes on behind it, and answers how many bytes
-    /// that is: none exactly where `from` is empty or the end is reached. `InvalidData` exactly where the mini stream has no mini sector
-    /// for the byte at the position: nothing has changed then. `Medium` where the medium fails: the position then stays, and no byte of
-    /// the file has changed but where `from` was to stand.
+    /// Writes a beginning of `from` over what the mini chain has from the position on, by one call of the medium, goes on behind it, and
+    /// answers how many bytes that is: as many as follow each other in the file, none exactly where `from` is empty or the end is
+    /// reached. `InvalidData` exactly where the mini stream has no mini sector for the byte at the position: nothing has changed then.
+    /// `Medium` where the medium fails: the position then stays, and no byte of the file has changed but where `from` was to stand.
     pub fn write_within(&mut self, from: &[u8]) -> Result<usize, Error>
         ensures same_minialloc { (minialloc_of self.new).ghost_name
             ≡ (minialloc_of self.old).ghost_name }
@@ -293,31 +273,33 @@ impl<'a, F: Medium, A: Heap> MiniChain<'a, F, A> {
             → CountsFailure F.write_faults result (table_of (state_of self.old)).file.failures
             (table_of (state_of self.new)).file.failures }
     {
-        let room = from.len().min(self.room_here());
+        let room = (from.len() as u64).min(self.len() - self.position);
         if room == 0 {
             return Ok(0);
         }
-        self.write_here(&from[..room])?;
-        Ok(room)
+        self.write_here(from)
     }
 
-    /// Writes all of `from` over what the mini sector at the position has from there on.
-    fn write_here(&mut self, from: &[u8]) -> Result<(), Error>
+    /// Writes a beginning of `from` over what there is from the position on: as many bytes as follow each other in the file.
+    fn write_here(&mut self, from: &[u8]) -> Result<usize, Error>
         requires some { 0 < length from.now }
         requires inside { position_of self.old < len_of self.old }
-        requires within { position_of self.old % mini_sector_len + length from.now
-            ≤ mini_sector_len }
         ensures same_minialloc { (minialloc_of self.new).ghost_name
             ≡ (minialloc_of self.old).ghost_name }
         ensures kept { ChangesFileOnly (state_of self.old) (state_of self.new) }
         ensures chain { (ids_of self.new ≡ ids_of self.old)
             × (start_sector_of self.new ≡ start_sector_of self.old) }
-        ensures position { MatchResult result (λ _. position_of self.new ≡ position_of self.old
-            + length from.now) (λ _. position_of self.new ≡ position_of self.old) }
-        ensures ok { IsTrue F.tells → OnOk result ((table_of (state_of self.new)).file
+        ensures count { IfOk result (λ n. n ≤ min (length from.now) (left_of self.old)) }
+        ensures some { IfOk result (λ n. 0 < n) }
+        ensures position { MatchResult result (λ n. position_of self.new
+            ≡ position_of self.old + n) (λ _. position_of self.new ≡ position_of self.old) }
+        ensures together { IfOk result
+            (StandTogether (state_of self.old) (ids_of self.old) (position_of self.old)) }
+        ensures ok { IsTrue F.tells
+            → IfOk result (λ n. (table_of (state_of self.new)).file
             ≡ record (table_of (state_of self.old)).file {
-              bytes = written (file_bytes_of self.old) (place_of self.old) from.now;
-              len = max (table_of (state_of self.old)).file.len (place_of self.old + length from.now);
+              bytes = written (file_bytes_of self.old) (place_of self.old) (take n from.now);
+              len = max (table_of (state_of self.old)).file.len (place_of self.old + n);
               begun = true;
             }) }
         ensures there { OnOk result (IsPlaced self.old (position_of self.old)) }
@@ -328,25 +310,22 @@ impl<'a, F: Medium, A: Heap> MiniChain<'a, F, A> {
         ensures holds { IsTrue F.tells
             → (validation : Validation) → HoldsMini validation (state_of self.old)
             → OnOk result (HoldsMini validation (state_of self.new)) }
-        ensures others { IsTrue F.tells → ChangesOnlyBytes (place_of self.old)
-            (length from.now) (file_bytes_of self.old) (file_bytes_of self.new) }
+        ensures others { IsTrue F.tells → ChangesTogether (ids_of self.old)
+            (position_of self.old) (length from.now) (state_of self.old) (state_of self.new) }
         ensures spares { IsTrue F.tells → Spares (mini_stream_of (state_of self.old))
             (table_of (state_of self.old)) (table_of (state_of self.new)) }
-        ensures mini_spares { IsTrue F.tells
-            → (validation : Validation) → HoldsMini validation (state_of self.old)
-            → SparesMini (mini_sector_at self.old (position_of self.old)
-            ∷ []) (state_of self.old) (state_of self.new) }
+        ensures mini_spares { IsTrue F.tells → (validation : Validation)
+            → HoldsMini validation (state_of self.old) → SparesMini (minis_along (ids_of self.old)
+            (position_of self.old) (length from.now)) (state_of self.old) (state_of self.new) }
         ensures begun { OnOk result ((table_of (state_of self.new)).file.begun ≡ true) }
         ensures refused { IfErr result (StopsShort (state_of self.old) (state_of self.new)) }
         ensures counts { IsTrue F.tells
             → CountsFailure F.write_faults result (table_of (state_of self.old)).file.failures
             (table_of (state_of self.new)).file.failures }
     {
-        let mini = self.mini_sector_at(self.position);
-        let offset = self.offset_here();
-        write_mini_sector(self.minialloc, mini, offset, from)?;
-        self.position += from.len() as u64;
-        Ok(())
+        let count = write_minis(self.minialloc, self.ids.numbers(), self.position, from)?;
+        self.position += count as u64;
+        Ok(count)
     }
 
     /// Makes the bytes from this one to the end of its mini sector zeros: none where a mini sector begins there. `InvalidData` exactly
@@ -812,33 +791,90 @@ fn shorten_list<F: Medium, A: Heap>(
     cut
 }
 
-/// Reads what is there of a mini sector from `offset` on. `InvalidData` exactly where the mini stream has no such mini sector or the file
-/// ends before that, and `Medium` where the medium fails.
-fn read_mini_sector<F: ReadMedium, A: Heap>(
+/// Reads a beginning of the bytes of these mini sectors from byte `at` of them on, by one call of the medium: as many as follow each other
+/// in the file, as far as `into` has room and the file goes. `InvalidData` exactly where the mini stream has no mini sector for the first
+/// or the file ends before it, and `Medium` where the medium fails.
+fn read_minis<F: ReadMedium, A: Heap>(
     minialloc: &mut MiniAllocator<F, A>,
-    mini: u32,
-    offset: usize,
+    ids: &[u32],
+    at: u64,
     into: &mut [u8],
 ) -> Result<usize, Error>
     requires some { 0 < length into.old }
-    requires within { offset < mini_sector_len }
+    requires listed { at < length ids.now * mini_sector_len }
     ensures kept { IsStill minialloc.old minialloc.new }
-    ensures count { IfOk result (λ n. n ≡ min (min (length into.old) (mini_sector_len
-        - offset)) ((table_of minialloc.old).file.len - (mini_place minialloc.old mini + offset))) }
-    ensures some { IfOk result (λ n. 0 < n) }
-    ensures there { OnOk result (HasMiniByte minialloc.old mini offset) }
+    ensures some { IfOk result (λ n. (0 < n) × (n ≤ length into.old)) }
+    ensures together { IfOk result (StandTogether minialloc.old ids.now at) }
+    ensures reached { IfOk result (λ n. place_along_minis minialloc.old ids.now at + n
+        ≤ (table_of minialloc.old).file.len) }
     ensures ok { IsTrue F.tells → IfOk result (λ n. take n into.new
-        ≡ part (bytes_of minialloc.old) (mini_place minialloc.old mini + offset) n) }
+        ≡ part (bytes_of minialloc.old) (place_along_minis minialloc.old ids.now at) n) }
     ensures rest { IfOk result (λ n. drop n into.new ≡ drop n into.old) }
-    ensures cut { (HasMiniByte minialloc.old mini offset → ⊥) → IsErrAnd result IsInvalidData }
-    ensures err { IfErr result (ChangeRefused (HasMiniByte minialloc.old mini offset
-        → ⊥) ⊥ ⊥ Unit) }
+    ensures cut { (HasMiniByte minialloc.old
+        (slice_index ids.now (at / mini_sector_len)) (at % mini_sector_len)
+        → ⊥) → IsErrAnd result IsInvalidData }
+    ensures err { IfErr result (ChangeRefused (HasMiniByte minialloc.old
+        (slice_index ids.now (at / mini_sector_len)) (at % mini_sector_len) → ⊥) ⊥ ⊥ Unit) }
     ensures same { IsTrue F.tells → OnOk result (minialloc.new ≡ minialloc.old) }
     ensures bytes { IsTrue F.tells → bytes_of minialloc.new ≡ bytes_of minialloc.old }
     ensures counts { IsTrue F.tells → CountsFailure F.read_faults result
         (table_of minialloc.old).file.failures (table_of minialloc.new).file.failures }
 {
-    minialloc.read_mini(mini, offset, into)
+    let index = (at / MINI_SECTOR_LEN as u64) as usize;
+    let offset = (at % MINI_SECTOR_LEN as u64) as usize;
+    let run = mini_run(ids, index, offset, into.len());
+    let count = minialloc.read_mini_run(ids[index], offset, &mut into[..run])?;
+    Ok(count)
+}
+
+/// Writes a beginning of `from` over the bytes of these mini sectors from byte `at` of them on, by one call of the medium, and answers how
+/// many bytes that is: as many as follow each other in the file. `InvalidData` exactly where the mini stream has no mini sector for the
+/// first: nothing has changed then. `Medium` where the medium fails.
+fn write_minis<F: Medium, A: Heap>(
+    minialloc: &mut MiniAllocator<F, A>,
+    ids: &[u32],
+    at: u64,
+    from: &[u8],
+) -> Result<usize, Error>
+    requires some { 0 < length from.now }
+    requires listed { at < length ids.now * mini_sector_len }
+    ensures kept { ChangesFileOnly minialloc.old minialloc.new }
+    ensures some { IfOk result (λ n. (0 < n) × (n ≤ length from.now)) }
+    ensures together { IfOk result (StandTogether minialloc.old ids.now at) }
+    ensures ok { IsTrue F.tells → IfOk result (λ n. (table_of minialloc.new).file
+        ≡ record (table_of minialloc.old).file {
+          bytes = written (bytes_of minialloc.old)
+              (place_along_minis minialloc.old ids.now at) (take n from.now);
+          len = max (table_of minialloc.old).file.len
+              (place_along_minis minialloc.old ids.now at + n);
+          begun = true;
+        }) }
+    ensures there { OnOk result
+        (HasMiniSector minialloc.old (slice_index ids.now (at / mini_sector_len))) }
+    ensures begun { OnOk result ((table_of minialloc.new).file.begun ≡ true) }
+    ensures cut { (HasMiniSector minialloc.old (slice_index ids.now (at / mini_sector_len))
+        → ⊥) → IsErrAnd result IsInvalidData }
+    ensures err { IfErr result (ChangeRefused
+        (HasMiniSector minialloc.old (slice_index ids.now (at / mini_sector_len))
+        → ⊥) ⊥ ⊥ Unit) }
+    ensures others { IsTrue F.tells
+        → ChangesTogether ids.now at (length from.now) minialloc.old minialloc.new }
+    ensures spares { IsTrue F.tells
+        → Spares (mini_stream_of minialloc.old) (table_of minialloc.old) (table_of minialloc.new) }
+    ensures mini_spares { IsTrue F.tells → (validation : Validation)
+        → HoldsMini validation minialloc.old
+        → SparesMini (minis_along ids.now at (length from.now)) minialloc.old minialloc.new }
+    ensures holds { IsTrue F.tells → (validation : Validation)
+        → HoldsMini validation minialloc.old → OnOk result (HoldsMini validation minialloc.new) }
+    ensures refused { IfErr result (StopsShort minialloc.old minialloc.new) }
+    ensures counts { IsTrue F.tells → CountsFailure F.write_faults result
+        (table_of minialloc.old).file.failures (table_of minialloc.new).file.failures }
+{
+    let index = (at / MINI_SECTOR_LEN as u64) as usize;
+    let offset = (at % MINI_SECTOR_LEN as u64) as usize;
+    let run = mini_run(ids, index, offset, from.len());
+    let count = minialloc.write_mini_run(ids[index], offset, &from[..run])?;
+    Ok(count)
 }
 
 /// Writes all of `from` into a mini sector. `InvalidData` exactly where the mini stream has no such mini sector: nothing has changed then.
