@@ -194,12 +194,14 @@ impl<F: ReadMedium, A: Heap + Clone> Volume<F, A> {
     }
 
     /// Whether the stream of that entry can be given this length now, by the numbers that are free or left once the chain that it moves
-    /// away from is free: the test that `resize` makes before it changes anything. The length that it has it can be given. `Memory`.
+    /// away from is free: the test that `resize` makes before it changes anything. The length that it has it can be given, and that asks
+    /// for no memory. `Memory` for any other.
     pub fn can_resize(&self, entry: u32, len: u64) -> Result<bool, Error>
         requires sound { self.now.is_sound ≡ true }
         requires stream { IsStreamOf self.now.base entry }
         requires limit { len ≤ max_stream_len (version_of self.now.base) }
-        ensures same { len ≡ len_of self.now.base entry → IfOk result (λ can. can ≡ true) }
+        ensures same { len ≡ len_of self.now.base entry
+            → OnErr result ⊥ × IfOk result (λ can. can ≡ true) }
         ensures can { Holds self.now → len ≢ len_of self.now.base entry
             → IfOk result (λ can. IsTrue can ↔ (IsTooLongFor self.now.base entry len → ⊥)) }
         ensures err { Holds self.now → IfErr result IsMemory }

@@ -16,7 +16,7 @@ can_resize-requires-clause-limit g c = subst (λ (f : FileState). c.args.len ≤
 
 pub returns-clause-same : goal.returns-clause-same
 returns-clause-same g c same =
-    (c.can_resize.ensures.same (subst (λ (f : FileState). c.args.len ≡ len_of f.base c.args.entry) (sym c.self.view_is) same)).1
+    c.can_resize.ensures.same (subst (λ (f : FileState). c.args.len ≡ len_of f.base c.args.entry) (sym c.self.view_is) same)
 
 pub returns-clause-can : goal.returns-clause-can
 returns-clause-can g c held differs =
