@@ -14,3 +14,4 @@ pub mod WordRuns
 pub mod MinifatNamed
 pub mod MinifatGrown
 pub mod BothGrown
+pub mod RoomInTurn
