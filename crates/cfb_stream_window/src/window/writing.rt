@@ -277,22 +277,26 @@ impl<A: Allocator> Window<A> {
         }
     }
 
-    /// Whether there is room to write out what is pending, and for the length after that.
+    /// Whether there is room to write out what is pending, and for the length after that: for both, for the length at once, and for
+    /// `ROOM_BESIDE` bytes more than it.
     fn can_write_out<C: Contents>(&self, content: &C, id: u32, len: u64) -> Result<bool, Error>
         requires there { C.has content.now id }
         ensures ok { C.tells content.now → TakesLen (C.stored content.now id) self.now.size → self.now.size ≢ (C.stored content.now id).size
             → IfOk result (λ can. can ≡ true → C.is_too_long content.now id self.now.size → ⊥) }
-        ensures had { C.tells content.now → TakesLen (C.stored content.now id) len → len ≢ (C.stored content.now id).size
+        ensures len { C.tells content.now → TakesLen (C.stored content.now id) len → len ≢ (C.stored content.now id).size
             → IfOk result (λ can. can ≡ true → C.is_too_long content.now id len → ⊥) }
+        ensures beside { C.tells content.now → TakesLen (C.stored content.now id) (len + 8192) → len + 8192 ≢ (C.stored content.now id).size
+            → IfOk result (λ can. can ≡ true → C.is_too_long content.now id (len + 8192) → ⊥) }
         ensures refused { C.tells content.now → IfErr result IsMemory }
     {
-        let is_roomy = content.can_resize(id, len.saturating_add(ROOM_BESIDE))?;
-        if !is_roomy {
+        let Some(beside) = len.checked_add(ROOM_BESIDE) else {
+            return Ok(false);
+        };
+        if !content.can_resize(id, beside)? {
             return Ok(false);
         }
-        // A short length is had in mini sectors, of which the room beside says nothing.
-        let is_had = content.can_resize(id, len)?;
-        if !is_had {
+        // Numbers of mini sectors may lack for the length, and not for a longer one, which lies in sectors.
+        if !content.can_resize(id, len)? {
             return Ok(false);
         }
         content.can_resize(id, self.size)
