@@ -28,7 +28,7 @@ pub mod laws {
     /// What bytes mean.
     pub use cfb_format::laws as bytes;
     /// How the calls make the steps of a list of commands, and what such a list keeps of a file.
-    pub use cfb_command_steps::laws as commands;
+    pub use cfb_commands::laws as commands;
     /// What listings are, and where the paths in them lead.
     pub use cfb_listing::laws as listings;
     /// What each call answers and makes of the tree.

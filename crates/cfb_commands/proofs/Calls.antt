@@ -9,7 +9,7 @@ use Rattle.cfb_rules.specs.Calls.{Call, create_storage_all, done, flush}
 use Rattle.cfb_agreement.specs.Files.{FileState, failures_of}
 use Rattle.cfb_path_changes.specs.Answers.{IsDoneBy, IsRefusedBy}
 use Rattle.cfb_path_changes.specs.Calls.{CallAnswers, CallAnswersInTurn}
-use Rattle.cfb_command_steps.specs.Promised.{CallKeeps, Changes, Refuses}
+use Rattle.cfb_commands.specs.Promised.{CallKeeps, Changes, Refuses}
 use Rattle.cfb_commands.specs.Commands.{call_answer}
 use Rattle.cfb_commands.proofs.Errors.{refusal_is}
 

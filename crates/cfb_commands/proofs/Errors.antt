@@ -3,7 +3,7 @@ use Rattle.std.proofs.Common.{◌≡◌, ◌∙◌, refl, sym}
 use Rattle.cfb_format.specs.declared.error.Error.{Error}
 use Rattle.cfb_format.specs.declared.error.Error.TheVariants.{NotFound, AlreadyExists, InvalidInput, InvalidData, Medium, Memory, Full, Unsound, Failed}
 use Rattle.cfb_rules.specs.Refusal.{IsRefusal, Refusal}
-use Rattle.cfb_command_steps.proofs.Calls.{same_refusal}
+use Rattle.cfb_commands.proofs.CallSteps.{same_refusal}
 use Rattle.cfb_commands.specs.Commands.{refusal_of}
 
 pub refusal_is : (e : Error) → IsRefusal (refusal_of e) e

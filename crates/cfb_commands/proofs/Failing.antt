@@ -12,10 +12,10 @@ use Rattle.cfb_rules.proofs.LegalRuns.{call_weaker}
 use Rattle.cfb_rules.proofs.RuleKinds.{ReplyOfRules, Step-rules}
 use Rattle.cfb_agreement.specs.Files.{Agrees, FileState, is_failed}
 use Rattle.cfb_path_changes.specs.Answers.{setting_of}
-use Rattle.cfb_command_steps.specs.Promised.{promised}
-use Rattle.cfb_command_steps.specs.Seen.{Standing, seen_as, standing_at}
-use Rattle.cfb_command_steps.proofs.Idle.{run_idle}
-use Rattle.cfb_command_steps.proofs.Made.{run_stays}
+use Rattle.cfb_commands.specs.Promised.{promised}
+use Rattle.cfb_commands.specs.Seen.{Standing, seen_as, standing_at}
+use Rattle.cfb_commands.proofs.Idle.{run_idle}
+use Rattle.cfb_commands.proofs.Made.{run_stays}
 use Rattle.cfb_commands.specs.Failing.{IsAnsweredFailed, OnceFailed, call_tells_failure, is_failed_earlier, is_refusal, only_looks, says_failed, tells_failure}
 use Rattle.cfb_commands.specs.Working.{RunsLegally}
 use Rattle.cfb_commands.proofs.Runs.{some_tree}

@@ -1,3 +1,8 @@
+pub mod Before
+pub mod CallSteps
+pub mod Steps
+pub mod Made
+pub mod Idle
 pub mod Errors
 pub mod Growing
 pub mod Lending

@@ -25,11 +25,11 @@ use Rattle.cfb_path_changes.specs.declared.placing.Creation.TheVariants.{EmptySt
 use Rattle.cfb_path_changes.proofs.NewObjects.{creation_asks, creation_rule}
 use Rattle.cfb_path_changes.proofs.Refusing.{refused_as_failed, refused_for_memory}
 use Rattle.cfb_compound_file.proofs.OpenedStreams.{memory_answers, not_found_answers}
-use Rattle.cfb_command_steps.specs.Promised.{CallKeeps, IsClosedOf, promised}
-use Rattle.cfb_command_steps.specs.Seen.{seen_as, standing_at}
-use Rattle.cfb_command_steps.proofs.Before.{setting_then}
-use Rattle.cfb_command_steps.proofs.Calls.{call_step, keeps_setting}
-use Rattle.cfb_command_steps.proofs.Steps.{closing_step}
+use Rattle.cfb_commands.specs.Promised.{CallKeeps, IsClosedOf, promised}
+use Rattle.cfb_commands.specs.Seen.{seen_as, standing_at}
+use Rattle.cfb_commands.proofs.Before.{setting_then}
+use Rattle.cfb_commands.proofs.CallSteps.{call_step, keeps_setting}
+use Rattle.cfb_commands.proofs.Steps.{closing_step}
 use Rattle.cfb_commands.specs.Commands.{refusal_of}
 use Rattle.cfb_commands.specs.Working.{Answers, IsOpenedBy, Works}
 use Rattle.cfb_commands.proofs.Errors.{known, refusal_is}

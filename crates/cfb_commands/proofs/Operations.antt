@@ -15,9 +15,9 @@ use Rattle.cfb_compound_file.specs.StreamAnswers.{GoesOn, GoesOnInTurn, IsStream
 use Rattle.cfb_compound_file.proofs.StoredStreams.{nothing_changes}
 use Rattle.cfb_compound_file.proofs.StreamCalls.{goes_at_once}
 use Rattle.cfb_compound_file.specs.Stored.{ChangesStream}
-use Rattle.cfb_command_steps.specs.Promised.{IsWorkedOn, causes_on, may_come_second}
-use Rattle.cfb_command_steps.proofs.Before.{same_before, stayed}
-use Rattle.cfb_command_steps.proofs.Calls.{uncounted}
+use Rattle.cfb_commands.specs.Promised.{IsWorkedOn, causes_on, may_come_second}
+use Rattle.cfb_commands.proofs.Before.{same_before, stayed}
+use Rattle.cfb_commands.proofs.CallSteps.{uncounted}
 use Rattle.cfb_commands.specs.Commands.{refusal_of, stream_answer}
 use Rattle.cfb_commands.specs.Working.{LendsNothing}
 use Rattle.cfb_commands.proofs.Errors.{known, refusal_is}

@@ -11,11 +11,11 @@ use Rattle.cfb_sequences.proofs.Lists.{run-goes-on}
 use Rattle.cfb_agreement.specs.Files.{Agrees, FileState, is_failed}
 use Rattle.cfb_agreement.proofs.HeldBytes.{held-means-its-tree}
 use Rattle.cfb_path_changes.specs.Answers.{MeansTree, setting_of}
-use Rattle.cfb_command_steps.specs.Made.{StaysMade}
-use Rattle.cfb_command_steps.specs.Promised.{CallKeeps, promised}
-use Rattle.cfb_command_steps.specs.Seen.{seen_as, standing_at}
-use Rattle.cfb_command_steps.proofs.Calls.{call_step}
-use Rattle.cfb_command_steps.proofs.Made.{run_stays}
+use Rattle.cfb_commands.specs.Made.{StaysMade}
+use Rattle.cfb_commands.specs.Promised.{CallKeeps, promised}
+use Rattle.cfb_commands.specs.Seen.{seen_as, standing_at}
+use Rattle.cfb_commands.proofs.CallSteps.{call_step}
+use Rattle.cfb_commands.proofs.Made.{run_stays}
 use Rattle.cfb_commands.specs.declared.command.Command.{Command as TheCommand}
 use Rattle.cfb_commands.specs.declared.command.Reply.{Reply}
 use Rattle.cfb_commands.specs.Commands.{command_of, reply_of}

@@ -15,10 +15,10 @@ use Rattle.cfb_agreement.specs.Files.{FileState, SameSetting, failures_of, is_fa
 use Rattle.cfb_path_changes.specs.Answers.{causes_of, setting_of}
 use Rattle.cfb_compound_file.specs.Stored.{ChangesStream, KeepsRest}
 use Rattle.cfb_compound_file.specs.StreamAnswers.{ClosesTree, IsClosingRefused, OpenStream, run_in, stream_in}
-use Rattle.cfb_command_steps.specs.Promised.{IsClosedOf, IsOpenSince, IsWorkedOn, promised}
-use Rattle.cfb_command_steps.specs.Seen.{seen_as, standing_at}
-use Rattle.cfb_command_steps.proofs.Calls.{uncounted}
-use Rattle.cfb_command_steps.proofs.Steps.{stream_call_step}
+use Rattle.cfb_commands.specs.Promised.{IsClosedOf, IsOpenSince, IsWorkedOn, promised}
+use Rattle.cfb_commands.specs.Seen.{seen_as, standing_at}
+use Rattle.cfb_commands.proofs.CallSteps.{uncounted}
+use Rattle.cfb_commands.proofs.Steps.{stream_call_step}
 use Rattle.cfb_commands.specs.declared.command.StreamOp.{StreamOp}
 use Rattle.cfb_commands.specs.declared.command.StreamOp.TheVariants.{Read, ReadToEnd, Write, Seek, SetLen, Flush, Position, Len}
 use Rattle.cfb_commands.specs.declared.command.StreamReply.{StreamReply}

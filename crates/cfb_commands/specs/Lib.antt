@@ -1,3 +1,7 @@
+pub mod Seen
+pub mod Promised
+pub mod Made
+pub mod Laws
 pub mod Commands
 pub mod Working
 pub mod Kinds

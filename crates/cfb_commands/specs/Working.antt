@@ -9,8 +9,8 @@ use Rattle.cfb_agreement.specs.Files.{Agrees, FileState, SameSetting, is_failed}
 use Rattle.cfb_path_changes.specs.Answers.{MeansTree, setting_of}
 use Rattle.cfb_compound_file.specs.OpenedStreams.{BeginsAt}
 use Rattle.cfb_compound_file.specs.StreamAnswers.{OpenStream, stream_in}
-use Rattle.cfb_command_steps.specs.Promised.{CallKeeps, IsOpenSince, promised}
-use Rattle.cfb_command_steps.specs.Seen.{seen_as, standing_at}
+use Rattle.cfb_commands.specs.Promised.{CallKeeps, IsOpenSince, promised}
+use Rattle.cfb_commands.specs.Seen.{seen_as, standing_at}
 
 -- no bytes of the stream are lent, unless the file has failed
 abbrev pub LendsNothing : OpenStream → Type 0

@@ -3,6 +3,7 @@
 #![tactic(auto)]
 
 pub mod command;
+pub mod laws;
 mod queries;
 pub mod run;
 mod streams;

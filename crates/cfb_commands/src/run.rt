@@ -5,7 +5,7 @@ ghost use Rattle.cfb_commands.specs.Commands.{command_of, reply_of};
 ghost use Rattle.cfb_commands.specs.Failing.{IsAsked, OnceFailed};
 ghost use Rattle.cfb_commands.specs.Faults.{IsGiven};
 ghost use Rattle.cfb_commands.specs.Kinds.{AreOfKinds, IsOfKind, kind_of_command};
-ghost use Rattle.cfb_command_steps.specs.Made.{StaysMade};
+ghost use Rattle.cfb_commands.specs.Made.{StaysMade};
 ghost use Rattle.cfb_commands.specs.Working.{Answers, RunsLegally};
 
 use crate::command::{Command, Reply};

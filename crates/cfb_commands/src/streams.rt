@@ -2,7 +2,7 @@
 ghost use Rattle.std.specs.Prelude.{◌≡◌, ◌≤◌, ◌||◌, ℕ, All, List, [], IfErr, IfOk, IsTrue, length, map, chars, vec_capacity};
 ghost use Rattle.std.specs.Borrow.{sem};
 ghost use Rattle.cfb_agreement.specs.Files.{FileState, SameSetting};
-ghost use Rattle.cfb_command_steps.specs.Promised.{CallKeeps, IsOpenSince, IsWorkedOn};
+ghost use Rattle.cfb_commands.specs.Promised.{CallKeeps, IsOpenSince, IsWorkedOn};
 ghost use Rattle.cfb_compound_file.specs.Streams.{file_of, file_rests, open_of};
 ghost use Rattle.cfb_format.specs.Tree.{Tree};
 ghost use Rattle.cfb_rules.specs.Calls.{refused};

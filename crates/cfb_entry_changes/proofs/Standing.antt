@@ -32,9 +32,9 @@ use Rattle.cfb_content.proofs.Outlines.{streams-once}
 use Rattle.cfb_content.proofs.Owned.{empty-owns-nothing, same-flat}
 use Rattle.cfb_content.proofs.Readable.{kept-is-readable}
 use Rattle.cfb_content.proofs.Snug.{kept-is-snug}
-use Rattle.cfb_insertion.proofs.SameUse.{once-in-both, same-growth, same-tally}
-use Rattle.cfb_insertion.proofs.Spared.{put-keeps-streams}
-use Rattle.cfb_insertion.proofs.Streams.{own-minis-stay, own-sectors-stay}
+use Rattle.cfb_entry_changes.proofs.SameUse.{once-in-both, same-growth, same-tally}
+use Rattle.cfb_entry_changes.proofs.Spared.{put-keeps-streams}
+use Rattle.cfb_entry_changes.proofs.Streams.{own-minis-stay, own-sectors-stay}
 use Rattle.cfb_entry_changes.specs.Standing.{SameContent, StreamsStand, WritesEntries}
 use Rattle.cfb_entry_changes.specs.Laws.{EntriesKeepStreams, StandingIsAllUsed, StandingIsChangeable, StandingIsSnug, StreamsAreKeptInTurn}
 

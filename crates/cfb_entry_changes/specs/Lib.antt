@@ -1,3 +1,6 @@
+pub mod Balance
+pub mod Putting
+pub mod InsertionLaws
 pub mod Standing
 pub mod Kept
 pub mod Taking

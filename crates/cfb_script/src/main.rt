@@ -4,6 +4,7 @@
 
 mod copies;
 mod mutations;
+mod random;
 mod sessions;
 mod telling;
 mod world;

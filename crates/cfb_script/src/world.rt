@@ -2,9 +2,9 @@
 
 use crate::copies::{copied, copy_file};
 use crate::mutations::mutated;
+use crate::random::lists::played_at_random;
 use crate::sessions::{Outcome, Settings, make, play_once};
 use cfb_media::media::Kind;
-use cfb_random::lists::played_at_random;
 use cfb_rows::answers::Answer;
 use cfb_rows::faults::Plan;
 use cfb_rows::forms::{BETWEEN, fits};

@@ -103,9 +103,17 @@ const REFUSED: &[Step] = &[
     (Call::Rest, 0, 9, 9, &[(5, 4)]),
 ];
 
+/// A seek inside the buffer writes nothing, so it cannot be refused.
+const INSIDE: &[Step] = &[
+    (Call::Once(20, 23), 0, 3, 9, &[]),
+    (Call::To(1), 0, 1, 9, &[]),
+    (Call::Stored, 0, 1, 9, &[(9, 0)]),
+];
+
 #[rattlefmt::skip]
 const CHANGES: &[Script] = &[
     Script { limits: &[4096], ground: NINE, steps: REFUSED, closing: 0, held: &[(9, 0)] },
+    Script { limits: &[1], ground: NINE, steps: INSIDE, closing: 5, held: &[(9, 0)] },
 ];
 
 #[test]

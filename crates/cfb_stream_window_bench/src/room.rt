@@ -166,9 +166,20 @@ const REFUSED_ROOM: &[Step] = &[
     (Call::Stored, 0, 3000, 3000, &[(5, 100), (2995, 5)]),
 ];
 
+/// A buffer that gets no memory to grow for what is read keeps what is kept back, and the file does not fail.
+const REFUSED_GROWTH: &[Step] = &[
+    (Call::Once(100, 105), 0, 5, 3000, &[]),
+    (Call::Refuse, 0, 5, 3000, &[]),
+    (Call::Read(1), 6, 5, 3000, &[]),
+    (Call::Stored, 0, 5, 3000, &[(3000, 0)]),
+    (Call::Serve, 0, 5, 3000, &[]),
+    (Call::Rest, 0, 3000, 3000, &[(2995, 5)]),
+];
+
 #[rattlefmt::skip]
 const REFUSED: &[Script] = &[
     Script { limits: &[1], ground: THREE_THOUSAND, steps: REFUSED_ROOM, closing: 0, held: &[(5, 100), (2995, 5)] },
+    Script { limits: &[8192], ground: THREE_THOUSAND, steps: REFUSED_GROWTH, closing: 0, held: &[(5, 100), (2995, 5)] },
 ];
 
 #[test]

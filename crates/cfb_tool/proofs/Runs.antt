@@ -9,10 +9,10 @@ use Rattle.cfb_rules.specs.Refusal.{Refusal, medium_failed, out_of_memory}
 use Rattle.cfb_rules.specs.Runs.{Setting}
 use Rattle.cfb_agreement.specs.Files.{FileState}
 use Rattle.cfb_path_changes.specs.Answers.{setting_of}
-use Rattle.cfb_command_steps.specs.Promised.{promised}
-use Rattle.cfb_command_steps.specs.Seen.{seen_as, standing_at}
-use Rattle.cfb_command_steps.proofs.Before.{setting_same}
-use Rattle.cfb_command_steps.proofs.Made.{run_stays}
+use Rattle.cfb_commands.specs.Promised.{promised}
+use Rattle.cfb_commands.specs.Seen.{seen_as, standing_at}
+use Rattle.cfb_commands.proofs.Before.{setting_same}
+use Rattle.cfb_commands.proofs.Made.{run_stays}
 use Rattle.cfb_commands.specs.declared.command.Command.{Command as TheCommand}
 use Rattle.cfb_commands.specs.declared.command.Reply.{Reply as TheReply}
 use Rattle.cfb_commands.specs.Commands.{command_of, refusal_of, reply_of}

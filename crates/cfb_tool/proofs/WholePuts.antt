@@ -12,10 +12,10 @@ use Rattle.cfb_mini_sectors.specs.State.{bytes_of, cases_of}
 use Rattle.cfb_agreement.specs.Files.{Agrees, FileState, is_failed}
 use Rattle.cfb_agreement.proofs.HeldBytes.{held-means-its-tree}
 use Rattle.cfb_path_changes.specs.Answers.{MeansTree, setting_of}
-use Rattle.cfb_command_steps.specs.Promised.{promised}
-use Rattle.cfb_command_steps.specs.Seen.{seen_as, standing_at}
-use Rattle.cfb_command_steps.proofs.Calls.{setting_none}
-use Rattle.cfb_command_steps.proofs.Made.{run_stays}
+use Rattle.cfb_commands.specs.Promised.{promised}
+use Rattle.cfb_commands.specs.Seen.{seen_as, standing_at}
+use Rattle.cfb_commands.proofs.CallSteps.{setting_none}
+use Rattle.cfb_commands.proofs.Made.{run_stays}
 use Rattle.cfb_commands.specs.Commands.{closing_of}
 use Rattle.cfb_tool.specs.Content.{HasStream, HoldsStream, IsPut}
 use Rattle.cfb_tool.proofs.Stored.{written_is_stored}

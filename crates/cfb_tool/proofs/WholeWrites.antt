@@ -13,7 +13,7 @@ use Rattle.cfb_stream_buffer.specs.Contents.{stream_setting_of}
 use Rattle.cfb_stream_window.specs.Windows.{Runs}
 use Rattle.cfb_path_changes.specs.Answers.{causes_of}
 use Rattle.cfb_compound_file.specs.StreamAnswers.{OpenStream, StreamRunsOn, run_in, stored_in}
-use Rattle.cfb_command_steps.specs.Promised.{CallKeeps, IsClosedOf, IsOpenSince, IsWorkedOn}
+use Rattle.cfb_commands.specs.Promised.{CallKeeps, IsClosedOf, IsOpenSince, IsWorkedOn}
 use Rattle.cfb_commands.specs.Working.{Answers, IsOpenedBy, LendsNothing, Works}
 use Rattle.cfb_commands.proofs.Openings.{done_so, refused_so}
 use Rattle.cfb_commands.proofs.Working.{works_none, works_on}

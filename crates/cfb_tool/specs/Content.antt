@@ -17,7 +17,7 @@ use Rattle.cfb_path_changes.specs.Answers.{Answers, AnswersNot, MeansTree, setti
 use Rattle.cfb_compound_file.specs.Stored.{kept_of}
 use Rattle.cfb_compound_file.specs.StreamAnswers.{OpenStream, causes_of_reading}
 use Rattle.cfb_commands.specs.Commands.{refusal_of}
-use Rattle.cfb_command_steps.specs.Promised.{IsOpenSince}
+use Rattle.cfb_commands.specs.Promised.{IsOpenSince}
 use Rattle.cfb_commands.specs.Working.{LendsNothing, Works}
 use Rattle.cfb_commands.specs.Working as commands
 use Rattle.cfb_tool.specs.Playing.{first_refusal, refusal_in}

@@ -28,12 +28,12 @@ use Rattle.cfb_mini_sectors.specs.State.{HoldsMini, IsChangeable, MiniState, byt
 use Rattle.cfb_mini_sectors.specs.Steps.{KeepsLimits, KeepsMini, StopsShort}
 use Rattle.cfb_content.specs.Contents.{KeepsFixedHeader}
 use Rattle.cfb_content.proofs.Refusals.{refused-as}
-use Rattle.cfb_insertion.specs.Putting.{PutsObject, WritesObject}
-use Rattle.cfb_insertion.proofs.Entries.{put-has-outline, put-is-balanced, put-is-exact, put-is-snug-mini}
-use Rattle.cfb_insertion.proofs.Fullness.{full-for-entry-is-full}
-use Rattle.cfb_insertion.proofs.Joined.{put-storage-joins-tree, put-stream-joins-tree}
-use Rattle.cfb_insertion.proofs.Sound.{put-is-all-used, put-is-changeable, put-is-snug}
-use Rattle.cfb_insertion.proofs.Spared.{put-keeps-streams}
+use Rattle.cfb_entry_changes.specs.Putting.{PutsObject, WritesObject}
+use Rattle.cfb_entry_changes.proofs.Entries.{put-has-outline, put-is-balanced, put-is-exact, put-is-snug-mini}
+use Rattle.cfb_entry_changes.proofs.Fullness.{full-for-entry-is-full}
+use Rattle.cfb_entry_changes.proofs.Joined.{put-storage-joins-tree, put-stream-joins-tree}
+use Rattle.cfb_entry_changes.proofs.Sound.{put-is-all-used, put-is-changeable, put-is-snug}
+use Rattle.cfb_entry_changes.proofs.Spared.{put-keeps-streams}
 use Rattle.cfb_agreement.specs.Changes.{KeepsStreams, StaysOrFails, object_added_at}
 use Rattle.cfb_agreement.specs.Files.{Agrees, FileState, Holds, IsAsBefore, IsAsMade, IsFullFile, is_failed}
 use Rattle.cfb_agreement.proofs.Flags.{flags-not-read, made-flagged}

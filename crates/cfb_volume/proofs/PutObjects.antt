@@ -17,8 +17,8 @@ use Rattle.cfb_trees.proofs.PathReached.{reached-is-found}
 use Rattle.cfb_directory.proofs.NamesFound.{inserted-is-found}
 use Rattle.cfb_mini_sectors.specs.State.{MiniState, cases_of, entries_of, tables_in}
 use Rattle.cfb_siblings.specs.Paths.{number_from}
-use Rattle.cfb_insertion.specs.Putting.{PutsObject}
-use Rattle.cfb_insertion.proofs.Entries.{either, kept-links, reached, streams}
+use Rattle.cfb_entry_changes.specs.Putting.{PutsObject}
+use Rattle.cfb_entry_changes.proofs.Entries.{either, kept-links, reached, streams}
 use Rattle.cfb_entry_changes.specs.Kept.{KeepsFound}
 use Rattle.cfb_entry_changes.specs.Standing.{StandStill}
 use Rattle.cfb_entry_changes.proofs.Taken.{same-content}

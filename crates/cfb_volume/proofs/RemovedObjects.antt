@@ -46,7 +46,7 @@ use Rattle.cfb_agreement.proofs.ContentChanges.{content-becomes-tree}
 use Rattle.cfb_agreement.proofs.Flags.{as-before-same, flags-not-read, made-flagged}
 use Rattle.cfb_agreement.proofs.HeldBytes.{changeable-is-held}
 use Rattle.cfb_objects.proofs.Balance.{fields-keep-balance}
-use Rattle.cfb_insertion.proofs.Spared.{put-keeps-streams}
+use Rattle.cfb_entry_changes.proofs.Spared.{put-keeps-streams}
 use Rattle.cfb_entry_changes.specs.Kept.{AllStayBalancedBut, FindsAllBut}
 use Rattle.cfb_entry_changes.specs.Taking.{TakesObject, WritesRemoval}
 use Rattle.cfb_entry_changes.proofs.Moved.{moved-fields, moved-is-found}

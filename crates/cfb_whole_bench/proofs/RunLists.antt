@@ -14,9 +14,9 @@ use Rattle.cfb_rules.proofs.LegalRuns.{trees_legal}
 use Rattle.cfb_mini_sectors.specs.State.{bytes_of, cases_of, root_len_of}
 use Rattle.cfb_agreement.specs.Files.{FileState, is_failed}
 use Rattle.cfb_path_changes.specs.Answers.{MeansTree, setting_of, state_with}
-use Rattle.cfb_command_steps.specs.Made.{StaysMade}
-use Rattle.cfb_command_steps.specs.Promised.{promised}
-use Rattle.cfb_command_steps.specs.Seen.{seen_as, standing_at}
+use Rattle.cfb_commands.specs.Made.{StaysMade}
+use Rattle.cfb_commands.specs.Promised.{promised}
+use Rattle.cfb_commands.specs.Seen.{seen_as, standing_at}
 use Rattle.cfb_commands.specs.Working.{RunsLegally}
 use Rattle.cfb_whole_bench.specs.Lists.{RunsTo, setting_in}
 use Rattle.cfb_whole_bench.specs.OneStream.{IsMadeWith, IsReopenedWith}

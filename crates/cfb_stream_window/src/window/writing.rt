@@ -282,10 +282,17 @@ impl<A: Allocator> Window<A> {
         requires there { C.has content.now id }
         ensures ok { C.tells content.now → TakesLen (C.stored content.now id) self.now.size → self.now.size ≢ (C.stored content.now id).size
             → IfOk result (λ can. can ≡ true → C.is_too_long content.now id self.now.size → ⊥) }
+        ensures had { C.tells content.now → TakesLen (C.stored content.now id) len → len ≢ (C.stored content.now id).size
+            → IfOk result (λ can. can ≡ true → C.is_too_long content.now id len → ⊥) }
         ensures refused { C.tells content.now → IfErr result IsMemory }
     {
         let is_roomy = content.can_resize(id, len.saturating_add(ROOM_BESIDE))?;
         if !is_roomy {
+            return Ok(false);
+        }
+        // A short length is had in mini sectors, of which the room beside says nothing.
+        let is_had = content.can_resize(id, len)?;
+        if !is_had {
             return Ok(false);
         }
         content.can_resize(id, self.size)

@@ -3,7 +3,7 @@ use Rattle.std.proofs.lemmas.Result.{err_from_is_err_and}
 use Rattle.cfb_rules.specs.StreamCalls.{got, read_to_end}
 use Rattle.cfb_compound_file.specs.Streams.{open_of}
 use Rattle.cfb_compound_file.proofs.StoredStreams.{as_before}
-use Rattle.cfb_command_steps.specs.Promised.{IsWorkedOn}
+use Rattle.cfb_commands.specs.Promised.{IsWorkedOn}
 use Rattle.cfb_commands.proofs.Faults.{counted}
 use Rattle.cfb_commands.proofs.Operations.{failed_on, goes_told, memory_on, refused_on, served_on}
 use Rattle.cfb_commands.proofs.Quiet.{from_none}

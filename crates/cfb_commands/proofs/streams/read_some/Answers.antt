@@ -5,7 +5,7 @@ use Rattle.cfb_rules.specs.StreamCalls.{got, read}
 use Rattle.cfb_compound_file.specs.StreamAnswers.{stream_in}
 use Rattle.cfb_compound_file.specs.Streams.{open_of}
 use Rattle.cfb_compound_file.proofs.StoredStreams.{as_before}
-use Rattle.cfb_command_steps.specs.Promised.{IsWorkedOn}
+use Rattle.cfb_commands.specs.Promised.{IsWorkedOn}
 use Rattle.cfb_commands.proofs.Faults.{counted}
 use Rattle.cfb_commands.proofs.Operations.{failed_on, goes_told, memory_on, refused_on, served_on, shorter}
 use Rattle.cfb_commands.proofs.Quiet.{given_back}

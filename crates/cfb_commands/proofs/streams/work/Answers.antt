@@ -3,8 +3,8 @@ use Rattle.cfb_rules.specs.StreamCalls.{ask_len, ask_position, count, flush, off
 use Rattle.cfb_stream_window.specs.Windows.{whence_of}
 use Rattle.cfb_compound_file.specs.StreamAnswers.{stream_in}
 use Rattle.cfb_compound_file.specs.Streams.{open_of}
-use Rattle.cfb_command_steps.specs.Promised.{IsWorkedOn}
-use Rattle.cfb_command_steps.proofs.Before.{same_before}
+use Rattle.cfb_commands.specs.Promised.{IsWorkedOn}
+use Rattle.cfb_commands.proofs.Before.{same_before}
 use Rattle.cfb_commands.specs.Commands.{stream_answer}
 use Rattle.cfb_commands.proofs.Faults.{all_counted}
 use Rattle.cfb_commands.proofs.Operations.{comes_told, goes_told, short_write, left_alone, worked_on}

@@ -5,8 +5,8 @@ use Rattle.cfb_format.specs.declared.error.Error.{Error}
 use Rattle.cfb_rules.specs.StreamCalls.{count, write}
 use Rattle.cfb_compound_file.specs.StreamAnswers.{StreamRunsOn, stream_in}
 use Rattle.cfb_compound_file.specs.Streams.{open_of}
-use Rattle.cfb_command_steps.specs.Promised.{IsWorkedOn}
-use Rattle.cfb_command_steps.proofs.Before.{same_before}
+use Rattle.cfb_commands.specs.Promised.{IsWorkedOn}
+use Rattle.cfb_commands.proofs.Before.{same_before}
 use Rattle.cfb_commands.specs.Commands.{refusal_of, stream_answer}
 use Rattle.cfb_commands.proofs.Operations.{comes_told, goes_told, short_write, worked_on}
 use Rattle.cfb_commands.proofs.Quiet.{writes_none}

@@ -18,7 +18,7 @@ use Rattle.cfb_mini_sectors.specs.State.{HoldsMini, MiniState, bytes_of, cases_o
 use Rattle.cfb_mini_sectors.specs.Steps.{KeepsMini, StopsShort}
 use Rattle.cfb_content.specs.Contents.{KeepsFixedHeader, len_of}
 use Rattle.cfb_content.proofs.FixedHeader.{spared-keeps-header}
-use Rattle.cfb_insertion.proofs.Entries.{put-is-balanced, put-is-found, put-is-new, put-keeps-root, put-grows-tightly}
+use Rattle.cfb_entry_changes.proofs.Entries.{put-is-balanced, put-is-found, put-is-new, put-keeps-root, put-grows-tightly}
 use Rattle.cfb_agreement.specs.Changes.{KeepsStreams, object_added_at}
 use Rattle.cfb_agreement.specs.Files.{Agrees, FileState, Holds, IsAsMade, IsFullFile, GrowsTightly}
 use Rattle.cfb_format.specs.Refused.{IsBreak}

@@ -1,4 +1,0 @@
-pub mod Seen
-pub mod Promised
-pub mod Made
-pub mod Laws

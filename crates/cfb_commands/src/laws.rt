@@ -1,0 +1,21 @@
+//! Each call on a file is a step of a run of commands. None of these functions does anything: each has a law as its contract.
+ghost use Rattle.cfb_commands.specs.Laws.{CallsAreSteps, ClosingsAreSteps, RunsStayIdle, RunsStayLow, RunsStayMade, StreamCallsAreSteps};
+
+/// A call by path is a step.
+pub fn calls_are_steps()
+    ensures { CallsAreSteps }
+{}
+
+/// So is a call on an open stream, and its closing.
+pub fn streams_are_steps()
+    ensures calls { StreamCallsAreSteps }
+    ensures closed { ClosingsAreSteps }
+{}
+
+/// A list of commands keeps the setting, and a file that was made here in order: each storage's tree of siblings is low then. A file that has
+/// failed it leaves as it is.
+pub fn runs_stay_made()
+    ensures made { RunsStayMade }
+    ensures low { RunsStayLow }
+    ensures idle { RunsStayIdle }
+{}

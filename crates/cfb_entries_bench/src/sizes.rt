@@ -1,0 +1,94 @@
+//! How many sectors objects need.
+use crate::directories::{Given, directory};
+use cfb_codecs::direntry::DirEntry;
+use cfb_copy_sizes::needs::is_too_large;
+use cfb_format::color::Color::Black;
+use cfb_format::consts::NO_STREAM as NONE;
+use cfb_format::error::Error;
+use cfb_format::objtype::ObjType::{Root, Storage, Stream, Unallocated};
+use cfb_format::version::Version::{self, V3, V4};
+use std::alloc::{Allocator, Global};
+use std::process::Abort;
+use std::test::Fail;
+
+/// The length of a stream, a version, and how many sectors it needs alone.
+type StreamRow = (u64, Version, u32);
+
+#[rattlefmt::skip]
+const STREAMS: [StreamRow; 9] = [
+    // the directory's sector and the FAT's beside the stream's own
+    (0, V3, 2), (4096, V3, 10), (4097, V3, 11), (4096, V4, 3),
+    // 64 mini sectors, and a sector of the MiniFAT
+    (4095, V3, 11), (1, V3, 4), (4095, V4, 4),
+    // The header lists 109 FAT sectors, which cover 13952 sectors; one sector more takes a FAT sector and a DIFAT
+    // sector along.
+    (13_842 * 512, V3, 13_952), (13_842 * 512 + 1, V3, 13_955),
+];
+
+const ROOT: Given = ("", Root, Black, [NONE; 3], 64);
+
+#[rattlefmt::skip]
+const ENTRIES: &[Given] = &[
+    ROOT, ("", Storage, Black, [NONE; 3], 5000), ("", Stream, Black, [NONE; 3], 64),
+    ("", Unallocated, Black, [NONE; 3], 5000), ("", Stream, Black, [NONE; 3], u64::MAX),
+    ("", Stream, Black, [NONE; 3], 513), ("", Stream, Black, [NONE; 3], 0),
+];
+
+/// The numbers of some of these entries, a version, and how many sectors they need: more than there are numbers for at 0.
+type Row = (&'static [u32], Version, u32);
+
+#[rattlefmt::skip]
+const ROWS: [Row; 8] = [
+    (&[], V3, 2), (&[1], V3, 2), (&[1, 2], V3, 4),
+    // ten mini sectors lie in two sectors
+    (&[1, 2, 5], V3, 5),
+    // the root and four objects lie in two sectors
+    (&[1, 2, 5, 6], V3, 6), (&[1, 2, 5, 6], V4, 4),
+    (&[4], V4, 0), (&[4, 4, 4], V3, 0),
+];
+
+/// Whether the objects of these numbers need just so many sectors.
+fn needs<A: Allocator>(
+    entries: &[DirEntry<A>],
+    order: &[u32],
+    version: Version,
+    sectors: u32,
+) -> bool {
+    if sectors == 0 {
+        return is_too_large(entries, order, version, u32::MAX);
+    }
+    is_too_large(entries, order, version, sectors.saturating_sub(1))
+        && !is_too_large(entries, order, version, sectors)
+}
+
+fn stream_needs(alloc: Global, (len, version, sectors): &StreamRow) -> Result<bool, Error> {
+    let given = [ROOT, ("", Stream, Black, [NONE; 3], *len)];
+    let entries = directory(alloc, &given)?;
+    Ok(needs(&entries, &[1], *version, *sectors))
+}
+
+fn streams_need(rt: &impl Abort, alloc: Global, rows: &[StreamRow]) -> Result<(), Error> {
+    for row in rows {
+        assert!(rt; stream_needs(alloc, row)?, "{} bytes", row.0);
+    }
+    Ok(())
+}
+
+#[test]
+fn one_stream(rt: HostRuntime) -> Result<(), Fail> {
+    streams_need(&rt, rt.alloc(), &STREAMS)?;
+    Ok(())
+}
+
+fn objects_need(rt: &impl Abort, entries: &[DirEntry], rows: &[Row]) {
+    for (order, version, sectors) in rows {
+        assert!(rt; needs(entries, order, *version, *sectors), "{order:?}");
+    }
+}
+
+#[test]
+fn several_objects(rt: HostRuntime) -> Result<(), Fail> {
+    let entries = directory(rt.alloc(), ENTRIES)?;
+    objects_need(&rt, &entries, &ROWS);
+    Ok(())
+}

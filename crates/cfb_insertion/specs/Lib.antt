@@ -1,3 +1,0 @@
-pub mod Balance
-pub mod Putting
-pub mod Laws

@@ -1,0 +1,88 @@
+//! What a file says of its objects.
+
+use crate::random::calls::Call;
+use crate::random::tree::{Object, Tree};
+use cfb::{Command, CompoundFile, Entries, Entry, Medium};
+use std::alloc::{AllocError, Allocator, Global};
+
+/// The commands that calls are.
+pub fn commands_of<A: Allocator + Clone>(
+    alloc: &A,
+    calls: &[Call],
+) -> Result<Vec<Command<A>, A>, AllocError> {
+    let mut commands = Vec::new(alloc.clone()?);
+    put_commands(alloc, calls, &mut commands)?;
+    Ok(commands)
+}
+
+fn put_commands<A: Allocator + Clone>(
+    alloc: &A,
+    calls: &[Call],
+    commands: &mut Vec<Command<A>, A>,
+) -> Result<(), AllocError> {
+    for call in calls {
+        commands.push(call.command(alloc)?)?;
+    }
+    Ok(())
+}
+
+/// Whether a file says of all its objects what a tree has, in the order of a walk, and is sound.
+pub fn says<F: Medium, A: Allocator + Clone>(
+    alloc: Global,
+    file: &mut CompoundFile<F, A>,
+    tree: &Tree,
+) -> bool {
+    let is_walked = match file.walk() {
+        Ok(entries) => tells(entries, tree),
+        Err(_) => false,
+    };
+    if !is_walked || !file.is_sound() || file.is_failed() {
+        return false;
+    }
+    for object in &tree.objects {
+        if object.is_stream && !has_content(alloc, file, object) {
+            return false;
+        }
+    }
+    true
+}
+
+/// Whether these entries are the objects of a tree.
+fn tells<F, A: Allocator>(entries: Entries<'_, F, A>, tree: &Tree) -> bool {
+    let mut count = 0usize;
+    let mut are_told = true;
+    for entry in entries {
+        are_told = are_told && is_told(tree, count, &entry);
+        count = count.saturating_add(1);
+    }
+    are_told && count == tree.objects.len()
+}
+
+/// Whether an entry is the object of a tree at this place.
+fn is_told<A: Allocator>(tree: &Tree, at: usize, entry: &Entry<A>) -> bool {
+    match tree.objects.get(at) {
+        Some(object) => object.is_told_by(&object.names, entry),
+        None => false,
+    }
+}
+
+/// Whether the content of a stream is read as it is to be.
+fn has_content<F: Medium, A: Allocator + Clone>(
+    alloc: Global,
+    file: &mut CompoundFile<F, A>,
+    object: &Object,
+) -> bool {
+    let Ok(path) = object.names.path(alloc) else {
+        return false;
+    };
+    let mut bytes = Vec::new(alloc);
+    match file.open_read_stream(&path) {
+        Ok(mut stream) => {
+            let read = stream.read_to_end(&mut bytes);
+            let closed = stream.close();
+            let is_read = read.is_ok() && closed.is_ok();
+            is_read && bytes.as_slice() == object.content.as_slice()
+        }
+        Err(_) => false,
+    }
+}
