@@ -135,15 +135,15 @@ fn take_path<F: Medium, A: Heap + Clone>(
     }
 }
 
-/// The number of what a path names, if something stands there.
-fn found<F: ReadMedium, A: Heap>(mini: &MiniAllocator<F, A>, path: &str) -> Option<u32> {
+/// The number of what a path names, if something stands there, and how many steps it takes to see that.
+fn found<F: ReadMedium, A: Heap>(mini: &MiniAllocator<F, A>, path: &str) -> (Option<u32>, u64) {
     let (storage, name) = names_of(path);
     if name.is_empty() {
-        mini.stream_id_for_name_chain(&[])
+        mini.directory().find_counted(&[])
     } else if storage.is_empty() {
-        mini.stream_id_for_name_chain(&[name])
+        mini.directory().find_counted(&[name])
     } else {
-        mini.stream_id_for_name_chain(&[storage, name])
+        mini.directory().find_counted(&[storage, name])
     }
 }
 
@@ -207,7 +207,8 @@ pub fn told<F: ReadMedium, A: Heap + Clone>(
     text: &mut String,
 ) -> Answer {
     match line.call() {
-        "found" => match found(mini, line.words[1]) {
+        "steps" => Answer::Count(found(mini, line.words[1]).1),
+        "found" => match found(mini, line.words[1]).0 {
             Some(number) => Answer::Count(u64::from(number)),
             None => Answer::Flag(false),
         },
@@ -230,7 +231,7 @@ fn order_of<F: ReadMedium, A: Heap + Clone>(
 /// How many entries are reached from the root; or whether that of a path is at a place of their order, where the line names one.
 fn reached<F: ReadMedium, A: Heap + Clone>(mini: &MiniAllocator<F, A>, line: &Line<'_>) -> Answer {
     match order_of(mini) {
-        Ok(order) => placed(found(mini, line.words[2]), line, &order),
+        Ok(order) => placed(found(mini, line.words[2]).0, line, &order),
         Err(e) => Answer::Refused(e),
     }
 }

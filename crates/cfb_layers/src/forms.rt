@@ -9,7 +9,7 @@ const FORMS: &str =
     "new n,tables n,tables nn,tables nnn,keep ,back ,same ,guard w,guard ww,guard wnn,range w,range nn,broke w,\
     breaks w,sound ,count n,lay nr,resize n,bytes nh,word nn,fill nnn,size ,at n,end ,make w,resize wn,grow wn,\
     write wnr,has wr,extend nn,free n,foreign nn,limit n,flush ,minis ,root ,sectors ,sizes ,begun ,chain n,\
-    stream w,storage w,take w,beside n,fields n,found w,entry n,reached ,reached nw,slots ,directory ,begin ,\
+    stream w,storage w,take w,beside n,fields n,found w,steps w,entry n,reached ,reached nw,slots ,directory ,begin ,\
     extend n,extend-by nn,free-after n,next n,entries nw,new-entries n,reads n,words n,one-mini n,write r,\
     within r,length n,zero n,free ,place ,ids ,count ,holds r,refuse ,counts n,close ,open w,open ww,open www,\
     open wwww,open wwwww,open wwwwww,open wwwwwww,open wwwwwwww,open wwwwwwwww,open wwwwwwwwww";

@@ -84,7 +84,7 @@ fn asked<F: Medium, A: Heap + Clone>(
         "stream" | "storage" | "take" | "beside" | "fields" => directories::changed(
             alloc, file, line,
         ),
-        "found" | "entry" | "reached" | "slots" | "directory" => {
+        "found" | "steps" | "entry" | "reached" | "slots" | "directory" => {
             directories::told(file, line, text)
         }
         "extend" => extend(file, number, line.number_at(2) as usize),

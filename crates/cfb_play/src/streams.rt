@@ -92,6 +92,7 @@ fn asked<S: Served>(
         "len" => Answer::Count(stream.count()),
         "empty" => Answer::Flag(stream.count() == 0),
         "place" => Answer::Count(stream.place()),
+        "read" if line.number_at(1) > ROOM as u64 => read_long(stream, line, alloc),
         "read" => read(stream, content_at(line, 2), line.number_at(1)),
         "lend" => lends(stream, &Content::of(line.words[1])),
         "lent-up" => lent_up(stream, &Content::of(line.words[1])),
@@ -144,12 +145,25 @@ fn taken<S: Served>(stream: &mut S, count: usize) -> Answer {
     Answer::Done
 }
 
-/// Reads by one call, with room for so many bytes: how many came, which are to be of this content if there is one.
+/// Reads by one call, with room for so many bytes, or for as many as a short piece has: how many came, which are to be of this content if
+/// there is one.
 fn read<S: Served>(stream: &mut S, content: Option<Content<'_>>, most: u64) -> Answer {
     let mut piece = [0u8; ROOM];
-    let place = stream.place();
     let room = most.min(ROOM as u64) as usize;
-    match stream.read_piece(&mut piece[..room]) {
+    read_into(stream, content, &mut piece[..room])
+}
+
+/// The same with room for any number of bytes.
+fn read_long<S: Served>(stream: &mut S, line: &Line<'_>, alloc: Global) -> Answer {
+    let Ok(mut piece) = vec![in alloc; 0u8; line.number_at(1) as usize] else {
+        return Answer::Refused(Error::Memory);
+    };
+    read_into(stream, content_at(line, 2), &mut piece)
+}
+
+fn read_into<S: Served>(stream: &mut S, content: Option<Content<'_>>, piece: &mut [u8]) -> Answer {
+    let place = stream.place();
+    match stream.read_piece(piece) {
         Ok(count) => match content {
             Some(content) => counted(&content, place, piece.get(..count).unwrap_or(&[])),
             None => Answer::Count(count as u64),

@@ -60,6 +60,23 @@ fn what_was_reserved_asks_for_no_memory(rt: HostRuntime) -> Result<(), Error> {
     check(is_turned_in_file(rt.alloc(), [100, 150, 50])?, 2)
 }
 
+/// The chain of sectors 1 to 3 as it is opened again, once it was ended and a sector came to its list.
+fn lengthened(alloc: Global) -> Result<Vec<u32>, Error> {
+    let file = MemoryMedium::from_bytes(file_of(alloc, 4, &[3])?);
+    let mut allocator = opened(alloc, file)?;
+    let mut ids = allocator.open_chain(1)?;
+    let kept = allocator.open_chain(1)?;
+    allocator.end_chain(kept);
+    extend(&mut allocator, &mut ids, 1)?;
+    allocator.open_chain(1)
+}
+
+/// What was kept of a chain is not what it is once it has grown by another list of it.
+#[test]
+fn a_growth_lets_the_kept_chain_go(rt: HostRuntime) -> Result<(), Error> {
+    check(lengthened(rt.alloc())?.as_slice() == [1, 2, 3, 4].as_slice(), 0)
+}
+
 /// The numbers of the refusals to add so many sectors to an empty list and to reserve them.
 fn refused<F: Medium, A: Heap + Clone>(
     allocator: &mut Allocator<F, A>,

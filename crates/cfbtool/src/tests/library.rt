@@ -23,8 +23,8 @@ pub(super) enum Outcome<'a> {
     NoData,
     /// Made by path, in version 4: it gets this storage.
     Made(&'a str),
-    /// Made by options that let it have no third sector: this stream finds none for a byte, and the
-    /// file has not failed then.
+    /// Made by options that let it have no fourth sector: this stream gets 4096 bytes and finds none for
+    /// a byte more, and the file has not failed then.
     MadeFull(&'a str),
     /// Opened to be changed, by options: it gets this storage.
     Changed(&'a str),
@@ -83,8 +83,10 @@ fn is_read<F: ReadMedium>(
 
 fn is_full<F: Medium>(file: &mut CompoundFile<F>, path: &str) -> Result<bool, Error> {
     let mut stream = file.create_stream(path)?;
-    let grown = stream.set_len(1);
+    let made = stream.set_len(4096);
+    let grown = stream.set_len(4097);
     stream.close()?;
+    made?;
     Ok(grown == Err(Error::Full) && !file.is_failed())
 }
 
@@ -122,7 +124,7 @@ fn opened_or_made(rt: &HostRuntime, path: &str, outcome: &Outcome<'_>) -> Opened
     match outcome {
         Outcome::Made(_) => cfb::create(rt, rt.alloc(), path),
         Outcome::MadeFull(_) => {
-            let options = OpenOptions::new().max_sectors(2);
+            let options = OpenOptions::new().max_sectors(3);
             options.create(rt, rt.alloc(), path)
         }
         Outcome::Strict(_) => opened_strictly(rt, path),

@@ -29,10 +29,11 @@ fn files_are_opened_by_path(rt: HostRuntime) -> Result<(), Fail> {
 
 #[rattlefmt::skip]
 static BY_OPTIONS: &[Step<'static>] = &[
-    // no sector comes to the two that there are
-    Comes(UnopenedByOptions), Absent, Content(20000), Filled, Comes(MadeFull("/a")), Len(12288),
+    // one sector comes to the two that there are, and no other: the file is whole then
+    Comes(UnopenedByOptions), Absent, Content(20000), Filled, Comes(MadeFull("/a")), Len(16384),
+    Comes(Bytes("/a", &[0; 4096])), Comes(Strict("/A")),
     // the header counts no sector of the directory: strict opening refuses that
-    Damage(&[(40, 0)], 12288), Comes(NoData), Comes(Changed("/s")), Comes(Sound("/A", "/s")),
+    Damage(&[(40, 0)], 16384), Comes(NoData), Comes(Changed("/s")), Comes(Sound("/A", "/s")),
 ];
 
 /// The options of a file that is reached by its path: what it may grow to, and how much opening
