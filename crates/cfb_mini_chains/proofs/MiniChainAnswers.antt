@@ -1,5 +1,5 @@
 -- What the answers of calls on mini chains say, drawn from what they say.
-use Rattle.std.proofs.Common.{◌⊎◌, inl, inr, ℕ, Bool, refl, arith}
+use Rattle.std.proofs.Common.{◌≡◌, ◌⊎◌, inl, inr, ℕ, Bool, refl, arith}
 use Rattle.std.specs.Prelude.{Result, Ok, Err, IfErr, IsErrAnd}
 use Rattle.cfb_format.specs.Refused.{AfterMedium, CountsError, HasReason, IsInvalidData, Reasons}
 use Rattle.cfb_format.specs.declared.error.Error.{Error}

@@ -1,5 +1,5 @@
 -- What a write and a set length make of each byte of a lent mini chain.
-use Rattle.std.proofs.Common.{◌≡◌, ◌≢◌, ◌≤◌, ◌<◌, ◌+◌, ◌-◌, ◌*◌, ◌/◌, ◌%◌, ◌⊎◌, inl, inr, max, min, ℕ, zero, suc, List, [], ◌++◌, refl, sym, ◌∙◌, ap, subst, length, take, drop, replicate, arith, length-append, length-take, length-drop, get_or-take, get_or-drop}
+use Rattle.std.proofs.Common.{◌≡◌, ◌≢◌, ◌≤◌, ◌<◌, ◌+◌, ◌-◌, ◌*◌, ◌/◌, ◌%◌, ◌⊎◌, inl, inr, max, min, ℕ, zero, suc, List, [], ◌∷◌, ◌++◌, refl, sym, ◌∙◌, ap, subst, length, take, drop, replicate, arith, length-append, length-take, length-drop, get_or-take, get_or-drop}
 use Rattle.std.specs.Prelude.{Some, Contains, Err, IfOk, Ok, Result, Vec, slice_index, nat_eq, true}
 use Rattle.std.specs.List.{IsDistinct}
 use Rattle.std.proofs.lemmas.Bool.{cases_lt}
@@ -11,7 +11,7 @@ use Rattle.cfb_format.specs.declared.version.Version.TheVariants.{V3, V4}
 use Rattle.cfb_format.specs.Bytes.{byte_at, sector_len, free_sector}
 use Rattle.cfb_format.specs.Chain.{value, chain_from}
 use Rattle.cfb_format.specs.Full.{rounded_up}
-use Rattle.cfb_format.specs.Medium.{written}
+use Rattle.cfb_format.specs.Medium.{ChangesOnlyBytes, written}
 use Rattle.cfb_format.specs.declared.medium.ReadMedium as medium
 use Rattle.cfb_format.proofs.ByteLemmas.{length-written, written_above, written_at, written_below}
 use Rattle.cfb_sectors.specs.Sectors.{SectorFile}

@@ -1,6 +1,6 @@
 -- What holding the mini sectors says of their places.
-use Rattle.std.proofs.Common.{◌≡◌, ◌≢◌, ◌≤◌, ◌<◌, ◌+◌, ◌*◌, ◌⊎◌, inl, inr, ℕ, List, [], ◌++◌, ap, length, arith}
-use Rattle.std.specs.Prelude.{Contains, Option, Some, unwrap_or, nat_eq}
+use Rattle.std.proofs.Common.{◌≡◌, ◌≢◌, ◌≤◌, ◌<◌, ◌+◌, ◌*◌, ◌/◌, ◌⊎◌, inl, inr, ℕ, List, [], ◌++◌, sym, ◌∙◌, ap, subst, length, arith}
+use Rattle.std.specs.Prelude.{Contains, Option, Some, unwrap_or, slice_index, nat_eq, if◌then◌else◌}
 use Rattle.std.specs.List.{IsDistinct}
 use Rattle.std.proofs.lemmas.Bool.{cases_lt}
 use Rattle.cfb_format.specs.declared.validate.Validation.{Validation}
@@ -9,9 +9,9 @@ use Rattle.cfb_format.specs.Chain.{value, chain_from}
 use Rattle.cfb_alloc.proofs.ChainView.{found_chain}
 use Rattle.cfb_tables.proofs.ChainLemmas.{members-busy}
 use Rattle.cfb_tables.proofs.Members.{distinct-right}
-use Rattle.cfb_mini_sectors.specs.State.{MiniState, HoldsMini, mini_place, mini_stream_of, table_of, version_of}
+use Rattle.cfb_mini_sectors.specs.State.{MiniState, HoldsMini, mini_place, mini_stream_of, table_of, tables_in, version_of}
 use Rattle.cfb_mini.proofs.MiniKnown.{mini-or-not}
-use Rattle.cfb_mini.specs.MiniSectors.{HasMiniByte}
+use Rattle.cfb_mini.specs.MiniSectors.{HasMiniByte, HasMiniSector}
 
 -- the mini stream's sectors differ
 pub held_distinct : (validation : Validation) (s : MiniState) → HoldsMini validation s → IsDistinct nat_eq (mini_stream_of s)

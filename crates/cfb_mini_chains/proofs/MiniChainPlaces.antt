@@ -1,12 +1,15 @@
 -- Where the bytes of a mini chain stand in the mini stream and in the file.
-use Rattle.std.proofs.Common.{◌≡◌, ◌≤◌, ◌<◌, ◌+◌, ◌-◌, ◌*◌, ◌/◌, ◌%◌, ◌∙◌, ℕ, List, ◌++◌, refl, sym, ap, subst, length, take, drop, replicate, arith, length-append}
-use Rattle.std.specs.Prelude.{Contains, slice_index}
+use Rattle.std.proofs.Common.{◌≡◌, ◌≢◌, ◌≤◌, ◌<◌, ◌+◌, ◌-◌, ◌*◌, ◌/◌, ◌%◌, ◌⊎◌, ◌∙◌, inl, inr, ℕ, List, ◌++◌, refl, sym, ap, subst, length, take, drop, replicate, arith, length-append}
+use Rattle.std.specs.Prelude.{Contains, slice_index, nat_eq}
+use Rattle.std.specs.List.{IsDistinct}
+use Rattle.std.proofs.lemmas.Bool.{cases_eq, cases_lt}
 use Rattle.std.proofs.lemmas.List.{take-append-drop, take-replicate, get_or_append_left, get_or-append_right, get_or-take}
 use Rattle.std.proofs.lemmas.List.Elements.{Contains-append_left, Contains-get_or}
 use Rattle.cfb_format.specs.declared.version.Version.{Version}
 use Rattle.cfb_format.specs.declared.version.Version.TheVariants.{V3, V4}
 use Rattle.cfb_format.specs.Bytes.{sector_len, sector_start}
 use Rattle.cfb_chains.specs.ChainPlaces.{place_along}
+use Rattle.cfb_alloc.proofs.Listed.{place_once}
 use Rattle.cfb_soundness.specs.Places.{mini_start}
 
 pub zeros_of : (zeros : List ℕ) (n : ℕ) → zeros ≡ replicate 64 0 → n ≤ 64 → take n zeros ≡ replicate n 0

@@ -1,10 +1,10 @@
 -- Bytes along listed mini sectors that stand one behind the other in the file.
-use Rattle.std.proofs.Common.{◌≡◌, ◌≤◌, ◌<◌, ◌+◌, ◌*◌, ◌/◌, ◌%◌, ◌∙◌, ℕ, zero, suc, List, sym, ap, subst, length, take, drop, arith, length-take, length-drop, get_or-take, get_or-drop}
+use Rattle.std.proofs.Common.{◌≡◌, ◌≤◌, ◌<◌, ◌+◌, ◌*◌, ◌/◌, ◌%◌, ◌⊎◌, ◌∙◌, inl, inr, ℕ, zero, suc, List, refl, sym, ap, subst, length, take, drop, arith, length-take, length-drop, get_or-take, get_or-drop}
 use Rattle.std.specs.Prelude.{Contains, slice_index}
 use Rattle.std.proofs.lemmas.List.{get_or_default}
 use Rattle.std.proofs.lemmas.List.Elements.{Contains-get_or}
 use Rattle.cfb_format.specs.Full.{rounded_up}
-use Rattle.cfb_mini_sectors.specs.State.{MiniState, mini_place}
+use Rattle.cfb_mini_sectors.specs.State.{MiniState, bytes_of, mini_place}
 use Rattle.cfb_mini.specs.MiniRuns.{ChangesMiniStretch, HasTheMinis, IsMiniRun, IsMiniStretch}
 use Rattle.cfb_mini.specs.MiniSectors.{HasMiniSector}
 use Rattle.cfb_mini_chains.specs.MiniRunsAlong.{ChangesTogether, StandTogether, minis_along}

@@ -1,5 +1,5 @@
 -- What is still there where the mini stream may have given back sectors.
-use Rattle.std.proofs.Common.{◌≡◌, ◌⊎◌, ◌≤◌, ◌<◌, ◌+◌, ◌*◌, ◌/◌, inl, inr, ℕ, List, sym, ◌∙◌, ap, subst, length, take, drop, arith, length-take}
+use Rattle.std.proofs.Common.{◌≡◌, ◌⊎◌, ◌≤◌, ◌<◌, ◌+◌, ◌*◌, ◌/◌, inl, inr, ℕ, List, refl, sym, ◌∙◌, ap, subst, length, take, drop, arith, length-take}
 use Rattle.std.specs.Prelude.{Contains, min, nat_eq, slice_index}
 use Rattle.std.specs.List.{IsDistinct}
 use Rattle.std.proofs.lemmas.List.{get_or_append_left, take-append-drop}

@@ -1,5 +1,5 @@
 -- What is seen of a mini chain whose mini allocator is lent: one list of bytes with a position (MS-CFB 2.4).
-use Rattle.std.specs.Prelude.{◌≡◌, ◌≢◌, ◌<◌, ◌≤◌, ◌⊎◌, ℕ, ◌+◌, ◌-◌, ◌*◌, ◌/◌, ◌%◌, min, List, ◌++◌, length, take, Result, Vec, slice_index}
+use Rattle.std.specs.Prelude.{◌≡◌, ◌≢◌, ◌<◌, ◌≤◌, ◌⊎◌, ℕ, ◌+◌, ◌-◌, ◌*◌, ◌/◌, ◌%◌, min, List, [], ◌++◌, length, take, Result, Vec, slice_index}
 use Rattle.std.specs.Borrow.{RattleType, MutBor, Fml, RestsIfErr}
 use Rattle.std.specs.declared.alloc.Allocator as heap
 use Rattle.cfb_format.specs.Bytes.{free_sector}
@@ -11,7 +11,7 @@ use Rattle.cfb_format.specs.declared.medium.ReadMedium as medium
 use Rattle.cfb_tables.specs.Listed.{gained}
 use Rattle.cfb_sectors.specs.Words.{RangeStays}
 use Rattle.cfb_chains.specs.declared.chain.Numbers as numbers
-use Rattle.cfb_mini_sectors.specs.State.{MiniState, bytes_of, mini_place}
+use Rattle.cfb_mini_sectors.specs.State.{MiniState, bytes_of, mini_place, table_of}
 use Rattle.cfb_mini.specs.MiniSectors.{HasMiniByte, HasMiniSector}
 use Rattle.cfb_mini_chains.specs.declared.mini_chain.MiniChain.{MiniChain}
 use Rattle.cfb_mini.specs.contracts.mini_allocator.MiniAllocator.{the_row}

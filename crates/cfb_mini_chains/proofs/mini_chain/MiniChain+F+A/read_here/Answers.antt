@@ -1,5 +1,8 @@
-use Rattle.std.proofs.Common.{◌≡◌, ◌+◌, ◌≤◌, ℕ, List, arith, subst, take}
+use Rattle.std.proofs.Common.{◌≡◌, ◌+◌, ◌/◌, ◌%◌, ◌<◌, ◌≤◌, ◌*◌, ℕ, List, ap, arith, length, subst, sym, take}
+use Rattle.std.specs.Prelude.{slice_index}
+use Rattle.std.proofs.lemmas.Result.{err_from_is_err_and}
 use Rattle.cfb_format.specs.Medium.{part}
+use Rattle.cfb_mini.specs.MiniSectors.{HasMiniByte}
 use Rattle.cfb_mini_sectors.specs.State.{bytes_of, table_of}
 use Rattle.cfb_mini_chains.specs.LentMiniChain.{ids_of, position_of, state_of}
 use Rattle.cfb_mini_chains.specs.MiniRunsAlong.{StandTogether, place_along_minis}

@@ -1,4 +1,4 @@
-use Rattle.std.proofs.Common.{ℕ, List, arith, subst}
+use Rattle.std.proofs.Common.{◌≡◌, ◌+◌, ◌/◌, ◌%◌, ℕ, List, arith, subst}
 use Rattle.cfb_mini_chains.specs.LentMiniChain.{ids_of, position_of, state_of}
 use Rattle.cfb_mini_chains.specs.MiniRunsAlong.{StandTogether}
 use Rattle.cfb_mini_chains.proofs.MiniChainRuns.{together_fits}

@@ -1,4 +1,4 @@
-use Rattle.std.proofs.Common.{refl, length, arith}
+use Rattle.std.proofs.Common.{◌≤◌, ◌+◌, ℕ, List, refl, ap, length, arith}
 use Rattle.cfb_mini_sectors.specs.State.{mini_stream_of, table_of}
 use Rattle.cfb_mini_chains.specs.LentMiniChain.{ids_of, position_of, state_of}
 use Rattle.cfb_alloc.proofs.Spared.{spares_refl}

@@ -1,4 +1,4 @@
-use Rattle.std.proofs.Common.{[], ◌∷◌, subst}
+use Rattle.std.proofs.Common.{◌≡◌, [], ◌∷◌, subst}
 use Rattle.std.specs.Prelude.{IfErr}
 use Rattle.cfb_alloc.proofs.Spared.{spares_refl}
 use Rattle.cfb_tables.specs.Refused.{ChangeRefused}
