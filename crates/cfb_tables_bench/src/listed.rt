@@ -74,7 +74,10 @@ fn lengthened(alloc: Global) -> Result<Vec<u32>, Error> {
 /// What was kept of a chain is not what it is once it has grown by another list of it.
 #[test]
 fn a_growth_lets_the_kept_chain_go(rt: HostRuntime) -> Result<(), Error> {
-    check(lengthened(rt.alloc())?.as_slice() == [1, 2, 3, 4].as_slice(), 0)
+    check(
+        lengthened(rt.alloc())?.as_slice() == [1, 2, 3, 4].as_slice(),
+        0,
+    )
 }
 
 /// The numbers of the refusals to add so many sectors to an empty list and to reserve them.
