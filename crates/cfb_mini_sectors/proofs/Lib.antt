@@ -10,7 +10,9 @@ pub mod MiniPlaces
 pub mod MiniFrames
 pub mod PiecePlaces
 pub mod PieceWrites
+pub mod MiniRows
 pub mod WordRuns
 pub mod MinifatNamed
 pub mod MinifatGrown
 pub mod BothGrown
+pub mod RoomInTurn

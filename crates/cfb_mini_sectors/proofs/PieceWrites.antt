@@ -1,16 +1,11 @@
 -- What writes of words of the MiniFAT and of mini sectors leave of the others (MS-CFB 2.4).
-use Rattle.std.proofs.Common.{◌≡◌, ◌≤◌, ◌<◌, ◌+◌, ◌-◌, ◌*◌, ◌/◌, inl, inr, ℕ, List, refl, ap, sym, ◌∙◌, subst, length, replicate, arith}
-use Rattle.std.specs.Prelude.{slice_index, nat_eq, Contains}
+use Rattle.std.proofs.Common.{◌≡◌, ◌≤◌, ◌<◌, ◌+◌, ◌-◌, ◌*◌, ◌/◌, inl, inr, ℕ, List, refl, ap, sym, ◌∙◌, subst, length, arith}
+use Rattle.std.specs.Prelude.{nat_eq, Contains}
 use Rattle.std.specs.List.{IsDistinct}
-use Rattle.std.proofs.lemmas.Bool.{cases_lt}
-use Rattle.std.proofs.lemmas.List.{get_or-replicate, length-replicate}
-use Rattle.std.proofs.lemmas.List.Elements.{Contains-get_or}
 use Rattle.cfb_format.specs.declared.version.Version.{Version}
-use Rattle.cfb_format.specs.Bytes.{byte_at, sector_len, words_per_sector}
+use Rattle.cfb_format.specs.Bytes.{sector_len, words_per_sector}
 use Rattle.cfb_format.specs.Chain.{value}
 use Rattle.cfb_format.specs.Content.{mini_sector_len}
-use Rattle.cfb_format.specs.Medium.{ChangesOnlyBytes, part, written}
-use Rattle.cfb_format.proofs.ByteLemmas.{length-written, part_at, part_written}
 use Rattle.cfb_sectors.specs.Sectors.{SectorFile}
 use Rattle.cfb_sectors.specs.Words.{RangeStays}
 use Rattle.cfb_sectors.proofs.SectorLemmas.{SectorStays_next, SectorStays_refl}
@@ -21,7 +16,7 @@ use Rattle.cfb_alloc.specs.Alloc.{AllocatorState}
 use Rattle.cfb_alloc.proofs.Frames.{spares-then}
 use Rattle.cfb_alloc.proofs.Spared.{spares_refl}
 use Rattle.cfb_alloc.proofs.TableWords.{homes_apart}
-use Rattle.cfb_mini_sectors.specs.Pieces.{AreZeros, ChangesMinis, ChangesPieces, ChangesWords, HaveMinis, HaveWords, WritesAmong}
+use Rattle.cfb_mini_sectors.specs.Pieces.{ChangesMinis, ChangesPieces, ChangesWords, HaveMinis, HaveWords, WritesAmong}
 use Rattle.cfb_soundness.specs.Places.{mini_start}
 use Rattle.cfb_mini_sectors.proofs.PiecePlaces.{minis_apart, word_below}
 
@@ -34,23 +29,6 @@ kept_after c b a second first = second ∙ ap (λ (f : SectorFile). record f { l
 
 pub pieces_refl : (size : ℕ) (place : ℕ → ℕ) (numbers a : List ℕ) → ChangesPieces size place numbers a a
 pieces_refl size place numbers a = record { no_shorter = omega arith; others = λ i lt out. refl }
-
--- some were written, and then the one that is named at a place of their list
-pub pieces_after : (size : ℕ) (place : Version → ℕ → ℕ) (numbers : List ℕ) (i : ℕ) → i < length numbers → {v w : Version} → w ≡ v → {a b c : List ℕ}
-    → ChangesPieces size (place v) numbers a b → ChangesOnlyBytes (place w (slice_index numbers i)) size b c → ChangesPieces size (place v) numbers a c
-pieces_after size place numbers i lt {v} {w} same {a} {b} {c} first change =
-    let second = subst (λ (u : Version). ChangesOnlyBytes (place u (slice_index numbers i)) size b c) same change in
-    let longer = first.no_shorter in
-    let more = second.no_shorter in
-    record {
-      no_shorter = omega (arith, longer, more);
-      others = λ j low out.
-          let there : j < length b = omega (arith, low, longer) in
-          elim (out (slice_index numbers i) (Contains-get_or numbers i 0 lt)) [
-            | inl before ↦ second.below j there before ∙ first.others j low out
-            | inr behind ↦ second.above j there behind ∙ first.others j low out
-          ];
-    }
 
 pub among_refl : (sectors : List ℕ) (a : AllocatorState) → WritesAmong sectors a a
 among_refl sectors a = record {
@@ -91,37 +69,6 @@ other_word_stays v sectors numbers a b count m known change once lm out there = 
     ]))
 
 -- ---- mini sectors
-
-pub zeros_written : (bytes new : List ℕ) (at : ℕ) → new ≡ written bytes at (replicate mini_sector_len 0) → AreZeros new at
-zeros_written bytes new at is =
-    let rep = length-replicate {A = ℕ} mini_sector_len 0 in
-    let long : length new ≡ length (written bytes at (replicate mini_sector_len 0)) = ap (λ (b : List ℕ). length b) is in
-    let whole : part new at mini_sector_len ≡ replicate mini_sector_len 0 =
-    ap (λ (b : List ℕ). part b at mini_sector_len) is ∙ part_written bytes at mini_sector_len (replicate mini_sector_len 0) (sym rep) in
-    record {
-      there = omega (arith, long, rep, length-written bytes at (replicate mini_sector_len 0));
-      zeros = λ i lt. sym (part_at new at mini_sector_len i lt) ∙ ap (λ (b : List ℕ). slice_index b i) whole ∙ get_or-replicate mini_sector_len i 0 0 lt;
-    }
-
--- zeros stay under zeros
-pub zeros_still : (p at : ℕ) (a b : List ℕ) → ChangesOnlyBytes at mini_sector_len a b → AreZeros b at → AreZeros a p → AreZeros b p
-zeros_still p at a b change new old =
-    let there = old.there in
-    let longer = change.no_shorter in
-    record {
-      there = omega (arith, there, longer);
-      zeros = λ i lt.
-          let inside : p + i < length a = omega (arith, lt, there) in
-          elim (cases_lt (p + i) at) [
-            | inl low ↦ change.below (p + i) inside low ∙ old.zeros i lt
-            | inr ge ↦ elim (cases_lt (p + i) (at + mini_sector_len)) [
-              | inl within ↦
-                  let same : at + (p + i - at) ≡ p + i = omega (arith, ge) in
-                  ap (λ k. byte_at b k) (sym same) ∙ new.zeros (p + i - at) (omega (arith, ge, within))
-              | inr high ↦ change.above (p + i) inside high ∙ old.zeros i lt
-            ]
-          ];
-    }
 
 -- every other mini sector stays
 pub other_mini_stays : (v : Version) (stream minis a b : List ℕ) (count m : ℕ) → HaveMinis v stream count minis → ChangesMinis minis v stream a b

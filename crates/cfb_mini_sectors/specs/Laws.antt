@@ -1,10 +1,10 @@
 -- What the words on mini sectors promise about each other, and what the bytes of a file whose mini sectors they hold are (MS-CFB 2.4).
-use Rattle.std.specs.Prelude.{ℕ, ◌≡◌, ◌⊎◌, ◌+◌, ◌<◌, ◌≤◌, ◌++◌, List, [], ◌∷◌, true, length, nat_eq, Contains, Some}
+use Rattle.std.specs.Prelude.{ℕ, ◌≡◌, ◌⊎◌, ◌+◌, ◌/◌, ◌<◌, ◌≤◌, ◌++◌, List, [], ◌∷◌, true, length, nat_eq, Contains, Some}
 use Rattle.std.specs.List.{IsDistinct, list_all}
 use Rattle.cfb_format.specs.declared.validate.Validation.{Validation}
 use Rattle.cfb_format.specs.declared.validate.Validation.TheVariants.{Strict}
 use Rattle.cfb_format.specs.declared.header.Header.{Header}
-use Rattle.cfb_format.specs.Bytes.{byte_at, free_sector, word_at}
+use Rattle.cfb_format.specs.Bytes.{byte_at, free_sector, sector_len, word_at}
 use Rattle.cfb_format.specs.Chain.{IsChain, value}
 use Rattle.cfb_format.specs.Content.{mini_sector_len, mini_stream_chain, place_in_mini_chain}
 use Rattle.cfb_format.specs.Full.{max_mini_sectors}
@@ -16,13 +16,14 @@ use Rattle.cfb_format.specs.Soundness.{IsSound}
 use Rattle.cfb_sectors.specs.Words.{RangeStays}
 use Rattle.cfb_tables.specs.Changes.{AreDisjoint, ChangesOnlyValues}
 use Rattle.cfb_tables.specs.Listed.{gained}
-use Rattle.cfb_tables.specs.Tables.{AreSizes, sizes_of}
+use Rattle.cfb_tables.specs.Tables.{AreSizes, IsTooFew, sizes_of}
+use Rattle.cfb_mini_table.specs.MiniTable.{TakesMini}
 use Rattle.cfb_alloc.specs.Agreement.{KeepsSectors}
 use Rattle.cfb_alloc.specs.Alloc.{AllocatorState, HoldsTables, IsMeasured}
 use Rattle.cfb_alloc.specs.Frame.{Spares}
 use Rattle.cfb_directory.specs.State.{AreWritable, DirectoryState, HoldsDirectory, KeepsDirectoryHeader}
 use Rattle.cfb_mini_sectors.specs.State.{MiniState, HoldsMini, HoldsMiniStream, bytes_of, cases_of, entries_of, mini_place, mini_stream_of, parts_of, reading_of, root_len_of, table_of, tables_in, version_of}
-use Rattle.cfb_mini_sectors.specs.Steps.{SparesMini, system_sectors}
+use Rattle.cfb_mini_sectors.specs.Steps.{GrowsFor, IsTooFewFor, KeepsLimits, SparesMini, system_sectors}
 use Rattle.cfb_mini_sectors.specs.Held.{HasMiniPlaces, with_directory, with_table}
 
 -- ---- what opening reads
@@ -108,3 +109,15 @@ MiniBytesStayInPlace = (own : List ℕ) (old new : MiniState) (start : ℕ) (lis
     → SparesMini own old new → IsChain old.minifat start list → AreDisjoint list own → (k at : ℕ)
     → place_in_mini_chain (bytes_of old) (parts_of old) list k ≡ Some at
     → (place_in_mini_chain (bytes_of new) (parts_of new) list k ≡ Some at) × (byte_at (bytes_of new) at ≡ byte_at (bytes_of old) at)
+
+-- ---- room
+
+-- what mini sectors need can be taken in parts: where there are too few numbers for the second part there were too few for both
+abbrev pub MiniSectorsInTurn : Type 0
+MiniSectorsInTurn = (old new : MiniState) (touched more : List ℕ) (rest : ℕ) → GrowsFor (length more) old new
+    → TakesMini old.max_mini_sectors old.minifat new.minifat touched more → KeepsLimits old new → IsTooFewFor new rest → IsTooFewFor old (length more + rest)
+
+-- and up to 64 of them take no more sectors than 8192 bytes are
+abbrev pub MiniSectorsTakeFew : Type 0
+MiniSectorsTakeFew = (validation : Validation) (old new : MiniState) (count k : ℕ) → HoldsMini validation old → count ≤ 64 → GrowsFor count old new
+    → IsTooFew (tables_in new) k → IsTooFew (tables_in old) (8192 / sector_len (version_of old) + k)

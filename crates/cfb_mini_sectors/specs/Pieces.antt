@@ -4,6 +4,7 @@ use Rattle.cfb_format.specs.declared.version.Version.{Version}
 use Rattle.cfb_format.specs.Bytes.{byte_at, sector_len, words_per_sector}
 use Rattle.cfb_format.specs.Content.{mini_sector_len}
 use Rattle.cfb_sectors.specs.Sectors.{SectorStays}
+use Rattle.cfb_tables.specs.Consecutive.{FollowOn}
 use Rattle.cfb_alloc.specs.Agreement.{word_home}
 use Rattle.cfb_alloc.specs.Alloc.{AllocatorState}
 use Rattle.cfb_alloc.specs.Frame.{Spares}
@@ -28,6 +29,12 @@ pub record HasMini (version : Version) (stream : List ℕ) (count m : ℕ) : Typ
 -- it has each of these
 abbrev pub HaveMinis : Version → List ℕ → ℕ → List ℕ → Type 0
 HaveMinis version stream count minis = (m : ℕ) → Contains minis m → HasMini version stream count m
+
+-- from that index on so many of these mini sectors have numbers that follow each other, and stand one behind the other in the file
+pub record AreInARow (version : Version) (stream minis : List ℕ) (index n : ℕ) : Type 0 where
+  pub listed : index + n ≤ length minis
+  pub numbers : FollowOn minis index n
+  pub places : (k : ℕ) → k < n → mini_start version stream (slice_index minis (index + k)) ≡ mini_start version stream (slice_index minis index) + mini_sector_len * k
 
 -- ---- what is written
 

@@ -1,6 +1,6 @@
 //! What the definitions promise about each other. None of these functions does anything: each has a law
 //! as its contract.
-ghost use Rattle.cfb_mini_sectors.specs.Laws.{DirectoryChangeKeepsMini, HeldMiniIsRead, HeldMiniIsStrict, MiniStaysHeld, SoundMiniIsHeld};
+ghost use Rattle.cfb_mini_sectors.specs.Laws.{DirectoryChangeKeepsMini, HeldMiniIsRead, HeldMiniIsStrict, MiniSectorsInTurn, MiniSectorsTakeFew, MiniStaysHeld, SoundMiniIsHeld};
 ghost use Rattle.cfb_mini_sectors.specs.Laws.{MiniBytesStayInPlace, NoMiniSectorIsTouched, OtherMiniChainsAreSpared, SectorsSpareMini, SparesMiniInTurn, SparesMiniLess, TableChangeSparesMini, WritingSparesMini};
 
 /// Mini sectors that the bytes hold are those that opening reads from them, and where they hold them as strict opening wants it, strict
@@ -34,4 +34,10 @@ pub fn mini_changes_spare_others()
     ensures writing { WritingSparesMini }
     ensures chains { OtherMiniChainsAreSpared }
     ensures bytes { MiniBytesStayInPlace }
+{}
+
+/// What mini sectors need can be taken in parts, and few of them take few sectors.
+pub fn mini_sectors_are_taken_in_turn()
+    ensures in_turn { MiniSectorsInTurn }
+    ensures few { MiniSectorsTakeFew }
 {}

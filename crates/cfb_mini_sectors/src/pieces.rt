@@ -1,5 +1,5 @@
 //! Words of the MiniFAT and mini sectors, by their places in sectors of the file (MS-CFB 2.4).
-ghost use Rattle.std.specs.Prelude.{◌≡◌, ◌↔◌, ℕ, ◌+◌, ◌-◌, ◌*◌, ◌/◌, ◌%◌, ◌^◌, ◌<◌, ◌≤◌, max, min, true, length, nat_eq, replicate, slice_index, take, drop, Contains, IsTrue, IsErrAnd, IfSome, IfNone, IfOk, IfErr, OnOk, OnErr};
+ghost use Rattle.std.specs.Prelude.{◌≡◌, ◌↔◌, ℕ, ◌+◌, ◌-◌, ◌*◌, ◌/◌, ◌%◌, ◌^◌, ◌<◌, ◌≤◌, max, min, true, length, nat_eq, slice_index, take, drop, Contains, IsTrue, IsErrAnd, IfSome, IfNone, IfOk, IfErr, OnOk, OnErr};
 ghost use Rattle.std.specs.List.{IsDistinct};
 ghost use Rattle.cfb_format.specs.declared.validate.Validation.{Validation};
 ghost use Rattle.cfb_format.specs.Bytes.{sector_len, sector_start, word_bytes, words_per_sector};
@@ -13,7 +13,7 @@ ghost use Rattle.cfb_alloc.specs.Agreement.{word_home, word_of};
 ghost use Rattle.cfb_alloc.specs.Alloc.{HoldsTables};
 ghost use Rattle.cfb_alloc.specs.Frame.{Spares};
 ghost use Rattle.cfb_alloc.specs.InSector.{IsNoTableSector};
-ghost use Rattle.cfb_mini_sectors.specs.Pieces.{AreZeros, ChangesMinis, ChangesWords, HasMini, HasWord, HaveMinis, HaveWords, WritesAmong};
+ghost use Rattle.cfb_mini_sectors.specs.Pieces.{AreInARow, AreZeros, ChangesMinis, ChangesWords, HasMini, HasWord, HaveMinis, HaveWords, WritesAmong};
 ghost use Rattle.cfb_soundness.specs.Places.{mini_start};
 
 use cfb_alloc::alloc::Allocator;
@@ -22,13 +22,18 @@ use cfb_format::consts::{FREE_SECTOR, MINI_SECTOR_LEN};
 use cfb_format::error::{Detail, Error};
 use cfb_format::medium::{Medium, ReadMedium};
 use cfb_format::version::Version;
+use cfb_runs::writing::zero_run;
 use cfb_table_words::stretch::stretch_at;
+use cfb_tables::consecutive::count_consecutive;
 use std::alloc::Allocator as Heap;
 
 /// How many bytes a sector has at most, and how many words (MS-CFB 2.2).
 const MAX_SECTOR_LEN: usize = 4096;
 
 const MAX_WORDS: usize = 1024;
+
+/// How many mini sectors zeros are at hand for.
+const MAX_ROW: usize = 64;
 
 /// The sector with that index in a list, if there is one and it is among so many sectors of the file.
 fn sector_in(sectors: &[u32], index: usize, count: usize) -> Option<u32>
@@ -393,15 +398,18 @@ pub fn write_piece<F: Medium, A: Heap>(
     write_listed(allocator, stream, index, start + offset, from)
 }
 
-/// Writes zeros over a mini sector, by one write, of a mini stream in these sectors. Where the file ends before its end it becomes
-/// longer. `Medium` where the medium fails.
-fn wipe_mini<F: Medium, A: Heap>(
+/// Writes zeros over the listed mini sectors from that index on, by one write, and answers how many that is: as many as follow each other in
+/// the file, in their numbers and by the mini stream's sectors, and as zeros are at hand for. Where the file ends before the end of one it
+/// becomes longer. `Medium` where the medium fails.
+fn wipe_row<F: Medium, A: Heap>(
     allocator: &mut Allocator<F, A>,
     stream: &[u32],
-    mini: u32,
-) -> Result<(), Error>
-    requires known { HasMini allocator.old.tables.version stream.now
-        (length allocator.old.tables.fat) mini }
+    minis: &[u32],
+    index: usize,
+) -> Result<usize, Error>
+    requires listed { index < length minis.now }
+    requires known { HaveMinis allocator.old.tables.version stream.now
+        (length allocator.old.tables.fat) minis.now }
     ensures tables { allocator.new.tables ≡ allocator.old.tables }
     ensures kept { allocator.new.file ≡ record allocator.old.file {
       len = allocator.new.file.len;
@@ -409,12 +417,18 @@ fn wipe_mini<F: Medium, A: Heap>(
       failures = allocator.new.file.failures;
       begun = allocator.new.file.begun;
     } }
-    ensures ok { IsTrue F.tells
-        → OnOk result (allocator.new.file.bytes ≡ written allocator.old.file.bytes
-        (mini_start allocator.old.tables.version stream.now mini) (replicate mini_sector_len 0)) }
-    ensures others { IsTrue F.tells
-        → ChangesOnlyBytes (mini_start allocator.old.tables.version stream.now mini)
-        mini_sector_len allocator.old.file.bytes allocator.new.file.bytes }
+    ensures some { IfOk result (λ n. 0 < n) }
+    ensures row { IfOk result
+        (AreInARow allocator.old.tables.version stream.now minis.now index) }
+    ensures longest { IfOk result (λ n. n < 64
+        → AreInARow allocator.old.tables.version stream.now minis.now index (n + 1) → ⊥) }
+    ensures zeros { IsTrue F.tells → IfOk result (λ n. (k : ℕ) → k < n
+        → AreZeros allocator.new.file.bytes (mini_start allocator.old.tables.version stream.now
+        (slice_index minis.now (index + k)))) }
+    ensures still { IsTrue F.tells → OnOk result ((at : ℕ)
+        → AreZeros allocator.old.file.bytes at → AreZeros allocator.new.file.bytes at) }
+    ensures others { IsTrue F.tells → ChangesMinis minis.now
+        allocator.old.tables.version stream.now allocator.old.file.bytes allocator.new.file.bytes }
     ensures among { IsTrue F.tells → WritesAmong stream.now allocator.old allocator.new }
     ensures holds { IsTrue F.tells
         → (validation : Validation) → HoldsTables validation allocator.old
@@ -425,13 +439,14 @@ fn wipe_mini<F: Medium, A: Heap>(
     ensures counts { IsTrue F.tells → CountsFailure
         F.write_faults result allocator.old.file.failures allocator.new.file.failures }
 {
-    let zeros = [0; MINI_SECTOR_LEN];
-    let (index, start) = place_of_mini(allocator.version(), mini);
-    write_listed(allocator, stream, index, start, &zeros)
+    let at = MINI_SECTOR_LEN as u64 * minis[index] as u64;
+    let row = count_consecutive(minis, index, MAX_ROW);
+    let count = zero_run(allocator, stream, at, row * MINI_SECTOR_LEN)?;
+    Ok(count / MINI_SECTOR_LEN)
 }
 
-/// Writes zeros over these mini sectors, by one write each, of a mini stream in these sectors. Where the file ends before the end of one
-/// it becomes longer. `Medium` where the medium fails: then some of them may be zeros.
+/// Writes zeros over these mini sectors, of a mini stream in these sectors: those that follow each other in the file by one write. Where
+/// the file ends before the end of one it becomes longer. `Medium` where the medium fails: then some of them may be zeros.
 pub fn wipe<F: Medium, A: Heap>(
     allocator: &mut Allocator<F, A>,
     stream: &[u32],
@@ -472,8 +487,10 @@ pub fn wipe<F: Medium, A: Heap>(
     ensures counts { IsTrue F.tells → CountsFailure
         F.write_faults result allocator.old.file.failures allocator.new.file.failures }
 {
-    for mini in minis {
-        wipe_mini(allocator, stream, *mini)?;
+    let mut done = 0;
+    while done < minis.len() {
+        let count = wipe_row(allocator, stream, minis, done)?;
+        done += count;
     }
     Ok(())
 }
