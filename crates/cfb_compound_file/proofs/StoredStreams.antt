@@ -1,10 +1,11 @@
 -- What reading and changing one stream of a file comes to for the layer of buffered streams.
-use Rattle.std.proofs.Common.{◌≡◌, ◌<◌, ◌≤◌, ◌+◌, ◌-◌, ◌++◌, ◌⊎◌, inl, inr, ℕ, Bool, true, false, List, [], refl, sym, ◌∙◌, ap, subst, length, take, drop, max, replicate, arith, length-take, append-nil}
+use Rattle.std.proofs.Common.{◌≡◌, ◌≢◌, ◌<◌, ◌≤◌, ◌+◌, ◌-◌, ◌++◌, ◌⊎◌, inl, inr, ℕ, Bool, true, false, List, [], refl, sym, ◌∙◌, ap, subst, length, take, drop, max, replicate, arith, length-take, append-nil}
 use Rattle.std.proofs.Math.Logic.{∥∥₁_elim, ∥∥₁_map}
 use Rattle.std.proofs.Math.Bridge.{le_prop}
 use Rattle.std.proofs.lemmas.Bool.{cases_lt}
+use Rattle.std.proofs.lemmas.Bool.Decides.{eqb_tells}
 use Rattle.std.proofs.lemmas.List.{take_all}
-use Rattle.std.specs.Prelude.{Result, Ok, Err, IfOk, IfErr, OnOk, OnErr, if◌then◌else◌}
+use Rattle.std.specs.Prelude.{◌↔◌, IsTrue, Result, Ok, Err, IfOk, IfErr, OnOk, OnErr, if◌then◌else◌}
 use Rattle.cfb_format.specs.declared.error.Error.{Error}
 use Rattle.cfb_format.specs.declared.error.Error.TheVariants.{NotFound, AlreadyExists, InvalidInput, InvalidData, Medium, Memory, Full, Unsound, Failed}
 use Rattle.cfb_format.specs.declared.validate.Validation.TheVariants.{Permissive}
@@ -31,7 +32,7 @@ use Rattle.cfb_agreement.proofs.Flags.{as-before-same, flags-not-read}
 use Rattle.cfb_agreement.proofs.InTurn.{one-change-keeps-rest, rest-then, same-content-is-none}
 use Rattle.cfb_volume.specs.Answers.{content_at}
 use Rattle.cfb_format.specs.Refused.{IsBreak}
-use Rattle.cfb_stream_buffer.specs.Contents.{Fails, KeptOrFailed, WritesPart, laid, stored_after_resize, stored_after_write}
+use Rattle.cfb_stream_buffer.specs.Contents.{CanHave, Fails, KeptOrFailed, Stored, TakesLen, WritesPart, laid, stored_after_resize, stored_after_write}
 use Rattle.cfb_compound_file.specs.Flags.{flags_are_tight, flags_change_nothing, reads_are_tight, reads_keep, still_is_tight}
 use Rattle.cfb_compound_file.specs.Stored.{ChangesStream, IsTight, KeepsAllButStream, kept_of, stored_of}
 
@@ -232,6 +233,15 @@ change_refused P Q old new i (Err e) by setting why stays = (break_by P Q e by w
 pub full_then : {T : Type 0} (P X : Type 0) (r : Result T Error) → (P → X) → IfErr r (IsBreak P) → IfErr r (λ e. e ≡ Full → X)
 full_then P X (Ok x) by why = tt
 full_then P X (Err e) by why = λ is. by (subst (λ (z : Error). IsBreak P z) is why)
+
+-- the present length can be had, and any other that is not too long
+pub can_have : (s : Stored) (too_long : ℕ → Type 0) (len : ℕ) (r : Result Bool Error) → TakesLen s len → (len ≢ s.size → IfOk r (λ can. IsTrue can ↔ (too_long len → ⊥)))
+    → (len ≡ s.size → IfOk r (λ can. can ≡ true)) → IfOk r (λ can. IsTrue can ↔ CanHave s too_long len)
+can_have s too_long len (Ok can) takes other same = elim (eqb_tells len s.size) [
+  | inl is ↦ (λ _. record { takes = takes; room = λ differs. absurd (differs is.1) }, λ _. same is.1)
+  | inr differs ↦ (λ yes. record { takes = takes; room = λ _. (other differs.1).0 yes }, λ has. (other differs.1).1 (has.room differs.1))
+]
+can_have s too_long len (Err e) takes other same = tt
 
 pub resized_done : {T : Type 0} (old new : FileState) (i len : ℕ) (r : Result T Error) → SameSetting old new → is_failed old ≡ false → OnOk r (len_of new.base i ≡ len)
     → OnOk r (content_at new i ≡ resized (content_at old i) len) → OnOk r (is_failed new ≡ false) → OnOk r (stored_of new i ≡ stored_after_resize (stored_of old i) len)

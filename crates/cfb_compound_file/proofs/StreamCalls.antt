@@ -98,6 +98,11 @@ pub refused_as : {T : Type 0} (P Q : Error → Type 0) (result : Result T Error)
 refused_as P Q (Ok x) why by = tt
 refused_as P Q (Err e) why by = by e why
 
+-- what holds once this was done
+pub done_as : {T : Type 0} (P Q : Type 0) (result : Result T Error) → OnOk result P → (P → Q) → OnOk result Q
+done_as P Q (Ok x) why by = by why
+done_as P Q (Err e) why by = tt
+
 -- so much follows from any refusal
 pub refused_then : {T : Type 0} (P : Error → Type 0) (X : Type 0) (result : Result T Error) → IfErr result P → ((e : Error) → P e → X) → OnErr result X
 refused_then P X (Ok x) why by = tt

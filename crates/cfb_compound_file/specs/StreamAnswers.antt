@@ -1,5 +1,5 @@
 -- What the calls on an open stream answer, and what they leave.
-use Rattle.std.specs.Prelude.{ℕ, ◌≡◌, Bool, false, IsTrue, List, Option, Some, None, Result, Ok, Err, if◌then◌else◌}
+use Rattle.std.specs.Prelude.{ℕ, ◌+◌, ◌≡◌, ◌<◌, ◌≤◌, ◌⊎◌, Bool, true, false, IsTrue, List, Option, Some, None, Result, Ok, Err, if◌then◌else◌}
 use Rattle.cfb_format.specs.declared.error.Error.{Error}
 use Rattle.cfb_format.specs.declared.medium.MediumFault.{MediumFault}
 use Rattle.cfb_format.specs.Refused.{CountsError}
@@ -11,9 +11,9 @@ use Rattle.cfb_mini_sectors.specs.State.{cases_of}
 use Rattle.cfb_content.specs.Contents.{IsTooLongFor}
 use Rattle.cfb_agreement.specs.Changes.{StaysOrFails}
 use Rattle.cfb_agreement.specs.Files.{Agrees, FileState, failures_of, is_failed}
-use Rattle.cfb_stream_buffer.specs.Contents.{KeptOrFailed, Stored}
+use Rattle.cfb_stream_buffer.specs.Contents.{CanHave, KeptOrFailed, Stored}
 use Rattle.cfb_stream_window.specs.Answers.{AtRefusal}
-use Rattle.cfb_stream_window.specs.Windows.{IsCallRefused, IsSettled, Runs, Window, run_of, state_of}
+use Rattle.cfb_stream_window.specs.Windows.{IsCallRefused, IsLengthened, IsSettled, Runs, Window, run_of, settled, state_of}
 use Rattle.cfb_path_changes.specs.Answers.{MeansTree, causes_of}
 use Rattle.cfb_path_changes.specs.Finding.{StandsAt}
 use Rattle.cfb_compound_file.specs.Stored.{ChangesInTurn, ChangesStream, KeepsRest, kept_of, stored_of}
@@ -89,6 +89,43 @@ pub record GoesOnInTurn (tells : Bool) (old new : OpenStream) : Type 0 where
   pub calm : (told : IsTrue tells) → old.window.pending ≡ false → (changes told).between ≡ old.file
   pub settles : (told : IsTrue tells) → is_failed old.file ≡ false → IsSettled (stored_in old) old.window (stored_of (changes told).between old.entry)
   pub rest : IsTrue tells → (first : FileState) → KeepsRest old.entry first old.file → KeepsRest old.entry first new.file
+
+-- ---- where numbers lack
+
+-- what is kept back can't be written out: it goes past the end of what is stored, which is too long with it
+pub record LacksRoomToWriteOut (s : OpenStream) : Type 0 where
+  pub pending : s.window.pending ≡ true
+  pub past : (stored_in s).size < s.window.size
+  pub too_long : IsTooLongFor s.file.base s.entry s.window.size
+
+-- what was kept back was written out in between
+pub record WritesOutFirst (old new : OpenStream) : Type 0 where
+  pub changes : ChangesInTurn old.entry old.file new.file
+  pub calm : old.window.pending ≡ false → changes.between ≡ old.file
+  pub settles : stored_of changes.between old.entry ≡ settled (stored_in old) old.window
+
+-- it was, and then not one byte more could be had behind the end
+pub record LacksRoomBehind (old new : OpenStream) : Type 0 where
+  pub first : WritesOutFirst old new
+  pub at_end : old.window.base + old.window.cursor ≡ old.window.size
+  pub too_long : IsTooLongFor first.changes.between.base old.entry (old.window.size + 1)
+
+-- so many bytes can't be written: what is kept back can't be written out, or, where they go past the buffer, not one of them could be had
+abbrev pub LacksRoomToWrite : OpenStream → (count : ℕ) → OpenStream → Type 0
+LacksRoomToWrite old count new = LacksRoomToWriteOut old ⊎ ((65536 ≤ count) × LacksRoomBehind old new)
+
+-- there is room to write out what is kept back, and for a longer length after that: the stream can have the length that is stored then, the
+-- longer one, and 8,192 bytes more
+pub record HasRoomForBoth (s : OpenStream) (len : ℕ) : Type 0 where
+  pub before : CanHave (stored_in s) (IsTooLongFor s.file.base s.entry) s.window.size
+  pub longer : CanHave (stored_in s) (IsTooLongFor s.file.base s.entry) len
+  pub beside : CanHave (stored_in s) (IsTooLongFor s.file.base s.entry) (len + 8192)
+
+-- there was, but none for the length in the end, and the file has failed
+pub record LosesRoomBetween (old : OpenStream) (len : ℕ) (new : OpenStream) : Type 0 where
+  pub lengthened : IsLengthened (stored_in old) old.window len
+  pub had_room : HasRoomForBoth old len
+  pub failed : is_failed new.file ≡ true
 
 -- ---- from opening to closing
 

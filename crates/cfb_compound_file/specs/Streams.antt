@@ -5,6 +5,7 @@ use Rattle.std.specs.Io.BufRead.{Rests}
 use mir.Syntax.{named}
 use Rattle.std.specs.declared.alloc.Allocator as heap
 use Rattle.cfb_format.specs.declared.error.Error.{Error}
+use Rattle.cfb_format.specs.declared.error.Error.TheVariants.{Full}
 use Rattle.cfb_format.specs.declared.medium.Medium as writing
 use Rattle.cfb_format.specs.declared.medium.ReadMedium as reading
 use Rattle.cfb_stream_window.specs.Windows.{Window}
@@ -19,7 +20,7 @@ use Rattle.cfb_rules.specs.StreamCalls.{fill_buf, got}
 use Rattle.cfb_path_changes.specs.Answers.{causes_of}
 use Rattle.cfb_compound_file.specs.Buffering.{BuffersRead}
 use Rattle.cfb_compound_file.specs.Stored.{kept_of}
-use Rattle.cfb_compound_file.specs.StreamAnswers.{GoesOn, IsStreamRefused, OpenStream, StreamRunsOn, open_stream_of}
+use Rattle.cfb_compound_file.specs.StreamAnswers.{GoesOn, IsStreamRefused, LacksRoomToWriteOut, OpenStream, StreamRunsOn, open_stream_of}
 
 module _ {F A : Type 0} {g : writing.Ghosts F} {r : reading.Ghosts F} {b : held.Ghosts Window} where
   -- the file that it borrows
@@ -48,6 +49,7 @@ module _ (F A : RattleType) (r : reading.Ghosts F.Denot) (g : writing.Ghosts F.D
     pub same_file : (file_of new).ghost_name ≡ (file_of old).ghost_name
     pub runs : IsTrue r.tells → MatchResult result (λ bytes. StreamRunsOn (open_of old) fill_buf (got bytes.now) (open_of new))
         (IsStreamRefused (causes_of (file_of old).now (file_of new).now) (λ f. r.read_faults f || g.write_faults f) (open_of old) fill_buf (open_of new))
+    pub foreseen : IsTrue r.tells → IfErr result (λ e. e ≡ Full → LacksRoomToWriteOut (open_of old))
     pub goes_on : GoesOn r.tells (open_of old) (open_of new)
     pub counts : IsTrue r.tells → CountsFailure (λ f. r.read_faults f || g.write_faults f) result (failures_of (file_of old).now) (failures_of (file_of new).now)
     pub calm : IsTrue r.tells → (window_of old).pending ≡ false → kept_of (file_of new).now ≡ kept_of (file_of old).now

@@ -9,7 +9,7 @@ ghost use Rattle.cfb_stream_window.specs.Windows.{IsLengthened, Suits, whence_of
 ghost use Rattle.cfb_path_changes.specs.Answers.{causes_of};
 ghost use Rattle.cfb_compound_file.specs.Buffering.{BuffersRead, BuffersRest, BuffersSeek, BuffersWrite};
 ghost use Rattle.cfb_compound_file.specs.Stored.{ChangesStream, KeepsRest, kept_of, stored_of};
-ghost use Rattle.cfb_compound_file.specs.StreamAnswers.{ClosesTree, GoesOn, GoesOnInTurn, IsClosingRefused, IsStreamRefused, StreamRunsBy, StreamRunsOn, causes_of_len, open_stream_of, run_in, stored_in, stream_in};
+ghost use Rattle.cfb_compound_file.specs.StreamAnswers.{ClosesTree, GoesOn, GoesOnInTurn, HasRoomForBoth, IsClosingRefused, IsStreamRefused, LacksRoomToWrite, LacksRoomToWriteOut, LosesRoomBetween, StreamRunsBy, StreamRunsOn, causes_of_len, WritesOutFirst, open_stream_of, run_in, stored_in, stream_in};
 
 use crate::compound_file::CompoundFile;
 use crate::held::Held;
@@ -82,6 +82,8 @@ impl<'a, F: Medium, A: Heap + Clone> Stream<'a, F, A> {
         ensures refused { IsTrue F.tells → IfErr result (IsStreamRefused
             (causes_of (file_of self.old).now (file_of self.new).now) (λ f. F.read_faults f
             || F.write_faults f) (open_of self.old) (read (length into.old)) (open_of self.new)) }
+        ensures foreseen { IsTrue F.tells → IfErr result (λ e. e ≡ Error.Full
+            → LacksRoomToWriteOut (open_of self.old)) }
         ensures goes_on { GoesOn F.tells (open_of self.old) (open_of self.new) }
         ensures counts { IsTrue F.tells
             → CountsFailure (λ f. F.read_faults f || F.write_faults f) result
@@ -130,6 +132,8 @@ impl<'a, F: Medium, A: Heap + Clone> Stream<'a, F, A> {
         ensures refused { IsTrue F.tells → IfErr result (IsStreamRefused
             (causes_of (file_of self.old).now (file_of self.new).now) (λ f. F.read_faults f
             || F.write_faults f) (open_of self.old) read_to_end (open_of self.new)) }
+        ensures foreseen { IsTrue F.tells → IfErr result (λ e. e ≡ Error.Full
+            → LacksRoomToWriteOut (open_of self.old)) }
         ensures goes_on { GoesOn F.tells (open_of self.old) (open_of self.new) }
         ensures counts { IsTrue F.tells
             → CountsFailure (λ f. F.read_faults f || F.write_faults f) result
@@ -151,6 +155,8 @@ impl<'a, F: Medium, A: Heap + Clone> Stream<'a, F, A> {
         ensures refused { IsTrue F.tells → IfErr result (IsStreamRefused
             (causes_of (file_of self.old).now (file_of self.new).now) (λ f. F.read_faults f
             || F.write_faults f) (open_of self.old) (write bytes.now) (open_of self.new)) }
+        ensures foreseen { IsTrue F.tells → IfErr result (λ e. e ≡ Error.Full
+            → LacksRoomToWrite (open_of self.old) (length bytes.now) (open_of self.new)) }
         ensures goes_on { GoesOnInTurn F.tells (open_of self.old) (open_of self.new) }
         ensures once { IsTrue F.tells → length bytes.now < 65536 → ChangesStream
             (entry_of self.old) (file_of self.old).now (file_of self.new).now }
@@ -175,6 +181,8 @@ impl<'a, F: Medium, A: Heap + Clone> Stream<'a, F, A> {
         ensures refused { IsTrue F.tells → IfErr result (IsStreamRefused
             (causes_of (file_of self.old).now (file_of self.new).now) (λ f. F.read_faults f
             || F.write_faults f) (open_of self.old) (seek (whence_of to)) (open_of self.new)) }
+        ensures foreseen { IsTrue F.tells → IfErr result (λ e. e ≡ Error.Full
+            → LacksRoomToWriteOut (open_of self.old)) }
         ensures goes_on { GoesOn F.tells (open_of self.old) (open_of self.new) }
         ensures counts { IsTrue F.tells
             → CountsFailure (λ f. F.read_faults f || F.write_faults f) result
@@ -210,8 +218,11 @@ impl<'a, F: Medium, A: Heap + Clone> Stream<'a, F, A> {
             → (file_of self.new).now ≡ (file_of self.old).now }
         ensures foreseen { IsTrue F.tells
             → IfErr result (λ e. e ≡ Error.Full → ((file_of self.new).now ≡ (file_of self.old).now)
-            ⊎ (IsLengthened (stored_in (open_of self.old)) (window_of self.old) len
-            × (is_failed (file_of self.new).now ≡ true))) }
+            ⊎ LosesRoomBetween (open_of self.old) len (open_of self.new)) }
+        ensures writes_out { IsTrue F.tells
+            → IsLengthened (stored_in (open_of self.old)) (window_of self.old) len
+            → HasRoomForBoth (open_of self.old) len
+            → OnOk result (WritesOutFirst (open_of self.old) (open_of self.new)) }
         ensures room { (window_of self.new).room ≡ (window_of self.old).room }
     {
         self.window.set_len(self.file, self.entry, len)
@@ -226,6 +237,8 @@ impl<'a, F: Medium, A: Heap + Clone> Stream<'a, F, A> {
         ensures refused { IsTrue F.tells → IfErr result
             (IsStreamRefused (causes_of (file_of self.old).now (file_of self.new).now) (λ f.
             F.read_faults f || F.write_faults f) (open_of self.old) flush (open_of self.new)) }
+        ensures foreseen { IsTrue F.tells → IfErr result (λ e. e ≡ Error.Full
+            → LacksRoomToWriteOut (open_of self.old)) }
         ensures goes_on { GoesOn F.tells (open_of self.old) (open_of self.new) }
         ensures counts { IsTrue F.tells
             → CountsFailure (λ f. F.read_faults f || F.write_faults f) result
@@ -251,6 +264,8 @@ impl<'a, F: Medium, A: Heap + Clone> Stream<'a, F, A> {
             (run_in (open_of self.entry)) None (is_failed self.exit.0.now)) }
         ensures refused { IsTrue F.tells → IfErr result (IsClosingRefused (λ f. F.read_faults f
             || F.write_faults f) (open_of self.entry) self.exit.0.now) }
+        ensures foreseen { IsTrue F.tells → IfErr result (λ e. e ≡ Error.Full
+            → LacksRoomToWriteOut (open_of self.entry)) }
         ensures tree { IsTrue F.tells → (first : FileState) → ClosesTree first
             (entry_of self.entry) (stream_in (open_of self.entry)).content self.exit.0.now }
         ensures changes { IsTrue F.tells
@@ -303,6 +318,8 @@ fn finish<F: Medium, A: Heap + Clone>(
         (run_in (open_stream_of file.old entry window)) None (is_failed file.new)) }
     ensures refused { IsTrue F.tells → IfErr result (IsClosingRefused (λ f. F.read_faults f
         || F.write_faults f) (open_stream_of file.old entry window) file.new) }
+    ensures foreseen { IsTrue F.tells → IfErr result (λ e. e ≡ Error.Full
+        → LacksRoomToWriteOut (open_stream_of file.old entry window)) }
     ensures tree { IsTrue F.tells → (first : FileState) → ClosesTree first entry
         (stream_in (open_stream_of file.old entry window)).content file.new }
     ensures changes { IsTrue F.tells → ChangesStream entry file.old file.new }

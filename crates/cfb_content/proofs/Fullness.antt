@@ -1,22 +1,23 @@
 -- When a length is too long, in what memory can count.
 use Rattle.std.proofs.Common.{◌≡◌, ◌<◌, ◌≤◌, ◌+◌, ◌-◌, ◌*◌, inl, inr, ℕ, List, [], Bool, true, false, refl, sym, ◌∙◌, ap, subst, length, arith}
-use Rattle.std.specs.Prelude.{Option, if◌then◌else◌, nat_le, nat_lt, unwrap_or}
-use Rattle.std.proofs.lemmas.Bool.{le-leb, leb-true, ltb-false, ltb-true}
+use Rattle.std.specs.Prelude.{Option, ◌==◌, if◌then◌else◌, nat_le, nat_lt, unwrap_or}
+use Rattle.std.proofs.lemmas.Bool.{cases_lt, le-leb, leb-true, ltb-false, ltb-true}
 use Rattle.cfb_format.specs.declared.validate.Validation.{Validation}
 use Rattle.cfb_format.specs.declared.version.Version.{Version}
 use Rattle.cfb_format.specs.declared.version.Version.TheVariants.{V3, V4}
-use Rattle.cfb_format.specs.Bytes.{max_regular_sector, sector_len, words_per_sector}
+use Rattle.cfb_format.specs.Bytes.{free_sector, max_regular_sector, sector_len, words_per_sector}
 use Rattle.cfb_format.specs.Content.{is_large, mini_sector_len, mini_stream_chain}
-use Rattle.cfb_format.specs.Full.{CanTake, HasRoom, free_count, given_back_for, mini_sectors_for, mini_sectors_in_chain, minifat_len_for, rounded_up, sectors_for, sectors_in_chain, wanted_for}
+use Rattle.cfb_format.specs.Fat.{without_end}
+use Rattle.cfb_format.specs.Full.{CanTake, HasRoom, free_count, mini_sectors_for, mini_sectors_in_chain, minifat_len_for, rounded_up, sectors_for, sectors_in_chain, wanted_for}
 use Rattle.cfb_format.specs.Siblings.{entry_at}
 use Rattle.cfb_format.specs.Soundness.{mini_sectors_of, mini_stream_sectors, sectors_of}
 use Rattle.cfb_tables.specs.Room.{IsTooFewAfter}
-use Rattle.cfb_tables.specs.Tables.{IsTooFew}
-use Rattle.cfb_tables.proofs.RoomLemmas.{enough-is-room-after, nothing-given-back, too-few-is-no-room-after}
+use Rattle.cfb_tables.proofs.RoomLemmas.{enough-is-room-after, too-few-is-no-room-after}
 use Rattle.cfb_mini_sectors.specs.State.{HoldsMini, MiniState, entries_of, mini_stream_of, parts_of, tables_in, version_of}
 use Rattle.cfb_mini_sectors.specs.Steps.{IsTooFewAfterFor, minifat_lacks, mini_stream_lacks}
 use Rattle.cfb_content.specs.Contents.{IsTooLongFor, mini_sectors_owned, sectors_owned}
 use Rattle.cfb_content.specs.Laws.{EnoughIsNotTooLong, LackIsTooLong}
+use Rattle.cfb_content.specs.Room.{freed, given_back_then, room_behind, room_given}
 
 -- ---- numbers
 
@@ -97,11 +98,31 @@ module _ (s : MiniState) (i len : ℕ) where
       none : (n a c : ℕ) → (0 - n) + a + c ≡ a + c
       none n a c = omega arith
 
-  small-given : nat_le 4096 len ≡ false → given_back_for (parts_of s) i len ≡ length (sectors_owned s i)
-  small-given b = ap (λ (w : Bool). if w then sectors_in_chain (parts_of s) i else 0) (is-below len b) ∙ own-len
+  small-given : nat_le 4096 len ≡ false → given_back_then (parts_of s) i len ≡ length (sectors_owned s i)
+  small-given b = ap (λ (w : Bool). if w then sectors_in_chain (parts_of s) i else room_behind (parts_of s) i) (is-below len b) ∙ own-len
 
-  large-given : nat_le 4096 len ≡ true → given_back_for (parts_of s) i len ≡ 0
-  large-given b = ap (λ (w : Bool). if w then sectors_in_chain (parts_of s) i else 0) (not-below len b)
+  -- what comes free as the mini sectors do
+  abbrev room-of : ℕ → List ℕ → ℕ → ℕ
+  room-of n list minis = if nat_lt 0 n
+      then (length s.minifat_sectors - rounded_up (length (without_end (λ word. word == free_sector) (freed s.minifat list))) (words_per_sector (version_of s)))
+      + (minis - rounded_up (length (without_end (λ word. word == free_sector) (freed s.minifat list)) * mini_sector_len) (sector_len (version_of s)))
+      else 0
+
+  room-same : (0 < length (mini_sectors_owned s i) → s.mini_stream ≡ mini_stream_chain (parts_of s)) → room_behind (parts_of s) i ≡ room_given s (mini_sectors_owned s i)
+  room-same kept = go (is_large (entry_at (entries_of s) i)) (mini_sectors_of (parts_of s) i) (λ some. stream-len (kept some))
+    where
+      go : (b : Bool) (list : List ℕ) → (0 < length (if b then [] else list) → length (mini_stream_sectors (parts_of s)) ≡ length (mini_stream_of s))
+          → room-of (if b then 0 else length list) list (length (mini_stream_sectors (parts_of s))) ≡ room-of (length (if b then [] else list)) (if b then [] else list) (length (mini_stream_of s))
+      go true list long = refl
+      go false list long = elim (cases_lt 0 (length list)) [
+        | inl some ↦ ap (room-of (length list) list) (long some)
+        | inr none ↦ (let zero : length list ≡ 0 = omega (arith, none) in
+            ap (λ (n : ℕ). room-of n list (length (mini_stream_sectors (parts_of s)))) zero ∙ sym (ap (λ (n : ℕ). room-of n list (length (mini_stream_of s))) zero))
+      ]
+
+  large-given : nat_le 4096 len ≡ true → (0 < length (mini_sectors_owned s i) → s.mini_stream ≡ mini_stream_chain (parts_of s))
+      → given_back_then (parts_of s) i len ≡ room_given s (mini_sectors_owned s i)
+  large-given b kept = ap (λ (w : Bool). if w then sectors_in_chain (parts_of s) i else room_behind (parts_of s) i) (not-below len b) ∙ room-same kept
 
   abbrev lacks : ℕ
   lacks = sectors_for (version_of s) len - length (sectors_owned s i)
@@ -150,12 +171,17 @@ module _ (s : MiniState) (i len : ℕ) where
   abbrev limit : ℕ
   limit = (tables_in s).max_sectors
 
-  large-too-long : nat_le 4096 len ≡ true → IsTooFew (tables_in s) (lacks s i len) → IsTooLongFor s i len
-  large-too-long b few = inl (λ can.
-      let has : CanTake limit (parts_of s) 0 (wanted_for (parts_of s) i len) = subst (λ (n : ℕ). CanTake limit (parts_of s) n (wanted_for (parts_of s) i len)) (large-given s i len b) can in
-      too-few-is-no-room-after limit (parts_of s) 0 (lacks s i len) ((nothing-given-back (tables_in s) (lacks s i len)).1 few)
+  abbrev given : ℕ
+  given = room_given s (mini_sectors_owned s i)
+
+  large-too-long : nat_le 4096 len ≡ true → (0 < length (mini_sectors_owned s i) → s.mini_stream ≡ mini_stream_chain (parts_of s))
+      → IsTooFewAfter (tables_in s) given (lacks s i len) → IsTooLongFor s i len
+  large-too-long b kept few = inl (λ can.
+      let has : CanTake limit (parts_of s) given (wanted_for (parts_of s) i len) =
+      subst (λ (n : ℕ). CanTake limit (parts_of s) n (wanted_for (parts_of s) i len)) (large-given s i len b kept) can in
+      too-few-is-no-room-after limit (parts_of s) given (lacks s i len) few
       (fewer-fit (version_of s) limit (length (tables_in s).fat) (length (tables_in s).fat_sectors) (length (tables_in s).difat_sectors)
-      (wanted_for (parts_of s) i len - (free_count (tables_in s).fat + 0)) (lacks s i len - (free_count (tables_in s).fat + 0)) (omega (arith, large-least s i len)) has))
+      (wanted_for (parts_of s) i len - (free_count (tables_in s).fat + given)) (lacks s i len - (free_count (tables_in s).fat + given)) (omega (arith, large-least s i len)) has))
 
   small-too-long : nat_le 4096 len ≡ false → s.mini_stream ≡ mini_stream_chain (parts_of s)
       → IsTooFewAfterFor s (length (sectors_owned s i)) (count s i len) → IsTooLongFor s i len
@@ -163,11 +189,11 @@ module _ (s : MiniState) (i len : ℕ) where
   small-too-long b kept (inr few) = inl (λ can.
       too-few-is-no-room-after limit (parts_of s) (length (sectors_owned s i)) (minifat_lacks s (count s i len) + mini_stream_lacks s (count s i len)) few
       (subst (λ (n : ℕ). CanTake limit (parts_of s) n (minifat_lacks s (count s i len) + mini_stream_lacks s (count s i len))) (small-given s i len b)
-      (subst (λ (n : ℕ). CanTake limit (parts_of s) (given_back_for (parts_of s) i len) n) (small-wanted s i len b kept) can)))
+      (subst (λ (n : ℕ). CanTake limit (parts_of s) (given_back_then (parts_of s) i len) n) (small-wanted s i len b kept) can)))
 
 pub lack-is-too-long : LackIsTooLong
-lack-is-too-long s i len kept (inl (le, few)) = large-too-long s i len (le-leb 4096 len le) few
-lack-is-too-long s i len kept (inr (lt, few)) = small-too-long s i len (below-is len lt) (kept lt) few
+lack-is-too-long s i len kept (inl (le, few)) = large-too-long s i len (le-leb 4096 len le) (λ some. kept (inr some)) few
+lack-is-too-long s i len kept (inr (lt, few)) = small-too-long s i len (below-is len lt) (kept (inl lt)) few
 
 module _ {v : Validation} (s : MiniState) (i len : ℕ) (held : HoldsMini v s) (top : (tables_in s).max_sectors ≤ max_regular_sector)
     (short : length s.minifat ≤ s.max_mini_sectors) where
@@ -178,14 +204,14 @@ module _ {v : Validation} (s : MiniState) (i len : ℕ) (held : HoldsMini v s) (
   can-take : (given wanted : ℕ) → (IsTooFewAfter (tables_in s) given wanted → ⊥) → CanTake (tables_in s).max_sectors (parts_of s) given wanted
   can-take given wanted = enough-is-room-after (tables_in s).max_sectors (parts_of s) given wanted held.directory.sizes top held.directory.tables.holds.agrees.covers
 
-  large-enough : nat_le 4096 len ≡ true → (IsTooFew (tables_in s) (lacks s i len) → ⊥) → IsTooLongFor s i len → ⊥
+  large-enough : nat_le 4096 len ≡ true → (IsTooFewAfter (tables_in s) (given s i len) (lacks s i len) → ⊥) → IsTooLongFor s i len → ⊥
   large-enough b enough (inr over) = omega (arith, short, over, large-minis s i len b)
   large-enough b enough (inl refused) =
       let room : length s.minifat * mini_sector_len ≤ length (mini_stream_of s) * sector_len (version_of s) =
       subst (λ (w : Option (List ℕ)). length s.minifat * mini_sector_len ≤ length (unwrap_or w []) * sector_len (version_of s)) (sym held.mini_stream.kept) held.mini_stream.room in
-      refused (subst (λ (n : ℕ). CanTake (tables_in s).max_sectors (parts_of s) n (wanted_for (parts_of s) i len)) (sym (large-given s i len b))
-      (subst (λ (n : ℕ). CanTake (tables_in s).max_sectors (parts_of s) 0 n) (sym (large-wanted s i len b kept-stream held.words.covers room))
-      (can-take 0 (lacks s i len) (λ few. enough ((nothing-given-back (tables_in s) (lacks s i len)).0 few)))))
+      refused (subst (λ (n : ℕ). CanTake (tables_in s).max_sectors (parts_of s) n (wanted_for (parts_of s) i len)) (sym (large-given s i len b (λ some. kept-stream)))
+      (subst (λ (n : ℕ). CanTake (tables_in s).max_sectors (parts_of s) (given s i len) n) (sym (large-wanted s i len b kept-stream held.words.covers room))
+      (can-take (given s i len) (lacks s i len) enough)))
 
   small-enough : nat_le 4096 len ≡ false → (IsTooFewAfterFor s (length (sectors_owned s i)) (count s i len) → ⊥) → IsTooLongFor s i len → ⊥
   small-enough b enough (inr over) = enough (inl (subst (λ (n : ℕ). s.max_mini_sectors < n) (len-for s i len) over))

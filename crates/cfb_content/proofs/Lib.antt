@@ -9,6 +9,9 @@ pub mod Changing
 pub mod Sound
 pub mod Snug
 pub mod SnugMini
+pub mod FreeCounts
+pub mod Freed
+pub mod RoomGiven
 pub mod Fullness
 pub mod StreamEntry
 mod KnownSectors
@@ -18,7 +21,9 @@ pub mod WholeStreams
 pub mod Written
 pub mod PlacedWrites
 pub mod PutAlong
+pub mod GrownWith
 pub mod MinisAlong
 pub mod MinisPut
 pub mod ReadablePlaces
 pub mod FixedHeader
+pub mod Changed

@@ -1,16 +1,16 @@
 -- The chain of a large stream and the mini chain of a small one as the calls find them: what the stream owns, and whole where the file can
 -- be changed.
-use Rattle.std.proofs.Common.{◌≡◌, ◌≤◌, ◌<◌, ◌/◌, inl, inr, ℕ, List, [], true, false, sym, ◌∙◌, subst, length, arith, le-leb}
-use Rattle.std.specs.Prelude.{Contains, slice_index}
+use Rattle.std.proofs.Common.{◌≡◌, ◌≤◌, ◌<◌, ◌/◌, inl, inr, ℕ, List, [], Bool, true, false, sym, ◌∙◌, ap, subst, length, arith, le-leb}
+use Rattle.std.specs.Prelude.{Contains, if◌then◌else◌, slice_index, unwrap_or}
 use Rattle.std.proofs.lemmas.Bool.{cases_lt, lt-leb}
 use Rattle.std.proofs.lemmas.List.Elements.{Contains-get_or}
 use Rattle.cfb_format.specs.declared.validate.Validation.{Validation}
 use Rattle.cfb_format.specs.Chain.{IsChain}
-use Rattle.cfb_format.specs.Content.{is_large}
+use Rattle.cfb_format.specs.Content.{is_large, mini_chain}
 use Rattle.cfb_format.specs.Siblings.{entry_at}
 use Rattle.cfb_tables.proofs.ChainLemmas.{members-busy}
 use Rattle.cfb_alloc.specs.Alloc.{AllocatorState}
-use Rattle.cfb_mini_sectors.specs.State.{HoldsMini, IsChangeable, MiniState, bytes_of, entries_of, table_of, tables_in, version_of}
+use Rattle.cfb_mini_sectors.specs.State.{HoldsMini, IsChangeable, MiniState, bytes_of, entries_of, parts_of, table_of, tables_in, version_of}
 use Rattle.cfb_mini.specs.MiniSectors.{HasMiniSector}
 use Rattle.cfb_mini.proofs.MiniWritten.{busy-mini}
 use Rattle.cfb_content.specs.Contents.{IsNotChangeable, IsStreamOf, len_of, mini_sectors_owned, sectors_owned}
@@ -23,6 +23,10 @@ use Rattle.cfb_content.proofs.Readable.{large-is-there, small-is-there}
 module _ (s : MiniState) (i : ℕ) (long : 4096 ≤ len_of s i) where
   pub large-entry : is_large (entry_at (entries_of s) i) ≡ true
   large-entry = le-leb 4096 (len_of s i) long
+
+  -- it has no mini sectors
+  pub no-minis : mini_sectors_owned s i ≡ []
+  no-minis = ap (λ (b : Bool). if b then [] else unwrap_or (mini_chain (parts_of s) (entry_at (entries_of s) i)) []) large-entry
 
   -- the one chain from where a large stream starts is what it owns
   pub owned-chain : (list : List ℕ) → IsChain (tables_in s).fat (entry_at (entries_of s) i).start_sector list → sectors_owned s i ≡ list

@@ -5,20 +5,21 @@ use Rattle.cfb_format.specs.Bytes.{max_regular_sector, sector_len, sector_start}
 use Rattle.cfb_format.specs.Chain.{IsChain}
 use Rattle.cfb_format.specs.Content.{content_chain, is_large, mini_sector_len, mini_stream_chain, mini_stream_cutoff}
 use Rattle.cfb_format.specs.DirectoryEntry.{Entry}
-use Rattle.cfb_format.specs.Full.{mini_sectors_for, sectors_for}
+use Rattle.cfb_format.specs.Full.{free_count, mini_sectors_for, sectors_for}
 use Rattle.cfb_format.specs.Medium.{written}
 use Rattle.cfb_format.specs.Reading.{IsOutline, Outline, stream_numbers}
 use Rattle.cfb_format.specs.Siblings.{entry_at}
 use Rattle.cfb_rules.specs.StreamCalls.{resized}
 use Rattle.cfb_tables.specs.Changes.{AreDisjoint}
 use Rattle.cfb_tables.specs.Clean.{IsUnnamed}
-use Rattle.cfb_tables.specs.Tables.{IsTooFew}
+use Rattle.cfb_tables.specs.Room.{IsTooFewAfter}
 use Rattle.cfb_alloc.specs.Frame.{Spares, table_sectors}
 use Rattle.cfb_chains.specs.ChainPlaces.{place_along}
-use Rattle.cfb_mini_table.specs.MiniTable.{TakesMini}
+use Rattle.cfb_mini_table.specs.MiniTable.{MiniGivesBack, TakesMini}
 use Rattle.cfb_mini_sectors.specs.State.{HoldsMini, HoldsMiniStream, IsChangeable, MiniState, bytes_of, cases_of, content_of, entries_of, parts_of, root_len_of, table_of, tables_in, version_of}
-use Rattle.cfb_mini_sectors.specs.Steps.{AreStartsUnnamed, GrowsFor, IsMeasuredMini, IsSnugMini, IsTooFewAfterFor, KeepsLimits, KeepsMini, MovesRoot, SparesMini, system_sectors}
+use Rattle.cfb_mini_sectors.specs.Steps.{AreStartsUnnamed, CanGiveRoomBack, GivesRoomBack, GrowsFor, IsMeasuredMini, IsSnugMini, IsTooFewAfterFor, KeepsLimits, KeepsMini, MovesRoot, SparesMini, system_sectors}
 use Rattle.cfb_content.specs.Contents.{AreAllUsed, AreSnug, IsSnug, IsStreamOf, IsTooLongFor, KeepsContent, KeepsOthers, MovesContent, SizesChain, len_of, mini_place_along, mini_sectors_owned, sectors_owned}
+use Rattle.cfb_content.specs.Room.{room_given}
 use Rattle.cfb_content.specs.Uses.{ChangesContent, ChangesUse, Owns}
 
 -- ---- the tree
@@ -263,16 +264,24 @@ OwnStays = (old new : MiniState) (i : ℕ) (xs ms : List ℕ) → (tables_in new
 
 -- ---- fullness
 
+-- where a mini chain is freed, just so many sectors come free as the MiniFAT and the mini stream do not need any more
+abbrev pub RoomComesFree : Type 0
+RoomComesFree = (old new : MiniState) (list : List ℕ) → CanGiveRoomBack old → 0 < length list → version_of new ≡ version_of old
+    → MiniGivesBack [] list old.minifat new.minifat → GivesRoomBack old new → free_count (tables_in new).fat ≡ free_count (tables_in old).fat + room_given old list
+
 -- there are too few numbers for this length of the stream, as memory counts them: for the sectors of a large one that its chain lacks,
--- or for the mini sectors of a small one once the sectors that it leaves are free
+-- once those are free that come free with the mini sectors that it leaves, or for the mini sectors of a small one once the sectors that it
+-- leaves are free
 abbrev pub LacksNumbersFor : MiniState → ℕ → ℕ → Type 0
 LacksNumbersFor s i len =
-    ((mini_stream_cutoff ≤ len) × IsTooFew (tables_in s) (sectors_for (version_of s) len - length (sectors_owned s i)))
+    ((mini_stream_cutoff ≤ len)
+    × IsTooFewAfter (tables_in s) (room_given s (mini_sectors_owned s i)) (sectors_for (version_of s) len - length (sectors_owned s i)))
     ⊎ ((len < mini_stream_cutoff) × IsTooFewAfterFor s (length (sectors_owned s i)) (mini_sectors_for len - length (mini_sectors_owned s i)))
 
 -- then the length is too long
 abbrev pub LackIsTooLong : Type 0
-LackIsTooLong = (s : MiniState) (i len : ℕ) → (len < mini_stream_cutoff → s.mini_stream ≡ mini_stream_chain (parts_of s)) → LacksNumbersFor s i len → IsTooLongFor s i len
+LackIsTooLong = (s : MiniState) (i len : ℕ) → ((len < mini_stream_cutoff) ⊎ (0 < length (mini_sectors_owned s i)) → s.mini_stream ≡ mini_stream_chain (parts_of s))
+    → LacksNumbersFor s i len → IsTooLongFor s i len
 
 -- and where there are enough, it is not
 abbrev pub EnoughIsNotTooLong : Type 0

@@ -1,23 +1,27 @@
 //! Contents that lie in sectors (MS-CFB 2.3), by the list of a chain's sectors.
-ghost use Rattle.std.specs.Prelude.{◌≡◌, ℕ, ◌+◌, ◌-◌, ◌/◌, ◌^◌, ◌<◌, ◌≤◌, List, length, min, take, drop, replicate, true, nat_eq, slice_index, IsTrue, IfOk, IfErr, OnOk, OnErr};
+ghost use Rattle.std.specs.Prelude.{◌≡◌, ℕ, ◌+◌, ◌-◌, ◌*◌, ◌/◌, ◌^◌, ◌<◌, ◌≤◌, ◌⊎◌, List, length, max, min, take, drop, replicate, false, true, nat_eq, slice_index, IsTrue, IfOk, IfErr, OnOk, OnErr};
 ghost use Rattle.std.specs.List.{IsDistinct};
 ghost use Rattle.cfb_format.specs.declared.validate.Validation.{Validation};
 ghost use Rattle.cfb_format.specs.Bytes.{sector_len, sector_start};
+ghost use Rattle.cfb_format.specs.Chain.{IsChain};
 ghost use Rattle.cfb_format.specs.Medium.{ChangesOnlyBytes, part, written};
-ghost use Rattle.cfb_format.specs.Refused.{CountsFailure, IsInvalidData};
+ghost use Rattle.cfb_format.specs.Refused.{AfterMedium, CountsFailure, IsInvalidData};
 ghost use Rattle.cfb_sectors.specs.Sectors.{IsMediumError};
 ghost use Rattle.cfb_tables.specs.Changes.{AreDisjoint};
 ghost use Rattle.cfb_tables.specs.Refused.{ChangeRefused};
-ghost use Rattle.cfb_alloc.specs.Alloc.{HoldsTables};
+ghost use Rattle.cfb_tables.specs.Tables.{AreSizes, IsTooFew, first_or_end, sizes_of};
+ghost use Rattle.cfb_alloc.specs.Alloc.{HoldsTables, IsOtherHeaderByte, IsUsable};
 ghost use Rattle.cfb_alloc.specs.Frame.{Spares, table_sectors};
+ghost use Rattle.cfb_alloc.specs.ListedChain.{Lengthens};
 ghost use Rattle.cfb_chains.specs.ChainPlaces.{place_along};
-ghost use Rattle.cfb_content.specs.Parts.{ChangesOnlyPlaces, HasFirst, IsThereInSectors, IsWholeChain, StandAlong};
+ghost use Rattle.cfb_content.specs.Parts.{AreZerosAlong, ChangesOnlyPlaces, HasFirst, IsThereInSectors, IsWholeChain, StandAlong, StaysAlong};
 
 use cfb_alloc::alloc::Allocator;
 use cfb_format::error::{Detail, Error};
 use cfb_format::medium::{Medium, ReadMedium};
 use cfb_runs::reading::read_along;
 use cfb_runs::writing::{write_along, zero_along};
+use cfb_sectors::sector::SectorInit;
 use std::alloc::Allocator as Heap;
 
 /// A refusal of a stream whose chain has not all of its bytes in the file.
@@ -174,4 +178,57 @@ pub fn zero_in_sectors<F: Medium, A: Heap>(
     ensures counts { IsTrue F.tells → CountsFailure F.write_faults result allocator.old.file.failures allocator.new.file.failures }
 {
     zero_along(allocator, ids, from, to)
+}
+
+/// Adds so many sectors behind the chain of the listed ones, and puts these bytes along all of them, from byte `at` of the listed ones on:
+/// those that lie in fresh sectors by the growth itself, which are not made zeros first. Behind the bytes what was listed stays, and what
+/// is fresh is zeros.
+///
+/// `InvalidData` where the FAT sectors do not cover the file, `Full` where there are too few numbers, and `Memory`: then nothing has
+/// changed. After `Medium`, where the medium fails, of the file's bytes no sector in use has changed but the table sectors, and the listed
+/// ones where the bytes were to stand.
+pub fn grow_listed_with<F: Medium, A: Heap>(
+    allocator: &mut Allocator<F, A>,
+    ids: &mut Vec<u32, A>,
+    count: usize,
+    at: u64,
+    bytes: &[u8],
+) -> Result<(), Error>
+    requires chain { IsChain allocator.old.tables.fat (first_or_end ids.old.items) ids.old.items }
+    requires behind { at ≤ length ids.old.items * sector_len allocator.old.tables.version }
+    requires bounded { at + length bytes.now < 2 ^ 64 }
+    requires fits { at + length bytes.now ≤ (length ids.old.items + count) * sector_len allocator.old.tables.version }
+    ensures chain { IsChain allocator.new.tables.fat (first_or_end ids.new.items) ids.new.items }
+    ensures lengthened { OnOk result (Lengthens count ids.old.items ids.new.items allocator.old.tables allocator.new.tables) }
+    ensures put { IsTrue F.tells → (validation : Validation) → HoldsTables validation allocator.old
+        → OnOk result (StandAlong (place_along allocator.old.tables.version ids.new.items) at bytes.now allocator.new.file.bytes) }
+    ensures zeros { IsTrue F.tells → (validation : Validation) → HoldsTables validation allocator.old
+        → OnOk result (AreZerosAlong (place_along allocator.old.tables.version ids.new.items)
+        (max (at + length bytes.now) (length ids.old.items * sector_len allocator.old.tables.version))
+        (length ids.new.items * sector_len allocator.old.tables.version) allocator.new.file.bytes) }
+    ensures kept { IsTrue F.tells → (validation : Validation) → HoldsTables validation allocator.old
+        → StaysAlong (place_along allocator.old.tables.version ids.old.items) at (length bytes.now)
+        (length ids.old.items * sector_len allocator.old.tables.version) allocator.old.file.bytes allocator.new.file.bytes }
+    ensures holds { IsTrue F.tells → (validation : Validation) → HoldsTables validation allocator.old → OnOk result (HoldsTables validation allocator.new) }
+    ensures sizes { OnOk result (AreSizes allocator.new.tables.version (sizes_of allocator.new.tables)) }
+    ensures spares { IsTrue F.tells → Spares ids.old.items allocator.old allocator.new }
+    ensures header { IsTrue F.tells → (i : ℕ) → i < length allocator.old.file.bytes → IsOtherHeaderByte allocator.old.tables.version i
+        → slice_index allocator.new.file.bytes i ≡ slice_index allocator.old.file.bytes i }
+    ensures version { allocator.new.tables.version ≡ allocator.old.tables.version }
+    ensures limit { allocator.new.tables.max_sectors ≡ allocator.old.tables.max_sectors }
+    ensures enough { OnOk result (IsTooFew allocator.old.tables count → ⊥) }
+    ensures begun { 0 < length bytes.now → OnOk result (allocator.new.file.begun ≡ true) }
+    ensures refused { IfErr result (AfterMedium (allocator.new.file.begun ≡ true) (allocator.new ≡ allocator.old)) }
+    ensures unwritten { IsTrue F.tells → allocator.new.file.begun ≡ false → allocator.new.file.bytes ≡ allocator.old.file.bytes }
+    ensures err { IfErr result (ChangeRefused (IsUsable allocator.old.tables → ⊥) Unit (IsTooFew allocator.old.tables count) Unit) }
+    ensures counts { IsTrue F.tells → CountsFailure F.write_faults result allocator.old.file.failures allocator.new.file.failures }
+{
+    let sector_len = allocator.sector_len() as u64;
+    let have = (ids.len() as u64).saturating_mul(sector_len);
+    let room = have.saturating_sub(at);
+    let first = room.min(bytes.len() as u64) as usize;
+    allocator.extend_listed_from(ids, count, SectorInit::Zero, &bytes[first..])?;
+    let put = put_in_sectors(allocator, ids, at, &bytes[..first]);
+    let _len = allocator.file_len();
+    put
 }

@@ -1,6 +1,6 @@
 //! What the definitions promise about each other. None of these functions does anything: each has a law
 //! as its contract.
-ghost use Rattle.cfb_content.specs.Laws.{AllUsedIsKept, ChangeableStartsAreUnnamed, ChangedIsChangeable, ContentMovesInTurn, EmptyIsSnug, EmptyOwnsNothing, EnoughIsNotTooLong, GrowthIsSnugMini, KeptIsReadable, KeptIsSnug, KeptIsSnugMini, KeptMiniIsSpared, LackIsTooLong, LargeIsReadByPlaces, LargeIsResized, LargeIsThere, LargeIsWritten, LargeOwnsItsChain, MovedIsOutline, MovedRootIsMoved, NothingIsMoved, OthersAreKeptInTurn, OthersAreReadable, OwnIsApart, OwnStays, SameEntriesAreMoved, SameIsSized, SizedIsSnug, SmallIsReadByPlaces, SmallIsResized, SmallIsThere, SmallIsWritten, SmallOwnsItsChain, SparedIsKept, SparedSectorsAreKept, StreamIsNoRoot, StreamOwnsItsOwn, StreamStartIsUnnamed, StreamStays};
+ghost use Rattle.cfb_content.specs.Laws.{AllUsedIsKept, ChangeableStartsAreUnnamed, ChangedIsChangeable, ContentMovesInTurn, EmptyIsSnug, EmptyOwnsNothing, EnoughIsNotTooLong, GrowthIsSnugMini, KeptIsReadable, KeptIsSnug, KeptIsSnugMini, KeptMiniIsSpared, LackIsTooLong, LargeIsReadByPlaces, LargeIsResized, LargeIsThere, LargeIsWritten, LargeOwnsItsChain, MovedIsOutline, MovedRootIsMoved, NothingIsMoved, OthersAreKeptInTurn, OthersAreReadable, OwnIsApart, OwnStays, RoomComesFree, SameEntriesAreMoved, SameIsSized, SizedIsSnug, SmallIsReadByPlaces, SmallIsResized, SmallIsThere, SmallIsWritten, SmallOwnsItsChain, SparedIsKept, SparedSectorsAreKept, StreamIsNoRoot, StreamOwnsItsOwn, StreamStartIsUnnamed, StreamStays};
 ghost use Rattle.cfb_content.specs.Uses.{GrowthStays, LargeBecomesSmall, LargeGoesOn, LargeIsCut, SameUse, SmallBecomesLarge, SmallGoesOn, SmallIsCut, UsedByOwners};
 
 /// Start and length of a stream's entry and of the root's are none of what the tree hangs on (MS-CFB 2.6).
@@ -94,8 +94,10 @@ pub fn chains_fit_their_lengths()
     ensures mini_kept { KeptIsSnugMini }
 {}
 
-/// A length is too long for the format exactly where memory has too few numbers for it.
+/// A length is too long for the format exactly where memory has too few numbers for it, and just what is counted of the room behind mini
+/// sectors comes free with them.
 pub fn fullness_is_want_of_numbers()
+    ensures room { RoomComesFree }
     ensures too_long { LackIsTooLong }
     ensures enough { EnoughIsNotTooLong }
 {}

@@ -1,5 +1,5 @@
 -- Whether a stream can get another length, by the numbers that are free or left.
-use Rattle.std.proofs.Common.{◌≡◌, ◌≤◌, ◌<◌, ◌-◌, ◌/◌, ◌%◌, ◌+◌, ◌⊎◌, inl, inr, min, ℕ, List, [], Bool, true, false, sym, ◌∙◌, subst, length, arith}
+use Rattle.std.proofs.Common.{◌≡◌, ◌≤◌, ◌<◌, ◌-◌, ◌/◌, ◌%◌, ◌+◌, ◌⊎◌, inl, inr, min, ℕ, List, Bool, true, false, refl, sym, ◌∙◌, subst, length, arith}
 use Rattle.std.specs.Prelude.{◌↔◌, IsTrue}
 use Rattle.std.proofs.lemmas.Bool.{cases_lt}
 use Rattle.cfb_format.specs.declared.validate.Validation.{Validation}
@@ -17,11 +17,13 @@ use Rattle.cfb_mini.proofs.MiniRoom.{refused-is-too-few}
 use Rattle.cfb_content.specs.Contents.{IsTooLongFor, len_of, mini_sectors_owned, sectors_owned}
 use Rattle.cfb_content.specs.Laws.{LacksNumbersFor}
 use Rattle.cfb_content.specs.Parts.{IsWholeChain, IsWholeMiniChain}
+use Rattle.cfb_content.specs.Room.{room_given}
 use Rattle.cfb_content.proofs.Fullness.{enough-is-not-too-long, lack-is-too-long}
-use Rattle.cfb_content.proofs.WholeStreams.{no-sectors, owned-chain, owned-minis, whole-as, whole-minis-as}
+use Rattle.cfb_content.proofs.RoomGiven.{given-is-counted}
+use Rattle.cfb_content.proofs.WholeStreams.{owned-chain, owned-minis, whole-as, whole-minis-as}
 use Rattle.cfb_resizing.proofs.MovedToMinis.{small-lacks-after}
 use Rattle.cfb_resizing.proofs.TurnedInMinis.{small-lacks}
-use Rattle.cfb_resizing.proofs.TurnedInSectors.{large-lacks}
+use Rattle.cfb_resizing.proofs.TurnedInSectors.{large-lacks, moving-lacks}
 
 -- what is so exactly where the one is not is so exactly where the other is not that means the same
 pub unless-either : (r : Bool) (A B : Type 0) → (A → B) × (B → A) → IsTrue r ↔ (B → ⊥) → IsTrue r ↔ (A → ⊥)
@@ -65,10 +67,12 @@ refused-lacks s i size r is refused = elim (cases_lt size 4096) [
       )
   | inr large ↦
       let count = sectors_for (version_of s) size - length (sectors_owned s i) in
-      elim (too-few-or-not (tables_in s) count) [
-        | inl few ↦ inl (large, few)
+      let given = room_given s (mini_sectors_owned s i) in
+      let counted = given-is-counted (tables_in s) given count in
+      elim (too-few-or-not (tables_in s) (count - given)) [
+        | inl few ↦ inl (large, counted.1 few)
         | inr enough ↦
-            let yes : r ≡ true = is.1 (λ lacks. elim lacks [ inl few ↦ enough few.1 | inr small ↦ (let lt = small.0 in omega (arith, lt, large)) ]) in
+            let yes : r ≡ true = is.1 (λ lacks. elim lacks [ inl few ↦ enough (counted.0 few.1) | inr small ↦ (let lt = small.0 in omega (arith, lt, large)) ]) in
             absurd (let clash : true ≡ false = sym yes ∙ refused in cc)
       ]
 ]
@@ -96,19 +100,22 @@ module _ (s : MiniState) (i size start len : ℕ) (start-is : start ≡ (entry_a
       unless-either r (LacksNumbersFor s i size) (IsTooFewAfter (tables_in s) 0 lacking)
       (taken-now s lacking (LacksNumbersFor s i size)
       (subst (λ n. (LacksNumbersFor s i size → IsTooFew (tables_in s) n) × (IsTooFew (tables_in s) n → LacksNumbersFor s i size)) (sym all)
-      (large-lacks s i size list large (owned-chain s i long list whole.chain))))
+      (large-lacks s i size list large long (owned-chain s i long list whole.chain))))
       (subst (λ (a : AllocatorState). IsTrue r ↔ (IsTooFewAfter a.tables 0 lacking → ⊥)) is-lent is)
 
   -- a stream in mini sectors that goes into sectors
-  pub entering-can : (needed l : ℕ) (lent : AllocatorState) → len_of s i < 4096 → 4096 ≤ size → lent ≡ table_of s → l ≡ sector_len (version_of s)
-      → needed ≡ size / l + min 1 (size % l) → (r : Bool) → IsTrue r ↔ (IsTooFewAfter lent.tables 0 needed → ⊥) → IsTrue r ↔ (LacksNumbersFor s i size → ⊥)
-  entering-can needed l lent short large is-lent l-is needed-is r is =
-      let all : rounded_up size (sector_len (version_of s)) - length {A = ℕ} [] ≡ needed = (let w = wanted_is (version_of s) size needed l l-is needed-is in omega (arith, w)) in
-      unless-either r (LacksNumbersFor s i size) (IsTooFewAfter (tables_in s) 0 needed)
-      (taken-now s needed (LacksNumbersFor s i size)
-      (subst (λ n. (LacksNumbersFor s i size → IsTooFew (tables_in s) n) × (IsTooFew (tables_in s) n → LacksNumbersFor s i size)) all
-      (large-lacks s i size [] large (no-sectors s i short))))
-      (subst (λ (a : AllocatorState). IsTrue r ↔ (IsTooFewAfter a.tables 0 needed → ⊥)) is-lent is)
+  pub entering-can : (needed given l : ℕ) (lent : AllocatorState) → len_of s i < 4096 → 4096 ≤ size → lent ≡ table_of s → l ≡ sector_len (version_of s)
+      → needed ≡ size / l + min 1 (size % l)
+      → ((fewer : ℕ) → fewer ≤ needed → IsTooFewAfter (tables_in s) given fewer ↔ IsTooFewAfter (tables_in s) (room_given s (mini_sectors_owned s i)) fewer)
+      → (r : Bool) → IsTrue r ↔ (IsTooFewAfter lent.tables given needed → ⊥) → IsTrue r ↔ (LacksNumbersFor s i size → ⊥)
+  entering-can needed given l lent short large is-lent l-is needed-is same r is =
+      let all : needed ≡ rounded_up size (sector_len (version_of s)) = wanted_is (version_of s) size needed l l-is needed-is in
+      let both = moving-lacks s i size (mini_sectors_owned s i) large short refl in
+      let here = same needed (omega arith) in
+      unless-either r (LacksNumbersFor s i size) (IsTooFewAfter (tables_in s) given needed) (
+        (λ lacks. here.1 (subst (λ n. IsTooFewAfter (tables_in s) (room_given s (mini_sectors_owned s i)) n) (sym all) (both.0 lacks))),
+        (λ few. both.1 (subst (λ n. IsTooFewAfter (tables_in s) (room_given s (mini_sectors_owned s i)) n) all (here.0 few))),
+      ) (subst (λ (a : AllocatorState). IsTrue r ↔ (IsTooFewAfter a.tables given needed → ⊥)) is-lent is)
 
   -- one that stays in mini sectors
   pub mini-can : (have needed lacking : ℕ) (list : List ℕ) → len_of s i < 4096 → size < 4096 → IsWholeMiniChain s start len list → have ≡ length list

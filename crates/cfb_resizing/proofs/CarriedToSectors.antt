@@ -1,24 +1,20 @@
 -- The steps by which a content leaves its mini sectors for sectors: its mini chain is freed, and then a chain begins.
-use Rattle.std.proofs.Common.{◌≡◌, ◌≤◌, ◌<◌, ◌+◌, ◌-◌, ◌*◌, ◌/◌, inl, inr, ℕ, List, [], ◌++◌, true, refl, sym, ◌∙◌, ap, subst, length, arith}
-use Rattle.std.specs.Prelude.{Contains, Err, IfErr, Ok, Result, slice_index}
+use Rattle.std.proofs.Common.{◌≡◌, ◌≤◌, ◌<◌, ◌+◌, ◌*◌, ◌/◌, inl, inr, ℕ, List, [], ◌++◌, true, false, refl, sym, ◌∙◌, ap, subst, length, arith}
+use Rattle.std.specs.Prelude.{Contains, Err, IfErr, Ok, OnOk, Result, slice_index}
 use Rattle.std.proofs.lemmas.Bool.{cases_lt}
-use Rattle.std.proofs.lemmas.List.{append-nil}
 use Rattle.std.proofs.lemmas.List.Elements.{Contains-append_right, Contains-get_or}
 use Rattle.cfb_format.specs.declared.error.Error.{Error}
 use Rattle.cfb_format.specs.declared.error.Error.TheVariants.{AlreadyExists, Failed, Full, InvalidData, InvalidInput, Medium, Memory, NotFound, Unsound}
 use Rattle.cfb_format.specs.declared.validate.Validation.{Validation}
 use Rattle.cfb_format.specs.Bytes.{sector_len}
-use Rattle.cfb_format.specs.Full.{free_count}
 use Rattle.cfb_format.specs.Refused.{AfterMedium}
 use Rattle.cfb_sectors.specs.Words.{RangeStays}
 use Rattle.cfb_soundness.specs.Places.{mini_start}
-use Rattle.cfb_format.specs.Chain.{IsChain}
 use Rattle.cfb_tables.specs.Changes.{AreDisjoint}
 use Rattle.cfb_tables.specs.Clean.{IsUnnamed}
 use Rattle.cfb_tables.specs.Refused.{ChangeRefused}
-use Rattle.cfb_tables.specs.Tables.{AreSizes, IsTooFew, PassesLimit, TableState, first_or_end, sizes_of}
+use Rattle.cfb_tables.specs.Tables.{AreSizes, first_or_end, sizes_of}
 use Rattle.cfb_tables.proofs.Members.{Contains-nil, first_of_three}
-use Rattle.cfb_tables.proofs.RoomLemmas.{more-is-too-few}
 use Rattle.cfb_alloc.specs.Agreement.{KeepsSectors}
 use Rattle.cfb_alloc.specs.Alloc.{AllocatorState, HoldsTables, IsOtherHeaderByte}
 use Rattle.cfb_alloc.specs.Frame.{Spares}
@@ -83,16 +79,6 @@ fresh-keeps-zeros v s a held spares version m room zero =
     zeros-stay s (with_table s a) m version refl
     (stays-inside (version_of s) sector m (mini_place s m) (bytes_of s) a.file.bytes refl
     (keeps sector (Contains-get_or list index 0 (mini-below (version_of s) m (length list) room)))) zero
-
--- as many numbers are free as before, or more: what could be taken can be still
-pub room-stays : (old new : TableState) (count : ℕ) → KeepsSizes old new → IsTooFew new count → IsTooFew old count
-room-stays old new count kept few =
-    let less = free_count new.fat - free_count old.fat in
-    let first = subst (λ (t : TableState). IsTooFew t count) kept.rest few in
-    let second : PassesLimit old.version old.max_sectors (sizes_of old) (count - free_count new.fat) =
-    subst (λ n. PassesLimit old.version old.max_sectors (record { sectors = n; fats = length old.fat_sectors; difats = length old.difat_sectors }) (count - free_count new.fat)) kept.sectors first in
-    let same : count - free_count new.fat ≡ count - less - free_count old.fat = (let more = kept.free in omega (arith, more)) in
-    more-is-too-few old (count - less) count (omega arith) (subst (λ n. PassesLimit old.version old.max_sectors (sizes_of old) n) same second)
 
 module _ (s mid : MiniState) (list : List ℕ) where
   -- the mini sectors are held once the mini chain is free
@@ -202,6 +188,29 @@ module _ (s mid : MiniState) (list : List ℕ) where
         go Full h w = absurd (enough w)
         go Unsound h w = absurd w
         go Failed h w = absurd w
+
+    -- where no change was begun, there was no mini chain, and no chain began
+    pub carried-unwritten : {T : Type 0} (r : Result T Error) → (0 < length list → (table_of mid).file.begun ≡ true) → (length list ≤ 0 → mid ≡ s)
+        → OnOk r (a.file.begun ≡ true) → IfErr r (AfterMedium (a.file.begun ≡ true) (a ≡ lent)) → a.file.begun ≡ false → a.file.bytes ≡ bytes_of s
+    carried-unwritten (Ok x) begun none up h calm = absurd (let clash : true ≡ false = sym up ∙ calm in cc)
+    carried-unwritten (Err e) begun none up h calm = go e h
+      where
+        same : a ≡ lent → a.file.bytes ≡ bytes_of s
+        same is = elim (cases_lt 0 (length list)) [
+          | inl some ↦ absurd (let clash : true ≡ false = sym (begun some) ∙ sym (ap (λ (b : AllocatorState). b.file.begun) (is ∙ is-lent)) ∙ calm in cc)
+          | inr few ↦ ap (λ (b : AllocatorState). b.file.bytes) (is ∙ is-lent) ∙ ap bytes_of (none few)
+        ]
+
+        go : (e : Error) → AfterMedium (a.file.begun ≡ true) (a ≡ lent) e → a.file.bytes ≡ bytes_of s
+        go (Medium m) up = absurd (let clash : true ≡ false = sym up ∙ calm in cc)
+        go (NotFound d) is = same is
+        go (AlreadyExists d) is = same is
+        go (InvalidInput d) is = same is
+        go (InvalidData d) is = same is
+        go Memory is = same is
+        go Full is = same is
+        go Unsound is = same is
+        go Failed is = same is
 
 pub carried-err : {T : Type 0} (r : Result T Error) (invalid full invalid' : Type 0) → (invalid → ⊥) → (full → ⊥) → IfErr r (ChangeRefused invalid Unit full Unit)
     → IfErr r (ChangeRefused invalid' Unit ⊥ Unit)

@@ -1,5 +1,6 @@
 -- How long a stream can become with the numbers that are left.
-use Rattle.std.proofs.Common.{◌≡◌, ◌≤◌, ◌<◌, ◌+◌, ◌-◌, ◌*◌, ◌/◌, ◌%◌, min, inl, inr, ℕ, List, [], sym, ◌∙◌, ap, subst, length, arith}
+use Rattle.std.proofs.Common.{◌≡◌, ◌≤◌, ◌<◌, ◌+◌, ◌-◌, ◌*◌, ◌/◌, ◌%◌, min, inl, inr, ℕ, List, refl, sym, ◌∙◌, ap, subst, length, arith}
+use Rattle.std.specs.Prelude.{◌↔◌}
 use Rattle.std.proofs.lemmas.Bool.{cases_lt}
 use Rattle.cfb_format.specs.declared.validate.Validation.{Validation}
 use Rattle.cfb_format.specs.declared.version.Version.{Version}
@@ -7,20 +8,23 @@ use Rattle.cfb_format.specs.declared.version.Version.TheVariants.{V3, V4}
 use Rattle.cfb_format.specs.Bytes.{sector_len, words_per_sector}
 use Rattle.cfb_format.specs.Full.{free_count, rounded_up}
 use Rattle.cfb_format.specs.Siblings.{entry_at}
-use Rattle.cfb_tables.specs.Tables.{IsTooFew, TableState}
+use Rattle.cfb_tables.specs.Room.{IsTooFewAfter}
+use Rattle.cfb_tables.specs.Tables.{IsTooFew}
 use Rattle.cfb_tables.proofs.RoomLemmas.{more-is-too-few, nothing-given-back}
 use Rattle.cfb_alloc.specs.Alloc.{AllocatorState}
 use Rattle.cfb_chains.proofs.LentContent.{wanted_is}
 use Rattle.cfb_mini_sectors.specs.State.{HoldsMini, MiniState, entries_of, mini_stream_of, table_of, tables_in, version_of}
 use Rattle.cfb_mini_sectors.specs.Steps.{IsTooFewAfterFor, IsTooFewFor, mini_stream_lacks, minifat_lacks}
 use Rattle.cfb_mini.proofs.MiniRoom.{nothing-back}
-use Rattle.cfb_content.specs.Contents.{len_of}
+use Rattle.cfb_content.specs.Contents.{len_of, mini_sectors_owned}
 use Rattle.cfb_content.specs.Laws.{LacksNumbersFor}
 use Rattle.cfb_content.specs.Parts.{IsWholeChain, IsWholeMiniChain}
-use Rattle.cfb_content.proofs.WholeStreams.{no-sectors, owned-chain, owned-minis, whole-as, whole-minis-as}
+use Rattle.cfb_content.specs.Room.{room_given}
+use Rattle.cfb_content.proofs.RoomGiven.{given-is-counted}
+use Rattle.cfb_content.proofs.WholeStreams.{owned-chain, owned-minis, whole-as, whole-minis-as}
 use Rattle.cfb_resizing.proofs.MiniGrowth.{bytes-lack-none, words-lack-none}
 use Rattle.cfb_resizing.proofs.TurnedInMinis.{small-lacks}
-use Rattle.cfb_resizing.proofs.TurnedInSectors.{large-lacks}
+use Rattle.cfb_resizing.proofs.TurnedInSectors.{large-lacks, moving-lacks}
 
 -- ---- numbers
 
@@ -41,55 +45,70 @@ few-lacking V4 wanted have more sum most n sum-is most-is is = omega (arith, sum
 
 no-more : (v : Version) (len wanted have sub more sum most n : ℕ) → len ≤ have * sector_len v → len < wanted → wanted < 18446744073709551616
     → sub ≡ rounded_up wanted (sector_len v) - have → sum ≡ min (have + more) 18446744073709551615 → most ≡ min (sum * sector_len v) 18446744073709551615
-    → n ≡ min wanted most → n ≡ len → (more ≡ 0) × (0 < sub)
-no-more V3 len wanted have sub more sum most n room longer fits sub-is sum-is most-is is stuck =
-    (omega (arith, room, longer, fits, sum-is, most-is, is, stuck), omega (arith, room, longer, fits, sub-is, sum-is, most-is, is, stuck))
-no-more V4 len wanted have sub more sum most n room longer fits sub-is sum-is most-is is stuck =
-    (omega (arith, room, longer, fits, sum-is, most-is, is, stuck), omega (arith, room, longer, fits, sub-is, sum-is, most-is, is, stuck))
+    → n ≡ min wanted most → n ≡ len → (more ≡ 0) × (0 < sub) × (have * sector_len v ≤ len)
+no-more V3 len wanted have sub more sum most n room longer fits sub-is sum-is most-is is stuck = (
+  omega (arith, room, longer, fits, sum-is, most-is, is, stuck),
+  omega (arith, room, longer, fits, sub-is, sum-is, most-is, is, stuck),
+  omega (arith, room, longer, fits, sum-is, most-is, is, stuck),
+)
+no-more V4 len wanted have sub more sum most n room longer fits sub-is sum-is most-is is stuck = (
+  omega (arith, room, longer, fits, sum-is, most-is, is, stuck),
+  omega (arith, room, longer, fits, sub-is, sum-is, most-is, is, stuck),
+  omega (arith, room, longer, fits, sum-is, most-is, is, stuck),
+)
 
--- too few for one sector more than can be taken are too few for all that a moved stream needs
-pub moved-lacks : (v : Version) (t : TableState) (l wanted needed most taken n : ℕ) → l ≡ sector_len v → needed ≡ wanted / l + min 1 (wanted % l)
-    → most ≡ min (taken * l) 18446744073709551615 → n ≡ min wanted most → n < 4096 → 4096 ≤ wanted → (taken < needed → IsTooFew t (taken + 1))
-    → IsTooFew t (rounded_up 4096 (sector_len v))
-moved-lacks v t l wanted needed most taken n l-is needed-is most-is is short long few =
-    let needed-by : needed ≡ rounded_up wanted (sector_len v) = wanted_is v wanted needed l l-is needed-is in
-    let less = below v wanted needed most taken n needed-by (most-is ∙ (λ j. min (taken * l-is j) 18446744073709551615)) is short long in
-    more-is-too-few t (taken + 1) (rounded_up 4096 (sector_len v)) less.1 (few less.0)
-  where
-    below : (v : Version) (wanted needed most taken n : ℕ) → needed ≡ rounded_up wanted (sector_len v) → most ≡ min (taken * sector_len v) 18446744073709551615
-        → n ≡ min wanted most → n < 4096 → 4096 ≤ wanted → (taken < needed) × (taken + 1 ≤ rounded_up 4096 (sector_len v))
-    below V3 wanted needed most taken n needed-by most-is is short long = (omega (arith, needed-by, most-is, is, short, long), omega (arith, most-is, is, short, long))
-    below V4 wanted needed most taken n needed-by most-is is short long = (omega (arith, needed-by, most-is, is, short, long), omega (arith, most-is, is, short, long))
+-- where the sectors are full, any longer length lacks one
+past-end : (v : Version) (len have size : ℕ) → have * sector_len v ≤ len → len < size → 1 ≤ rounded_up size (sector_len v) - have
+past-end V3 len have size full past = omega (arith, full, past)
+past-end V4 len have size full past = omega (arith, full, past)
 
--- what can be taken serves the length that it is cut to
-pub moved-enough : (v : Version) (t : TableState) (l wanted most taken n : ℕ) → l ≡ sector_len v → most ≡ min (taken * l) 18446744073709551615 → n ≡ min wanted most
-    → (IsTooFew t taken → ⊥) → IsTooFew t (rounded_up n (sector_len v)) → ⊥
-moved-enough v t l wanted most taken n l-is most-is is enough few =
-    enough (more-is-too-few t (rounded_up n (sector_len v)) taken (fits v wanted most taken n (most-is ∙ (λ j. min (taken * l-is j) 18446744073709551615)) is) few)
-  where
-    fits : (v : Version) (wanted most taken n : ℕ) → most ≡ min (taken * sector_len v) 18446744073709551615 → n ≡ min wanted most → rounded_up n (sector_len v) ≤ taken
-    fits V3 wanted most taken n most-is is = omega (arith, most-is, is)
-    fits V4 wanted most taken n most-is is = omega (arith, most-is, is)
+-- what is given back and what can be taken serve the length that is cut to it
+moved-fits : (v : Version) (wanted needed given more sum most n : ℕ) → needed ≡ rounded_up wanted (sector_len v) → sum ≡ min (given + more) 18446744073709551615
+    → most ≡ min (sum * sector_len v) 18446744073709551615 → n ≡ min wanted most → (rounded_up n (sector_len v) ≤ needed) × (rounded_up n (sector_len v) - given ≤ more)
+moved-fits V3 wanted needed given more sum most n needed-is sum-is most-is is =
+    (omega (arith, needed-is, is), omega (arith, sum-is, most-is, is))
+moved-fits V4 wanted needed given more sum most n needed-is sum-is most-is is =
+    (omega (arith, needed-is, is), omega (arith, sum-is, most-is, is))
 
--- a small stream that moves has no sectors to go on from
-pub moved-lacks-none : (s : MiniState) (i n : ℕ) → len_of s i < 4096 → 4096 ≤ n → (IsTooFew (tables_in s) (rounded_up n (sector_len (version_of s))) → ⊥) → LacksNumbersFor s i n → ⊥
-moved-lacks-none s i n small large enough lacks =
-    let all : rounded_up n (sector_len (version_of s)) - 0 ≡ rounded_up n (sector_len (version_of s)) = take-none (rounded_up n (sector_len (version_of s))) in
-    enough (subst (λ k. IsTooFew (tables_in s) k) all ((large-lacks s i n [] large (no-sectors s i small)).0 lacks))
-  where
-    take-none : (n : ℕ) → n - 0 ≡ n
-    take-none n = omega arith
+-- and where they do not serve the least length, one more of them is no more than any needs
+moved-short : (v : Version) (wanted needed given more sum most n size : ℕ) → needed ≡ rounded_up wanted (sector_len v) → sum ≡ min (given + more) 18446744073709551615
+    → most ≡ min (sum * sector_len v) 18446744073709551615 → n ≡ min wanted most → n < 4096 → 4096 ≤ size → size ≤ wanted
+    → (rounded_up size (sector_len v) ≤ needed) × (more + 1 ≤ rounded_up size (sector_len v) - given)
+moved-short V3 wanted needed given more sum most n size needed-is sum-is most-is is short large within =
+    (omega (arith, needed-is, within), omega (arith, sum-is, most-is, is, short, large, within))
+moved-short V4 wanted needed given more sum most n size needed-is sum-is most-is is short large within =
+    (omega (arith, needed-is, within), omega (arith, sum-is, most-is, is, short, large, within))
 
--- where not even the least of them can be had, it lacks them for more
-sectors-rise : (v : Version) (n more : ℕ) → n ≤ more → rounded_up n (sector_len v) ≤ rounded_up more (sector_len v)
-sectors-rise V3 n more le = omega (arith, le)
-sectors-rise V4 n more le = omega (arith, le)
+-- ---- a stream that moves
 
-pub moved-stuck : (s : MiniState) (i wanted : ℕ) → len_of s i < 4096 → 4096 ≤ wanted → IsTooFew (tables_in s) (rounded_up 4096 (sector_len (version_of s))) → LacksNumbersFor s i wanted
-moved-stuck s i wanted small large few =
-    let more = more-is-too-few (tables_in s) (rounded_up 4096 (sector_len (version_of s))) (rounded_up wanted (sector_len (version_of s))) (sectors-rise (version_of s) 4096 wanted large) few in
-    let all : rounded_up wanted (sector_len (version_of s)) ≡ rounded_up wanted (sector_len (version_of s)) - 0 = omega arith in
-    (large-lacks s i wanted [] large (no-sectors s i small)).1 (subst (λ k. IsTooFew (tables_in s) k) all more)
+module _ (s : MiniState) (i wanted l needed given sub more sum most n : ℕ) (a : AllocatorState) (small : len_of s i < 4096) (same : a ≡ table_of s)
+    (l-is : l ≡ sector_len (version_of s)) (needed-is : needed ≡ wanted / l + min 1 (wanted % l)) (sub-is : sub ≡ needed - given)
+    (sum-is : sum ≡ min (given + more) 18446744073709551615) (most-is : most ≡ min (sum * l) 18446744073709551615) (n-is : n ≡ min wanted most)
+    (counted : (fewer : ℕ) → fewer ≤ needed → IsTooFewAfter (tables_in s) given fewer ↔ IsTooFewAfter (tables_in s) (room_given s (mini_sectors_owned s i)) fewer) where
+  needed-by : needed ≡ rounded_up wanted (sector_len (version_of s))
+  needed-by = wanted_is (version_of s) wanted needed l l-is needed-is
+
+  moved-most : most ≡ min (sum * sector_len (version_of s)) 18446744073709551615
+  moved-most = most-is ∙ (λ j. min (sum * l-is j) 18446744073709551615)
+
+  pub moved-enough : (IsTooFew a.tables more → ⊥) → 4096 ≤ n → LacksNumbersFor s i n → ⊥
+  moved-enough enough large lacks =
+      let fits = moved-fits (version_of s) wanted needed given more sum most n needed-by sum-is moved-most n-is in
+      let few = (counted (rounded_up n (sector_len (version_of s))) fits.0).1 ((moving-lacks s i n (mini_sectors_owned s i) large small refl).0 lacks) in
+      enough (subst (λ (b : AllocatorState). IsTooFew b.tables more) (sym same)
+      (more-is-too-few (tables_in s) (rounded_up n (sector_len (version_of s)) - given) more fits.1
+      ((given-is-counted (tables_in s) given (rounded_up n (sector_len (version_of s)))).0 few)))
+
+  -- where not even the least of them can be had, it lacks them for more
+  pub moved-stuck : (more < sub → IsTooFew a.tables (more + 1)) → n < 4096 → (size : ℕ) → 4096 ≤ size → size ≤ wanted → LacksNumbersFor s i size
+  moved-stuck few short size large within =
+      let less = moved-short (version_of s) wanted needed given more sum most n size needed-by sum-is moved-most n-is short large within in
+      let inside = less.0 in
+      let past = less.1 in
+      let one : IsTooFew (tables_in s) (more + 1) = subst (λ (b : AllocatorState). IsTooFew b.tables (more + 1)) same (few (omega (arith, inside, past, sub-is))) in
+      (moving-lacks s i size (mini_sectors_owned s i) large small refl).1 ((counted (rounded_up size (sector_len (version_of s))) inside).0
+      ((given-is-counted (tables_in s) given (rounded_up size (sector_len (version_of s)))).1
+      (more-is-too-few (tables_in s) (more + 1) (rounded_up size (sector_len (version_of s)) - given) past one)))
 
 -- ---- a stream in sectors
 
@@ -122,19 +141,20 @@ module _ (s : MiniState) (i start len wanted l needed have sub more sum most n :
   pub large-enough : (IsTooFew a.tables more → ⊥) → LacksNumbersFor s i n → ⊥
   large-enough enough lacks =
       let low = large-within.0 in
-      let few = (large-lacks s i n list (omega (arith, low, large)) (owned-chain s i large list whole.chain)).0 lacks in
+      let few = (large-lacks s i n list (omega (arith, low, large)) large (owned-chain s i large list whole.chain)).0 lacks in
       let fewer = few-lacking (version_of s) wanted have more sum most n sum-is most-by n-is in
       enough (subst (λ (b : AllocatorState). IsTooFew b.tables more) (sym same)
       (more-is-too-few (tables_in s) (rounded_up n (sector_len (version_of s)) - length list) more (omega (arith, fewer, have-is)) few))
 
-  pub large-stuck : (more < sub → IsTooFew a.tables (more + 1)) → n ≡ len_of s i → LacksNumbersFor s i wanted
-  large-stuck few stuck =
+  pub large-stuck : (more < sub → IsTooFew a.tables (more + 1)) → n ≡ len_of s i → (size : ℕ) → len_of s i < size → LacksNumbersFor s i size
+  large-stuck few stuck size past =
       let none = no-more (version_of s) (len_of s i) wanted have sub more sum most n room longer fits sub-by sum-is most-by n-is stuck in
       let zero = none.0 in
       let some = none.1 in
       let one : IsTooFew (tables_in s) 1 = subst (λ (b : AllocatorState). IsTooFew b.tables 1) same (subst (λ k. IsTooFew a.tables (k + 1)) zero (few (omega (arith, zero, some)))) in
-      (large-lacks s i wanted list (omega (arith, large, longer)) (owned-chain s i large list whole.chain)).1
-      (more-is-too-few (tables_in s) 1 (rounded_up wanted (sector_len (version_of s)) - length list) (omega (arith, some, sub-by, have-is)) one)
+      let lacking = past-end (version_of s) (len_of s i) have size none.2 past in
+      (large-lacks s i size list (omega (arith, large, past)) large (owned-chain s i large list whole.chain)).1
+      (more-is-too-few (tables_in s) 1 (rounded_up size (sector_len (version_of s)) - length list) (omega (arith, lacking, have-is)) one)
 
 -- ---- a stream in mini sectors
 
@@ -189,11 +209,13 @@ module _ (s : MiniState) (i start len wanted target needed have sub more sum mos
         | inr none ↦ none-lack v s held top (let zero : count ≡ 0 = omega (arith, none) in subst (λ k. IsTooFewAfterFor s 0 k) zero few)
       ]
 
-  pub small-stuck : (more < sub → IsTooFewFor s (more + 1)) → n ≡ len_of s i → wanted < 4096 → LacksNumbersFor s i wanted
-  small-stuck few stuck short =
-      let zero : more ≡ 0 = omega (arith, mini-room, longer, target-is, sum-is, most-is, n-is, stuck, short) in
-      let some : 0 < sub = omega (arith, mini-room, longer, target-is, needed-is, sub-is, sum-is, most-is, n-is, stuck, short) in
+  pub small-stuck : (more < sub → IsTooFewFor s (more + 1)) → n ≡ len_of s i
+      → (size : ℕ) → len_of s i < size → size ≤ wanted → size < 4096 → LacksNumbersFor s i size
+  small-stuck few stuck size past within short =
+      let full : have * 64 ≤ len_of s i = omega (arith, past, within, short, target-is, sum-is, most-is, n-is, stuck) in
+      let zero : more ≡ 0 = omega (arith, mini-room, past, within, short, target-is, sum-is, most-is, n-is, stuck) in
+      let some : 0 < sub = omega (arith, full, past, within, short, target-is, needed-is, sub-is) in
       let one : IsTooFewFor s 1 = subst (λ k. IsTooFewFor s (k + 1)) zero (few (omega (arith, zero, some))) in
-      let count = rounded_up wanted 64 - length list in
-      let all : 1 ≤ count = omega (arith, some, needed-is, sub-is, target-is, short, have-is) in
-      (small-lacks s i wanted list short small (owned-minis s i small list mini-whole)).1 ((nothing-back s count).1 (more-minis-too-few s 1 count all ((nothing-back s 1).1 one)))
+      let count = rounded_up size 64 - length list in
+      let all : 1 ≤ count = omega (arith, full, past, have-is) in
+      (small-lacks s i size list short small (owned-minis s i small list mini-whole)).1 ((nothing-back s count).1 (more-minis-too-few s 1 count all ((nothing-back s 1).1 one)))

@@ -14,9 +14,8 @@ use Rattle.cfb_tables.specs.Listed.{gained}
 use Rattle.cfb_tables.specs.Tables.{first_or_end}
 use Rattle.cfb_tables.proofs.ChainLemmas.{members-busy}
 use Rattle.cfb_tables.proofs.Members.{Contains-nil}
-use Rattle.cfb_alloc.specs.Alloc.{AllocatorState, HoldsTables, IsFilled, IsOtherHeaderByte, OthersStay}
+use Rattle.cfb_alloc.specs.Alloc.{AllocatorState, HoldsTables, IsFilled, OthersStay}
 use Rattle.cfb_alloc.specs.ListedChain.{Lengthens}
-use Rattle.cfb_alloc.proofs.Spared.{start_past}
 use Rattle.cfb_chains.specs.ChainPlaces.{place_along}
 use Rattle.cfb_chains.proofs.LentContent.{wanted_is}
 use Rattle.cfb_chains.proofs.OwnWrites.{enough_by}
@@ -42,22 +41,6 @@ tail-low size to room p is by = omega (arith, is, by)
 
 pub tail-most : (size to room p : ℕ) → to ≡ min size room → room ≡ min p 18446744073709551615 → size < 18446744073709551616 → (size ≤ to) ⊎ (p ≤ to)
 tail-most size to room p is by fits = elim (cases_lt to size) [ inl less ↦ inr (omega (arith, is, by, fits, less)) | inr all ↦ inl all ]
-
--- ---- bytes of the header
-
-header-inside : (v : Version) (i : ℕ) → IsOtherHeaderByte v i → i < sector_len v
-header-inside V3 i (inl low) = omega (arith, low)
-header-inside V4 i (inl low) = omega (arith, low)
-header-inside V3 i (inr (inl (from, to))) = omega (arith, to)
-header-inside V4 i (inr (inl (from, to))) = omega (arith, to)
-header-inside v i (inr (inr (from, to))) = to
-
--- no place along sectors is one of them
-pub header-left : (v w : Version) (ids : List ℕ) (from count : ℕ) (b c : List ℕ) → w ≡ v → ChangesOnlyPlaces (place_along w ids) from count b c → (i : ℕ) → i < length b
-    → IsOtherHeaderByte v i → slice_index c i ≡ slice_index b i
-header-left v w ids from count b c same zeroed i lt is =
-    let low : i < sector_len w = subst (λ u. i < sector_len u) (sym same) (header-inside v i is) in
-    zeroed.others i lt (λ k above below e. let past = start_past w (slice_index ids (k / sector_len w)) (k % sector_len w) in omega (arith, past, e, low))
 
 -- ---- a chain that went on
 

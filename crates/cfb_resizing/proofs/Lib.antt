@@ -1,6 +1,8 @@
 pub mod Named
 pub mod Turned
+pub mod Appended
 pub mod Padded
+pub mod RoomForMove
 pub mod TurnedInSectors
 pub mod MiniPadded
 pub mod TurnedInMinis

@@ -1,6 +1,6 @@
 -- The content of a stream after it left its mini sectors for sectors.
-use Rattle.std.proofs.Common.{◌≡◌, ◌≤◌, ◌<◌, ◌*◌, ◌/◌, ◌%◌, ◌+◌, ◌-◌, ◌⊎◌, max, min, inl, inr, ℕ, List, [], ◌++◌, true, refl, sym, ◌∙◌, ap, subst, length, arith}
-use Rattle.std.specs.Prelude.{Contains, slice_index}
+use Rattle.std.proofs.Common.{◌≡◌, ◌≤◌, ◌<◌, ◌*◌, ◌/◌, ◌%◌, ◌+◌, ◌-◌, ◌⊎◌, max, min, inl, inr, ℕ, List, [], true, refl, sym, ◌∙◌, ap, subst, length, arith}
+use Rattle.std.specs.Prelude.{◌↔◌, Contains, slice_index}
 use Rattle.cfb_format.specs.declared.error.Error.{Error}
 use Rattle.cfb_format.specs.declared.error.Error.TheVariants.{AlreadyExists, Failed, Full, InvalidData, InvalidInput, Medium, Memory, NotFound, Unsound}
 use Rattle.cfb_format.specs.declared.validate.Validation.{Validation}
@@ -9,7 +9,8 @@ use Rattle.cfb_format.specs.Chain.{IsChain}
 use Rattle.cfb_format.specs.Full.{rounded_up}
 use Rattle.cfb_format.specs.Siblings.{entry_at}
 use Rattle.cfb_tables.specs.Changes.{AreDisjoint}
-use Rattle.cfb_tables.specs.Tables.{IsTooFew, first_or_end}
+use Rattle.cfb_tables.specs.Room.{IsTooFewAfter}
+use Rattle.cfb_tables.specs.Tables.{IsTooFew, TableState, first_or_end}
 use Rattle.cfb_tables.proofs.Members.{Contains-nil}
 use Rattle.cfb_alloc.specs.Alloc.{AllocatorState}
 use Rattle.cfb_alloc.specs.Frame.{Spares, table_sectors}
@@ -19,20 +20,22 @@ use Rattle.cfb_chains.proofs.LentContent.{wanted_is}
 use Rattle.cfb_chains.proofs.OwnWrites.{enough_by}
 use Rattle.cfb_mini_table.specs.MiniTable.{MiniGivesBack}
 use Rattle.cfb_mini_sectors.specs.State.{HoldsMini, IsChangeable, MiniState, bytes_of, content_of, entries_of, table_of, tables_in, version_of}
-use Rattle.cfb_mini_sectors.specs.Steps.{IsInMiniStream, IsZeroMini, SparesMini, system_sectors}
+use Rattle.cfb_mini_sectors.specs.Steps.{CanGiveRoomBack, IsInMiniStream, IsZeroMini, SparesMini, system_sectors}
 use Rattle.cfb_mini_sectors.proofs.HeldMini.{no-tables}
 use Rattle.cfb_mini_sectors.proofs.MiniFrames.{nothing-touched as no-mini-touched}
 use Rattle.cfb_mini.specs.MiniSectors.{IsStill}
 use Rattle.cfb_content.specs.Contents.{IsStreamOf, KeepsOthers, len_of, mini_place_along, mini_sectors_owned}
 use Rattle.cfb_content.specs.Laws.{LacksNumbersFor}
 use Rattle.cfb_content.specs.Parts.{IsWholeMiniChain}
+use Rattle.cfb_content.specs.Room.{ComesFree, room_given}
 use Rattle.cfb_content.proofs.Apart.{starts-unnamed}
 use Rattle.cfb_content.proofs.Kept.{spared-is-kept}
 use Rattle.cfb_content.proofs.Readable.{small-is-there}
+use Rattle.cfb_content.proofs.RoomGiven.{given-is-counted}
 use Rattle.cfb_content.proofs.WholeStreams.{no-sectors, owned-minis, small-entry, whole-minis-as}
 use Rattle.cfb_resizing.specs.Turning.{CarriesToSectors, GoesUnnamed, IsPaddedAlong, KeepsAround, KeepsTablesTight, LiesTurnedInSectors, StandsTurned, StopsOrBegun, Turns}
 use Rattle.cfb_resizing.proofs.TurnedInMinis.{first-mini, first-unnamed, own-minis-kept}
-use Rattle.cfb_resizing.proofs.TurnedInSectors.{large-lacks, rounded-up-holds}
+use Rattle.cfb_resizing.proofs.TurnedInSectors.{moving-lacks, rounded-up-holds}
 
 -- ---- a read
 
@@ -72,6 +75,15 @@ still-stops s mid new still e h = go e h
     go Full h = inl (is h)
     go Unsound h = inl (is h)
     go Failed h = inl (is h)
+
+-- what comes free with mini sectors comes free after a read
+still-can : (s mid : MiniState) → IsStill s mid → CanGiveRoomBack s → CanGiveRoomBack mid
+still-can s mid still can =
+    subst (λ (m : MiniState). CanGiveRoomBack m) (sym still) (record { usable = can.usable; minifat = can.minifat; mini_stream = can.mini_stream; apart = can.apart })
+
+free-still : (s mid : MiniState) (list : List ℕ) (given : ℕ) → IsStill s mid → ComesFree s list given → ComesFree mid list given
+free-still s mid list given still (inl none) = inl none
+free-still s mid list given still (inr all) = inr (all.0 ∙ sym (ap (λ (m : MiniState). room_given m list) still), all.1, still-can s mid still all.2)
 
 -- and where the medium tells its bytes, so are the other streams
 pub still-kept : (v : Validation) (s new : MiniState) (i : ℕ) → IsChangeable v s → IsStreamOf s i → IsStill s new → bytes_of new ≡ bytes_of s → KeepsOthers i s new
@@ -158,12 +170,31 @@ module _ (s mid new : MiniState) (i size count start len l : ℕ) (list : List �
   wanted : count ≡ rounded_up size (sector_len (version_of s))
   wanted = wanted_is (version_of s) size count l l-is count-by
 
-  pub move-lacks : (lent : AllocatorState) → lent ≡ table_of s → (LacksNumbersFor s i size → IsTooFew lent.tables count) × (IsTooFew lent.tables count → LacksNumbersFor s i size)
-  move-lacks lent is-lent =
-      let both = large-lacks s i size [] large (no-sectors s i short) in
-      let all : rounded_up size (sector_len (version_of s)) - length {A = ℕ} [] ≡ count = omega (arith, wanted) in
-      subst (λ (b : AllocatorState). (LacksNumbersFor s i size → IsTooFew b.tables count) × (IsTooFew b.tables count → LacksNumbersFor s i size)) (sym is-lent)
-      (subst (λ n. (LacksNumbersFor s i size → IsTooFew (tables_in s) n) × (IsTooFew (tables_in s) n → LacksNumbersFor s i size)) all both)
+  -- what is lacking is what is so once the room is counted that comes free
+  pub move-lacks : (lent : AllocatorState) (given sub : ℕ) → lent ≡ table_of s → sub ≡ count - given
+      → ((fewer : ℕ) → fewer ≤ count → IsTooFewAfter (tables_in s) given fewer ↔ IsTooFewAfter (tables_in s) (room_given s (mini_sectors_owned s i)) fewer)
+      → (LacksNumbersFor s i size → IsTooFew lent.tables sub) × (IsTooFew lent.tables sub → LacksNumbersFor s i size)
+  move-lacks lent given sub is-lent sub-is same =
+      let both = moving-lacks s i size (mini_sectors_owned s i) large short refl in
+      let here = given-is-counted (tables_in s) given count in
+      let all = same count (omega arith) in
+      subst (λ (b : AllocatorState). (LacksNumbersFor s i size → IsTooFew b.tables sub) × (IsTooFew b.tables sub → LacksNumbersFor s i size)) (sym is-lent)
+      (subst (λ n. (LacksNumbersFor s i size → IsTooFew (tables_in s) n) × (IsTooFew (tables_in s) n → LacksNumbersFor s i size)) (sym sub-is) (
+        (λ lacks. here.0 (all.1 (subst (λ n. IsTooFewAfter (tables_in s) (room_given s (mini_sectors_owned s i)) n) (sym wanted) (both.0 lacks)))),
+        (λ few. both.1 (subst (λ n. IsTooFewAfter (tables_in s) (room_given s (mini_sectors_owned s i)) n) wanted (all.0 (here.1 few)))),
+      ))
+
+  -- so there is enough for the chain that begins once the mini chain is free
+  pub move-enough : (lent : AllocatorState) (given sub : ℕ) → lent ≡ table_of s → sub ≡ count - given → ComesFree s (mini_sectors_owned s i) given → IsStill s mid
+      → (IsTooFew lent.tables sub → ⊥) → (n : ℕ) × ComesFree mid list n × (IsTooFewAfter (tables_in mid) n count → ⊥)
+  move-enough lent given sub is-lent sub-is comes still enough =
+      let same : tables_in mid ≡ tables_in s = ap tables_in still in
+      let here : ComesFree s list given = subst (λ (l : List ℕ). ComesFree s l given) (owned-minis s i short list there) comes in (
+        given,
+        free-still s mid list given still here,
+        (λ few. enough (subst (λ (b : AllocatorState). IsTooFew b.tables sub) (sym is-lent) (subst (λ n. IsTooFew (tables_in s) n) (sym sub-is)
+            ((given-is-counted (tables_in s) given count).0 (subst (λ (t : TableState). IsTooFewAfter t given count) same few))))),
+      )
 
   pub move-starts : IsStill s mid → IsChain mid.minifat (first_or_end list) list
   move-starts still = subst (λ (t : List ℕ). IsChain t (first_or_end list) list) (sym (ap (λ (m : MiniState). m.minifat) still)) (first-mini s i short list there)

@@ -28,6 +28,7 @@ use Rattle.cfb_mini_sectors.specs.State.{HoldsMini, IsChangeable, MiniState, byt
 use Rattle.cfb_mini_sectors.specs.Steps.{KeepsLimits, KeepsMini, KeepsSystem, SettlesRoom, mini_stream_needs, minifat_needs}
 use Rattle.cfb_mini_sectors.proofs.HeldMini.{no-tables}
 use Rattle.cfb_mini_sectors.proofs.MiniStreams.{chain-is-stream, stream-chain}
+use Rattle.cfb_content.specs.Changed.{MovesAlone}
 use Rattle.cfb_content.specs.Contents.{IsStreamOf, KeepsContent, KeepsOthers, MovesContent, sectors_owned}
 use Rattle.cfb_content.specs.Uses.{ChangesContent}
 use Rattle.cfb_content.proofs.Apart.{maybe-chain, own-is-apart}
@@ -149,6 +150,14 @@ settles-then old mid new (inl a) b minifat =
           (subst (λ (l : List ℕ). Shortens (minifat_needs mid) old.minifat_sectors l a.between (tables_in new)) (sym b.minifat)
           (subst (λ (t : TableState). Shortens (minifat_needs mid) old.minifat_sectors mid.minifat_sectors a.between t) (sym b.tables) a.minifat));
     })
+
+-- what left all but the root's entry alone moved the stream's content alone
+pub around-moves : (old new : MiniState) (i : ℕ) → IsStreamOf old i → KeepsAround old new → MovesAlone old new i
+around-moves old new i stream around = record {
+  entries = moved-root-moved old new i (stream-is-no-root old i stream) around.entries;
+  limits = around.limits;
+  directory = around.directory;
+}
 
 pub moves-then : (old mid new : MiniState) (i : ℕ) → IsStreamOf old i → KeepsAround old mid → MovesContent mid new i → MovesContent old new i
 moves-then old mid new i stream around moves =

@@ -15,6 +15,7 @@ use Rattle.cfb_mini_sectors.specs.State.{MiniState, entries_of, table_of, tables
 use Rattle.cfb_mini_sectors.specs.Steps.{KeepsLimits}
 use Rattle.cfb_mini_sectors.specs.Held.{with_table}
 use Rattle.cfb_mini.specs.MiniSectors.{IsStill}
+use Rattle.cfb_content.specs.Changed.{MovesAlone}
 use Rattle.cfb_content.specs.Contents.{AreAllUsed, IsNotChangeable, MovesContent, SizesChain, StopsStillOrBegun}
 use Rattle.cfb_content.proofs.Outlines.{same-entries-moved}
 use Rattle.cfb_content.proofs.Rewritten.{resized-len}
@@ -40,6 +41,25 @@ module _ (old new : MiniState) (rest : new ≡ with_table old (record (table_of 
 
   pub filed-moves : (i : ℕ) → MovesContent old new i
   filed-moves i = same-entries-moved old new i filed-entries
+
+  -- it moves no more than what came before it
+  pub filed-alone : (before : MiniState) (i : ℕ) → MovesAlone before old i → MovesAlone before new i
+  filed-alone before i moves = subst (λ (s : MiniState). MovesAlone before s i) (sym rest) (record {
+    entries = record {
+      same_length = moves.entries.same_length;
+      own = moves.entries.own;
+      root = moves.entries.root;
+      root_len = moves.entries.root_len;
+      others = moves.entries.others;
+    };
+    limits = record {
+      version = moves.limits.version;
+      cases = moves.limits.cases;
+      max_sectors = moves.limits.max_sectors;
+      max_mini_sectors = moves.limits.max_mini_sectors;
+    };
+    directory = moves.directory;
+  })
 
   pub filed-used : AreAllUsed old → AreAllUsed new
   filed-used used = subst AreAllUsed (sym rest) (record { sectors = used.sectors; mini_sectors = used.mini_sectors })

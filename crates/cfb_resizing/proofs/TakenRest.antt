@@ -1,6 +1,6 @@
 -- The numbers that are left once a stream cannot grow: taking them keeps the other streams, and leaves the tables full.
-use Rattle.std.proofs.Common.{◌≡◌, ◌≤◌, ◌<◌, ◌+◌, ◌-◌, ◌⊎◌, min, inl, inr, ℕ, List, [], true, false, refl, sym, ◌∙◌, ap, subst, length, arith}
-use Rattle.std.specs.Prelude.{Err, IfErr, Ok, OnOk, Result}
+use Rattle.std.proofs.Common.{◌≡◌, ◌≤◌, ◌<◌, ◌+◌, ◌-◌, ◌⊎◌, min, inl, inr, ℕ, List, [], Bool, true, false, refl, sym, ◌∙◌, ap, subst, length, arith, le-leb}
+use Rattle.std.specs.Prelude.{Err, IfErr, Ok, OnOk, Result, if◌then◌else◌}
 use Rattle.std.proofs.lemmas.Bool.{cases_lt}
 use Rattle.std.proofs.lemmas.List.Elements.{Contains-append_left}
 use Rattle.cfb_format.specs.declared.error.Error.{Error}
@@ -8,7 +8,7 @@ use Rattle.cfb_format.specs.declared.error.Error.TheVariants.{AlreadyExists, Fai
 use Rattle.cfb_format.specs.declared.validate.Validation.{Validation}
 use Rattle.cfb_format.specs.Bytes.{sector_len}
 use Rattle.cfb_format.specs.DirectoryEntry.{Entry, ButContent}
-use Rattle.cfb_format.specs.Full.{IsFullOfMiniSectors, free_count, max_mini_sectors, rounded_up}
+use Rattle.cfb_format.specs.Full.{IsFullOfMiniSectors, free_count, max_mini_sectors, rounded_up, sectors_for}
 use Rattle.cfb_format.specs.Siblings.{entry_at}
 use Rattle.cfb_tables.specs.Refused.{ChangeRefused}
 use Rattle.cfb_tables.specs.Tables.{AreFullTables, HasTaken, IsTooFew}
@@ -23,12 +23,13 @@ use Rattle.cfb_mini_sectors.specs.Held.{with_table}
 use Rattle.cfb_mini.specs.MiniSectors.{IsStill}
 use Rattle.cfb_content.specs.Contents.{IsStreamOf, KeepsOthers, MovesContent, len_of, mini_sectors_owned, sectors_owned}
 use Rattle.cfb_content.specs.Laws.{LacksNumbersFor}
+use Rattle.cfb_content.specs.Room.{room_given}
 use Rattle.cfb_content.proofs.Kept.{spared-is-kept, spared-sectors-kept}
 use Rattle.cfb_content.proofs.Outlines.{stream-is-no-root}
+use Rattle.cfb_content.proofs.RoomGiven.{given-is-counted}
 use Rattle.cfb_resizing.specs.Turning.{KeepsAround, StopsOrBegun, StopsOrIsFull}
 use Rattle.cfb_resizing.proofs.GrownLengths.{more-minis-too-few}
 use Rattle.cfb_resizing.proofs.TurnedInMinis.{small-lacks}
-use Rattle.cfb_resizing.proofs.TurnedInSectors.{large-lacks}
 use Rattle.cfb_resizing.proofs.MovedToMinis.{still-same}
 
 -- ---- what is lacking
@@ -42,9 +43,13 @@ lacks-minis s i wanted longer short lacks =
 
 -- or sectors
 pub lacks-sectors : (s : MiniState) (i wanted : ℕ) → 4096 ≤ wanted → LacksNumbersFor s i wanted → IsTooFew (tables_in s) (rounded_up wanted (sector_len (version_of s)))
-lacks-sectors s i wanted large lacks =
-    let few = (large-lacks s i wanted (sectors_owned s i) large refl).0 lacks in
-    more-is-too-few (tables_in s) (rounded_up wanted (sector_len (version_of s)) - length (sectors_owned s i)) (rounded_up wanted (sector_len (version_of s))) (omega arith) few
+lacks-sectors s i wanted large (inr short) = absurd (omega (arith, short.0, large))
+lacks-sectors s i wanted large (inl few) =
+    let all = sectors_for (version_of s) wanted - length (sectors_owned s i) in
+    let given = room_given s (mini_sectors_owned s i) in
+    let same : sectors_for (version_of s) wanted ≡ rounded_up wanted (sector_len (version_of s)) =
+    ap (λ (b : Bool). if b then rounded_up wanted (sector_len (version_of s)) else 0) (le-leb 4096 wanted large) in
+    more-is-too-few (tables_in s) (all - given) (rounded_up wanted (sector_len (version_of s))) (omega (arith, same)) ((given-is-counted (tables_in s) given all).0 few.1)
 
 -- ---- mini sectors
 

@@ -82,7 +82,7 @@ grown-tight old new count grown =
 
 -- ---- no growth frees a sector, but that out of mini sectors
 
-taken-stays-full : (a b : TableState) (touched more : List ℕ) → HasTaken a b touched more → NoneFree a.fat → NoneFree b.fat
+pub taken-stays-full : (a b : TableState) (touched more : List ℕ) → HasTaken a b touched more → NoneFree a.fat → NoneFree b.fat
 taken-stays-full a b touched more h none = elim (cases_lt (length a.fat) (length b.fat)) [
   | inl longer ↦ h.none_free longer
   | inr same ↦ none-free-then a b touched more h none same

@@ -19,16 +19,18 @@ use Rattle.cfb_sectors.specs.Words.{RangeStays}
 use Rattle.cfb_soundness.specs.Places.{mini_start}
 use Rattle.cfb_tables.specs.Listed.{ends_of, gained}
 use Rattle.cfb_tables.specs.Tables.{TableState}
+use Rattle.cfb_tables.specs.Changes.{NoneFree}
 use Rattle.cfb_tables.proofs.ChainLemmas.{members-busy}
 use Rattle.cfb_tables.proofs.Members.{Contains-nil}
 use Rattle.cfb_alloc.specs.ListedChain.{Lengthens, Shortens}
 use Rattle.cfb_chains.specs.ChainPlaces.{place_along}
 use Rattle.cfb_mini_table.specs.MiniTable.{MiniGivesBack, TakesMini}
-use Rattle.cfb_mini_sectors.specs.State.{HoldsMini, MiniState, bytes_of, content_of, entries_of, mini_stream_of, parts_of, tables_in, version_of}
-use Rattle.cfb_mini_sectors.specs.Steps.{IsInMiniStream, IsZeroMini}
-use Rattle.cfb_content.specs.Contents.{SizesChain, WipesMinis, len_of, mini_place_along, mini_sectors_owned, sectors_owned}
+use Rattle.cfb_mini_sectors.specs.State.{HoldsMini, MiniState, bytes_of, content_of, entries_of, mini_stream_of, parts_of, tables_in, version_of, IsChangeable}
+use Rattle.cfb_mini_sectors.specs.Steps.{IsInMiniStream, IsZeroMini, IsSnugMini}
+use Rattle.cfb_content.specs.Contents.{SizesChain, WipesMinis, len_of, mini_place_along, mini_sectors_owned, sectors_owned, AreAllUsed}
 use Rattle.cfb_content.specs.Laws.{StandsResized}
 use Rattle.cfb_content.specs.Uses.{ChangesContent, ChangesUse, Owns}
+use Rattle.cfb_content.specs.Changed.{WasChanged}
 use Rattle.cfb_content.proofs.Changing.{growth-stays, large-becomes-small, large-goes-on, large-is-cut, same-is-used, small-becomes-large, small-goes-on, small-is-cut}
 use Rattle.cfb_content.proofs.Apart.{maybe-chain}
 use Rattle.cfb_content.proofs.Kept.{next-start, stream-room}
@@ -37,7 +39,7 @@ use Rattle.cfb_content.proofs.Readable.{stream-owns-its-own}
 use Rattle.cfb_content.proofs.Rewritten.{large-is-resized, resized-len, small-is-resized}
 use Rattle.cfb_content.proofs.Snug.{large-needs, small-needs, snug-in-minis, snug-in-sectors}
 use Rattle.cfb_content.proofs.WholeStreams.{no-sectors}
-use Rattle.cfb_resizing.specs.Turning.{LiesTurnedInMinis, LiesTurnedInSectors, Turns, TurnsByCut, TurnsByGrowth, TurnsByMiniCut, TurnsByMiniGrowth, TurnsLarge, TurnsSmall}
+use Rattle.cfb_resizing.specs.Turning.{LiesInSectors, LiesTurnedInMinis, LiesTurnedInSectors, Turns, TurnsByCut, TurnsByGrowth, TurnsByMiniCut, TurnsByMiniGrowth, TurnsLarge, TurnsSmall, ResizesContent, LeavesNoMinis}
 use Rattle.cfb_resizing.proofs.Named.{WasNamed, chain-foreign, mini-stays, mini-stays-there, mini-then, named-changes, settles-then, system-then}
 use Rattle.cfb_resizing.proofs.CarriedToSectors.{zeros-stay}
 
@@ -71,21 +73,36 @@ pub always-on-ok : {T E P : Type 0} (r : Result T E) → P → OnOk r P
 always-on-ok (Ok x) p = p
 always-on-ok (Err e) p = tt
 
+-- what a step answers of each mode, it answers of all
+pub all-changed : {T E : Type 0} (r : Result T E) (old new : MiniState) (i : ℕ) → ((v : Validation) → IsChangeable v old → OnOk r (IsChangeable v new))
+    → ((v : Validation) → IsChangeable v old → AreAllUsed old → OnOk r (AreAllUsed new)) → ((v : Validation) → IsChangeable v old → OnOk r (SizesChain old new i))
+    → ((v : Validation) → IsChangeable v old → IsSnugMini old → IsSnugMini new) → OnOk r (WasChanged old new i)
+all-changed (Ok x) old new i holds owned sized snug = record { holds = holds; owned = owned; sized = sized; snug_mini = snug }
+all-changed (Err e) old new i holds owned sized snug = tt
+
+pub all-resized : {T E : Type 0} (r : Result T E) (old new : MiniState) (i size : ℕ)
+    → ((v : Validation) → IsChangeable v old → OnOk r (content_of new (entry_at (entries_of new) i) ≡ resized (content_of old (entry_at (entries_of old) i)) size))
+    → ((v : Validation) → IsChangeable v old → OnOk r (WipesMinis old new i))
+    → ((v : Validation) → IsChangeable v old → len_of old i ≤ size → LeavesNoMinis old i size → NoneFree (tables_in old).fat → NoneFree (tables_in new).fat)
+    → OnOk r (ResizesContent old new i size)
+all-resized (Ok x) old new i size content wiped full = record { content = content; wiped = wiped; stays_full = full }
+all-resized (Err e) old new i size content wiped full = tt
+
 module _ (v : Validation) (old mid new : MiniState) (i size start : ℕ) (was : WasNamed v old mid new i) (held : HoldsMini v new)
     (named : entry_at (entries_of new) i ≡ record (entry_at (entries_of mid) i) { start_sector = start; stream_len = size }) where
   abbrev now : Entry
   now = entry_at (entries_of new) i
 
-  len-is : len_of new i ≡ size
+  pub len-is : len_of new i ≡ size
   len-is = ap (λ (e : Entry). e.stream_len) named
 
   start-is : now.start_sector ≡ start
   start-is = ap (λ (e : Entry). e.start_sector) named
 
-  change : ChangesContent v i old new
+  pub change : ChangesContent v i old new
   change = named-changes v old mid new i was held
 
-  version-is : version_of new ≡ version_of mid
+  pub version-is : version_of new ≡ version_of mid
   version-is = ap (λ (t : TableState). t.version) was.system.tables
 
   -- ---- what the stream had
@@ -93,7 +110,7 @@ module _ (v : Validation) (old mid new : MiniState) (i size start : ℕ) (was : 
   had : Owns old i (sectors_owned old i) (mini_sectors_owned old i)
   had = stream-owns-its-own v old i was.changeable was.stream
 
-  had-large : is_large (entry_at (entries_of old) i) ≡ true → Owns old i (sectors_owned old i) []
+  pub had-large : is_large (entry_at (entries_of old) i) ≡ true → Owns old i (sectors_owned old i) []
   had-large b = subst (λ (l : List ℕ). Owns old i (sectors_owned old i) l) (large-no-mini old (entry_at (entries_of old) i) b) had
 
   had-small : is_large (entry_at (entries_of old) i) ≡ false → Owns old i [] (mini_sectors_owned old i)
@@ -101,7 +118,7 @@ module _ (v : Validation) (old mid new : MiniState) (i size start : ℕ) (was : 
 
   -- ---- what it gave back
 
-  gave-none : is_large (entry_at (entries_of old) i) ≡ true → WipesMinis old new i
+  pub gave-none : is_large (entry_at (entries_of old) i) ≡ true → WipesMinis old new i
   gave-none b m c out inside = absurd (Contains-nil m (subst (λ (l : List ℕ). Contains l m) (large-no-mini old (entry_at (entries_of old) i) b) c))
 
   -- what the mini stream still has of it reads as zeros still
@@ -113,16 +130,16 @@ module _ (v : Validation) (old mid new : MiniState) (i size start : ℕ) (was : 
 
   -- ---- in sectors
 
-  module _ (ys : List ℕ) (lies : LiesTurnedInSectors old mid i size start ys) where
-    large : is_large now ≡ true
+  module _ (ys : List ℕ) (lies : LiesInSectors old mid i size start ys) where
+    pub large : is_large now ≡ true
     large = large-by-len now size len-is lies.large
 
-    owns-large : Owns new i ys []
+    pub owns-large : Owns new i ys []
     owns-large = large-owns-its-chain new i ys large
         (subst (λ (s : ℕ). IsChain (tables_in new).fat s ys) (sym start-is)
         (subst (λ (t : TableState). IsChain t.fat start ys) (sym was.system.tables) lies.chain))
 
-    sector-byte : (k : ℕ) → k < size
+    pub sector-byte : (k : ℕ) → k < size
         → slice_index (bytes_of new) (place_along (version_of mid) ys k) ≡ slice_index (bytes_of mid) (place_along (version_of mid) ys k)
     unfolding SectorStays
     sector-byte k lt =
@@ -132,17 +149,10 @@ module _ (v : Validation) (old mid new : MiniState) (i size start : ℕ) (was : 
         (Contains-append_left (mid.directory.sectors ++ mid.minifat_sectors) (mini_stream_of mid) n (Contains-append_left mid.directory.sectors mid.minifat_sectors n d)) in
         let stays : RangeStays (sector_start (version_of mid) n) (sector_start (version_of mid) (n + 1)) (bytes_of mid) (bytes_of new) =
         was.spares.sectors n (chain-foreign v old mid new i was start ys lies.chain n m out) in
-        stays.each (place_along (version_of mid) ys k) (lies.stands.there k lt) (omega arith)
+        stays.each (place_along (version_of mid) ys k) (lies.there k lt) (omega arith)
         (omega (arith, next-start (version_of mid) n, rest-inside (version_of mid) k))
 
-    large-stands : StandsResized old new i (place_along (version_of new) ys)
-    large-stands = subst (λ (w : Version). StandsResized old new i (place_along w ys)) (sym version-is) (record {
-      there = λ k lt. let below = lies.stands.there k (omega (arith, lt, len-is)) in omega (arith, below, was.spares.no_shorter);
-      kept = λ k lt less. sector-byte k (omega (arith, lt, len-is)) ∙ lies.stands.kept k (omega (arith, lt, len-is)) less;
-      zeros = λ k le lt. sector-byte k (omega (arith, lt, len-is)) ∙ lies.stands.zeros k le (omega (arith, lt, len-is));
-    })
-
-    sized-large : SizesChain old new i
+    pub sized-large : SizesChain old new i
     sized-large =
         let count = ap (λ (l : List ℕ). length l) owns-large.sectors_are in
         let long : 4096 ≤ len_of new i = omega (arith, lies.large, len-is) in
@@ -159,13 +169,35 @@ module _ (v : Validation) (old mid new : MiniState) (i size start : ℕ) (was : 
           longer_small = λ more few. absurd (omega (arith, few, long));
         }
 
+  module _ (ys : List ℕ) (lies : LiesTurnedInSectors old mid i size start ys) where
+    within : LiesInSectors old mid i size start ys
+    within = record {
+      large = lies.large;
+      chain = lies.chain;
+      enough = lies.enough;
+      fewer = lies.fewer;
+      more = lies.more;
+      apart = lies.apart;
+      there = lies.stands.there;
+    }
+
+    owns-turned : Owns new i ys []
+    owns-turned = owns-large ys within
+
+    large-stands : StandsResized old new i (place_along (version_of new) ys)
+    large-stands = subst (λ (w : Version). StandsResized old new i (place_along w ys)) (sym version-is) (record {
+      there = λ k lt. let below = lies.stands.there k (omega (arith, lt, len-is)) in omega (arith, below, was.spares.no_shorter);
+      kept = λ k lt less. sector-byte ys within k (omega (arith, lt, len-is)) ∙ lies.stands.kept k (omega (arith, lt, len-is)) less;
+      zeros = λ k le lt. sector-byte ys within k (omega (arith, lt, len-is)) ∙ lies.stands.zeros k le (omega (arith, lt, len-is));
+    })
+
     large-turned : ChangesUse old new → WipesMinis old new i → WasTurned old new i size
     large-turned used wiped = record {
-      sized = sized-large;
+      sized = sized-large ys within;
       wiped = wiped;
       used = used;
-      chain = owns-large.chain;
-      content = large-is-resized v old new i ys was.changeable was.stream large owns-large
+      chain = owns-turned.chain;
+      content = large-is-resized v old new i ys was.changeable was.stream (large ys within) owns-turned
           (λ k lt. subst (λ (w : Version). k / sector_len w < length ys) (sym version-is) (lies.enough k (omega (arith, lt, len-is)))) large-stands
           ∙ ap (λ (n : ℕ). resized (content_of old (entry_at (entries_of old) i)) n) len-is;
     }
@@ -230,7 +262,7 @@ module _ (v : Validation) (old mid new : MiniState) (i size start : ℕ) (was : 
 
   -- ---- one after the other
 
-  tables-then : (P : TableState → Type 0) → P (tables_in mid) → P (tables_in new)
+  pub tables-then : (P : TableState → Type 0) → P (tables_in mid) → P (tables_in new)
   tables-then P p = subst P (sym was.system.tables) p
 
   minifat-then : (P : List ℕ → Type 0) → P mid.minifat → P new.minifat
@@ -239,12 +271,12 @@ module _ (v : Validation) (old mid new : MiniState) (i size start : ℕ) (was : 
   by-growth : TurnsByGrowth old mid i size start → WasTurned old new i size
   by-growth t = large-turned t.ys t.lies
       (large-goes-on v i old new (sectors_owned old i) t.ys [] t.count change (mini-then old mid new t.mini was.mini)
-      (tables-then (λ (w : TableState). Lengthens t.count (sectors_owned old i) t.ys (tables_in old) w) t.longer) (had-large t.was) (owns-large t.ys t.lies)) (gave-none t.was)
+      (tables-then (λ (w : TableState). Lengthens t.count (sectors_owned old i) t.ys (tables_in old) w) t.longer) (had-large t.was) (owns-turned t.ys t.lies)) (gave-none t.was)
 
   by-cut : TurnsByCut old mid i size start → WasTurned old new i size
   by-cut t = large-turned t.ys t.lies
       (large-is-cut v i old new (sectors_owned old i) t.ys [] t.left change (mini-then old mid new t.mini was.mini)
-      (tables-then (λ (w : TableState). Shortens t.left (sectors_owned old i) t.ys (tables_in old) w) t.shorter) (had-large t.was) (owns-large t.ys t.lies)) (gave-none t.was)
+      (tables-then (λ (w : TableState). Shortens t.left (sectors_owned old i) t.ys (tables_in old) w) t.shorter) (had-large t.was) (owns-turned t.ys t.lies)) (gave-none t.was)
 
   by-mini-growth : TurnsByMiniGrowth old mid i size start → WasTurned old new i size
   by-mini-growth t = small-turned t.ns t.lies (elim t.grown [
@@ -286,7 +318,7 @@ module _ (v : Validation) (old mid new : MiniState) (i size start : ℕ) (was : 
   made-large : TurnsLarge old mid i size start → WasTurned old new i size
   made-large t = large-turned t.ys t.lies
       (small-becomes-large v i old t.mid new (mini_sectors_owned old i) t.ys t.count change t.room t.freed (mini-then t.mid mid new t.mini was.mini)
-      (tables-then (λ (w : TableState). Lengthens t.count [] t.ys (tables_in t.mid) w) t.longer) (had-small t.was) (owns-large t.ys t.lies))
+      (tables-then (λ (w : TableState). Lengthens t.count [] t.ys (tables_in t.mid) w) t.longer) (had-small t.was) (owns-turned t.ys t.lies))
       (λ m c out inside. gave-zeros m inside (t.wiped m c))
 
   pub turned : Turns old mid i size start → WasTurned old new i size

@@ -12,8 +12,10 @@ use Rattle.cfb_format.specs.Siblings.{entry_at}
 use Rattle.cfb_tables.specs.Changes.{AreDisjoint}
 use Rattle.cfb_tables.specs.Clean.{IsUnnamed}
 use Rattle.cfb_tables.specs.Listed.{gained}
+use Rattle.cfb_tables.specs.Room.{IsTooFewAfter}
 use Rattle.cfb_tables.specs.Tables.{AreSizes, IsTooFew, TableState, first_or_end, sizes_of}
 use Rattle.cfb_tables.proofs.Members.{first_of_three}
+use Rattle.cfb_tables.proofs.RoomLemmas.{nothing-given-back}
 use Rattle.cfb_alloc.specs.Agreement.{KeepsSectors}
 use Rattle.cfb_alloc.specs.Alloc.{AllocatorState, ChangesSectors, HoldsTables, IsOtherHeaderByte, IsUsable}
 use Rattle.cfb_alloc.specs.Frame.{Spares}
@@ -29,15 +31,16 @@ use Rattle.cfb_mini_sectors.specs.Held.{with_table}
 use Rattle.cfb_mini_sectors.proofs.HeldMini.{no-tables}
 use Rattle.cfb_mini_sectors.proofs.MiniStreams.{begins}
 use Rattle.cfb_mini.proofs.MiniDirectory.{chains-changed}
-use Rattle.cfb_content.specs.Contents.{IsNotChangeable, IsStreamOf, KeepsOthers, len_of, sectors_owned}
+use Rattle.cfb_content.specs.Contents.{IsNotChangeable, IsStreamOf, KeepsOthers, len_of, mini_sectors_owned, sectors_owned}
 use Rattle.cfb_content.specs.Laws.{LacksNumbersFor}
 use Rattle.cfb_content.specs.Parts.{IsThereInSectors, IsWholeChain}
+use Rattle.cfb_content.specs.Room.{room_given}
 use Rattle.cfb_content.proofs.Apart.{own-is-apart, system-busy}
 use Rattle.cfb_content.proofs.Kept.{spared-sectors-kept}
 use Rattle.cfb_content.proofs.PlacedOnce.{inside-of}
 use Rattle.cfb_content.proofs.Readable.{large-is-there}
-use Rattle.cfb_content.proofs.WholeStreams.{large-entry, owned-chain, whole-as}
-use Rattle.cfb_resizing.specs.Turning.{IsPaddedAlong, LiesTurnedInSectors, StandsTurned, Turns}
+use Rattle.cfb_content.proofs.WholeStreams.{large-entry, no-minis, no-sectors, owned-chain, whole-as}
+use Rattle.cfb_resizing.specs.Turning.{IsPaddedAlong, LiesInSectors, LiesTurnedInSectors, StandsTurned, Turns}
 
 pub taken-first : (list : List ℕ) (n : ℕ) → 0 < n → first_or_end (take n list) ≡ first_or_end list
 taken-first [] zero some = refl
@@ -189,8 +192,7 @@ module _ (v : Validation) (old : MiniState) (i size wanted : ℕ) (list list' : 
 module _ (v : Validation) (old : MiniState) (i size count : ℕ) (list list' : List ℕ) (a : AllocatorState) (change : IsChangeable v old) (at : IsStreamOf old i)
     (large : 4096 ≤ len_of old i) (longer : len_of old i < size) (chain : IsChain (tables_in old).fat (entry_at (entries_of old) i).start_sector list)
     (lacking : count ≡ rounded_up size (sector_len (version_of old)) - length list) (made : Lengthens count list list' (tables_in old) a.tables)
-    (now : IsChain a.tables.fat (first_or_end list') list') (held : HoldsTables v a)
-    (padded : IsPaddedAlong (len_of old i) size (place_along (version_of old) list) (place_along (version_of old) list') (bytes_of old) a.file.bytes) where
+    (now : IsChain a.tables.fat (first_or_end list') list') (held : HoldsTables v a) where
   grown-owned : sectors_owned old i ≡ list
   grown-owned = owned-chain old i large list chain
 
@@ -214,40 +216,68 @@ module _ (v : Validation) (old : MiniState) (i size count : ℕ) (list list' : L
     | inr new ↦ system-busy v old change.held n c (made.taken.fresh n (first_of_three (gained list list') made.taken.fats made.taken.difats n new))
   ]
 
-  grown-byte : (k : ℕ) → k < size → k < len_of old i
-      → slice_index a.file.bytes (place_along (version_of old) list' k) ≡ slice_index (content_of old (entry_at (entries_of old) i)) k
-  grown-byte k lt early =
-      padded.kept k lt early
-      ∙ subst (λ (l : List ℕ). slice_index (bytes_of old) (place_along (version_of old) l k) ≡ slice_index (content_of old (entry_at (entries_of old) i)) k) grown-owned
-      ((large-is-there v old i change at (large-entry old i large)).bytes k early)
+  grown-long : 4096 ≤ size
+  grown-long = omega (arith, large, longer)
 
-  grown-stands : StandsTurned old i size a.file.bytes (place_along (version_of old) list')
-  grown-stands = record { there = padded.there; kept = grown-byte; zeros = padded.zeros }
+  grown-chain : IsChain a.tables.fat (entry_at (entries_of old) i).start_sector list'
+  grown-chain = subst (λ n. IsChain a.tables.fat n list') (sym grown-start) now
 
-  pub grown-lies : LiesTurnedInSectors old (with_table old a) i size (entry_at (entries_of old) i).start_sector list'
-  grown-lies = record {
-    large = omega (arith, large, longer);
-    chain = subst (λ n. IsChain a.tables.fat n list') (sym grown-start) now;
-    enough = λ k lt. subst (λ w. k / sector_len w < length list') (sym grown-version)
-        (below-grown (k / sector_len (version_of old)) (rounded_up size (sector_len (version_of old))) count list list' made.listed made.count (omega (arith, lacking))
-        (rounded-up-holds (version_of old) k size lt));
+  grown-enough : (k : ℕ) → k < size → k / sector_len a.tables.version < length list'
+  grown-enough k lt = subst (λ w. k / sector_len w < length list') (sym grown-version)
+      (below-grown (k / sector_len (version_of old)) (rounded_up size (sector_len (version_of old))) count list list' made.listed made.count (omega (arith, lacking))
+      (rounded-up-holds (version_of old) k size lt))
+
+  grown-more : length list' ≡ max (rounded_up size (sector_len a.tables.version)) (length (sectors_owned old i))
+  grown-more = as-grown (rounded_up size (sector_len (version_of old))) count list list' made.listed made.count lacking
+      ∙ (λ j. max (rounded_up size (sector_len (sym grown-version j))) (length (sym grown-owned j)))
+
+  pub grown-in : ((k : ℕ) → k < size → place_along (version_of old) list' k < length a.file.bytes)
+      → LiesInSectors old (with_table old a) i size (entry_at (entries_of old) i).start_sector list'
+  grown-in there = record {
+    large = grown-long;
+    chain = grown-chain;
+    enough = grown-enough;
     fewer = λ lt. absurd (omega (arith, lt, longer));
-    more = λ le. as-grown (rounded_up size (sector_len (version_of old))) count list list' made.listed made.count lacking
-        ∙ (λ j. max (rounded_up size (sector_len (sym grown-version j))) (length (sym grown-owned j)));
+    more = λ le. grown-more;
     apart = grown-apart;
-    tables_apart = no-tables v a (first_or_end list') list' held now;
-    stands = subst (λ w. StandsTurned old i size a.file.bytes (place_along w list')) (sym grown-version) grown-stands;
+    there = subst (λ w. (k : ℕ) → k < size → place_along w list' k < length a.file.bytes) (sym grown-version) there;
   }
 
-  pub grown-turns : Turns old (with_table old a) i size (entry_at (entries_of old) i).start_sector
-  grown-turns = inl (record {
-    was = large-entry old i large;
-    ys = list';
-    count = count;
-    mini = record { minifat = refl; minifat_sectors = refl; mini_stream = refl };
-    longer = subst (λ (l : List ℕ). Lengthens count l list' (tables_in old) a.tables) (sym grown-owned) made;
-    lies = grown-lies;
-  })
+  pub grown-longer : Lengthens count (sectors_owned old i) list' (tables_in old) a.tables
+  grown-longer = subst (λ (l : List ℕ). Lengthens count l list' (tables_in old) a.tables) (sym grown-owned) made
+
+  module _ (padded : IsPaddedAlong (len_of old i) size (place_along (version_of old) list) (place_along (version_of old) list') (bytes_of old) a.file.bytes) where
+    grown-byte : (k : ℕ) → k < size → k < len_of old i
+        → slice_index a.file.bytes (place_along (version_of old) list' k) ≡ slice_index (content_of old (entry_at (entries_of old) i)) k
+    grown-byte k lt early =
+        padded.kept k lt early
+        ∙ subst (λ (l : List ℕ). slice_index (bytes_of old) (place_along (version_of old) l k) ≡ slice_index (content_of old (entry_at (entries_of old) i)) k) grown-owned
+        ((large-is-there v old i change at (large-entry old i large)).bytes k early)
+
+    grown-stands : StandsTurned old i size a.file.bytes (place_along (version_of old) list')
+    grown-stands = record { there = padded.there; kept = grown-byte; zeros = padded.zeros }
+
+    pub grown-lies : LiesTurnedInSectors old (with_table old a) i size (entry_at (entries_of old) i).start_sector list'
+    grown-lies = record {
+      large = grown-long;
+      chain = grown-chain;
+      enough = grown-enough;
+      fewer = λ lt. absurd (omega (arith, lt, longer));
+      more = λ le. grown-more;
+      apart = grown-apart;
+      tables_apart = no-tables v a (first_or_end list') list' held now;
+      stands = subst (λ w. StandsTurned old i size a.file.bytes (place_along w list')) (sym grown-version) grown-stands;
+    }
+
+    pub grown-turns : Turns old (with_table old a) i size (entry_at (entries_of old) i).start_sector
+    grown-turns = inl (record {
+      was = large-entry old i large;
+      ys = list';
+      count = count;
+      mini = record { minifat = refl; minifat_sectors = refl; mini_stream = refl };
+      longer = grown-longer;
+      lies = grown-lies;
+    })
 
 -- ---- what the calls say of it
 
@@ -256,27 +286,63 @@ pub not-usable : (s : MiniState) (a : AllocatorState) → a ≡ table_of s → (
 not-usable s a same unusable v change =
     unusable (subst (λ (b : AllocatorState). IsUsable b.tables) (sym same) (held-usable v (table_of s) change.held.directory.tables))
 
--- the number that a large length lacks
-pub large-lacks : (s : MiniState) (i size : ℕ) (list : List ℕ) → 4096 ≤ size → sectors_owned s i ≡ list
+-- the sectors that a length needs beside those that the stream has
+abbrev lacking : MiniState → ℕ → ℕ → ℕ
+lacking s i size = sectors_for (version_of s) size - length (sectors_owned s i)
+
+-- the number that a large length lacks of a stream in sectors: it has no mini sectors whose room comes free
+pub large-lacks : (s : MiniState) (i size : ℕ) (list : List ℕ) → 4096 ≤ size → 4096 ≤ len_of s i → sectors_owned s i ≡ list
     → (LacksNumbersFor s i size → IsTooFew (tables_in s) (rounded_up size (sector_len (version_of s)) - length list))
     × (IsTooFew (tables_in s) (rounded_up size (sector_len (version_of s)) - length list) → LacksNumbersFor s i size)
-large-lacks s i size list large owned = (
+large-lacks s i size list large long owned = (
   (λ lacks. elim lacks [
-    | inl few ↦ subst (λ n. IsTooFew (tables_in s) n) same few.1
+    | inl few ↦ subst (λ n. IsTooFew (tables_in s) n) same ((nothing-given-back (tables_in s) (lacking s i size)).0
+        (subst (λ (l : List ℕ). IsTooFewAfter (tables_in s) (room_given s l) (lacking s i size)) none few.1))
     | inr short ↦ absurd (omega (arith, short.0, large))
   ]),
-  (λ few. inl (large, subst (λ n. IsTooFew (tables_in s) n) (sym same) few)),
+  (λ few. inl (
+    large,
+    subst (λ (l : List ℕ). IsTooFewAfter (tables_in s) (room_given s l) (lacking s i size)) (sym none)
+        ((nothing-given-back (tables_in s) (lacking s i size)).1 (subst (λ n. IsTooFew (tables_in s) n) (sym same) few)),
+  )),
 )
   where
-    same : sectors_for (version_of s) size - length (sectors_owned s i) ≡ rounded_up size (sector_len (version_of s)) - length list
+    none : mini_sectors_owned s i ≡ []
+    none = no-minis s i long
+
+    same : lacking s i size ≡ rounded_up size (sector_len (version_of s)) - length list
     same = (λ j. (if le-leb 4096 size large j then rounded_up size (sector_len (version_of s)) else 0) - length (owned j))
+
+-- and of one that leaves these mini sectors: all that it needs, but for what comes free with them
+pub moving-lacks : (s : MiniState) (i size : ℕ) (list : List ℕ) → 4096 ≤ size → len_of s i < 4096 → mini_sectors_owned s i ≡ list
+    → (LacksNumbersFor s i size → IsTooFewAfter (tables_in s) (room_given s list) (rounded_up size (sector_len (version_of s))))
+    × (IsTooFewAfter (tables_in s) (room_given s list) (rounded_up size (sector_len (version_of s))) → LacksNumbersFor s i size)
+moving-lacks s i size list large small owned = (
+  (λ lacks. elim lacks [
+    | inl few ↦ subst (λ n. IsTooFewAfter (tables_in s) (room_given s list) n) same
+        (subst (λ (l : List ℕ). IsTooFewAfter (tables_in s) (room_given s l) (lacking s i size)) owned few.1)
+    | inr short ↦ absurd (omega (arith, short.0, large))
+  ]),
+  (λ few. inl (
+    large,
+    subst (λ (l : List ℕ). IsTooFewAfter (tables_in s) (room_given s l) (lacking s i size)) (sym owned)
+        (subst (λ n. IsTooFewAfter (tables_in s) (room_given s list) n) (sym same) few),
+  )),
+)
+  where
+    less-none : (n : ℕ) → n - 0 ≡ n
+    less-none n = omega arith
+
+    same : lacking s i size ≡ rounded_up size (sector_len (version_of s))
+    same = (λ j. (if le-leb 4096 size large j then rounded_up size (sector_len (version_of s)) else 0) - length (no-sectors s i small j))
+        ∙ less-none (rounded_up size (sector_len (version_of s)))
 
 -- a shorter one lacks none
 pub cut-has-all : (s : MiniState) (i size : ℕ) (list : List ℕ) → 4096 ≤ size → size < len_of s i
     → IsWholeChain (version_of s) (tables_in s).fat (table_of s).file.len (entry_at (entries_of s) i).start_sector (len_of s i) list → LacksNumbersFor s i size → ⊥
 cut-has-all s i size list large shorter whole lacks =
     let owned = owned-chain s i (omega (arith, large, shorter)) list whole.chain in
-    let few = (large-lacks s i size list large owned).0 lacks in
+    let few = (large-lacks s i size list large (omega (arith, large, shorter)) owned).0 lacks in
     let none : rounded_up size (sector_len (version_of s)) - length list ≡ 0 =
     enough-listed (version_of s) (len_of s i) size (length list) shorter (λ k lt. (whole.there k lt).listed) in
     let some = few.0 in
@@ -338,10 +404,10 @@ module _ (s : MiniState) (i size wanted start len l : ℕ) (here lent a : Alloca
 module _ (s : MiniState) (i size start len count : ℕ) (here lent a : AllocatorState) (list list' : List ℕ) (at : IsStreamOf s i) (large : 4096 ≤ len_of s i) (longer : len_of s i < size)
     (is-here : here ≡ table_of s) (is-lent : lent ≡ table_of s) (start-is : start ≡ (entry_at (entries_of s) i).start_sector) (len-is : len ≡ len_of s i)
     (whole : IsWholeChain here.tables.version here.tables.fat here.file.len start len list) where
-  grow-whole : IsWholeChain (version_of s) (tables_in s).fat (table_of s).file.len (entry_at (entries_of s) i).start_sector (len_of s i) list
+  pub grow-whole : IsWholeChain (version_of s) (tables_in s).fat (table_of s).file.len (entry_at (entries_of s) i).start_sector (len_of s i) list
   grow-whole = whole-as s i here start len list is-here start-is len-is whole
 
-  grow-owned : sectors_owned s i ≡ list
+  pub grow-owned : sectors_owned s i ≡ list
   grow-owned = owned-chain s i large list grow-whole.chain
 
   pub grow-spares-others : Spares list lent a → (v : Validation) → IsChangeable v s → KeepsOthers i s (with_table s a)
@@ -350,7 +416,7 @@ module _ (s : MiniState) (i size start len count : ℕ) (here lent a : Allocator
   pub grow-lacks : (IsTooFew lent.tables (rounded_up size (sector_len lent.tables.version) - length list) → LacksNumbersFor s i size)
       × ((IsTooFew lent.tables (rounded_up size (sector_len lent.tables.version) - length list) → ⊥) → LacksNumbersFor s i size → ⊥)
   grow-lacks =
-      let both = large-lacks s i size list (omega (arith, large, longer)) grow-owned in
+      let both = large-lacks s i size list (omega (arith, large, longer)) large grow-owned in
       subst (λ (b : AllocatorState). (IsTooFew b.tables (rounded_up size (sector_len b.tables.version) - length list) → LacksNumbersFor s i size)
       × ((IsTooFew b.tables (rounded_up size (sector_len b.tables.version) - length list) → ⊥) → LacksNumbersFor s i size → ⊥)) (sym is-lent)
       (both.1, (λ enough lacks. enough (both.0 lacks)))
@@ -360,7 +426,7 @@ module _ (s : MiniState) (i size start len count : ℕ) (here lent a : Allocator
   grow-there k lt = subst (λ (b : AllocatorState). IsThereInSectors b.tables.version list b.file.len k) (sym is-lent) (grow-whole.there k (omega (arith, lt, len-is)))
 
   module _ (made : Lengthens (rounded_up size (sector_len lent.tables.version) - length list) list list' lent.tables a.tables) (v : Validation) (change : IsChangeable v s) (held : HoldsTables v a) where
-    made-here : Lengthens (rounded_up size (sector_len (version_of s)) - length list) list list' (tables_in s) a.tables
+    pub made-here : Lengthens (rounded_up size (sector_len (version_of s)) - length list) list list' (tables_in s) a.tables
     made-here = subst (λ (b : AllocatorState). Lengthens (rounded_up size (sector_len b.tables.version) - length list) list list' b.tables a.tables) is-lent made
 
     pub grow-turned : IsChain a.tables.fat (first_or_end list') list'

@@ -2,12 +2,14 @@
 -- 2.4 and 2.6.3).
 use Rattle.std.specs.Prelude.{ℕ, ◌≡◌, ◌+◌, ◌/◌, ◌<◌, ◌≤◌, ◌⊎◌, List, [], ◌++◌, true, false, length, max, take, drop, slice_index, Contains}
 use Rattle.cfb_format.specs.declared.error.Error.{Error}
+use Rattle.cfb_format.specs.declared.validate.Validation.{Validation}
 use Rattle.cfb_format.specs.Bytes.{end_of_chain, sector_len}
 use Rattle.cfb_format.specs.Chain.{IsChain}
 use Rattle.cfb_format.specs.Content.{is_large, mini_sector_len, mini_stream_cutoff}
 use Rattle.cfb_format.specs.Full.{IsFullOfMiniSectors, rounded_up}
 use Rattle.cfb_format.specs.Refused.{HasReason, at_every_error}
 use Rattle.cfb_format.specs.Siblings.{entry_at}
+use Rattle.cfb_rules.specs.StreamCalls.{resized}
 use Rattle.cfb_tables.specs.Changes.{AreDisjoint, NoneFree}
 use Rattle.cfb_tables.specs.Listed.{ends_of, gained}
 use Rattle.cfb_tables.specs.Clean.{IsUnnamed}
@@ -16,10 +18,10 @@ use Rattle.cfb_alloc.specs.Frame.{table_sectors}
 use Rattle.cfb_alloc.specs.ListedChain.{Lengthens, Shortens}
 use Rattle.cfb_chains.specs.ChainPlaces.{place_along}
 use Rattle.cfb_mini_table.specs.MiniTable.{MiniGivesBack, TakesMini}
-use Rattle.cfb_mini_sectors.specs.State.{MiniState, bytes_of, content_of, entries_of, parts_of, table_of, tables_in, version_of}
-use Rattle.cfb_mini_sectors.specs.Steps.{AreStartsUnnamed, GrowsFor, IsInMiniStream, IsZeroMini, KeepsLimits, KeepsMini, KeepsSystem, MovesRoot, SettlesRoom, system_sectors}
+use Rattle.cfb_mini_sectors.specs.State.{HoldsMini, IsChangeable, MiniState, bytes_of, content_of, entries_of, parts_of, table_of, tables_in, version_of}
+use Rattle.cfb_mini_sectors.specs.Steps.{AreStartsUnnamed, GrowsFor, IsInMiniStream, IsSnugMini, IsZeroMini, KeepsLimits, KeepsMini, KeepsSystem, MovesRoot, SettlesRoom, system_sectors}
 use Rattle.cfb_mini.specs.MiniSectors.{IsStill}
-use Rattle.cfb_content.specs.Contents.{len_of, mini_place_along, mini_sectors_owned, sectors_owned}
+use Rattle.cfb_content.specs.Contents.{WipesMinis, len_of, mini_place_along, mini_sectors_owned, sectors_owned}
 
 -- ---- bytes and zeros
 
@@ -48,6 +50,16 @@ pub record LiesTurnedInSectors (old new : MiniState) (i size start : ℕ) (ys : 
   pub apart : AreDisjoint ys (system_sectors new)
   pub tables_apart : AreDisjoint ys (table_sectors (tables_in new))
   pub stands : StandsTurned old i size (bytes_of new) (place_along (version_of new) ys)
+
+-- the same, whatever stands in them
+pub record LiesInSectors (old new : MiniState) (i size start : ℕ) (ys : List ℕ) : Type 0 where
+  pub large : mini_stream_cutoff ≤ size
+  pub chain : IsChain (tables_in new).fat start ys
+  pub enough : (k : ℕ) → k < size → k / sector_len (version_of new) < length ys
+  pub fewer : size < len_of old i → length ys ≡ rounded_up size (sector_len (version_of new))
+  pub more : len_of old i ≤ size → length ys ≡ max (rounded_up size (sector_len (version_of new))) (length (sectors_owned old i))
+  pub apart : AreDisjoint ys (system_sectors new)
+  pub there : (k : ℕ) → k < size → place_along (version_of new) ys k < length (bytes_of new)
 
 -- or in these mini sectors, a mini chain from there; an empty content in none
 pub record LiesTurnedInMinis (old new : MiniState) (i size start : ℕ) (ns : List ℕ) : Type 0 where
@@ -159,6 +171,44 @@ LeavesNoMinis s i size = (len_of s i ≡ 0) ⊎ (mini_stream_cutoff ≤ len_of s
 abbrev pub Turns : MiniState → MiniState → ℕ → ℕ → ℕ → Type 0
 Turns old new i size start = TurnsByGrowth old new i size start ⊎ TurnsByCut old new i size start ⊎ TurnsByMiniGrowth old new i size start
     ⊎ TurnsByMiniCut old new i size start ⊎ TurnsSmall old new i size start ⊎ TurnsLarge old new i size start
+
+-- and a file that could be changed holds the directory and the mini sectors again; MiniFAT and mini stream have exactly what they need if they had
+pub record TurnsSoundly (old new : MiniState) (i size start : ℕ) : Type 0 where
+  pub turned : (v : Validation) → IsChangeable v old → Turns old new i size start
+  pub holds : (v : Validation) → IsChangeable v old → HoldsMini v new
+  pub snug_mini : (v : Validation) → IsChangeable v old → IsSnugMini old → IsSnugMini new
+
+-- in every file the chain from there is as short as can be where the stream got shorter in the table that it lay in, and where nothing is left of
+-- it there is none
+pub record TrimsChain (old new : MiniState) (i size start : ℕ) : Type 0 where
+  pub few : size < len_of old i → mini_stream_cutoff ≤ size → (list : List ℕ) → IsChain (tables_in new).fat start list
+      → length list ≡ rounded_up size (sector_len (version_of old))
+  pub few_minis : size < len_of old i → len_of old i < mini_stream_cutoff → (list : List ℕ) → IsChain new.minifat start list
+      → length list ≡ rounded_up size mini_sector_len
+  pub empty : size ≡ 0 → 0 < len_of old i → start ≡ end_of_chain
+
+-- ---- the content, once the entry says what became of it
+
+-- it is what it was, cut or padded with zeros to `size`; each mini sector that it gave back reads as zeros; and where the stream got no shorter and
+-- left no mini sectors, no sector came free
+pub record ResizesContent (old new : MiniState) (i size : ℕ) : Type 0 where
+  pub content : (v : Validation) → IsChangeable v old
+      → content_of new (entry_at (entries_of new) i) ≡ resized (content_of old (entry_at (entries_of old) i)) size
+  pub wiped : (v : Validation) → IsChangeable v old → WipesMinis old new i
+  pub stays_full : (v : Validation) → IsChangeable v old → len_of old i ≤ size → LeavesNoMinis old i size
+      → NoneFree (tables_in old).fat → NoneFree (tables_in new).fat
+
+-- a large stream's chain went on, or had room, and these bytes stand behind what it had; it starts there
+pub record Appends (old new : MiniState) (i : ℕ) (from : List ℕ) (start : ℕ) : Type 0 where
+  pub was : is_large (entry_at (entries_of old) i) ≡ true
+  pub ys : List ℕ
+  pub count : ℕ
+  pub mini : KeepsMini old new
+  pub longer : Lengthens count (sectors_owned old i) ys (tables_in old) (tables_in new)
+  pub lies : LiesInSectors old new i (len_of old i + length from) start ys
+  pub kept : (k : ℕ) → k < len_of old i
+      → slice_index (bytes_of new) (place_along (version_of new) ys k) ≡ slice_index (content_of old (entry_at (entries_of old) i)) k
+  pub put : (k : ℕ) → k < length from → slice_index (bytes_of new) (place_along (version_of new) ys (len_of old i + k)) ≡ slice_index from k
 
 -- ---- what every change of a content leaves alone, and what it makes of the tables
 

@@ -1,23 +1,22 @@
 //! How far a stream can grow with the numbers that are left, and its growth as far as that.
-ghost use Rattle.std.specs.Prelude.{◌≡◌, ◌+◌, ◌-◌, ◌<◌, ◌≤◌, ◌⊎◌, ◌↔◌, ◌||◌, length, false, true, IsTrue, IfOk, IfErr, OnOk, OnErr};
+ghost use Rattle.std.specs.Prelude.{◌≡◌, ◌+◌, ◌-◌, ◌<◌, ◌≤◌, ◌⊎◌, ◌||◌, ℕ, length, true, IsTrue, IfOk, IfErr, OnOk, OnErr};
 ghost use Rattle.cfb_format.specs.declared.validate.Validation.{Validation};
 ghost use Rattle.cfb_format.specs.Bytes.{max_stream_len, sector_len};
 ghost use Rattle.cfb_format.specs.Content.{mini_stream_cutoff};
 ghost use Rattle.cfb_format.specs.Full.{IsFullOfMiniSectors, free_count, max_mini_sectors, rounded_up};
 ghost use Rattle.cfb_format.specs.Refused.{CountsFailure};
-ghost use Rattle.cfb_format.specs.Siblings.{entry_at};
-ghost use Rattle.cfb_rules.specs.StreamCalls.{resized};
-ghost use Rattle.cfb_tables.specs.Changes.{NoneFree};
 ghost use Rattle.cfb_tables.specs.Refused.{ChangeRefused};
 ghost use Rattle.cfb_tables.specs.Tables.{AreFullTables, IsTooFew};
-ghost use Rattle.cfb_mini_sectors.specs.State.{HoldsMini, IsChangeable, bytes_of, content_of, entries_of, parts_of, table_of, tables_in, version_of};
-ghost use Rattle.cfb_mini_sectors.specs.Steps.{IsSnugMini, IsTooFewFor, KeepsLimits};
+ghost use Rattle.cfb_mini_sectors.specs.State.{HoldsMini, parts_of, table_of, tables_in, version_of};
+ghost use Rattle.cfb_mini_sectors.specs.Steps.{IsTooFewFor};
 ghost use Rattle.cfb_mini.specs.MiniSectors.{IsStill};
-ghost use Rattle.cfb_content.specs.Contents.{AreAllUsed, IsNotChangeable, IsStreamOf, IsTooLongFor, KeepsFixedHeader, KeepsOthers, MovesContent, SizesChain, len_of};
+ghost use Rattle.cfb_content.specs.Changed.{MovesAlone, SparesOthers, WasChanged};
+ghost use Rattle.cfb_content.specs.Contents.{IsNotChangeable, IsStreamOf, IsTooLongFor, len_of};
 ghost use Rattle.cfb_content.specs.Laws.{LacksNumbersFor};
-ghost use Rattle.cfb_resizing.specs.Turning.{KeepsAround, KeepsTablesTight, LeavesNoMinis, StopsOrIsFull};
+ghost use Rattle.cfb_resizing.specs.Turning.{KeepsAround, KeepsTablesTight, ResizesContent, StopsOrIsFull};
 
 use crate::resizing::{can_resize, resize_content, unplaced};
+use crate::room::room_for_move;
 use cfb_content::in_minis::whole_mini_chain;
 use cfb_content::listed::whole_chain_len;
 use cfb_content::reading::content_in;
@@ -30,7 +29,7 @@ use cfb_sectors::sector::SectorInit;
 use std::alloc::Allocator as Heap;
 
 /// How long a stream in sectors can become, at most `wanted`: as long as it is where not one byte more can be had.
-fn len_in_sectors<F: ReadMedium, A: Heap + Clone>(
+pub(crate) fn len_in_sectors<F: ReadMedium, A: Heap + Clone>(
     mini: &MiniAllocator<F, A>,
     entry: u32,
     wanted: u64,
@@ -40,7 +39,8 @@ fn len_in_sectors<F: ReadMedium, A: Heap + Clone>(
     requires longer { len_of mini.now entry < wanted }
     ensures within { IfOk result (λ len. (len_of mini.now entry ≤ len) × (len ≤ wanted)) }
     ensures enough { IfOk result (λ len. LacksNumbersFor mini.now entry len → ⊥) }
-    ensures none { IfOk result (λ len. len ≡ len_of mini.now entry → LacksNumbersFor mini.now entry wanted) }
+    ensures none { IfOk result (λ len. len ≡ len_of mini.now entry
+        → (size : ℕ) → len_of mini.now entry < size → size ≤ wanted → LacksNumbersFor mini.now entry size) }
     ensures err { IfErr result (ChangeRefused (IsNotChangeable mini.now) Unit ⊥ ⊥) }
 {
     let (start, len) = content_in(mini, entry);
@@ -53,21 +53,35 @@ fn len_in_sectors<F: ReadMedium, A: Heap + Clone>(
     Ok(wanted.min(most))
 }
 
-/// How long a stream can become that moves into sectors, at most `wanted`: 0 where there are too few numbers for that.
-fn len_once_moved<F: ReadMedium, A: Heap>(mini: &MiniAllocator<F, A>, wanted: u64) -> u64
-    ensures within { 0 < result → (mini_stream_cutoff ≤ result) × (result ≤ wanted) }
-    ensures enough { IsTooFew (tables_in mini.now) (rounded_up result (sector_len (version_of mini.now))) → ⊥ }
-    ensures none { result ≡ 0 → mini_stream_cutoff ≤ wanted
-        → IsTooFew (tables_in mini.now) (rounded_up mini_stream_cutoff (sector_len (version_of mini.now))) }
+/// How long a stream can become that moves out of its mini sectors into sectors, at most `wanted`, with what comes free then: 0 where not even
+/// the least such length can be had.
+fn len_once_moved<F: ReadMedium, A: Heap + Clone>(
+    mini: &MiniAllocator<F, A>,
+    entry: u32,
+    wanted: u64,
+) -> Result<u64, Error>
+    requires stream { IsStreamOf mini.now entry }
+    requires small { len_of mini.now entry < mini_stream_cutoff }
+    ensures within { IfOk result (λ len. 0 < len → (mini_stream_cutoff ≤ len) × (len ≤ wanted)) }
+    ensures enough { IfOk result (λ len. 0 < len → LacksNumbersFor mini.now entry len → ⊥) }
+    ensures none { IfOk result (λ len. len ≡ 0
+        → (size : ℕ) → mini_stream_cutoff ≤ size → size ≤ wanted → LacksNumbersFor mini.now entry size) }
+    ensures err { IfErr result (ChangeRefused (IsNotChangeable mini.now) Unit ⊥ ⊥) }
 {
+    let cutoff = MINI_STREAM_CUTOFF as u64;
+    if wanted < cutoff {
+        return Ok(0);
+    }
     let sector_len = mini.sector_len() as u64;
     let needed = wanted.div_ceil(sector_len) as usize;
-    let most = (mini.allocator().takable(needed) as u64).saturating_mul(sector_len);
+    let given = room_for_move(mini, entry, needed)?;
+    let more = mini.allocator().takable(needed.saturating_sub(given));
+    let most = (given.saturating_add(more) as u64).saturating_mul(sector_len);
     let len = wanted.min(most);
-    if len < MINI_STREAM_CUTOFF as u64 {
-        return 0;
+    if len < cutoff {
+        return Ok(0);
     }
-    len
+    Ok(len)
 }
 
 /// How long a stream in mini sectors can become and stay there, at most `wanted`: as long as it is where not one byte more can be had.
@@ -81,7 +95,8 @@ fn len_in_minis<F: ReadMedium, A: Heap + Clone>(
     requires longer { len_of mini.now entry < wanted }
     ensures within { IfOk result (λ len. (len_of mini.now entry ≤ len) × (len ≤ wanted)) }
     ensures enough { IfOk result (λ len. (validation : Validation) → HoldsMini validation mini.now → LacksNumbersFor mini.now entry len → ⊥) }
-    ensures none { IfOk result (λ len. len ≡ len_of mini.now entry → wanted < mini_stream_cutoff → LacksNumbersFor mini.now entry wanted) }
+    ensures none { IfOk result (λ len. len ≡ len_of mini.now entry
+        → (size : ℕ) → len_of mini.now entry < size → size ≤ wanted → size < mini_stream_cutoff → LacksNumbersFor mini.now entry size) }
     ensures err { IfErr result (ChangeRefused (IsNotChangeable mini.now) Unit ⊥ ⊥) }
 {
     let (start, len) = content_in(mini, entry);
@@ -105,14 +120,15 @@ fn grown_len<F: ReadMedium, A: Heap + Clone>(
     requires longer { len_of mini.now entry < wanted }
     ensures within { IfOk result (λ len. (len_of mini.now entry ≤ len) × (len ≤ wanted)) }
     ensures enough { IfOk result (λ len. (validation : Validation) → HoldsMini validation mini.now → LacksNumbersFor mini.now entry len → ⊥) }
-    ensures none { IfOk result (λ len. len ≡ len_of mini.now entry → LacksNumbersFor mini.now entry wanted) }
+    ensures none { IfOk result (λ len. len ≡ len_of mini.now entry
+        → (size : ℕ) → len_of mini.now entry < size → size ≤ wanted → LacksNumbersFor mini.now entry size) }
     ensures err { IfErr result (ChangeRefused (IsNotChangeable mini.now) Unit ⊥ ⊥) }
 {
     let (_, len) = content_in(mini, entry);
     if len >= MINI_STREAM_CUTOFF as u64 {
         return len_in_sectors(mini, entry, wanted);
     }
-    let moved = len_once_moved(mini, wanted);
+    let moved = len_once_moved(mini, entry, wanted)?;
     if moved > 0 {
         return Ok(moved);
     }
@@ -144,14 +160,12 @@ fn take_minis_left<F: Medium, A: Heap + Clone>(
     requires stream { IsStreamOf mini.old entry }
     requires some { 0 < count }
     requires few { IsTooFewFor mini.old count }
-    ensures others { IsTrue F.tells → (validation : Validation) → IsChangeable validation mini.old → KeepsOthers entry mini.old mini.new }
-    ensures header { IsTrue F.tells → KeepsFixedHeader mini.old mini.new }
+    ensures spares { IsTrue F.tells → SparesOthers mini.old mini.new entry }
     ensures around { KeepsAround mini.old mini.new }
     ensures full { OnOk result (IsFullOfMiniSectors (parts_of mini.new)) }
     ensures begun { OnOk result ((mini.new ≡ mini.old) ⊎ ((table_of mini.new).file.begun ≡ true)) }
     ensures refused { (validation : Validation) → HoldsMini validation mini.old → IfErr result (StopsOrIsFull mini.old mini.new) }
     ensures still { OnErr result (IsStill mini.old mini.new ⊎ ((table_of mini.new).file.begun ≡ true)) }
-    ensures unwritten { IsTrue F.tells → (table_of mini.new).file.begun ≡ false → bytes_of mini.new ≡ bytes_of mini.old }
     ensures err { IfErr result (ChangeRefused (IsNotChangeable mini.old) Unit Unit Unit) }
     ensures counts { IsTrue F.tells → CountsFailure F.write_faults result (table_of mini.old).file.failures (table_of mini.new).file.failures }
 {
@@ -171,14 +185,12 @@ fn take_sectors_left<F: Medium, A: Heap + Clone>(
 ) -> Result<(), Error>
     requires stream { IsStreamOf mini.old entry }
     requires few { IsTooFew (tables_in mini.old) needed }
-    ensures others { IsTrue F.tells → (validation : Validation) → IsChangeable validation mini.old → KeepsOthers entry mini.old mini.new }
-    ensures header { IsTrue F.tells → KeepsFixedHeader mini.old mini.new }
+    ensures spares { IsTrue F.tells → SparesOthers mini.old mini.new entry }
     ensures around { KeepsAround mini.old mini.new }
     ensures full { OnOk result (AreFullTables (tables_in mini.new)) }
     ensures begun { OnOk result ((mini.new ≡ mini.old) ⊎ ((table_of mini.new).file.begun ≡ true)) }
     ensures refused { (validation : Validation) → HoldsMini validation mini.old → IfErr result (StopsOrIsFull mini.old mini.new) }
     ensures still { OnErr result (IsStill mini.old mini.new ⊎ ((table_of mini.new).file.begun ≡ true)) }
-    ensures unwritten { IsTrue F.tells → (table_of mini.new).file.begun ≡ false → bytes_of mini.new ≡ bytes_of mini.old }
     ensures err { IfErr result (ChangeRefused (IsNotChangeable mini.old) Unit Unit Unit) }
     ensures counts { IsTrue F.tells → CountsFailure F.write_faults result (table_of mini.old).file.failures (table_of mini.new).file.failures }
 {
@@ -189,7 +201,7 @@ fn take_sectors_left<F: Medium, A: Heap + Clone>(
 }
 
 /// Takes what is left of the numbers that a stream lacks for this length, so that `Full` comes with full tables.
-fn take_the_rest<F: Medium, A: Heap + Clone>(
+pub(crate) fn take_the_rest<F: Medium, A: Heap + Clone>(
     mini: &mut MiniAllocator<F, A>,
     entry: u32,
     wanted: u64,
@@ -197,14 +209,12 @@ fn take_the_rest<F: Medium, A: Heap + Clone>(
     requires stream { IsStreamOf mini.old entry }
     requires longer { len_of mini.old entry < wanted }
     requires stuck { LacksNumbersFor mini.old entry wanted }
-    ensures others { IsTrue F.tells → (validation : Validation) → IsChangeable validation mini.old → KeepsOthers entry mini.old mini.new }
-    ensures header { IsTrue F.tells → KeepsFixedHeader mini.old mini.new }
+    ensures spares { IsTrue F.tells → SparesOthers mini.old mini.new entry }
     ensures around { KeepsAround mini.old mini.new }
     ensures full { OnOk result (IsFullOfMiniSectors (parts_of mini.new) ⊎ AreFullTables (tables_in mini.new)) }
     ensures begun { OnOk result ((mini.new ≡ mini.old) ⊎ ((table_of mini.new).file.begun ≡ true)) }
     ensures refused { (validation : Validation) → HoldsMini validation mini.old → IfErr result (StopsOrIsFull mini.old mini.new) }
     ensures still { OnErr result (IsStill mini.old mini.new ⊎ ((table_of mini.new).file.begun ≡ true)) }
-    ensures unwritten { IsTrue F.tells → (table_of mini.new).file.begun ≡ false → bytes_of mini.new ≡ bytes_of mini.old }
     ensures err { IfErr result (ChangeRefused (IsNotChangeable mini.old) Unit Unit Unit) }
     ensures counts { IsTrue F.tells → CountsFailure F.write_faults result (table_of mini.old).file.failures (table_of mini.new).file.failures }
 {
@@ -231,26 +241,16 @@ pub fn grow_content<F: Medium, A: Heap + Clone>(
     requires longer { len_of mini.old entry < wanted }
     requires limit { wanted ≤ max_stream_len (version_of mini.old) }
     ensures len { IfOk result (λ len. (len_of mini.new entry ≡ len) × (len_of mini.old entry < len) × (len ≤ wanted)) }
-    ensures entries { MovesContent mini.old mini.new entry }
-    ensures content { IsTrue F.tells → (validation : Validation) → IsChangeable validation mini.old
-        → OnOk result (content_of mini.new (entry_at (entries_of mini.new) entry) ≡ resized (content_of mini.old (entry_at (entries_of mini.old) entry)) (len_of mini.new entry)) }
-    ensures others { IsTrue F.tells → (validation : Validation) → IsChangeable validation mini.old → KeepsOthers entry mini.old mini.new }
-    ensures header { IsTrue F.tells → KeepsFixedHeader mini.old mini.new }
-    ensures holds { IsTrue F.tells → (validation : Validation) → IsChangeable validation mini.old → OnOk result (IsChangeable validation mini.new) }
-    ensures owned { IsTrue F.tells → (validation : Validation) → IsChangeable validation mini.old → AreAllUsed mini.old → OnOk result (AreAllUsed mini.new) }
-    ensures sized { IsTrue F.tells → (validation : Validation) → IsChangeable validation mini.old
-        → OnOk result (SizesChain mini.old mini.new entry) }
+    ensures content { IsTrue F.tells → OnOk result (ResizesContent mini.old mini.new entry (len_of mini.new entry)) }
+    ensures moves { MovesAlone mini.old mini.new entry }
+    ensures spares { IsTrue F.tells → SparesOthers mini.old mini.new entry }
+    ensures changed { IsTrue F.tells → OnOk result (WasChanged mini.old mini.new entry) }
     ensures tight { OnOk result (KeepsTablesTight mini.old mini.new) }
-    ensures snug_mini { IsTrue F.tells → (validation : Validation) → IsChangeable validation mini.old → IsSnugMini mini.old → OnOk result (IsSnugMini mini.new) }
-    ensures stays_full { IsTrue F.tells → (validation : Validation) → IsChangeable validation mini.old → LeavesNoMinis mini.old entry wanted
-        → NoneFree (tables_in mini.old).fat → OnOk result (NoneFree (tables_in mini.new).fat) }
-    ensures directory { mini.new.directory.sectors ≡ mini.old.directory.sectors }
-    ensures limits { KeepsLimits mini.old mini.new }
     ensures begun { OnOk result ((table_of mini.new).file.begun ≡ true) }
     ensures refused { IsTrue F.tells → (validation : Validation) → HoldsMini validation mini.old → IfErr result (StopsOrIsFull mini.old mini.new) }
     ensures still { OnErr result (IsStill mini.old mini.new ⊎ ((table_of mini.new).file.begun ≡ true)) }
-    ensures unwritten { IsTrue F.tells → (table_of mini.new).file.begun ≡ false → bytes_of mini.new ≡ bytes_of mini.old }
-    ensures err { IfErr result (ChangeRefused (IsTrue F.tells → IsNotChangeable mini.old) Unit Unit Unit) }
+    ensures err { IfErr result (ChangeRefused (IsTrue F.tells → IsNotChangeable mini.old) Unit
+        ((validation : Validation) → HoldsMini validation mini.old → IsTooLongFor mini.old entry (len_of mini.old entry + 1)) Unit) }
     ensures counts { IsTrue F.tells
         → CountsFailure (λ f. F.read_faults f || F.write_faults f) result (table_of mini.old).file.failures (table_of mini.new).file.failures }
 {
@@ -283,25 +283,14 @@ pub(crate) fn grow_to<F: Medium, A: Heap + Clone>(
     requires longer { len_of mini.old entry < wanted }
     requires limit { wanted ≤ max_stream_len (version_of mini.old) }
     ensures len { OnOk result (len_of mini.new entry ≡ wanted) }
-    ensures entries { MovesContent mini.old mini.new entry }
-    ensures content { IsTrue F.tells → (validation : Validation) → IsChangeable validation mini.old
-        → OnOk result (content_of mini.new (entry_at (entries_of mini.new) entry) ≡ resized (content_of mini.old (entry_at (entries_of mini.old) entry)) wanted) }
-    ensures others { IsTrue F.tells → (validation : Validation) → IsChangeable validation mini.old → KeepsOthers entry mini.old mini.new }
-    ensures header { IsTrue F.tells → KeepsFixedHeader mini.old mini.new }
-    ensures holds { IsTrue F.tells → (validation : Validation) → IsChangeable validation mini.old → OnOk result (IsChangeable validation mini.new) }
-    ensures owned { IsTrue F.tells → (validation : Validation) → IsChangeable validation mini.old → AreAllUsed mini.old → OnOk result (AreAllUsed mini.new) }
-    ensures sized { IsTrue F.tells → (validation : Validation) → IsChangeable validation mini.old
-        → OnOk result (SizesChain mini.old mini.new entry) }
+    ensures content { IsTrue F.tells → OnOk result (ResizesContent mini.old mini.new entry wanted) }
+    ensures moves { MovesAlone mini.old mini.new entry }
+    ensures spares { IsTrue F.tells → SparesOthers mini.old mini.new entry }
+    ensures changed { IsTrue F.tells → OnOk result (WasChanged mini.old mini.new entry) }
     ensures tight { OnOk result (KeepsTablesTight mini.old mini.new) }
-    ensures snug_mini { IsTrue F.tells → (validation : Validation) → IsChangeable validation mini.old → IsSnugMini mini.old → OnOk result (IsSnugMini mini.new) }
-    ensures stays_full { IsTrue F.tells → (validation : Validation) → IsChangeable validation mini.old → LeavesNoMinis mini.old entry wanted
-        → NoneFree (tables_in mini.old).fat → OnOk result (NoneFree (tables_in mini.new).fat) }
-    ensures directory { mini.new.directory.sectors ≡ mini.old.directory.sectors }
-    ensures limits { KeepsLimits mini.old mini.new }
     ensures begun { OnOk result ((table_of mini.new).file.begun ≡ true) }
     ensures refused { IsTrue F.tells → (validation : Validation) → HoldsMini validation mini.old → IfErr result (StopsOrIsFull mini.old mini.new) }
     ensures still { OnErr result (IsStill mini.old mini.new ⊎ ((table_of mini.new).file.begun ≡ true)) }
-    ensures unwritten { IsTrue F.tells → (table_of mini.new).file.begun ≡ false → bytes_of mini.new ≡ bytes_of mini.old }
     ensures err { IfErr result (ChangeRefused (IsTrue F.tells → IsNotChangeable mini.old) Unit
         ((validation : Validation) → HoldsMini validation mini.old → IsTooLongFor mini.old entry wanted) Unit) }
     ensures counts { IsTrue F.tells

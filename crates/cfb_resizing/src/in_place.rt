@@ -14,13 +14,14 @@ ghost use Rattle.cfb_alloc.specs.Frame.{Spares};
 ghost use Rattle.cfb_alloc.specs.ListedChain.{Lengthens};
 ghost use Rattle.cfb_chains.specs.ChainPlaces.{place_along};
 ghost use Rattle.cfb_mini_table.specs.MiniTable.{TakesMini};
-ghost use Rattle.cfb_mini_sectors.specs.State.{HoldsMini, IsChangeable, bytes_of, table_of, tables_in, version_of};
+ghost use Rattle.cfb_mini_sectors.specs.State.{HoldsMini, bytes_of, table_of, tables_in, version_of};
 ghost use Rattle.cfb_mini_sectors.specs.Steps.{GrowsFor, IsNotHeld, IsSnugMini, IsTooFewFor, KeepsMini, KeepsSystem, SparesMini, system_sectors};
 ghost use Rattle.cfb_mini.specs.MiniSectors.{HasMiniSector};
-ghost use Rattle.cfb_content.specs.Contents.{IsNotChangeable, IsStreamOf, KeepsFixedHeader, KeepsOthers, len_of, mini_place_along};
+ghost use Rattle.cfb_content.specs.Changed.{SparesOthers};
+ghost use Rattle.cfb_content.specs.Contents.{IsNotChangeable, IsStreamOf, len_of, mini_place_along};
 ghost use Rattle.cfb_content.specs.Laws.{LacksNumbersFor};
 ghost use Rattle.cfb_content.specs.Parts.{IsThereInMinis, IsThereInSectors};
-ghost use Rattle.cfb_resizing.specs.Turning.{IsPaddedAlong, KeepsAround, KeepsTablesTight, StopsOrBegun, Turns};
+ghost use Rattle.cfb_resizing.specs.Turning.{IsPaddedAlong, KeepsAround, KeepsTablesTight, StopsOrBegun, TurnsSoundly};
 
 use cfb_alloc::alloc::Allocator;
 use cfb_content::in_minis::{whole_mini_chain, zero_in_minis};
@@ -91,16 +92,12 @@ pub(crate) fn grow_in_sectors<F: Medium, A: Heap + Clone>(
     requires limit { size ≤ max_stream_len (version_of mini.old) }
     requires large { mini_stream_cutoff ≤ len_of mini.old entry }
     requires longer { len_of mini.old entry < size }
-    ensures turned { IsTrue F.tells → (validation : Validation) → IsChangeable validation mini.old → IfOk result (λ start. Turns mini.old mini.new entry size start) }
-    ensures holds { IsTrue F.tells → (validation : Validation) → IsChangeable validation mini.old → OnOk result (HoldsMini validation mini.new) }
-    ensures others { IsTrue F.tells → (validation : Validation) → IsChangeable validation mini.old → KeepsOthers entry mini.old mini.new }
-    ensures header { IsTrue F.tells → KeepsFixedHeader mini.old mini.new }
+    ensures turned { IsTrue F.tells → IfOk result (λ start. TurnsSoundly mini.old mini.new entry size start) }
+    ensures spares { IsTrue F.tells → SparesOthers mini.old mini.new entry }
     ensures around { KeepsAround mini.old mini.new }
     ensures tight { OnOk result (KeepsTablesTight mini.old mini.new) }
-    ensures snug_mini { IsTrue F.tells → (validation : Validation) → IsChangeable validation mini.old → IsSnugMini mini.old → OnOk result (IsSnugMini mini.new) }
     ensures enough { OnOk result (LacksNumbersFor mini.old entry size → ⊥) }
     ensures refused { IfErr result (StopsOrBegun mini.old mini.new) }
-    ensures unwritten { IsTrue F.tells → (table_of mini.new).file.begun ≡ false → bytes_of mini.new ≡ bytes_of mini.old }
     ensures err { IfErr result (ChangeRefused (IsNotChangeable mini.old) Unit (LacksNumbersFor mini.old entry size) Unit) }
     ensures counts { IsTrue F.tells
         → CountsFailure (λ f. F.read_faults f || F.write_faults f) result (table_of mini.old).file.failures (table_of mini.new).file.failures }
@@ -124,17 +121,13 @@ pub(crate) fn cut_in_sectors<F: Medium, A: Heap + Clone>(
     requires limit { size ≤ max_stream_len (version_of mini.old) }
     requires large { mini_stream_cutoff ≤ size }
     requires shorter { size < len_of mini.old entry }
-    ensures turned { IsTrue F.tells → (validation : Validation) → IsChangeable validation mini.old → IfOk result (λ start. Turns mini.old mini.new entry size start) }
-    ensures holds { IsTrue F.tells → (validation : Validation) → IsChangeable validation mini.old → OnOk result (HoldsMini validation mini.new) }
-    ensures others { IsTrue F.tells → (validation : Validation) → IsChangeable validation mini.old → KeepsOthers entry mini.old mini.new }
-    ensures header { IsTrue F.tells → KeepsFixedHeader mini.old mini.new }
+    ensures turned { IsTrue F.tells → IfOk result (λ start. TurnsSoundly mini.old mini.new entry size start) }
+    ensures spares { IsTrue F.tells → SparesOthers mini.old mini.new entry }
     ensures around { KeepsAround mini.old mini.new }
     ensures few { IfOk result (λ start. (list : List ℕ) → IsChain (tables_in mini.new).fat start list → length list ≡ rounded_up size (sector_len (version_of mini.old))) }
     ensures tight { OnOk result (KeepsTablesTight mini.old mini.new) }
-    ensures snug_mini { IsTrue F.tells → (validation : Validation) → IsChangeable validation mini.old → IsSnugMini mini.old → OnOk result (IsSnugMini mini.new) }
     ensures enough { OnOk result (LacksNumbersFor mini.old entry size → ⊥) }
     ensures refused { IfErr result (StopsOrBegun mini.old mini.new) }
-    ensures unwritten { IsTrue F.tells → (table_of mini.new).file.begun ≡ false → bytes_of mini.new ≡ bytes_of mini.old }
     ensures err { IfErr result (ChangeRefused (IsNotChangeable mini.old) Unit (LacksNumbersFor mini.old entry size) Unit) }
     ensures counts { IsTrue F.tells
         → CountsFailure (λ f. F.read_faults f || F.write_faults f) result (table_of mini.old).file.failures (table_of mini.new).file.failures }
@@ -215,16 +208,12 @@ pub(crate) fn grow_in_minis<F: Medium, A: Heap + Clone>(
     requires limit { size ≤ max_stream_len (version_of mini.old) }
     requires small { size < mini_stream_cutoff }
     requires longer { len_of mini.old entry < size }
-    ensures turned { IsTrue F.tells → (validation : Validation) → IsChangeable validation mini.old → IfOk result (λ start. Turns mini.old mini.new entry size start) }
-    ensures holds { IsTrue F.tells → (validation : Validation) → IsChangeable validation mini.old → OnOk result (HoldsMini validation mini.new) }
-    ensures others { IsTrue F.tells → (validation : Validation) → IsChangeable validation mini.old → KeepsOthers entry mini.old mini.new }
-    ensures header { IsTrue F.tells → KeepsFixedHeader mini.old mini.new }
+    ensures turned { IsTrue F.tells → IfOk result (λ start. TurnsSoundly mini.old mini.new entry size start) }
+    ensures spares { IsTrue F.tells → SparesOthers mini.old mini.new entry }
     ensures around { KeepsAround mini.old mini.new }
     ensures tight { OnOk result (KeepsTablesTight mini.old mini.new) }
-    ensures snug_mini { IsTrue F.tells → (validation : Validation) → IsChangeable validation mini.old → IsSnugMini mini.old → OnOk result (IsSnugMini mini.new) }
     ensures enough { OnOk result (LacksNumbersFor mini.old entry size → ⊥) }
     ensures refused { IfErr result (StopsOrBegun mini.old mini.new) }
-    ensures unwritten { IsTrue F.tells → (table_of mini.new).file.begun ≡ false → bytes_of mini.new ≡ bytes_of mini.old }
     ensures err { IfErr result (ChangeRefused (IsNotChangeable mini.old) Unit (LacksNumbersFor mini.old entry size) Unit) }
     ensures counts { IsTrue F.tells
         → CountsFailure (λ f. F.read_faults f || F.write_faults f) result (table_of mini.old).file.failures (table_of mini.new).file.failures }
@@ -251,20 +240,16 @@ pub(crate) fn cut_in_minis<F: Medium, A: Heap + Clone>(
     requires limit { size ≤ max_stream_len (version_of mini.old) }
     requires small { len_of mini.old entry < mini_stream_cutoff }
     requires shorter { size < len_of mini.old entry }
-    ensures turned { IsTrue F.tells → (validation : Validation) → IsChangeable validation mini.old → IfOk result (λ start. Turns mini.old mini.new entry size start) }
-    ensures holds { IsTrue F.tells → (validation : Validation) → IsChangeable validation mini.old → OnOk result (HoldsMini validation mini.new) }
-    ensures others { IsTrue F.tells → (validation : Validation) → IsChangeable validation mini.old → KeepsOthers entry mini.old mini.new }
-    ensures header { IsTrue F.tells → KeepsFixedHeader mini.old mini.new }
+    ensures turned { IsTrue F.tells → IfOk result (λ start. TurnsSoundly mini.old mini.new entry size start) }
+    ensures spares { IsTrue F.tells → SparesOthers mini.old mini.new entry }
     ensures around { KeepsAround mini.old mini.new }
     ensures empty { size ≡ 0 → IfOk result (λ start. start ≡ end_of_chain) }
     ensures first { IfErr result (AfterMedium Unit (mini.new ≡ mini.old)) }
     ensures takes_none { length (tables_in mini.new).fat ≡ length (tables_in mini.old).fat }
     ensures few { IfOk result (λ start. (list : List ℕ) → IsChain mini.new.minifat start list → length list ≡ rounded_up size mini_sector_len) }
     ensures tight { OnOk result (KeepsTablesTight mini.old mini.new) }
-    ensures snug_mini { IsTrue F.tells → (validation : Validation) → IsChangeable validation mini.old → IsSnugMini mini.old → OnOk result (IsSnugMini mini.new) }
     ensures enough { (validation : Validation) → HoldsMini validation mini.old → OnOk result (LacksNumbersFor mini.old entry size → ⊥) }
     ensures refused { IfErr result (StopsOrBegun mini.old mini.new) }
-    ensures unwritten { IsTrue F.tells → (table_of mini.new).file.begun ≡ false → bytes_of mini.new ≡ bytes_of mini.old }
     ensures err { IfErr result (ChangeRefused (IsNotChangeable mini.old) Unit (LacksNumbersFor mini.old entry size) Unit) }
     ensures counts { IsTrue F.tells
         → CountsFailure (λ f. F.read_faults f || F.write_faults f) result (table_of mini.old).file.failures (table_of mini.new).file.failures }

@@ -2,8 +2,10 @@
 //! bytes both ways.
 #![tactic(auto)]
 
+mod appending;
 pub mod growing;
 mod in_place;
 mod moving;
 pub mod putting;
 pub mod resizing;
+mod room;

@@ -10,22 +10,26 @@ ghost use Rattle.cfb_tables.specs.Changes.{AreDisjoint};
 ghost use Rattle.cfb_tables.specs.Clean.{IsUnnamed};
 ghost use Rattle.cfb_tables.specs.Listed.{EndsChain};
 ghost use Rattle.cfb_tables.specs.Refused.{ChangeRefused};
+ghost use Rattle.cfb_tables.specs.Room.{IsTooFewAfter};
 ghost use Rattle.cfb_tables.specs.Tables.{AreSizes, IsTooFew, first_or_end, sizes_of};
 ghost use Rattle.cfb_alloc.specs.Alloc.{HoldsTables, IsOtherHeaderByte, IsUsable};
 ghost use Rattle.cfb_alloc.specs.Frame.{Spares};
 ghost use Rattle.cfb_alloc.specs.ListedChain.{Lengthens};
 ghost use Rattle.cfb_chains.specs.ChainPlaces.{place_along};
-ghost use Rattle.cfb_mini_sectors.specs.State.{HoldsMini, IsChangeable, bytes_of, mini_stream_of, table_of, tables_in, version_of};
+ghost use Rattle.cfb_mini_sectors.specs.State.{HoldsMini, bytes_of, mini_stream_of, table_of, tables_in, version_of};
 ghost use Rattle.cfb_mini_sectors.specs.Steps.{IsInMiniStream, IsNotHeld, IsSnugMini, IsTooFewAfterFor, IsZeroMini, SparesMini, system_sectors};
 ghost use Rattle.cfb_mini.specs.MiniSectors.{IsStill};
-ghost use Rattle.cfb_content.specs.Contents.{IsNotChangeable, IsStreamOf, KeepsFixedHeader, KeepsOthers, len_of, mini_place_along};
+ghost use Rattle.cfb_content.specs.Changed.{SparesOthers};
+ghost use Rattle.cfb_content.specs.Contents.{IsNotChangeable, IsStreamOf, len_of, mini_place_along};
 ghost use Rattle.cfb_content.specs.Laws.{LacksNumbersFor};
+ghost use Rattle.cfb_content.specs.Room.{ComesFree};
 ghost use Rattle.cfb_content.specs.Parts.{IsThereInMinis, IsThereInSectors, StandAlong};
-ghost use Rattle.cfb_resizing.specs.Turning.{CarriesToMinis, CarriesToSectors, GoesUnnamed, IsPaddedAlong, KeepsAround, KeepsTablesTight, StopsOrBegun, Turns};
+ghost use Rattle.cfb_resizing.specs.Turning.{CarriesToMinis, CarriesToSectors, GoesUnnamed, IsPaddedAlong, KeepsAround, KeepsTablesTight, StopsOrBegun, TurnsSoundly};
 
+use crate::room::{room_for_move, stream_sectors};
 use cfb_alloc::alloc::Allocator;
 use cfb_content::in_minis::{get_from_minis, put_in_minis, whole_mini_chain};
-use cfb_content::in_sectors::{get_from_sectors, put_in_sectors};
+use cfb_content::in_sectors::get_from_sectors;
 use cfb_content::listed::whole_chain;
 use cfb_content::reading::content_in;
 use cfb_format::consts::MINI_SECTOR_LEN;
@@ -72,16 +76,6 @@ fn can_go_on<F: ReadMedium, A: Heap>(
         return false;
     }
     allocator.check_end(sectors).is_ok() && !ends_in(sectors, gone)
-}
-
-/// The sectors of the mini stream: none where its chain is none.
-fn stream_sectors<F: ReadMedium, A: Heap>(mini: &MiniAllocator<F, A>) -> &[u32]
-    ensures { result.now ≡ mini_stream_of mini.now }
-{
-    match mini.mini_stream() {
-        Some(sectors) => sectors,
-        None => &[],
-    }
 }
 
 /// Sees whether mini sectors can be added once these sectors are free: the MiniFAT and the mini stream have sectors for all that there
@@ -185,20 +179,16 @@ pub(crate) fn move_to_minis<F: Medium, A: Heap + Clone>(
     requires limit { size ≤ max_stream_len (version_of mini.old) }
     requires large { mini_stream_cutoff ≤ len_of mini.old entry }
     requires small { size < mini_stream_cutoff }
-    ensures turned { IsTrue F.tells → (validation : Validation) → IsChangeable validation mini.old → IfOk result (λ start. Turns mini.old mini.new entry size start) }
-    ensures holds { IsTrue F.tells → (validation : Validation) → IsChangeable validation mini.old → OnOk result (HoldsMini validation mini.new) }
-    ensures others { IsTrue F.tells → (validation : Validation) → IsChangeable validation mini.old → KeepsOthers entry mini.old mini.new }
-    ensures header { IsTrue F.tells → KeepsFixedHeader mini.old mini.new }
+    ensures turned { IsTrue F.tells → IfOk result (λ start. TurnsSoundly mini.old mini.new entry size start) }
+    ensures spares { IsTrue F.tells → SparesOthers mini.old mini.new entry }
     ensures around { KeepsAround mini.old mini.new }
     ensures empty { size ≡ 0 → IfOk result (λ start. start ≡ end_of_chain) }
     ensures first { IsTrue F.tells → size ≡ 0 → IfErr result (AfterMedium Unit (mini.new ≡ mini.old)) }
     ensures takes_none { size ≡ 0 → length (tables_in mini.new).fat ≡ length (tables_in mini.old).fat }
     ensures tight { OnOk result (KeepsTablesTight mini.old mini.new) }
-    ensures snug_mini { IsTrue F.tells → (validation : Validation) → IsChangeable validation mini.old → IsSnugMini mini.old → OnOk result (IsSnugMini mini.new) }
     ensures enough { OnOk result (LacksNumbersFor mini.old entry size → ⊥) }
     ensures refused { IsTrue F.tells → IfErr result (StopsOrBegun mini.old mini.new) }
     ensures still { OnErr result (IsStill mini.old mini.new ⊎ ((table_of mini.new).file.begun ≡ true)) }
-    ensures unwritten { IsTrue F.tells → (table_of mini.new).file.begun ≡ false → bytes_of mini.new ≡ bytes_of mini.old }
     ensures err { IfErr result (ChangeRefused (IsTrue F.tells → IsNotChangeable mini.old) Unit (LacksNumbersFor mini.old entry size) Unit) }
     ensures counts { IsTrue F.tells
         → CountsFailure (λ f. F.read_faults f || F.write_faults f) result (table_of mini.old).file.failures (table_of mini.new).file.failures }
@@ -246,14 +236,13 @@ fn begin_in_sectors<F: Medium, A: Heap>(
     ensures err { IfErr result (ChangeRefused (IsUsable allocator.old.tables → ⊥) Unit (IsTooFew allocator.old.tables count) Unit) }
     ensures counts { IsTrue F.tells → CountsFailure F.write_faults result allocator.old.file.failures allocator.new.file.failures }
 {
-    allocator.extend_listed(ids, count, SectorInit::Zero)?;
-    let put = put_in_sectors(allocator, ids, 0, bytes);
+    allocator.extend_listed_from(ids, count, SectorInit::Zero, bytes)?;
     let _len = allocator.file_len();
-    put
+    Ok(())
 }
 
-/// Frees a mini chain, and then begins a chain of so many sectors with these bytes: behind them are zeros. There are numbers for them. What
-/// the MiniFAT and the mini stream do not need any more is free before the chain begins.
+/// Frees a mini chain, and then begins a chain of so many sectors with these bytes: behind them are zeros. There are numbers for them, once
+/// what the MiniFAT and the mini stream do not need any more is free: that is before the chain begins.
 fn carry_to_sectors<F: Medium, A: Heap>(
     mini: &mut MiniAllocator<F, A>,
     list: &mut Vec<u32, A>,
@@ -266,7 +255,7 @@ fn carry_to_sectors<F: Medium, A: Heap>(
     requires some { 0 < count }
     requires room { (k : ℕ) → k < length bytes.now → k / sector_len (version_of mini.old) < count }
     requires usable { IsUsable (tables_in mini.old) }
-    requires enough { IsTooFew (tables_in mini.old) count → ⊥ }
+    requires enough { (given : ℕ) × ComesFree mini.old list.old.items given × (IsTooFewAfter (tables_in mini.old) given count → ⊥) }
     ensures chain { OnOk result (IsChain (tables_in mini.new).fat (first_or_end ids.new.items) ids.new.items) }
     ensures carried { (validation : Validation) → HoldsMini validation mini.old → OnOk result (CarriesToSectors count list.old.items ids.new.items mini.old mini.new) }
     ensures apart { IsTrue F.tells → (validation : Validation) → HoldsMini validation mini.old → GoesUnnamed mini.old list.old.items
@@ -313,7 +302,8 @@ fn taken_from_minis<F: ReadMedium, A: Heap + Clone>(
     Ok(bytes)
 }
 
-/// Moves a stream from mini sectors into sectors, with zeros behind it up to `size` bytes, and answers where it starts then.
+/// Moves a stream from mini sectors into sectors, with zeros behind it up to `size` bytes, and answers where it starts then. What comes free
+/// with its mini sectors serves the sectors that it takes.
 pub(crate) fn move_to_sectors<F: Medium, A: Heap + Clone>(
     mini: &mut MiniAllocator<F, A>,
     entry: u32,
@@ -323,17 +313,13 @@ pub(crate) fn move_to_sectors<F: Medium, A: Heap + Clone>(
     requires limit { size ≤ max_stream_len (version_of mini.old) }
     requires small { len_of mini.old entry < mini_stream_cutoff }
     requires large { mini_stream_cutoff ≤ size }
-    ensures turned { IsTrue F.tells → (validation : Validation) → IsChangeable validation mini.old → IfOk result (λ start. Turns mini.old mini.new entry size start) }
-    ensures holds { IsTrue F.tells → (validation : Validation) → IsChangeable validation mini.old → OnOk result (HoldsMini validation mini.new) }
-    ensures others { IsTrue F.tells → (validation : Validation) → IsChangeable validation mini.old → KeepsOthers entry mini.old mini.new }
-    ensures header { IsTrue F.tells → KeepsFixedHeader mini.old mini.new }
+    ensures turned { IsTrue F.tells → IfOk result (λ start. TurnsSoundly mini.old mini.new entry size start) }
+    ensures spares { IsTrue F.tells → SparesOthers mini.old mini.new entry }
     ensures around { KeepsAround mini.old mini.new }
     ensures tight { OnOk result (KeepsTablesTight mini.old mini.new) }
-    ensures snug_mini { IsTrue F.tells → (validation : Validation) → IsChangeable validation mini.old → IsSnugMini mini.old → OnOk result (IsSnugMini mini.new) }
     ensures enough { OnOk result (LacksNumbersFor mini.old entry size → ⊥) }
     ensures refused { IsTrue F.tells → IfErr result (StopsOrBegun mini.old mini.new) }
     ensures still { OnErr result (IsStill mini.old mini.new ⊎ ((table_of mini.new).file.begun ≡ true)) }
-    ensures unwritten { IsTrue F.tells → (table_of mini.new).file.begun ≡ false → bytes_of mini.new ≡ bytes_of mini.old }
     ensures err { IfErr result (ChangeRefused (IsTrue F.tells → IsNotChangeable mini.old) Unit (LacksNumbersFor mini.old entry size) Unit) }
     ensures counts { IsTrue F.tells
         → CountsFailure (λ f. F.read_faults f || F.write_faults f) result (table_of mini.old).file.failures (table_of mini.new).file.failures }
@@ -341,7 +327,8 @@ pub(crate) fn move_to_sectors<F: Medium, A: Heap + Clone>(
     let (start, len) = content_in(mini, entry);
     let mut old = whole_mini_chain(mini, start, len)?;
     let count = size.div_ceil(mini.sector_len() as u64) as usize;
-    mini.allocator_mut().reserve(count)?;
+    let given = room_for_move(mini, entry, count)?;
+    mini.allocator_mut().reserve(count.saturating_sub(given))?;
     let mut ids = Vec::with_capacity(mini.heap().clone()?, count)?;
     let content = taken_from_minis(mini, &old, len as usize)?;
     carry_to_sectors(mini, &mut old, &mut ids, count, &content)?;

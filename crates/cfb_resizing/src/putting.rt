@@ -1,5 +1,5 @@
 //! Bytes that are put into a stream inside its length, or behind its end, where it grows as far as there are numbers.
-ghost use Rattle.std.specs.Prelude.{◌≡◌, ◌+◌, ◌<◌, ◌≤◌, ◌⊎◌, ◌||◌, length, max, take, false, true, IsTrue, IfOk, IfErr, OnOk, OnErr};
+ghost use Rattle.std.specs.Prelude.{◌≡◌, ◌+◌, ◌<◌, ◌≤◌, ◌⊎◌, ◌||◌, length, max, take, true, IsTrue, IfOk, IfErr, OnOk, OnErr};
 ghost use Rattle.cfb_format.specs.declared.validate.Validation.{Validation};
 ghost use Rattle.cfb_format.specs.Bytes.{max_stream_len};
 ghost use Rattle.cfb_format.specs.Medium.{written};
@@ -7,12 +7,14 @@ ghost use Rattle.cfb_format.specs.Refused.{CountsFailure, IsMemory};
 ghost use Rattle.cfb_format.specs.Siblings.{entry_at};
 ghost use Rattle.cfb_tables.specs.Changes.{NoneFree};
 ghost use Rattle.cfb_tables.specs.Refused.{ChangeRefused};
-ghost use Rattle.cfb_mini_sectors.specs.State.{HoldsMini, IsChangeable, bytes_of, content_of, entries_of, table_of, tables_in, version_of};
-ghost use Rattle.cfb_mini_sectors.specs.Steps.{IsSnugMini, KeepsLimits};
+ghost use Rattle.cfb_mini_sectors.specs.State.{HoldsMini, IsChangeable, content_of, entries_of, table_of, tables_in, version_of};
 ghost use Rattle.cfb_mini.specs.MiniSectors.{IsStill};
-ghost use Rattle.cfb_content.specs.Contents.{AreAllUsed, IsNotChangeable, IsStreamOf, IsTooLongFor, KeepsFixedHeader, KeepsOthers, MovesContent, SizesChain, len_of};
+ghost use Rattle.cfb_content.specs.Changed.{MovesAlone, SparesOthers, WasChanged};
+ghost use Rattle.cfb_content.specs.Contents.{IsNotChangeable, IsStreamOf, IsTooLongFor, len_of};
+ghost use Rattle.cfb_resizing.specs.Putting.{ChangesFileAlone};
 ghost use Rattle.cfb_resizing.specs.Turning.{KeepsTablesTight, LeavesNoMinis, StopsOrIsFull};
 
+use crate::appending::{append_long, append_long_all};
 use crate::growing::{grow_content, grow_to};
 use cfb_content::reading::content_in;
 use cfb_content::writing::{write_content, write_listed};
@@ -53,29 +55,27 @@ fn append_content<F: Medium, A: Heap + Clone>(
     requires limit { len_of mini.old entry + length bytes.now ≤ max_stream_len (version_of mini.old) }
     ensures count { IfOk result (λ n. (0 < n) × (n ≤ length bytes.now)) }
     ensures len { IfOk result (λ n. len_of mini.new entry ≡ len_of mini.old entry + n) }
-    ensures entries { MovesContent mini.old mini.new entry }
     ensures content { IsTrue F.tells → (validation : Validation) → IsChangeable validation mini.old
         → IfOk result (λ n. content_of mini.new (entry_at (entries_of mini.new) entry)
         ≡ written (content_of mini.old (entry_at (entries_of mini.old) entry)) (len_of mini.old entry) (take n bytes.now)) }
-    ensures others { IsTrue F.tells → (validation : Validation) → IsChangeable validation mini.old → KeepsOthers entry mini.old mini.new }
-    ensures header { IsTrue F.tells → KeepsFixedHeader mini.old mini.new }
-    ensures holds { IsTrue F.tells → (validation : Validation) → IsChangeable validation mini.old → OnOk result (IsChangeable validation mini.new) }
-    ensures owned { IsTrue F.tells → (validation : Validation) → IsChangeable validation mini.old → AreAllUsed mini.old → OnOk result (AreAllUsed mini.new) }
-    ensures sized { IsTrue F.tells → (validation : Validation) → IsChangeable validation mini.old
-        → OnOk result (SizesChain mini.old mini.new entry) }
+    ensures moves { MovesAlone mini.old mini.new entry }
+    ensures spares { IsTrue F.tells → SparesOthers mini.old mini.new entry }
+    ensures changed { IsTrue F.tells → OnOk result (WasChanged mini.old mini.new entry) }
     ensures tight { OnOk result (KeepsTablesTight mini.old mini.new) }
-    ensures snug_mini { IsTrue F.tells → (validation : Validation) → IsChangeable validation mini.old → IsSnugMini mini.old → OnOk result (IsSnugMini mini.new) }
     ensures stays_full { IsTrue F.tells → (validation : Validation) → IsChangeable validation mini.old → LeavesNoMinis mini.old entry (len_of mini.old entry + length bytes.now)
         → NoneFree (tables_in mini.old).fat → OnOk result (NoneFree (tables_in mini.new).fat) }
-    ensures limits { KeepsLimits mini.old mini.new }
     ensures refused { IsTrue F.tells → (validation : Validation) → HoldsMini validation mini.old → IfErr result (StopsOrIsFull mini.old mini.new) }
     ensures still { OnErr result (IsStill mini.old mini.new ⊎ ((table_of mini.new).file.begun ≡ true)) }
-    ensures unwritten { IsTrue F.tells → (table_of mini.new).file.begun ≡ false → bytes_of mini.new ≡ bytes_of mini.old }
-    ensures err { IfErr result (ChangeRefused (IsTrue F.tells → IsNotChangeable mini.old) Unit Unit Unit) }
+    ensures err { IfErr result (ChangeRefused (IsTrue F.tells → IsNotChangeable mini.old) Unit
+        ((validation : Validation) → HoldsMini validation mini.old
+        → IsTooLongFor mini.old entry (len_of mini.old entry + 1)) Unit) }
     ensures counts { IsTrue F.tells
         → CountsFailure (λ f. F.read_faults f || F.write_faults f) result (table_of mini.old).file.failures (table_of mini.new).file.failures }
 {
     let (_, len) = content_in(mini, entry);
+    if len >= MINI_STREAM_CUTOFF as u64 {
+        return append_long(mini, entry, bytes);
+    }
     let wanted = len + bytes.len() as u64;
     // Once the stream has grown memory is not to be wanted: it could not go back.
     let list = list_for(mini, entry, wanted)?;
@@ -86,12 +86,13 @@ fn append_content<F: Medium, A: Heap + Clone>(
 }
 
 /// Puts a beginning of `bytes` into the stream of that entry at byte `at`, and answers how many bytes that is: none exactly where there is
-/// none. Inside the length it goes as far as the end; at the end the stream grows first, as far as there are numbers.
+/// none. Inside the length it goes as far as the end, and changes the file alone; at the end the stream grows first, as far as there are
+/// numbers.
 ///
-/// `Full` only at the end, where not one byte more can be had, and then with full tables, or with all mini sectors that there may be in use;
-/// `InvalidData` where the stream's chain is none or the file ends before it; `Memory`. After `Medium`, where the medium fails, no byte of
-/// another stream has changed. All memory is asked for before the first write. A chain of sectors that was written to is kept, so that it
-/// need not be walked again.
+/// `Full` only at the end, where not one byte more could be had before, and then with full tables, or with all mini sectors that there may
+/// be in use; `InvalidData` where the stream's chain is none or the file ends before it; `Memory`. After `Medium`, where the medium fails,
+/// no byte of another stream has changed. All memory is asked for before the first write. A chain of sectors that was written to is kept,
+/// so that it need not be walked again.
 pub fn put_content<F: Medium, A: Heap + Clone>(
     mini: &mut MiniAllocator<F, A>,
     entry: u32,
@@ -104,26 +105,22 @@ pub fn put_content<F: Medium, A: Heap + Clone>(
     ensures count { IfOk result (λ n. n ≤ length bytes.now) }
     ensures some { 0 < length bytes.now → IfOk result (λ n. 0 < n) }
     ensures len { IfOk result (λ n. len_of mini.new entry ≡ max (len_of mini.old entry) (at + n)) }
-    ensures entries { MovesContent mini.old mini.new entry }
     ensures content { IsTrue F.tells → (validation : Validation) → IsChangeable validation mini.old
         → IfOk result (λ n. content_of mini.new (entry_at (entries_of mini.new) entry)
         ≡ written (content_of mini.old (entry_at (entries_of mini.old) entry)) at (take n bytes.now)) }
-    ensures others { IsTrue F.tells → (validation : Validation) → IsChangeable validation mini.old → KeepsOthers entry mini.old mini.new }
-    ensures header { IsTrue F.tells → KeepsFixedHeader mini.old mini.new }
-    ensures holds { IsTrue F.tells → (validation : Validation) → IsChangeable validation mini.old → OnOk result (IsChangeable validation mini.new) }
-    ensures owned { IsTrue F.tells → (validation : Validation) → IsChangeable validation mini.old → AreAllUsed mini.old → OnOk result (AreAllUsed mini.new) }
-    ensures sized { IsTrue F.tells → (validation : Validation) → IsChangeable validation mini.old
-        → OnOk result (SizesChain mini.old mini.new entry) }
+    ensures moves { MovesAlone mini.old mini.new entry }
+    ensures spares { IsTrue F.tells → SparesOthers mini.old mini.new entry }
+    ensures changed { IsTrue F.tells → OnOk result (WasChanged mini.old mini.new entry) }
     ensures tight { OnOk result (KeepsTablesTight mini.old mini.new) }
-    ensures snug_mini { IsTrue F.tells → (validation : Validation) → IsChangeable validation mini.old → IsSnugMini mini.old → OnOk result (IsSnugMini mini.new) }
     ensures stays_full { IsTrue F.tells → (validation : Validation) → IsChangeable validation mini.old → LeavesNoMinis mini.old entry (at + length bytes.now)
         → NoneFree (tables_in mini.old).fat → OnOk result (NoneFree (tables_in mini.new).fat) }
-    ensures within { (at < len_of mini.old entry) ⊎ (length bytes.now ≡ 0) → tables_in mini.new ≡ tables_in mini.old }
-    ensures limits { KeepsLimits mini.old mini.new }
+    ensures within { (at < len_of mini.old entry) ⊎ (length bytes.now ≡ 0)
+        → ChangesFileAlone mini.old mini.new }
     ensures refused { IsTrue F.tells → (validation : Validation) → HoldsMini validation mini.old → IfErr result (StopsOrIsFull mini.old mini.new) }
     ensures still { OnErr result (IsStill mini.old mini.new ⊎ ((table_of mini.new).file.begun ≡ true)) }
-    ensures unwritten { IsTrue F.tells → (table_of mini.new).file.begun ≡ false → bytes_of mini.new ≡ bytes_of mini.old }
-    ensures err { IfErr result (ChangeRefused (IsTrue F.tells → IsNotChangeable mini.old) Unit (len_of mini.old entry ≤ at) Unit) }
+    ensures err { IfErr result (ChangeRefused (IsTrue F.tells → IsNotChangeable mini.old) Unit
+        ((len_of mini.old entry ≤ at) × ((validation : Validation) → HoldsMini validation mini.old
+        → IsTooLongFor mini.old entry (len_of mini.old entry + 1))) Unit) }
     ensures counts { IsTrue F.tells
         → CountsFailure (λ f. F.read_faults f || F.write_faults f) result (table_of mini.old).file.failures (table_of mini.new).file.failures }
 {
@@ -152,24 +149,17 @@ pub fn append_all<F: Medium, A: Heap + Clone>(
     requires limit { len_of mini.old entry + length bytes.now ≤ max_stream_len (version_of mini.old) }
     ensures len { OnOk result (len_of mini.new entry ≡ len_of mini.old entry + length bytes.now) }
     ensures none { length bytes.now ≡ 0 → OnErr result ⊥ × (mini.new ≡ mini.old) }
-    ensures entries { MovesContent mini.old mini.new entry }
     ensures content { IsTrue F.tells → (validation : Validation) → IsChangeable validation mini.old
         → OnOk result (content_of mini.new (entry_at (entries_of mini.new) entry)
         ≡ written (content_of mini.old (entry_at (entries_of mini.old) entry)) (len_of mini.old entry) bytes.now) }
-    ensures others { IsTrue F.tells → (validation : Validation) → IsChangeable validation mini.old → KeepsOthers entry mini.old mini.new }
-    ensures header { IsTrue F.tells → KeepsFixedHeader mini.old mini.new }
-    ensures holds { IsTrue F.tells → (validation : Validation) → IsChangeable validation mini.old → OnOk result (IsChangeable validation mini.new) }
-    ensures owned { IsTrue F.tells → (validation : Validation) → IsChangeable validation mini.old → AreAllUsed mini.old → OnOk result (AreAllUsed mini.new) }
-    ensures sized { IsTrue F.tells → (validation : Validation) → IsChangeable validation mini.old
-        → OnOk result (SizesChain mini.old mini.new entry) }
+    ensures moves { MovesAlone mini.old mini.new entry }
+    ensures spares { IsTrue F.tells → SparesOthers mini.old mini.new entry }
+    ensures changed { IsTrue F.tells → OnOk result (WasChanged mini.old mini.new entry) }
     ensures tight { OnOk result (KeepsTablesTight mini.old mini.new) }
-    ensures snug_mini { IsTrue F.tells → (validation : Validation) → IsChangeable validation mini.old → IsSnugMini mini.old → OnOk result (IsSnugMini mini.new) }
     ensures stays_full { IsTrue F.tells → (validation : Validation) → IsChangeable validation mini.old → LeavesNoMinis mini.old entry (len_of mini.old entry + length bytes.now)
         → NoneFree (tables_in mini.old).fat → OnOk result (NoneFree (tables_in mini.new).fat) }
-    ensures limits { KeepsLimits mini.old mini.new }
     ensures refused { IsTrue F.tells → (validation : Validation) → HoldsMini validation mini.old → IfErr result (StopsOrIsFull mini.old mini.new) }
     ensures still { OnErr result (IsStill mini.old mini.new ⊎ ((table_of mini.new).file.begun ≡ true)) }
-    ensures unwritten { IsTrue F.tells → (table_of mini.new).file.begun ≡ false → bytes_of mini.new ≡ bytes_of mini.old }
     ensures err { IfErr result (ChangeRefused (IsTrue F.tells → IsNotChangeable mini.old) Unit
         ((validation : Validation) → HoldsMini validation mini.old → IsTooLongFor mini.old entry (len_of mini.old entry + length bytes.now)) Unit) }
     ensures counts { IsTrue F.tells
@@ -179,6 +169,9 @@ pub fn append_all<F: Medium, A: Heap + Clone>(
         return Ok(());
     }
     let (_, len) = content_in(mini, entry);
+    if len >= MINI_STREAM_CUTOFF as u64 {
+        return append_long_all(mini, entry, bytes);
+    }
     let wanted = len + bytes.len() as u64;
     // Once the stream has grown memory is not to be wanted: it could not go back.
     let list = list_for(mini, entry, wanted)?;

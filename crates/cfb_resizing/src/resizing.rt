@@ -1,28 +1,25 @@
 //! How the content of a stream gets another length: cut, padded, and moved between sectors and mini sectors at 4096 bytes.
-ghost use Rattle.std.specs.Prelude.{◌≡◌, ◌≢◌, ◌<◌, ◌≤◌, ◌+◌, ◌||◌, ◌⊎◌, ◌↔◌, ℕ, List, length, false, true, IsTrue, IfOk, IfErr, OnOk, OnErr};
+ghost use Rattle.std.specs.Prelude.{◌≡◌, ◌≢◌, ◌<◌, ◌≤◌, ◌+◌, ◌||◌, ◌⊎◌, ◌↔◌, length, true, IsTrue, IfOk, IfErr, OnOk, OnErr};
 ghost use Rattle.cfb_format.specs.declared.validate.Validation.{Validation};
-ghost use Rattle.cfb_format.specs.Bytes.{end_of_chain, max_stream_len, sector_len};
-ghost use Rattle.cfb_format.specs.Chain.{IsChain};
-ghost use Rattle.cfb_format.specs.Content.{mini_sector_len, mini_stream_cutoff};
-ghost use Rattle.cfb_format.specs.Full.{rounded_up};
+ghost use Rattle.cfb_format.specs.Bytes.{max_stream_len, sector_len};
+ghost use Rattle.cfb_format.specs.Content.{mini_stream_cutoff};
 ghost use Rattle.cfb_format.specs.Refused.{AfterMedium, CountsFailure, IsInvalidData};
 ghost use Rattle.cfb_format.specs.Siblings.{entry_at};
-ghost use Rattle.cfb_rules.specs.StreamCalls.{resized};
 ghost use Rattle.cfb_sectors.specs.Sectors.{IsMediumError, IsRaised};
-ghost use Rattle.cfb_tables.specs.Changes.{NoneFree};
 ghost use Rattle.cfb_tables.specs.Refused.{ChangeRefused};
-ghost use Rattle.cfb_tables.specs.Tables.{AreExactTables};
 ghost use Rattle.cfb_alloc.specs.Frame.{Spares};
 ghost use Rattle.cfb_directory.specs.Growing.{ArePlaced};
-ghost use Rattle.cfb_mini_sectors.specs.State.{HoldsMini, IsChangeable, bytes_of, content_of, entries_of, table_of, tables_in, version_of};
-ghost use Rattle.cfb_mini_sectors.specs.Steps.{IsSnugMini, KeepsLimits, KeepsMini, KeepsSystem};
+ghost use Rattle.cfb_mini_sectors.specs.State.{HoldsMini, entries_of, table_of, tables_in, version_of};
+ghost use Rattle.cfb_mini_sectors.specs.Steps.{KeepsLimits, KeepsMini, KeepsSystem};
 ghost use Rattle.cfb_mini.specs.MiniSectors.{IsStill};
-ghost use Rattle.cfb_content.specs.Contents.{AreAllUsed, IsNotChangeable, IsStreamOf, IsTooLongFor, KeepsFixedHeader, KeepsOthers, MovesContent, SizesChain, WipesMinis, len_of};
+ghost use Rattle.cfb_content.specs.Changed.{MovesAlone, SparesOthers, WasChanged};
+ghost use Rattle.cfb_content.specs.Contents.{IsNotChangeable, IsStreamOf, IsTooLongFor, MovesContent, len_of};
 ghost use Rattle.cfb_content.specs.Laws.{LacksNumbersFor};
-ghost use Rattle.cfb_resizing.specs.Turning.{KeepsAround, KeepsTablesTight, LeavesNoMinis, StopsOrBegun, Turns};
+ghost use Rattle.cfb_resizing.specs.Turning.{KeepsAround, KeepsTablesTight, ResizesContent, StopsOrBegun, TrimsChain, TurnsSoundly};
 
 use crate::in_place::{cut_in_minis, cut_in_sectors, grow_in_minis, grow_in_sectors};
 use crate::moving::{move_to_minis, move_to_sectors};
+use crate::room::room_for_move;
 use cfb_content::in_minis::whole_mini_chain;
 use cfb_content::listed::whole_chain_len;
 use cfb_content::reading::content_in;
@@ -48,9 +45,9 @@ pub(crate) fn unplaced(entry: u32) -> Error
 /// entry's slot is written last.
 ///
 /// `Full` exactly where the sectors of the stream, of the MiniFAT and of the mini stream that it needs are more than are free or left once
-/// the chain that it moves away from is free, or the mini sectors more than there may be; `InvalidData` where the stream's chain is none
-/// or the file ends before it; `Memory`: nothing has changed then. After `Medium`, where the medium fails, no byte of another stream has
-/// changed. The chain of a stream that stays in sectors is kept.
+/// the chain that it moves away from is free, and the room that its mini sectors had; or the mini sectors more than there may be;
+/// `InvalidData` where the stream's chain is none or the file ends before it; `Memory`: nothing has changed then. After `Medium`, where the
+/// medium fails, no byte of another stream has changed. The chain of a stream that stays in sectors is kept.
 pub fn resize_content<F: Medium, A: Heap + Clone>(
     mini: &mut MiniAllocator<F, A>,
     entry: u32,
@@ -60,40 +57,18 @@ pub fn resize_content<F: Medium, A: Heap + Clone>(
     requires limit { size ≤ max_stream_len (version_of mini.old) }
     ensures len { OnOk result (len_of mini.new entry ≡ size) }
     ensures none { size ≡ len_of mini.old entry → OnErr result ⊥ × (mini.new ≡ mini.old) }
-    ensures entries { MovesContent mini.old mini.new entry }
-    ensures empty { size ≡ 0 → 0 < len_of mini.old entry → OnOk result ((entry_at (entries_of mini.new) entry).start_sector ≡ end_of_chain) }
     ensures first { IsTrue F.tells → size ≡ 0 → IfErr result (AfterMedium Unit (mini.new ≡ mini.old)) }
     ensures takes_none { size ≡ 0 → length (tables_in mini.new).fat ≡ length (tables_in mini.old).fat }
-    ensures few { size < len_of mini.old entry → mini_stream_cutoff ≤ size
-        → OnOk result ((list : List ℕ) → IsChain (tables_in mini.new).fat (entry_at (entries_of mini.new) entry).start_sector list
-        → length list ≡ rounded_up size (sector_len (version_of mini.old))) }
-    ensures few_minis { size < len_of mini.old entry → len_of mini.old entry < mini_stream_cutoff
-        → OnOk result ((list : List ℕ) → IsChain mini.new.minifat (entry_at (entries_of mini.new) entry).start_sector list
-        → length list ≡ rounded_up size mini_sector_len) }
-    ensures sized { IsTrue F.tells → (validation : Validation) → IsChangeable validation mini.old
-        → OnOk result (SizesChain mini.old mini.new entry) }
-    ensures wiped { IsTrue F.tells → (validation : Validation) → IsChangeable validation mini.old
-        → OnOk result (WipesMinis mini.old mini.new entry) }
-    ensures content { IsTrue F.tells → (validation : Validation) → IsChangeable validation mini.old
-        → OnOk result (content_of mini.new (entry_at (entries_of mini.new) entry) ≡ resized (content_of mini.old (entry_at (entries_of mini.old) entry)) size) }
-    ensures others { IsTrue F.tells → (validation : Validation) → IsChangeable validation mini.old → KeepsOthers entry mini.old mini.new }
-    ensures header { IsTrue F.tells → KeepsFixedHeader mini.old mini.new }
-    ensures holds { IsTrue F.tells → (validation : Validation) → IsChangeable validation mini.old → OnOk result (IsChangeable validation mini.new) }
-    ensures owned { IsTrue F.tells → (validation : Validation) → IsChangeable validation mini.old → AreAllUsed mini.old → OnOk result (AreAllUsed mini.new) }
-    ensures exact { AreExactTables (tables_in mini.old) → OnOk result (AreExactTables (tables_in mini.new)) }
-    ensures no_shorter { OnOk result (length (tables_in mini.old).fat ≤ length (tables_in mini.new).fat) }
-    ensures none_free { length (tables_in mini.old).fat < length (tables_in mini.new).fat → OnOk result (NoneFree (tables_in mini.new).fat
-        × (length (tables_in mini.new).fat ≤ (tables_in mini.old).max_sectors)) }
-    ensures stays_full { IsTrue F.tells → (validation : Validation) → IsChangeable validation mini.old → len_of mini.old entry ≤ size
-        → LeavesNoMinis mini.old entry size → NoneFree (tables_in mini.old).fat → OnOk result (NoneFree (tables_in mini.new).fat) }
-    ensures snug_mini { IsTrue F.tells → (validation : Validation) → IsChangeable validation mini.old → IsSnugMini mini.old → OnOk result (IsSnugMini mini.new) }
-    ensures directory { mini.new.directory.sectors ≡ mini.old.directory.sectors }
-    ensures limits { KeepsLimits mini.old mini.new }
+    ensures content { IsTrue F.tells → OnOk result (ResizesContent mini.old mini.new entry size) }
+    ensures trimmed { OnOk result (TrimsChain mini.old mini.new entry size (entry_at (entries_of mini.new) entry).start_sector) }
+    ensures moves { MovesAlone mini.old mini.new entry }
+    ensures spares { IsTrue F.tells → SparesOthers mini.old mini.new entry }
+    ensures changed { IsTrue F.tells → OnOk result (WasChanged mini.old mini.new entry) }
+    ensures tight { OnOk result (KeepsTablesTight mini.old mini.new) }
     ensures enough { size ≢ len_of mini.old entry → (validation : Validation) → HoldsMini validation mini.old → OnOk result (IsTooLongFor mini.old entry size → ⊥) }
     ensures begun { OnOk result (IsRaised (size ≢ len_of mini.old entry) (table_of mini.old).file (table_of mini.new).file) }
     ensures refused { IsTrue F.tells → IfErr result (StopsOrBegun mini.old mini.new) }
     ensures still { OnErr result (IsStill mini.old mini.new ⊎ ((table_of mini.new).file.begun ≡ true)) }
-    ensures unwritten { IsTrue F.tells → (table_of mini.new).file.begun ≡ false → bytes_of mini.new ≡ bytes_of mini.old }
     ensures err { IfErr result (ChangeRefused (IsTrue F.tells → IsNotChangeable mini.old) Unit ((validation : Validation) → HoldsMini validation mini.old → IsTooLongFor mini.old entry size) Unit) }
     ensures counts { IsTrue F.tells → CountsFailure (λ f. F.read_faults f || F.write_faults f) result (table_of mini.old).file.failures (table_of mini.new).file.failures }
 {
@@ -132,7 +107,8 @@ fn can_turn_large<F: ReadMedium, A: Heap + Clone>(
     Ok(mini.allocator().can_take(lacking, 0))
 }
 
-/// Whether a stream in mini sectors can get this length. Where it leaves them it needs all its sectors anew.
+/// Whether a stream in mini sectors can get this length. Where it leaves them it needs all its sectors anew, and what comes free with them
+/// serves these.
 fn can_turn_small<F: ReadMedium, A: Heap + Clone>(
     mini: &MiniAllocator<F, A>,
     entry: u32,
@@ -145,7 +121,8 @@ fn can_turn_small<F: ReadMedium, A: Heap + Clone>(
 {
     if size >= MINI_STREAM_CUTOFF as u64 {
         let needed = size.div_ceil(mini.sector_len() as u64) as usize;
-        return Ok(mini.allocator().can_take(needed, 0));
+        let given = room_for_move(mini, entry, needed)?;
+        return Ok(mini.allocator().can_take(needed, given));
     }
     let (start, len) = content_in(mini, entry);
     let have = whole_mini_chain(mini, start, len)?.len();
@@ -155,7 +132,7 @@ fn can_turn_small<F: ReadMedium, A: Heap + Clone>(
 }
 
 /// Whether the stream of that entry can get this length by the numbers that are free or left, as `resize_content` sees it before its first
-/// write: once the sectors are free that it leaves. The length that it has it can have. Nothing changes.
+/// write: once what it leaves is free. The length that it has it can have. Nothing changes.
 ///
 /// `InvalidData` where the stream's chain is none or the file ends before it, and `Memory`.
 pub fn can_resize<F: ReadMedium, A: Heap + Clone>(
@@ -192,24 +169,16 @@ fn turn<F: Medium, A: Heap + Clone>(
     requires stream { IsStreamOf mini.old entry }
     requires limit { size ≤ max_stream_len (version_of mini.old) }
     requires differs { size ≢ len_of mini.old entry }
-    ensures turned { IsTrue F.tells → (validation : Validation) → IsChangeable validation mini.old → IfOk result (λ start. Turns mini.old mini.new entry size start) }
-    ensures holds { IsTrue F.tells → (validation : Validation) → IsChangeable validation mini.old → OnOk result (HoldsMini validation mini.new) }
-    ensures others { IsTrue F.tells → (validation : Validation) → IsChangeable validation mini.old → KeepsOthers entry mini.old mini.new }
-    ensures header { IsTrue F.tells → KeepsFixedHeader mini.old mini.new }
+    ensures turned { IsTrue F.tells → IfOk result (λ start. TurnsSoundly mini.old mini.new entry size start) }
+    ensures spares { IsTrue F.tells → SparesOthers mini.old mini.new entry }
     ensures around { KeepsAround mini.old mini.new }
-    ensures empty { size ≡ 0 → IfOk result (λ start. start ≡ end_of_chain) }
     ensures first { IsTrue F.tells → size ≡ 0 → IfErr result (AfterMedium Unit (mini.new ≡ mini.old)) }
     ensures takes_none { size ≡ 0 → length (tables_in mini.new).fat ≡ length (tables_in mini.old).fat }
-    ensures few { size < len_of mini.old entry → mini_stream_cutoff ≤ size
-        → IfOk result (λ start. (list : List ℕ) → IsChain (tables_in mini.new).fat start list → length list ≡ rounded_up size (sector_len (version_of mini.old))) }
-    ensures few_minis { size < len_of mini.old entry → len_of mini.old entry < mini_stream_cutoff
-        → IfOk result (λ start. (list : List ℕ) → IsChain mini.new.minifat start list → length list ≡ rounded_up size mini_sector_len) }
+    ensures trimmed { IfOk result (λ start. TrimsChain mini.old mini.new entry size start) }
     ensures tight { OnOk result (KeepsTablesTight mini.old mini.new) }
-    ensures snug_mini { IsTrue F.tells → (validation : Validation) → IsChangeable validation mini.old → IsSnugMini mini.old → OnOk result (IsSnugMini mini.new) }
     ensures enough { (validation : Validation) → HoldsMini validation mini.old → OnOk result (LacksNumbersFor mini.old entry size → ⊥) }
     ensures refused { IsTrue F.tells → IfErr result (StopsOrBegun mini.old mini.new) }
     ensures still { OnErr result (IsStill mini.old mini.new ⊎ ((table_of mini.new).file.begun ≡ true)) }
-    ensures unwritten { IsTrue F.tells → (table_of mini.new).file.begun ≡ false → bytes_of mini.new ≡ bytes_of mini.old }
     ensures err { IfErr result (ChangeRefused (IsTrue F.tells → IsNotChangeable mini.old) Unit (LacksNumbersFor mini.old entry size) Unit) }
     ensures counts { IsTrue F.tells
         → CountsFailure (λ f. F.read_faults f || F.write_faults f) result (table_of mini.old).file.failures (table_of mini.new).file.failures }
@@ -235,7 +204,7 @@ fn turn<F: Medium, A: Heap + Clone>(
 }
 
 /// Gives the entry of a stream this start and this length, and writes its slot. `Medium` where the medium fails.
-fn name_content<F: Medium, A: Heap>(
+pub(crate) fn name_content<F: Medium, A: Heap>(
     mini: &mut MiniAllocator<F, A>,
     entry: u32,
     start: u32,

@@ -1,4 +1,5 @@
 -- Refusals by the medium, for memory or fullness.
+use Rattle.std.proofs.Common.{◌≡◌, subst}
 use Rattle.cfb_format.specs.Refused.{IsBreak}
 use Rattle.cfb_format.specs.declared.error.Error.{Error}
 use Rattle.cfb_format.specs.declared.error.Error.TheVariants.{NotFound, AlreadyExists, InvalidInput, InvalidData, Medium, Memory, Full, Unsound, Failed}
@@ -14,3 +15,7 @@ not_full Q (InvalidInput d) b = absurd b
 not_full Q (InvalidData d) b = absurd b
 not_full Q Unsound b = absurd b
 not_full Q Failed b = absurd b
+
+-- and nothing follows from its fullness
+pub never_full : (Q : Type 0) (e : Error) → IsBreak ⊥ e → e ≡ Full → Q
+never_full Q e b full = absurd (subst (λ (z : Error). IsBreak ⊥ z) full b)

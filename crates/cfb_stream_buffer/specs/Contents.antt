@@ -1,6 +1,6 @@
 -- What a stream stands on: a list of bytes in a file.
-use Rattle.std.specs.Prelude.{ℕ, ◌+◌, ◌≡◌, ◌≤◌, ◌⊎◌, max, List, ◌++◌, Bool, true, false, length, take, drop}
-use Rattle.cfb_format.specs.Refused.{HasReason, IsInvalidData, IsMediumAnd, no_error}
+use Rattle.std.specs.Prelude.{ℕ, ◌+◌, ◌≡◌, ◌≢◌, ◌≤◌, ◌⊎◌, max, List, ◌++◌, Bool, true, false, length, take, drop}
+use Rattle.cfb_format.specs.Refused.{IsInvalidData, IsMediumAnd}
 use Rattle.cfb_format.specs.declared.error.Error.{Error}
 use Rattle.cfb_rules.specs.StreamCalls.{StreamSetting, resized}
 use Rattle.cfb_format.specs.Refused.{IsBreak}
@@ -47,6 +47,11 @@ pub record TakesLen (s : Stored) (size : ℕ) : Type 0 where
   pub unfailed : s.failed ≡ false
   pub sound : s.sound ≡ true
   pub fits : size ≤ s.limit
+
+-- and can be had: it is the present one, or not too long for the numbers
+pub record CanHave (s : Stored) (too_long : ℕ → Type 0) (size : ℕ) : Type 0 where
+  pub takes : TakesLen s size
+  pub room : size ≢ s.size → too_long size → ⊥
 
 -- what never changes
 pub record SameLimits (old new : Stored) : Type 0 where

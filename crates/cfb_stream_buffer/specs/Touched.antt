@@ -1,5 +1,5 @@
 -- What a call leaves of contents: it read from them, or wrote to them under one number.
-use Rattle.std.specs.Prelude.{ℕ, ◌≡◌, ◌||◌, Bool, false, Result, OnErr}
+use Rattle.std.specs.Prelude.{ℕ, ◌≡◌, ◌<◌, ◌||◌, Bool, false, Result, OnErr}
 use Rattle.cfb_format.specs.Refused.{CountsFailure}
 use Rattle.cfb_format.specs.declared.error.Error.{Error}
 use Rattle.cfb_format.specs.declared.medium.MediumFault.{MediumFault}
@@ -27,3 +27,8 @@ module _ {C : Type 0} (r : reading.Ghosts C) (g : writing.Ghosts C) where
     pub tight : g.tight old new
     pub counts : CountsFailure faults_of result (r.failures old) (r.failures new)
     pub stays : (r.stored new id).failed ≡ false → OnErr result (r.kept new ≡ r.kept old)
+
+  -- bytes up to here lie past the end of the list, which is too long with them
+  pub record LacksRoomUpTo (content : C) (id end : ℕ) : Type 0 where
+    pub past : (r.stored content id).size < end
+    pub too_long : g.is_too_long content id end

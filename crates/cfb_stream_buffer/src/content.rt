@@ -1,9 +1,9 @@
 //! What buffered streams stand on: lists of bytes in a file, each under a number. Lengths and places
 //! are in bytes.
-ghost use Rattle.std.specs.Prelude.{◌≡◌, ◌≢◌, ◌+◌, ◌<◌, ◌≤◌, ◌||◌, ◌↔◌, ℕ, Bool, IsTrue, true, false, IfOk, IfErr, OnOk, OnErr, length};
+ghost use Rattle.std.specs.Prelude.{◌≡◌, ◌+◌, ◌<◌, ◌≤◌, ◌||◌, ◌↔◌, ℕ, Bool, IsTrue, true, false, IfOk, IfErr, OnOk, OnErr, length};
 ghost use Rattle.cfb_format.specs.Refused.{CountsFailure, IsMemory, IsBreak};
 ghost use Rattle.cfb_format.specs.declared.medium.MediumFault.{MediumFault as Fault};
-ghost use Rattle.cfb_stream_buffer.specs.Contents.{Stored, TakesBytes, TakesLen, ReadsPart, WritesPart, IsMediumFault, IsRefusedRead, KeptOrFailed, Fails, stored_after_resize, stored_after_write};
+ghost use Rattle.cfb_stream_buffer.specs.Contents.{CanHave, Stored, TakesBytes, TakesLen, ReadsPart, WritesPart, IsMediumFault, IsRefusedRead, KeptOrFailed, Fails, stored_after_resize, stored_after_write};
 
 use cfb_format::error::Error;
 
@@ -123,11 +123,16 @@ pub trait Contents: ReadContents {
             → IfOk result (WritesPart (Self.stored self.old id) at bytes.now (Self.stored self.new id)) }
         ensures refused { Self.tells self.old → TakesBytes (Self.stored self.old id) at (length bytes.now) → 0 < length bytes.now
             → IfErr result (λ e. IsBreak ((Self.stored self.old id).size ≤ at × is_full self.new) e × KeptOrFailed (Self.stored self.old id) (Self.stored self.new id)) }
+        ensures foreseen { Self.tells self.old
+            → TakesBytes (Self.stored self.old id) at (length bytes.now) → 0 < length bytes.now
+            → IfErr result (λ e. e ≡ Error.Full
+            → is_too_long self.old id ((Self.stored self.old id).size + 1)) }
         ensures stays { Self.tells self.old → (Self.stored self.new id).failed ≡ false
             → OnErr result (Self.kept self.new ≡ Self.kept self.old) };
 
-    /// Puts all of the bytes behind the end, by one change. Where it is refused nothing has changed, or the
-    /// file has failed: `Medium`, `Memory`, and `Full` where not all of them can be had.
+    /// Puts all of the bytes behind the end, by one change. No bytes change nothing. Where it is refused
+    /// nothing has changed, or the file has failed: `Medium`, `Memory`, and `Full` where not all of them can
+    /// be had.
     fn append(&mut self, id: u32, bytes: &[u8]) -> Result<(), Error>
         requires there { Self.has self.old id }
         ensures there { Self.has self.new id }
@@ -140,14 +145,23 @@ pub trait Contents: ReadContents {
             → OnOk result (Self.stored self.new id ≡ stored_after_write (Self.stored self.old id) (Self.stored self.old id).size bytes.now) }
         ensures refused { Self.tells self.old → TakesBytes (Self.stored self.old id) (Self.stored self.old id).size (length bytes.now)
             → IfErr result (λ e. IsBreak (is_full self.new) e × KeptOrFailed (Self.stored self.old id) (Self.stored self.new id)) }
+        ensures foreseen { Self.tells self.old
+            → TakesBytes (Self.stored self.old id) (Self.stored self.old id).size (length bytes.now)
+            → IfErr result (λ e. e ≡ Error.Full
+            → is_too_long self.old id ((Self.stored self.old id).size + length bytes.now)) }
+        ensures none { length bytes.now ≡ 0 → self.new ≡ self.old }
+        ensures sure { Self.tells self.old → (Self.stored self.old id).failed ≡ false
+            → (Self.stored self.old id).sound ≡ true → length bytes.now ≡ 0 → OnErr result ⊥ }
         ensures stays { Self.tells self.old → (Self.stored self.new id).failed ≡ false
             → OnErr result (Self.kept self.new ≡ Self.kept self.old) };
 
-    /// Whether a length can be had now, by the numbers that are free or left. `Memory`.
+    /// Whether a length can be had now: the version has it, and the numbers that are free or left are enough,
+    /// as they are for the present length. `Memory`, which is not asked for at the present length.
     fn can_resize(&self, id: u32, len: u64) -> Result<bool, Error>
         requires there { Self.has self.now id }
-        ensures ok { Self.tells self.now → TakesLen (Self.stored self.now id) len → len ≢ (Self.stored self.now id).size
-            → IfOk result (λ can. IsTrue can ↔ (is_too_long self.now id len → ⊥)) }
+        ensures ok { Self.tells self.now → IfOk result (λ can. IsTrue can
+            ↔ CanHave (Self.stored self.now id) (is_too_long self.now id) len) }
+        ensures sure { len ≡ (Self.stored self.now id).size → OnErr result ⊥ }
         ensures refused { Self.tells self.now → IfErr result IsMemory };
 
     /// Cuts it to a length, or pads it with zeros. Where it is refused nothing has changed, or the file has

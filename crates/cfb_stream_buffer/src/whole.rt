@@ -2,7 +2,7 @@
 ghost use Rattle.std.specs.Prelude.{◌≡◌, ◌+◌, ◌-◌, ◌^◌, ◌<◌, ◌≤◌, ◌++◌, ◌||◌, ℕ, true, false, OnOk, OnErr, IfErr, length, take, drop};
 ghost use Rattle.cfb_format.specs.Refused.{CountsFailure, IsBreak};
 ghost use Rattle.cfb_stream_buffer.specs.Contents.{Fails, SameLimits, TakesBytes, stored_after_write};
-ghost use Rattle.cfb_stream_buffer.specs.Touched.{IsRead};
+ghost use Rattle.cfb_stream_buffer.specs.Touched.{IsRead, LacksRoomUpTo};
 
 use crate::content::{Contents, ReadContents};
 use cfb_format::error::{Detail, Error};
@@ -123,35 +123,17 @@ pub fn write_all<C: Contents>(content: &mut C, id: u32, at: u64, bytes: &[u8]) -
         → OnOk result (C.stored content.new id ≡ stored_after_write (C.stored content.old id) at bytes.now) }
     ensures refused { C.tells content.old → TakesBytes (C.stored content.old id) at (length bytes.now) → length (C.stored content.old id).content ≡ (C.stored content.old id).size
         → IfErr result (λ e. IsBreak (((C.stored content.old id).size < at + length bytes.now) × C.is_full content.new) e × SameLimits (C.stored content.old id) (C.stored content.new id)) }
+    ensures foreseen { C.tells content.old
+        → TakesBytes (C.stored content.old id) at (length bytes.now)
+        → length (C.stored content.old id).content ≡ (C.stored content.old id).size
+        → IfErr result (λ e. e ≡ Error.Full
+        → LacksRoomUpTo C.ReadContents C.Contents.own content.old id (at + length bytes.now)) }
 {
     let room = content.len(id).saturating_sub(at) as usize;
     let inside = bytes.len().min(room);
-    append_rest(content, id, &bytes[inside..])?;
+    content.append(id, &bytes[inside..])?;
     write_inside(content, id, at, &bytes[..inside])?;
     Ok(())
-}
-
-/// Puts all of the bytes behind the end, if there are any.
-fn append_rest<C: Contents>(content: &mut C, id: u32, bytes: &[u8]) -> Result<(), Error>
-    requires there { C.has content.old id }
-    ensures there { C.has content.new id }
-    ensures told { C.tells content.old → C.tells content.new }
-    ensures others { C.tells content.old → (first : C) → C.keeps id first content.old
-        → C.keeps id first content.new }
-    ensures tight { C.tells content.old → C.tight content.old content.new }
-    ensures len { OnOk result ((C.stored content.new id).size ≡ (C.stored content.old id).size + length bytes.now) }
-    ensures counts { C.tells content.old → CountsFailure (λ f. C.read_faults f || C.write_faults f) result
-        (C.failures content.old) (C.failures content.new) }
-    ensures none { length bytes.now ≡ 0 → OnErr result ⊥ × (content.new ≡ content.old) }
-    ensures ok { C.tells content.old → 0 < length bytes.now → TakesBytes (C.stored content.old id) (C.stored content.old id).size (length bytes.now)
-        → OnOk result (C.stored content.new id ≡ stored_after_write (C.stored content.old id) (C.stored content.old id).size bytes.now) }
-    ensures refused { C.tells content.old → 0 < length bytes.now → TakesBytes (C.stored content.old id) (C.stored content.old id).size (length bytes.now)
-        → IfErr result (λ e. IsBreak (C.is_full content.new) e × SameLimits (C.stored content.old id) (C.stored content.new id)) }
-{
-    if bytes.is_empty() {
-        return Ok(());
-    }
-    content.append(id, bytes)
 }
 
 /// Writes all of the bytes inside the length, or some of them where this is refused.

@@ -244,6 +244,21 @@ module _ (s : Stored) (w : Window) (size : ℕ) (a : LiesOver s w) (sound : s.so
       ]
       go false is = cut_in t v _ same (calm is) (cut_past (ap (λ (xs : List ℕ). resized xs size) (sym (a.clean is))))
 
+-- which end inside of it
+pub cut_inside : (w v : Window) (size : ℕ) → (w.pending ≡ true → w.base ≤ size → v ≡ window_within size w) → (w.pending ≡ true → size < w.base → v ≡ window_past size w)
+    → (w.pending ≡ false → v ≡ window_past size w) → v.base + length v.filled ≤ size
+cut_inside w v size kept past calm = go w.pending refl
+  where
+    none : v ≡ window_past size w → v.base + length v.filled ≤ size
+    none is = subst (λ (z : Window). z.base + length z.filled ≤ size) (sym is) (omega arith)
+
+    go : (p : Bool) → w.pending ≡ p → v.base + length v.filled ≤ size
+    go true is = elim (cases_lt size w.base) [
+      | inl over ↦ none (past is over)
+      | inr inside ↦ subst (λ (z : Window). z.base + length z.filled ≤ size) (sym (kept is inside)) (omega (arith, inside, length-take (size - w.base) w.filled))
+    ]
+    go false is = none (calm is)
+
 -- and is written out then
 pub resized_to : (size : ℕ) (s t u : Stored) (w v x : Window) → Cut size s w t v → t ≡ stored_after_resize s size → Carries t v u x → x ≡ window_settled v → Resized size s w u x
 resized_to size s t u w v x cut same k is = record {

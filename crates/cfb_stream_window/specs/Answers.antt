@@ -1,5 +1,5 @@
 -- What a call on a buffered stream answers, and what it leaves.
-use Rattle.std.specs.Prelude.{ℕ, ◌≡◌, ◌⊎◌, false, Option, Some, Result, OnErr}
+use Rattle.std.specs.Prelude.{ℕ, ◌+◌, ◌≡◌, ◌<◌, ◌≤◌, ◌⊎◌, false, true, Option, Some, Result, OnErr}
 use Rattle.cfb_format.specs.Medium.{Rises}
 use Rattle.cfb_format.specs.Refused.{CountsFailure, HasReason, at_every_error}
 use Rattle.cfb_format.specs.declared.error.Error.{Error}
@@ -8,9 +8,9 @@ use Rattle.cfb_rules.specs.StreamCalls.{StreamCall, StreamReply, set_len, ready}
 use Rattle.cfb_rules.specs.Runs.{Causes, Closes}
 use Rattle.cfb_stream_buffer.specs.declared.content.ReadContents as reading
 use Rattle.cfb_stream_buffer.specs.declared.content.Contents as writing
-use Rattle.cfb_stream_buffer.specs.Contents.{KeptOrFailed}
+use Rattle.cfb_stream_buffer.specs.Contents.{CanHave, KeptOrFailed}
 use Rattle.cfb_stream_buffer.specs.Touched.{faults_of}
-use Rattle.cfb_stream_window.specs.Windows.{Window, LiesOver, Suits, Runs, IsCallRefused, IsSettled, run_of}
+use Rattle.cfb_stream_window.specs.Windows.{Window, LiesOver, Suits, Runs, IsCallRefused, IsLengthened, IsSettled, run_of, settled}
 
 -- at a refusal of the input, of a file that is not sound or of one that failed earlier so much holds, and so much where bytes can't
 -- be read
@@ -65,6 +65,41 @@ module _ {C : Type 0} (r : reading.Ghosts C) (g : writing.Ghosts C) where
 
   abbrev pub InTurn : C → ℕ → Window → C → Type 0
   InTurn old id w new = (mid : C) × IsBetween old id w mid new
+
+  -- and in between all of it stands in the list
+  pub record WritesOutFirst (old : C) (id : ℕ) (w : Window) (new : C) : Type 0 where
+    pub mid : C
+    pub between : IsBetween old id w mid new
+    pub settles : r.stored mid id ≡ settled (r.stored old id) w
+
+  -- what is pending can't be written out: it goes past the end of the list, which is too long with it
+  pub record LacksRoomToWriteOut (content : C) (id : ℕ) (w : Window) : Type 0 where
+    pub pending : w.pending ≡ true
+    pub past : (r.stored content id).size < w.size
+    pub too_long : g.is_too_long content id w.size
+
+  -- it was, and then not one byte more could be had behind the end
+  pub record LacksRoomBehind (old : C) (id : ℕ) (w : Window) (new : C) : Type 0 where
+    pub first : WritesOutFirst old id w new
+    pub at_end : w.base + w.cursor ≡ w.size
+    pub too_long : g.is_too_long first.mid id (w.size + 1)
+
+  -- so many bytes can't be written: what is pending can't be written out, or, where they go past the window, not one of them could be had
+  abbrev pub LacksRoomToWrite : C → ℕ → Window → (count : ℕ) → C → Type 0
+  LacksRoomToWrite old id w count new = LacksRoomToWriteOut old id w ⊎ ((65536 ≤ count) × LacksRoomBehind old id w new)
+
+  -- there is room to write out what is pending, and for a longer length after that: the list can have the length that it has then, the longer
+  -- one, and 8,192 bytes more
+  pub record HasRoomForBoth (content : C) (id : ℕ) (w : Window) (len : ℕ) : Type 0 where
+    pub before : CanHave (r.stored content id) (g.is_too_long content id) w.size
+    pub longer : CanHave (r.stored content id) (g.is_too_long content id) len
+    pub beside : CanHave (r.stored content id) (g.is_too_long content id) (len + 8192)
+
+  -- there was, but none for the length in the end, and the file has failed
+  pub record LosesRoomBetween (old : C) (id : ℕ) (w : Window) (len : ℕ) (new : C) : Type 0 where
+    pub lengthened : IsLengthened (r.stored old id) w len
+    pub had_room : HasRoomForBoth old id w len
+    pub failed : (r.stored new id).failed ≡ true
 
   -- it was read from and written to, under this number alone; and where this was refused all but the count of failures is as it was, or the
   -- file has failed

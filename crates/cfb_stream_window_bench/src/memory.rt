@@ -1,5 +1,5 @@
 //! A stream in memory: the least that a buffered stream can stand on.
-ghost use Rattle.std.specs.Prelude.{◌≡◌, ◌+◌, ◌^◌, ◌≤◌, ◌<◌, max, true, OnOk, OnErr, IfErr, length};
+ghost use Rattle.std.specs.Prelude.{◌≡◌, ◌+◌, ◌-◌, ◌^◌, ◌≤◌, ◌<◌, max, min, true, OnOk, OnErr, IfErr, length};
 ghost use Rattle.cfb_format.specs.Refused.{CountsFailure};
 ghost use Rattle.cfb_stream_buffer.specs.Contents.{laid, IsMediumFault};
 ghost use Rattle.cfb_stream_window_bench.specs.Memory.{stored_in};
@@ -82,6 +82,7 @@ impl MemoryContents {
         requires { at ≤ length self.now.bytes }
         ensures within { at + result ≤ self.now.limit }
         ensures full { result ≡ 0 → at < self.now.limit → (length self.now.bytes ≤ at) × (self.now.room ≤ length self.now.bytes) }
+        ensures behind { at ≡ length self.now.bytes → result ≡ min self.now.room self.now.limit - length self.now.bytes }
     {
         let size = self.bytes.len() as u64;
         if at < size {
@@ -209,6 +210,9 @@ impl Contents for MemoryContents {
         if self.missing > 0 || bytes.len() as u64 > self.limit - size as u64 {
             return Err(Error::Unsound);
         }
+        if bytes.is_empty() {
+            return Ok(());
+        }
         let most = self.room_at(size as u64);
         if bytes.len() as u64 > most {
             // What there is room for was taken by the time that this is found.
@@ -224,7 +228,10 @@ impl Contents for MemoryContents {
     }
 
     fn can_resize(&self, _id: u32, len: u64) -> Result<bool, Error> {
-        Ok(len <= self.room)
+        if self.failed || self.missing > 0 || len > self.limit {
+            return Ok(false);
+        }
+        Ok(len == self.bytes.len() as u64 || len <= self.room)
     }
 
     fn resize(&mut self, _id: u32, len: u64) -> Result<(), Error> {

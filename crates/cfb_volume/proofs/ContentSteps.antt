@@ -1,16 +1,16 @@
 -- What the layers below made of one stream's content is one change of the file: once it has ended, and where it broke off.
 use Rattle.std.proofs.Common.{◌≡◌, ◌⊎◌, inl, inr, ℕ, Bool, true, false, sym, ◌∙◌, ap, subst}
-use Rattle.cfb_format.specs.declared.validate.Validation.{Validation}
 use Rattle.cfb_format.specs.declared.validate.Validation.TheVariants.{Permissive, Strict}
 use Rattle.cfb_format.specs.Reading.{IsOutline}
-use Rattle.cfb_tables.specs.Tables.{AreExactTables}
 use Rattle.cfb_mini_sectors.specs.Held.{with_table}
-use Rattle.cfb_mini_sectors.specs.State.{IsChangeable, MiniState, bytes_of, cases_of, entries_of, table_of, tables_in}
-use Rattle.cfb_mini_sectors.specs.Steps.{IsSnugMini, KeepsLimits}
+use Rattle.cfb_mini_sectors.specs.State.{MiniState, cases_of, entries_of, table_of}
+use Rattle.cfb_mini_sectors.specs.Steps.{KeepsLimits}
 use Rattle.cfb_mini.specs.MiniSectors.{IsStill}
-use Rattle.cfb_content.specs.Contents.{AreAllUsed, IsStreamOf, KeepsFixedHeader, KeepsOthers, MovesContent, SizesChain}
+use Rattle.cfb_content.specs.Changed.{MovesAlone, SparesOthers, WasChanged}
+use Rattle.cfb_content.specs.Contents.{IsStreamOf, MovesContent}
 use Rattle.cfb_content.proofs.Outlines.{moved-is-outline, stream-stays}
 use Rattle.cfb_content.proofs.Snug.{sized-is-snug}
+use Rattle.cfb_resizing.specs.Turning.{KeepsTablesTight}
 use Rattle.cfb_agreement.specs.Changes.{ChangesOneContent, StaysOrFails}
 use Rattle.cfb_agreement.specs.Files.{Agrees, FileState, Holds, IsAsMade, GrowsTightly, SameSetting, failures_of, is_failed}
 use Rattle.cfb_agreement.proofs.ContentChanges.{content-keeps-made}
@@ -27,27 +27,18 @@ abbrev pub ended : MiniState → MiniState
 ended s = with_table s (record (table_of s) { file = record (table_of s).file { begun = false } })
 
 -- what was promised of a change that went well
-pub record WasChanged (old new : MiniState) (i : ℕ) : Type 0 where
+pub record WentWell (old new : MiniState) (i : ℕ) : Type 0 where
   pub stream : IsStreamOf old i
-  pub limits : KeepsLimits old new
-  pub entries : MovesContent old new i
-  pub others : (v : Validation) → IsChangeable v old → KeepsOthers i old new
-  pub header : KeepsFixedHeader old new
-  pub holds : (v : Validation) → IsChangeable v old → IsChangeable v new
-  pub owned : (v : Validation) → IsChangeable v old → AreAllUsed old → AreAllUsed new
-  pub sized : (v : Validation) → IsChangeable v old → SizesChain old new i
-  pub snug_mini : (v : Validation) → IsChangeable v old → IsSnugMini old → IsSnugMini new
-  pub exact : AreExactTables (tables_in old) → AreExactTables (tables_in new)
-  pub none_free : GrowsTightly old new
+  pub moves : MovesAlone old new i
+  pub spares : SparesOthers old new i
+  pub changed : WasChanged old new i
+  pub tight : KeepsTablesTight old new
 
 -- and of one that was refused
 pub record WasRefused (old new : MiniState) (i : ℕ) : Type 0 where
-  pub limits : KeepsLimits old new
-  pub entries : MovesContent old new i
-  pub others : (v : Validation) → IsChangeable v old → KeepsOthers i old new
-  pub header : KeepsFixedHeader old new
+  pub moves : MovesAlone old new i
+  pub spares : SparesOthers old new i
   pub still : IsStill old new ⊎ ((table_of new).file.begun ≡ true)
-  pub unwritten : (table_of new).file.begun ≡ false → bytes_of new ≡ bytes_of old
 
 up-is-not-down : {P : Type 0} (b : Bool) → b ≡ true → b ≡ false → P
 up-is-not-down b up down = absurd (let clash : true ≡ false = sym up ∙ down in cc)
@@ -74,31 +65,31 @@ module _ (old : FileState) (mid : MiniState) (i : ℕ) (sound : Bool) (limit : �
   pub ended-stream : KeepsLimits old.base mid → MovesContent old.base mid i → IsStreamOf old.base i → IsStreamOf (ended mid) i
   ended-stream limits entries stream = stream-stays old.base (ended mid) i i limits.cases (ended-entries entries) stream
 
-  module _ (was : WasChanged old.base mid i) where
+  module _ (was : WentWell old.base mid i) where
     out : IsOutline (cases_of mid) (entries_of mid) was.stream.outline
-    out = moved-is-outline old.base mid i was.stream.outline was.limits.cases was.entries was.stream.is
+    out = moved-is-outline old.base mid i was.stream.outline was.moves.limits.cases was.moves.entries was.stream.is
 
     made-then : IsAsMade old.base → IsAsMade mid
     made-then made =
-        content-keeps-made i old.base mid was.limits was.entries was.stream made (was.holds Strict made.changeable) (was.owned Strict made.changeable made.used) (was.exact made.exact)
-        (sized-is-snug old.base mid i was.limits was.entries (was.others Strict made.changeable) was.stream (was.sized Strict made.changeable) made.snug)
-        (was.snug_mini Strict made.changeable made.snug_mini)
+        content-keeps-made i old.base mid was.moves.limits was.moves.entries was.stream made (was.changed.holds Strict made.changeable) (was.changed.owned Strict made.changeable made.used) (was.tight.exact made.exact)
+        (sized-is-snug old.base mid i was.moves.limits was.moves.entries (was.spares.others Strict made.changeable) was.stream (was.changed.sized Strict made.changeable) made.snug)
+        (was.changed.snug_mini Strict made.changeable made.snug_mini)
 
     module _ (held : Holds old) (certain : old.is_sound ≡ true) where
       pub ended-holds : Holds (file_on sound limit (ended mid))
       ended-holds = flags-not-read (file_on sound limit mid) (table_of mid).file.failures false
-          (changeable-is-held (file_on sound limit mid) was.stream.outline (sound-is ∙ certain) (was.holds Permissive (held.sound certain)) out)
+          (changeable-is-held (file_on sound limit mid) was.stream.outline (sound-is ∙ certain) (was.changed.holds Permissive (held.sound certain)) out)
 
       pub ended-changes : ChangesOneContent i old (file_on sound limit (ended mid))
       ended-changes = record {
-        setting = ended-setting was.limits;
-        entries = ended-entries was.entries;
+        setting = ended-setting was.moves.limits;
+        entries = ended-entries was.moves.entries;
         others = λ o is k m ne.
-            let kept = was.others Permissive (held.sound certain) o is k m ne in
+            let kept = was.spares.others Permissive (held.sound certain) o is k m ne in
             record { chain = kept.chain; sectors = kept.sectors; places = kept.places; mini_sectors = kept.mini_sectors };
-        header = record { no_shorter = was.header.no_shorter; bytes = was.header.bytes };
+        header = record { no_shorter = was.spares.header.no_shorter; bytes = was.spares.header.bytes };
         made = λ calm made. flags-not-made (file_on sound limit mid) (table_of mid).file.failures false (made-then made);
-        grows = λ calm. was.none_free;
+        grows = λ calm. was.tight.none_free;
       }
 
   -- ---- it was refused
@@ -114,7 +105,7 @@ module _ (old : FileState) (mid : MiniState) (i : ℕ) (sound : Bool) (limit : �
     refused-stays = elim was.still [
       | inl still ↦ inl (record {
         base = still;
-        bytes = was.unwritten (ap (λ (s : MiniState). (table_of s).file.begun) still ∙ calm);
+        bytes = was.spares.unwritten (ap (λ (s : MiniState). (table_of s).file.begun) still ∙ calm);
         is_sound = sound-is;
         buffer_limit = limit-is;
       })
@@ -132,10 +123,10 @@ module _ (old : FileState) (mid : MiniState) (i : ℕ) (sound : Bool) (limit : �
       refused-changes certain = elim refused-stays [
         | inl before ↦ as-before-is-none i old (file_on sound limit mid) before
         | inr up ↦ record {
-          setting = refused-setting was.limits;
-          entries = was.entries;
-          others = was.others Permissive (held.sound certain);
-          header = was.header;
+          setting = refused-setting was.moves.limits;
+          entries = was.moves.entries;
+          others = was.spares.others Permissive (held.sound certain);
+          header = was.spares.header;
           made = λ down made. up-is-not-down (table_of mid).file.begun up down;
           grows = λ down longer. up-is-not-down (table_of mid).file.begun up down;
         }

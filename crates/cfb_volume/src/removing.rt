@@ -13,9 +13,9 @@ ghost use Rattle.cfb_siblings.specs.Children.{HasChildren, IsChildNamed};
 ghost use Rattle.cfb_siblings.specs.Paths.{number_from};
 ghost use Rattle.cfb_objects.specs.Laws.{BecomesTree};
 ghost use Rattle.cfb_mini_sectors.specs.State.{IsChangeable, bytes_of, cases_of, entries_of, table_of, tables_in};
-ghost use Rattle.cfb_mini_sectors.specs.Steps.{KeepsLimits};
 ghost use Rattle.cfb_mini.specs.MiniSectors.{IsStill};
-ghost use Rattle.cfb_content.specs.Contents.{KeepsFixedHeader, KeepsOthers, MovesContent, len_of};
+ghost use Rattle.cfb_content.specs.Changed.{MovesAlone, SparesOthers};
+ghost use Rattle.cfb_content.specs.Contents.{KeepsFixedHeader, KeepsOthers, len_of};
 ghost use Rattle.cfb_entry_changes.specs.Kept.{AllStayBalancedBut, FindsAllBut};
 ghost use Rattle.cfb_agreement.specs.Changes.{StaysOrFails};
 ghost use Rattle.cfb_agreement.specs.Files.{Agrees, Holds, IsAsMade, GrowsTightly, SameSetting, failures_of, is_failed};
@@ -37,18 +37,13 @@ fn empty_object<F: Medium, A: Heap + Clone>(
     requires below { (o : Outline) → IsOutline (cases_of mini.old) (entries_of mini.old) o
         → Contains (numbers o) entry }
     ensures emptied { IsTrue F.tells → OnOk result (WasEmptied mini.old mini.new entry) }
-    ensures entries { MovesContent mini.old mini.new entry }
-    ensures others { IsTrue F.tells → (v : Validation) → IsChangeable v mini.old
-        → KeepsOthers entry mini.old mini.new }
-    ensures header { IsTrue F.tells → KeepsFixedHeader mini.old mini.new }
+    ensures moves { MovesAlone mini.old mini.new entry }
+    ensures spares { IsTrue F.tells → SparesOthers mini.old mini.new entry }
     ensures takes_none { length (tables_in mini.new).fat ≡ length (tables_in mini.old).fat }
-    ensures limits { KeepsLimits mini.old mini.new }
     ensures none { (entry_at (entries_of mini.old) entry).obj_type ≢ Stream → mini.new ≡ mini.old }
     ensures quiet { OnOk result ((table_of mini.new).file.begun ≡ false → mini.new ≡ mini.old) }
     ensures still { OnErr result (IsStill mini.old mini.new ⊎
         ((table_of mini.new).file.begun ≡ true)) }
-    ensures unwritten { IsTrue F.tells → (table_of mini.new).file.begun ≡ false
-        → bytes_of mini.new ≡ bytes_of mini.old }
     ensures err { IsTrue F.tells → (v : Validation) → IsChangeable v mini.old
         → IfErr result (IsBreak ⊥) }
     ensures counts { IsTrue F.tells → CountsFailure

@@ -23,6 +23,7 @@ ghost use Rattle.cfb_directory.specs.State.{IsFullForEntry};
 ghost use Rattle.cfb_mini_sectors.specs.Held.{with_table};
 ghost use Rattle.cfb_mini_sectors.specs.State.{bytes_of, cases_of, entries_of, table_of, tables_in, version_of};
 ghost use Rattle.cfb_content.specs.Contents.{IsStreamOf, IsTooLongFor, MovesContent, len_of};
+ghost use Rattle.cfb_resizing.specs.Putting.{ChangesFileAlone};
 ghost use Rattle.cfb_resizing.specs.Turning.{LeavesNoMinis};
 ghost use Rattle.cfb_agreement.specs.Changes.{ChangesOneContent, KeepsStreams, StaysOrFails, object_added_at};
 ghost use Rattle.cfb_agreement.specs.Files.{Agrees, Holds, IsAsBefore, IsAsMade, IsFullFile, GrowsTightly, SameSetting, failures_of, is_failed};
@@ -193,7 +194,7 @@ impl<F: ReadMedium, A: Heap + Clone> Volume<F, A> {
         readable_len(&self.mini, entry)
     }
 
-    /// Whether the stream of that entry can be given this length now, by the numbers that are free or left once the chain that it moves
+    /// Whether the stream of that entry can be given this length now, by the numbers that are free or left once what it moves
     /// away from is free: the test that `resize` makes before it changes anything. The length that it has it can be given, and that asks
     /// for no memory. `Memory` for any other.
     pub fn can_resize(&self, entry: u32, len: u64) -> Result<bool, Error>
@@ -270,11 +271,11 @@ impl<F: Medium, A: Heap> Volume<F, A> {
 
 impl<F: Medium, A: Heap + Clone> Volume<F, A> {
     /// Puts a beginning of `bytes` into the stream of that entry at byte `at`, which is inside it or its end, and answers how many bytes
-    /// that is: at least one where there is one. Behind the end the stream grows, as far as numbers go; inside its length no sector is
-    /// taken, nor does one become free.
+    /// that is: at least one where there is one. Behind the end the stream grows, as far as numbers go; inside its length nothing but the
+    /// bytes of the file changes: no sector is taken, nor does one become free.
     ///
-    /// `Full` only at the end, where not one byte more can be had; `Memory`; and `Medium` where the medium fails. All is as before then,
-    /// or the file has failed.
+    /// `Full` only at the end, where the stream could not have one byte more in the file before, and then no number is left; `Memory`; and
+    /// `Medium` where the medium fails. All is as before then, or the file has failed.
     pub fn write(&mut self, entry: u32, at: u64, bytes: &[u8]) -> Result<usize, Error>
         requires sound { self.old.is_sound ≡ true }
         requires unfailed { is_failed self.old ≡ false }
@@ -299,13 +300,15 @@ impl<F: Medium, A: Heap + Clone> Volume<F, A> {
             → NoneFree (tables_in self.old.base).fat
             → OnOk result (NoneFree (tables_in self.new.base).fat) }
         ensures within { (at < len_of self.old.base entry) ⊎ (length bytes.now ≡ 0)
-            → tables_in self.new.base ≡ tables_in self.old.base }
+            → ChangesFileAlone self.old.base self.new.base }
         ensures agrees { IsTrue F.tells → Holds self.old → Agrees self.new }
         ensures ended { OnOk result (is_failed self.new ≡ false) }
         ensures refused { IsTrue F.tells
             → Holds self.old → OnErr result (StaysOrFails self.old self.new) }
         ensures err { IsTrue F.tells → Holds self.old
             → IfErr result (IsBreak ((len_of self.old.base entry ≤ at) × IsFullFile self.new)) }
+        ensures foreseen { IsTrue F.tells → Holds self.old → IfErr result (λ e. e ≡ Full
+            → IsTooLongFor self.old.base entry (len_of self.old.base entry + 1)) }
         ensures counts { IsTrue F.tells → CountsFailure (λ f. F.read_faults f
             || F.write_faults f) result (failures_of self.old) (failures_of self.new) }
     {
@@ -362,7 +365,7 @@ impl<F: Medium, A: Heap + Clone> Volume<F, A> {
 
     /// Gives the stream of that entry this length: it is cut, or padded with zeros. The length that it has changes nothing.
     ///
-    /// `Full` exactly where the length needs more numbers than are free or left once the chain that it moves away from is free, so never
+    /// `Full` exactly where the length needs more numbers than are free or left once what it moves away from is free, so never
     /// where the stream is emptied: nothing has changed then. `Memory`, and `Medium` where the medium fails: all is as before, or the file
     /// has failed. To empty a stream takes no sector, however that ends, and after `Memory` nothing has changed then.
     pub fn resize(&mut self, entry: u32, len: u64) -> Result<(), Error>

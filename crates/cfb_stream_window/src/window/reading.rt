@@ -3,7 +3,7 @@ ghost use Rattle.std.specs.Prelude.{◌≡◌, ◌+◌, ◌-◌, ◌<◌, ◌≤
 ghost use Rattle.cfb_rules.specs.StreamCalls.{read, fill_buf, seek, flush, read_to_end, ready, got, offset};
 ghost use Rattle.cfb_format.specs.Refused.{IsBreak};
 ghost use Rattle.cfb_stream_window.specs.Windows.{Carries, ReadBrokeOff, IsLost, Unreadable, IsSettled, StandsInside, settled, window_settled, window_at, WentTo, target_of, whence_of, IsReadable, Appended, ReadPast};
-ghost use Rattle.cfb_stream_window.specs.Answers.{IsOpen, IsReady, RunsOn, IsRefusedOn, ClosesOn, IsClosingRefused, GoesOn};
+ghost use Rattle.cfb_stream_window.specs.Answers.{IsOpen, IsReady, RunsOn, IsRefusedOn, ClosesOn, IsClosingRefused, GoesOn, LacksRoomToWriteOut};
 ghost use Rattle.cfb_stream_buffer.specs.Touched.{IsRead, IsWritten};
 
 use super::{STRAIGHT, Window};
@@ -25,6 +25,9 @@ impl<A: Allocator> Window<A> {
         ensures calm { self.old.pending ≡ false → content.new ≡ content.old }
         ensures refused { IsReady C.ReadContents content.old id self.old
             → IfErr result (IsLost (((C.stored content.old id).size < self.old.base + length self.old.filled) × C.is_full content.new) (C.stored content.old id) self.old (C.stored content.new id)) }
+        ensures foreseen { IsReady C.ReadContents content.old id self.old
+            → IfErr result (λ e. e ≡ Error.Full
+            → LacksRoomToWriteOut C.ReadContents C.Contents.own content.old id self.old) }
         ensures pending { OnErr result (self.old.pending ≡ true) }
         ensures lost { OnErr result ((C.stored content.new id).failed ≡ true) }
         ensures within { C.tells content.old → self.old.base + length self.old.filled ≤ (C.stored content.old id).size
@@ -53,6 +56,9 @@ impl<A: Allocator> Window<A> {
         ensures window { OnOk result (self.new ≡ window_at (self.old.base + self.old.cursor) self.old) }
         ensures calm { self.old.pending ≡ false → content.new ≡ content.old }
         ensures refused { IsReady C.ReadContents content.old id self.old → IfErr result (IsLost (C.is_full content.new) (C.stored content.old id) self.old (C.stored content.new id)) }
+        ensures foreseen { IsReady C.ReadContents content.old id self.old
+            → IfErr result (λ e. e ≡ Error.Full
+            → LacksRoomToWriteOut C.ReadContents C.Contents.own content.old id self.old) }
         ensures pending { OnErr result (self.old.pending ≡ true) }
         ensures room { self.new.room ≡ self.old.room }
         ensures bound { self.new.bound ≡ self.old.bound }
@@ -77,6 +83,9 @@ impl<A: Allocator> Window<A> {
         ensures settles { IsReady C.ReadContents content.old id self.old → OnOk result (IsSettled (C.stored content.old id) self.old (C.stored content.new id)) }
         ensures refused { IsReady C.ReadContents content.old id self.old
             → IfErr result (λ e. ReadBrokeOff (C.is_full content.new) (C.stored content.old id) self.old (C.stored content.new id) self.new e ⊎ Unreadable (C.stored content.old id) self.old (C.stored content.new id) self.new e) }
+        ensures foreseen { IsReady C.ReadContents content.old id self.old
+            → IfErr result (λ e. e ≡ Error.Full
+            → LacksRoomToWriteOut C.ReadContents C.Contents.own content.old id self.old) }
         ensures grown { self.new.room < min (self.old.size - (self.old.base + self.old.cursor)) self.old.bound → content.new ≡ content.old }
         ensures bound { self.new.bound ≡ self.old.bound }
         ensures lean { self.new.room ≤ max self.old.room (min (self.old.size - (self.old.base + self.old.cursor)) self.old.bound) }
@@ -110,6 +119,9 @@ impl<A: Allocator> Window<A> {
         ensures settles { IsReady C.ReadContents content.old id self.old → OnOk result (IsSettled (C.stored content.old id) self.old (C.stored content.new id)) }
         ensures refused { IsReady C.ReadContents content.old id self.old
             → IfErr result (λ e. ReadBrokeOff (C.is_full content.new) (C.stored content.old id) self.old (C.stored content.new id) self.new e ⊎ Unreadable (C.stored content.old id) self.old (C.stored content.new id) self.new e) }
+        ensures foreseen { IsReady C.ReadContents content.old id self.old
+            → IfErr result (λ e. e ≡ Error.Full
+            → LacksRoomToWriteOut C.ReadContents C.Contents.own content.old id self.old) }
         ensures room { self.new.room ≡ self.old.room }
         ensures bound { self.new.bound ≡ self.old.bound }
     {
@@ -138,6 +150,9 @@ impl<A: Allocator> Window<A> {
         ensures settles { IsReady C.ReadContents content.old id self.old → OnOk result (IsSettled (C.stored content.old id) self.old (C.stored content.new id)) }
         ensures refused { IsReady C.ReadContents content.old id self.old
             → IfErr result (λ e. ReadBrokeOff (C.is_full content.new) (C.stored content.old id) self.old (C.stored content.new id) self.new e ⊎ Unreadable (C.stored content.old id) self.old (C.stored content.new id) self.new e) }
+        ensures foreseen { IsReady C.ReadContents content.old id self.old
+            → IfErr result (λ e. e ≡ Error.Full
+            → LacksRoomToWriteOut C.ReadContents C.Contents.own content.old id self.old) }
         ensures grown { self.new.room < min (self.old.size - (self.old.base + self.old.cursor)) self.old.bound → content.new ≡ content.old }
         ensures bound { self.new.bound ≡ self.old.bound }
         ensures lean { self.new.room ≤ max self.old.room (min (self.old.size - (self.old.base + self.old.cursor)) self.old.bound) }
@@ -164,6 +179,9 @@ impl<A: Allocator> Window<A> {
             → IfOk result (λ n. RunsOn C.ReadContents C.Contents.own content.old id self.old (read (length into.old)) (got (take n into.new)) content.new self.new) }
         ensures refused { IsOpen C.ReadContents content.old id self.old
             → IfErr result (IsRefusedOn C.ReadContents C.Contents.own content.old id self.old (read (length into.old)) content.new self.new) }
+        ensures foreseen { IsOpen C.ReadContents content.old id self.old
+            → IfErr result (λ e. e ≡ Error.Full
+            → LacksRoomToWriteOut C.ReadContents C.Contents.own content.old id self.old) }
         ensures goes_on { IsOpen C.ReadContents content.old id self.old → GoesOn C.ReadContents content.old content.new id self.new }
         ensures settles { IsOpen C.ReadContents content.old id self.old → OnOk result (IsSettled (C.stored content.old id) self.old (C.stored content.new id)) }
         ensures calm { C.tells content.old → self.old.pending ≡ false → IsRead C.ReadContents content.old content.new id result }
@@ -204,6 +222,9 @@ impl<A: Allocator> Window<A> {
             → OnOk result (RunsOn C.ReadContents C.Contents.own content.old id self.old fill_buf (got (drop self.new.cursor self.new.filled)) content.new self.new) }
         ensures refused { IsOpen C.ReadContents content.old id self.old
             → IfErr result (IsRefusedOn C.ReadContents C.Contents.own content.old id self.old fill_buf content.new self.new) }
+        ensures foreseen { IsOpen C.ReadContents content.old id self.old
+            → IfErr result (λ e. e ≡ Error.Full
+            → LacksRoomToWriteOut C.ReadContents C.Contents.own content.old id self.old) }
         ensures goes_on { IsOpen C.ReadContents content.old id self.old → GoesOn C.ReadContents content.old content.new id self.new }
         ensures settles { IsOpen C.ReadContents content.old id self.old → OnOk result (IsSettled (C.stored content.old id) self.old (C.stored content.new id)) }
         ensures calm { C.tells content.old → self.old.pending ≡ false → IsRead C.ReadContents content.old content.new id result }
@@ -239,6 +260,9 @@ impl<A: Allocator> Window<A> {
             → IfOk result (λ at. RunsOn C.ReadContents C.Contents.own content.old id self.old (seek (whence_of to)) (offset at) content.new self.new) }
         ensures refused { IsOpen C.ReadContents content.old id self.old
             → IfErr result (IsRefusedOn C.ReadContents C.Contents.own content.old id self.old (seek (whence_of to)) content.new self.new) }
+        ensures foreseen { IsOpen C.ReadContents content.old id self.old
+            → IfErr result (λ e. e ≡ Error.Full
+            → LacksRoomToWriteOut C.ReadContents C.Contents.own content.old id self.old) }
         ensures goes_on { IsOpen C.ReadContents content.old id self.old → GoesOn C.ReadContents content.old content.new id self.new }
         ensures settles { IsOpen C.ReadContents content.old id self.old → OnOk result (IsSettled (C.stored content.old id) self.old (C.stored content.new id)) }
         ensures calm { self.old.pending ≡ false → content.new ≡ content.old }
@@ -276,6 +300,9 @@ impl<A: Allocator> Window<A> {
             → (self.new.base ≡ self.old.base) × (self.new.filled ≡ self.old.filled) }
         ensures settles { IsReady C.ReadContents content.old id self.old → OnOk result (IsSettled (C.stored content.old id) self.old (C.stored content.new id)) }
         ensures refused { IsReady C.ReadContents content.old id self.old → IfErr result (IsLost (C.is_full content.new) (C.stored content.old id) self.old (C.stored content.new id)) }
+        ensures foreseen { IsReady C.ReadContents content.old id self.old
+            → IfErr result (λ e. e ≡ Error.Full
+            → LacksRoomToWriteOut C.ReadContents C.Contents.own content.old id self.old) }
         ensures pending { OnErr result (self.old.pending ≡ true) }
         ensures bound { self.new.bound ≡ self.old.bound }
         ensures room { self.new.room ≡ self.old.room }
@@ -296,6 +323,9 @@ impl<A: Allocator> Window<A> {
         ensures there { C.has content.new id }
         ensures runs { IsOpen C.ReadContents content.old id self.old → OnOk result (RunsOn C.ReadContents C.Contents.own content.old id self.old flush ready content.new self.new) }
         ensures refused { IsOpen C.ReadContents content.old id self.old → IfErr result (IsRefusedOn C.ReadContents C.Contents.own content.old id self.old flush content.new self.new) }
+        ensures foreseen { IsOpen C.ReadContents content.old id self.old
+            → IfErr result (λ e. e ≡ Error.Full
+            → LacksRoomToWriteOut C.ReadContents C.Contents.own content.old id self.old) }
         ensures goes_on { IsOpen C.ReadContents content.old id self.old → GoesOn C.ReadContents content.old content.new id self.new }
         ensures stored { IsOpen C.ReadContents content.old id self.old → OnOk result ((C.stored content.new id) ≡ settled (C.stored content.old id) self.old) }
         ensures calm { C.tells content.old → self.old.pending ≡ false → (C.stored content.new id).failed ≡ false
@@ -321,6 +351,9 @@ impl<A: Allocator> Window<A> {
         ensures stored { IsReady C.ReadContents content.old id self.old → OnOk result ((C.stored content.new id) ≡ settled (C.stored content.old id) self.old) }
         ensures window { OnOk result (self.new ≡ window_settled self.old) }
         ensures refused { IsReady C.ReadContents content.old id self.old → IfErr result (IsLost (C.is_full content.new) (C.stored content.old id) self.old (C.stored content.new id)) }
+        ensures foreseen { IsReady C.ReadContents content.old id self.old
+            → IfErr result (λ e. e ≡ Error.Full
+            → LacksRoomToWriteOut C.ReadContents C.Contents.own content.old id self.old) }
         ensures inside { IsReady C.ReadContents content.old id self.old → self.old.base + length self.old.filled ≤ (C.stored content.old id).size → IfErr result (IsBreak ⊥) }
         ensures within { C.tells content.old → self.old.base + length self.old.filled ≤ (C.stored content.old id).size
             → (first : C) → C.tight first content.old → C.tight first content.new }
@@ -342,6 +375,9 @@ impl<A: Allocator> Window<A> {
         ensures there { C.has content.new id }
         ensures closes { IsOpen C.ReadContents content.old id self → OnOk result (ClosesOn C.ReadContents C.Contents.own content.old id self None content.new) }
         ensures refused { IsOpen C.ReadContents content.old id self → IfErr result (IsClosingRefused C.ReadContents C.Contents.own content.old id self content.new) }
+        ensures foreseen { IsOpen C.ReadContents content.old id self
+            → IfErr result (λ e. e ≡ Error.Full
+            → LacksRoomToWriteOut C.ReadContents C.Contents.own content.old id self) }
         ensures stored { IsOpen C.ReadContents content.old id self → OnOk result ((C.stored content.new id) ≡ settled (C.stored content.old id) self) }
         ensures calm { self.pending ≡ false → content.new ≡ content.old }
         ensures sure { self.pending ≡ false → OnErr result ((C.stored content.old id).failed ≡ true) }
@@ -372,6 +408,9 @@ impl<A: Allocator> Window<A> {
         ensures runs { IsOpen C.ReadContents content.old id self.old
             → OnOk result (RunsOn C.ReadContents C.Contents.own content.old id self.old read_to_end (got (drop (length into.old.items) into.new.items)) content.new self.new) }
         ensures refused { IsOpen C.ReadContents content.old id self.old → IfErr result (IsRefusedOn C.ReadContents C.Contents.own content.old id self.old read_to_end content.new self.new) }
+        ensures foreseen { IsOpen C.ReadContents content.old id self.old
+            → IfErr result (λ e. e ≡ Error.Full
+            → LacksRoomToWriteOut C.ReadContents C.Contents.own content.old id self.old) }
         ensures goes_on { IsOpen C.ReadContents content.old id self.old → GoesOn C.ReadContents content.old content.new id self.new }
         ensures settles { IsOpen C.ReadContents content.old id self.old → OnOk result (IsSettled (C.stored content.old id) self.old (C.stored content.new id)) }
         ensures calm { C.tells content.old → self.old.pending ≡ false → IsRead C.ReadContents content.old content.new id result }
@@ -413,6 +452,11 @@ impl<A: Allocator> Window<A> {
         ensures settles { IsReady C.ReadContents content.old id self.old → OnOk result (IsSettled (C.stored content.old id) self.old (C.stored content.new id)) }
         ensures refused { IsReady C.ReadContents content.old id self.old → IsReadable (C.stored content.old id) self.old → self.old.base + self.old.cursor < self.old.size
             → IfErr result (ReadBrokeOff (C.is_full content.new) (C.stored content.old id) self.old (C.stored content.new id) self.new) }
+        ensures foreseen { IsReady C.ReadContents content.old id self.old
+            → IsReadable (C.stored content.old id) self.old
+            → self.old.base + self.old.cursor < self.old.size
+            → IfErr result (λ e. e ≡ Error.Full
+            → LacksRoomToWriteOut C.ReadContents C.Contents.own content.old id self.old) }
         ensures bound { self.new.bound ≡ self.old.bound }
         ensures room { self.new.room ≡ self.old.room }
     {

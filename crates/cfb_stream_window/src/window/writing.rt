@@ -1,9 +1,9 @@
 //! Writing to a buffered stream, and giving it another length.
-ghost use Rattle.std.specs.Prelude.{◌≡◌, ◌≢◌, ◌+◌, ◌-◌, ◌*◌, ◌^◌, ◌<◌, ◌≤◌, ◌⊎◌, ◌↔◌, min, max, [], true, false, IsTrue, OnOk, OnErr, IfOk, IfErr, length, take};
+ghost use Rattle.std.specs.Prelude.{◌≡◌, ◌+◌, ◌-◌, ◌*◌, ◌^◌, ◌<◌, ◌≤◌, ◌⊎◌, ◌↔◌, min, max, [], true, false, IsTrue, OnOk, OnErr, IfOk, IfErr, length, take};
 ghost use Rattle.cfb_format.specs.Refused.{IsMemory, IsBreak};
 ghost use Rattle.cfb_rules.specs.StreamCalls.{write, count};
 ghost use Rattle.cfb_stream_window.specs.Windows.{Carries, WriteBrokeOff, LengthBrokeOff, IsLengthened, IsSettled, HasBufferRoom, window_kept, window_past, window_within, WroteStraight, Resized};
-ghost use Rattle.cfb_stream_window.specs.Answers.{IsOpen, IsReady, IsTouched, InTurn, RunsOn, IsRefusedOn, RunsSettingLen, IsLengthRefusedOn, GoesOn};
+ghost use Rattle.cfb_stream_window.specs.Answers.{HasRoomForBoth, IsOpen, IsReady, IsTouched, InTurn, LacksRoomBehind, LacksRoomToWrite, LacksRoomToWriteOut, LosesRoomBetween, RunsOn, IsRefusedOn, RunsSettingLen, IsLengthRefusedOn, GoesOn, WritesOutFirst};
 ghost use Rattle.cfb_stream_buffer.specs.Contents.{Fails, TakesLen};
 ghost use Rattle.cfb_stream_buffer.specs.Touched.{IsWritten};
 
@@ -41,9 +41,10 @@ impl<A: Allocator> Window<A> {
         ensures keeps_back { 0 < length bytes.now → length bytes.now < 65536 → OnOk result (self.new.pending ≡ true) }
         ensures straight { 65536 ≤ length bytes.now → OnOk result (self.new.pending ≡ false) }
         ensures calm { length bytes.now < 65536 → self.old.pending ≡ false → content.new ≡ content.old }
-        ensures inside { IsOpen C.ReadContents content.old id self.old → self.old.pending ≡ false
-            → self.old.base + self.old.cursor + min 1 (length bytes.now) ≤ self.old.size
-            → IfErr result (λ e. e ≡ Error.Full → ⊥) }
+        ensures foreseen { IsOpen C.ReadContents content.old id self.old
+            → IfErr result (λ e. e ≡ Error.Full
+            → LacksRoomToWrite C.ReadContents C.Contents.own content.old id self.old
+            (length bytes.now) content.new) }
         ensures bound { self.new.bound ≡ self.old.bound }
         ensures lean { self.new.room ≤ max self.old.room (min (4 * self.old.room) self.old.bound) }
         ensures around { C.tells content.old → IsTouched C.ReadContents C.Contents.own content.old content.new id result }
@@ -85,6 +86,9 @@ impl<A: Allocator> Window<A> {
         ensures held { HasBufferRoom self.old → content.new ≡ content.old }
         ensures settles { IsReady C.ReadContents content.old id self.old → OnOk result (IsSettled (C.stored content.old id) self.old (C.stored content.new id)) }
         ensures refused { IsReady C.ReadContents content.old id self.old → IfErr result (WriteBrokeOff (C.is_full content.new) (C.stored content.old id) self.old (C.stored content.new id) self.new) }
+        ensures foreseen { IsReady C.ReadContents content.old id self.old
+            → IfErr result (λ e. e ≡ Error.Full
+            → LacksRoomToWriteOut C.ReadContents C.Contents.own content.old id self.old) }
         ensures calm { self.old.pending ≡ false → content.new ≡ content.old }
         ensures memory { self.old.pending ≡ false → IfErr result IsMemory }
         ensures bound { self.new.bound ≡ self.old.bound }
@@ -123,6 +127,9 @@ impl<A: Allocator> Window<A> {
         ensures place { OnOk result (self.new.base + self.new.cursor ≡ self.old.base + self.old.cursor) }
         ensures settles { IsReady C.ReadContents content.old id self.old → OnOk result (IsSettled (C.stored content.old id) self.old (C.stored content.new id)) }
         ensures refused { IsReady C.ReadContents content.old id self.old → IfErr result (WriteBrokeOff (C.is_full content.new) (C.stored content.old id) self.old (C.stored content.new id) self.new) }
+        ensures foreseen { IsReady C.ReadContents content.old id self.old
+            → IfErr result (λ e. e ≡ Error.Full
+            → LacksRoomToWriteOut C.ReadContents C.Contents.own content.old id self.old) }
         ensures bound { self.new.bound ≡ self.old.bound }
         ensures calm { self.old.pending ≡ false → content.new ≡ content.old }
         ensures pending { OnErr result (self.old.pending ≡ true) }
@@ -168,10 +175,12 @@ impl<A: Allocator> Window<A> {
         ensures refused { IsReady C.ReadContents content.old id self.old → (C.stored content.old id).sound ≡ true → self.old.base + self.old.cursor + length bytes.now ≤ (C.stored content.old id).limit → 0 < length bytes.now
             → IfErr result (WriteBrokeOff (C.is_full content.new) (C.stored content.old id) self.old (C.stored content.new id) self.new) }
         ensures calm { OnOk result (self.new.pending ≡ false) }
-        ensures inside { IsReady C.ReadContents content.old id self.old → (C.stored content.old id).sound ≡ true
+        ensures foreseen { IsReady C.ReadContents content.old id self.old → (C.stored content.old id).sound ≡ true
             → self.old.base + self.old.cursor + length bytes.now ≤ (C.stored content.old id).limit
-            → 0 < length bytes.now → self.old.pending ≡ false → self.old.base + self.old.cursor < self.old.size
-            → IfErr result (IsBreak ⊥) }
+            → 0 < length bytes.now
+            → IfErr result (λ e. e ≡ Error.Full
+            → LacksRoomToWriteOut C.ReadContents C.Contents.own content.old id self.old
+            ⊎ LacksRoomBehind C.ReadContents C.Contents.own content.old id self.old content.new) }
         ensures bound { self.new.bound ≡ self.old.bound }
         ensures room { self.new.room ≡ self.old.room }
     {
@@ -212,7 +221,12 @@ impl<A: Allocator> Window<A> {
         ensures goes_on { IsOpen C.ReadContents content.old id self.old → GoesOn C.ReadContents content.old content.new id self.new }
         ensures same { len ≡ self.old.size → content.new ≡ content.old }
         ensures foreseen { IsOpen C.ReadContents content.old id self.old
-            → IfErr result (λ e. e ≡ Error.Full → (content.new ≡ content.old) ⊎ (IsLengthened (C.stored content.old id) self.old len × ((C.stored content.new id).failed ≡ true))) }
+            → IfErr result (λ e. e ≡ Error.Full → (content.new ≡ content.old)
+            ⊎ LosesRoomBetween C.ReadContents C.Contents.own content.old id self.old len content.new) }
+        ensures writes_out { IsOpen C.ReadContents content.old id self.old
+            → IsLengthened (C.stored content.old id) self.old len
+            → HasRoomForBoth C.ReadContents C.Contents.own content.old id self.old len → OnOk result
+            (WritesOutFirst C.ReadContents C.Contents.own content.old id self.old content.new) }
         ensures bound { self.new.bound ≡ self.old.bound }
         ensures room { self.new.room ≡ self.old.room }
         ensures around { C.tells content.old → IsTouched C.ReadContents C.Contents.own content.old content.new id result }
@@ -262,8 +276,13 @@ impl<A: Allocator> Window<A> {
             → OnOk result (Resized len (C.stored content.old id) self.old (C.stored content.new id) self.new) }
         ensures refused { IsReady C.ReadContents content.old id self.old → (C.stored content.old id).sound ≡ true → len ≤ (C.stored content.old id).limit
             → IfErr result (LengthBrokeOff (C.is_too_long content.new id len) (C.stored content.old id) self.old (C.stored content.new id) self.new) }
-        ensures foreseen { IsReady C.ReadContents content.old id self.old → (C.stored content.old id).sound ≡ true → len ≤ (C.stored content.old id).limit
-            → IfErr result (λ e. e ≡ Error.Full → (content.new ≡ content.old) ⊎ ((C.stored content.new id).failed ≡ true)) }
+        ensures foreseen { IsReady C.ReadContents content.old id self.old
+            → (C.stored content.old id).sound ≡ true → len ≤ (C.stored content.old id).limit
+            → IfErr result (λ e. e ≡ Error.Full → (content.new ≡ content.old)
+            ⊎ LosesRoomBetween C.ReadContents C.Contents.own content.old id self.old len content.new) }
+        ensures writes_out { IsReady C.ReadContents content.old id self.old
+            → HasRoomForBoth C.ReadContents C.Contents.own content.old id self.old len → OnOk result
+            (WritesOutFirst C.ReadContents C.Contents.own content.old id self.old content.new) }
         ensures bound { self.new.bound ≡ self.old.bound }
         ensures room { self.new.room ≡ self.old.room }
     {
@@ -281,14 +300,11 @@ impl<A: Allocator> Window<A> {
     /// `ROOM_BESIDE` bytes more than it.
     fn can_write_out<C: Contents>(&self, content: &C, id: u32, len: u64) -> Result<bool, Error>
         requires there { C.has content.now id }
-        ensures ok { C.tells content.now → TakesLen (C.stored content.now id) self.now.size → self.now.size ≢ (C.stored content.now id).size
-            → IfOk result (λ can. can ≡ true → C.is_too_long content.now id self.now.size → ⊥) }
-        ensures len { C.tells content.now → TakesLen (C.stored content.now id) len → len ≢ (C.stored content.now id).size
-            → IfOk result (λ can. can ≡ true → C.is_too_long content.now id len → ⊥) }
-        ensures beside { C.tells content.now → TakesLen (C.stored content.now id) (len + 8192) → len + 8192 ≢ (C.stored content.now id).size
-            → IfOk result (λ can. can ≡ true → C.is_too_long content.now id (len + 8192) → ⊥) }
+        ensures ok { C.tells content.now → IfOk result (λ can. IsTrue can
+            ↔ HasRoomForBoth C.ReadContents C.Contents.own content.now id self.now len) }
         ensures refused { C.tells content.now → IfErr result IsMemory }
     {
+        let _limit = content.limit(id);
         let Some(beside) = len.checked_add(ROOM_BESIDE) else {
             return Ok(false);
         };
@@ -324,6 +340,8 @@ impl<A: Allocator> Window<A> {
             → IfErr result (LengthBrokeOff (C.is_too_long content.new id len) (C.stored content.old id) self.old (C.stored content.new id) self.new) }
         ensures foreseen { IsReady C.ReadContents content.old id self.old → (C.stored content.old id).sound ≡ true → len ≤ (C.stored content.old id).limit
             → IfErr result (λ e. e ≡ Error.Full → (content.new ≡ content.old) ⊎ ((C.stored content.new id).failed ≡ true)) }
+        ensures writes_out { IsReady C.ReadContents content.old id self.old → OnOk result
+            (WritesOutFirst C.ReadContents C.Contents.own content.old id self.old content.new) }
         ensures bound { self.new.bound ≡ self.old.bound }
         ensures room { self.new.room ≡ self.old.room }
     {

@@ -2,7 +2,7 @@ use Rattle.cfb_stream_window.specs.Windows.{run_of, state_of}
 use Rattle.cfb_compound_file.specs.Stored.{stored_of}
 use Rattle.cfb_compound_file.proofs.OpenStreams.{closes_tree, rest_then}
 use Rattle.cfb_compound_file.proofs.StoredStreams.{changed_once, nothing_goes}
-use Rattle.cfb_compound_file.proofs.StreamCalls.{closed_content, closed_suits, closing_failed, refused_then, refused_with}
+use Rattle.cfb_compound_file.proofs.StreamCalls.{closed_content, closed_suits, closing_failed, refused_as, refused_then, refused_with}
 use Rattle.cfb_compound_file.proofs.stream.finish.Goals as goal
 
 pub returns-clause-still_open : goal.returns-clause-still_open
@@ -33,3 +33,6 @@ returns-clause-rest g c = λ told first k. rest_then _ _ _ first ((c.close-close
 
 pub returns-clause-counts : goal.returns-clause-counts
 returns-clause-counts g c = λ told. (c.close-closed.ensures.around told).counts
+
+pub returns-clause-foreseen : goal.returns-clause-foreseen
+returns-clause-foreseen g c = λ told. refused_as _ _ c.close-closed.result (c.close-closed.ensures.foreseen (record { told = told; suits = c.requires.is_open told })) (λ e why full. (let k = why full in record { pending = k.pending; past = k.past; too_long = k.too_long }))

@@ -1,4 +1,4 @@
-use Rattle.std.proofs.Common.{◌≡◌, ◌≢◌, true, false, refl, sym, ◌∙◌, subst, arith}
+use Rattle.std.proofs.Common.{◌≡◌, ◌≢◌, true, false, sym, ◌∙◌, subst, arith}
 use Rattle.std.specs.Prelude.{IsTrue}
 use Rattle.std.proofs.lemmas.Result.{err_from_is_err_and}
 use Rattle.cfb_format.specs.declared.validate.Validation.{Validation}
@@ -6,21 +6,21 @@ use Rattle.cfb_directory.specs.Growing.{ArePlaced}
 use Rattle.cfb_directory.proofs.Placed.{held_places}
 use Rattle.cfb_mini_sectors.specs.State.{HoldsMini}
 use Rattle.cfb_content.specs.Contents.{IsNotChangeable, IsTooLongFor, len_of}
-use Rattle.cfb_content.proofs.FixedHeader.{header-stays}
-use Rattle.cfb_content.proofs.Kept.{nothing-is-moved}
 use Rattle.cfb_content.proofs.Fullness.{lack-is-too-long}
 use Rattle.cfb_content.proofs.Refusals.{invalid-refused, refused-as}
+use Rattle.cfb_content.proofs.Changed.{moves-same, spares-same}
 use Rattle.cfb_resizing.proofs.CanGrow.{refused-lacks}
-use Rattle.cfb_resizing.proofs.TakenRest.{begun-or-full, root-moves-content}
+use Rattle.cfb_resizing.proofs.TakenRest.{begun-or-full}
+use Rattle.cfb_resizing.proofs.Named.{around-moves}
 use Rattle.cfb_resizing.proofs.growing.grow_to.Goals as goal
 
 -- ---- no slot for each entry
 
-pub returns-then-not-is_placed-clause-others : goal.returns-then-not-is_placed-clause-others
-returns-then-not-is_placed-clause-others g c told v change = nothing-is-moved c.args.entry c.args.mini.now
+pub returns-then-not-is_placed-clause-moves : goal.returns-then-not-is_placed-clause-moves
+returns-then-not-is_placed-clause-moves g c = moves-same c.args.mini.now c.args.entry
 
-pub returns-then-not-is_placed-clause-header : goal.returns-then-not-is_placed-clause-header
-returns-then-not-is_placed-clause-header g c told = header-stays c.args.mini.now c.args.mini.now refl
+pub returns-then-not-is_placed-clause-spares : goal.returns-then-not-is_placed-clause-spares
+returns-then-not-is_placed-clause-spares g c told = spares-same c.args.mini.now c.args.entry
 
 pub returns-then-not-is_placed-clause-err : goal.returns-then-not-is_placed-clause-err
 returns-then-not-is_placed-clause-err g c =
@@ -33,11 +33,11 @@ returns-then-not-is_placed-clause-err g c =
 
 -- ---- a length that can be had
 
-pub returns-in_err-fits-clause-others : goal.returns-in_err-fits-clause-others
-returns-in_err-fits-clause-others g c told v change = nothing-is-moved c.args.entry c.args.mini.now
+pub returns-in_err-fits-clause-moves : goal.returns-in_err-fits-clause-moves
+returns-in_err-fits-clause-moves g c = moves-same c.args.mini.now c.args.entry
 
-pub returns-in_err-fits-clause-header : goal.returns-in_err-fits-clause-header
-returns-in_err-fits-clause-header g c told = header-stays c.args.mini.now c.args.mini.now refl
+pub returns-in_err-fits-clause-spares : goal.returns-in_err-fits-clause-spares
+returns-in_err-fits-clause-spares g c told = spares-same c.args.mini.now c.args.entry
 
 pub returns-in_err-resize_content-clause-refused : goal.returns-in_err-resize_content-clause-refused
 returns-in_err-resize_content-clause-refused g c told v held =
@@ -55,31 +55,6 @@ pub returns-in_err-resize_content-clause-err : goal.returns-in_err-resize_conten
 returns-in_err-resize_content-clause-err g c =
     let p = err_from_is_err_and c.from_residual-in_err-resize_content.result c.from_residual-in_err-resize_content.ensures.1 in
     rw (p.1, p.2) c.in_err-resize_content.ensures.err
-
-pub returns-then-fits-clause-tight : goal.returns-then-fits-clause-tight
-returns-then-fits-clause-tight g c =
-    let made = c.in_ok-resize_content.ensures in
-    record { exact = made.exact; no_shorter = made.no_shorter; none_free = made.none_free }
-
-pub returns-then-fits-clause-content : goal.returns-then-fits-clause-content
-returns-then-fits-clause-content g c told v change = c.in_ok-resize_content.ensures.content told v change
-
-pub returns-then-fits-clause-holds : goal.returns-then-fits-clause-holds
-returns-then-fits-clause-holds g c told v change = c.in_ok-resize_content.ensures.holds told v change
-
-pub returns-then-fits-clause-owned : goal.returns-then-fits-clause-owned
-returns-then-fits-clause-owned g c told v change all = c.in_ok-resize_content.ensures.owned told v change all
-
-pub returns-then-fits-clause-sized : goal.returns-then-fits-clause-sized
-returns-then-fits-clause-sized g c told v change = c.in_ok-resize_content.ensures.sized told v change
-
-pub returns-then-fits-clause-snug_mini : goal.returns-then-fits-clause-snug_mini
-returns-then-fits-clause-snug_mini g c told v change snug = c.in_ok-resize_content.ensures.snug_mini told v change snug
-
-pub returns-then-fits-clause-stays_full : goal.returns-then-fits-clause-stays_full
-returns-then-fits-clause-stays_full g c told v change stays none =
-    let longer = c.requires.longer in
-    c.in_ok-resize_content.ensures.stays_full told v change (omega (arith, longer)) stays none
 
 -- ---- one that can't
 
@@ -116,8 +91,11 @@ returns-clause-err g c v held =
     lack-is-too-long s i wanted (λ small. held.mini_stream.kept ∙ sym held.mini_stream.chain)
     (refused-lacks s i wanted c.in_ok-fits.fits (c.in_ok-fits.ensures.lacks differs) c.if-fits.false)
 
-pub returns-clause-entries : goal.returns-clause-entries
-returns-clause-entries g c = root-moves-content c.args.mini.now c.take_the_rest.new.mini c.args.entry c.requires.stream c.take_the_rest.ensures.around.entries
+pub returns-in_err-take_the_rest-clause-moves : goal.returns-in_err-take_the_rest-clause-moves
+returns-in_err-take_the_rest-clause-moves g c = around-moves c.args.mini.now c.take_the_rest.new.mini c.args.entry c.requires.stream c.take_the_rest.ensures.around
+
+pub returns-clause-moves : goal.returns-clause-moves
+returns-clause-moves g c = around-moves c.args.mini.now c.take_the_rest.new.mini c.args.entry c.requires.stream c.take_the_rest.ensures.around
 
 pub returns-clause-refused : goal.returns-clause-refused
 returns-clause-refused g c told v held = (c.in_ok-take_the_rest.ensures.begun, c.in_ok-take_the_rest.ensures.full)

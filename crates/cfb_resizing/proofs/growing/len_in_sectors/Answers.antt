@@ -30,10 +30,10 @@ returns-clause-enough g c =
     c.takable-more.ensures.fits
 
 pub returns-clause-none : goal.returns-clause-none
-returns-clause-none g c =
+returns-clause-none g c same size past within =
     let have = c.in_ok-have.ensures.whole.1 in
     large-stuck c.args.mini.now c.args.entry c.content_in-start.result.0 c.content_in-start.result.1 c.args.wanted c.sector_len-sector_len.result c.div_ceil-needed.result c.in_ok-have.have
     c.saturating_sub.result c.takable-more.result c.saturating_add.result c.saturating_mul-most.result c.min.result c.allocator-allocator.result.now c.in_ok-have.ensures.whole.0
     c.requires.large c.requires.longer c.ranges.wanted.fits c.allocator-allocator.ensures c.content_in-start.ensures.start c.content_in-start.ensures.len c.in_ok-have.ensures.whole.2
     c.sector_len-sector_len.ensures have c.div_ceil-needed.ensures c.saturating_sub.ensures c.saturating_add.ensures c.saturating_mul-most.ensures c.min.ensures
-    c.takable-more.ensures.most
+    c.takable-more.ensures.most same size past

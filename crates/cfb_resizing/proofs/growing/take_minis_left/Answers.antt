@@ -1,16 +1,15 @@
-use Rattle.std.proofs.Common.{◌≡◌, ◌<◌, ◌≤◌, ◌⊎◌, inl, inr, min, true, refl, ap, subst, length, arith}
+use Rattle.std.proofs.Common.{◌≡◌, ◌<◌, ◌⊎◌, inl, inr, true, ap, subst, length, arith}
 use Rattle.std.proofs.lemmas.Result.{on_ok_weaker, IfErr-weaker}
-use Rattle.cfb_format.specs.Full.{IsFullOfMiniSectors}
 use Rattle.cfb_tables.specs.Listed.{ends_of, gained}
 use Rattle.cfb_tables.specs.Refused.{ChangeRefused}
 use Rattle.cfb_alloc.proofs.Answering.{on_both}
 use Rattle.cfb_mini_sectors.specs.Steps.{EndsNoChain, IsNotHeld, IsTooFewFor, StopsShortOrFull}
-use Rattle.cfb_mini_sectors.specs.State.{bytes_of, parts_of, table_of}
+use Rattle.cfb_mini_sectors.specs.State.{bytes_of, table_of}
 use Rattle.cfb_mini.specs.MiniSectors.{IsStill}
 use Rattle.cfb_content.specs.Contents.{IsNotChangeable}
-use Rattle.cfb_content.proofs.FixedHeader.{header-stays, spared-keeps-header}
-use Rattle.cfb_content.proofs.Kept.{nothing-is-moved}
+use Rattle.cfb_content.proofs.FixedHeader.{spared-keeps-header}
 use Rattle.cfb_content.proofs.Refusals.{refused-as}
+use Rattle.cfb_content.proofs.Changed.{spares-same}
 use Rattle.cfb_resizing.specs.Turning.{StopsOrIsFull}
 use Rattle.cfb_resizing.proofs.LengthenedMinis.{not-both}
 use Rattle.cfb_resizing.proofs.TakenRest.{all-taken, none-left, on-both-ways, rest-minis-others, short-or-full, short-still, short-unwritten}
@@ -19,33 +18,35 @@ use Rattle.cfb_resizing.proofs.growing.take_minis_left.Goals as goal
 
 -- ---- none is left
 
-pub returns-then-left-eq0-clause-others : goal.returns-then-left-eq0-clause-others
-returns-then-left-eq0-clause-others g c told v change = nothing-is-moved c.args.entry c.args.mini.now
-
-pub returns-then-left-eq0-clause-header : goal.returns-then-left-eq0-clause-header
-returns-then-left-eq0-clause-header g c told = header-stays c.args.mini.now c.args.mini.now refl
+pub returns-then-left-eq0-clause-spares : goal.returns-then-left-eq0-clause-spares
+returns-then-left-eq0-clause-spares g c told = spares-same c.args.mini.now c.args.entry
 
 pub returns-then-left-eq0-clause-full : goal.returns-then-left-eq0-clause-full
 returns-then-left-eq0-clause-full g c = none-left c.args.mini.now c.minis_left-left.result c.minis_left-left.ensures.left c.if-left-eq0.true
 
-pub returns-in_err-clone-clause-others : goal.returns-in_err-clone-clause-others
-returns-in_err-clone-clause-others g c told v change = nothing-is-moved c.args.entry c.args.mini.now
-
-pub returns-in_err-clone-clause-header : goal.returns-in_err-clone-clause-header
-returns-in_err-clone-clause-header g c told = header-stays c.args.mini.now c.args.mini.now refl
+pub returns-in_err-clone-clause-spares : goal.returns-in_err-clone-clause-spares
+returns-in_err-clone-clause-spares g c told = spares-same c.args.mini.now c.args.entry
 
 -- ---- some are
 
 some : (g : _) (c : goal.After-drop-ids g) → 0 < c.min.result
 some g c = (let left = c.if-left-eq0.false in let count = c.requires.some in omega (arith, left, count, c.min.ensures))
 
-pub returns-clause-others : goal.returns-clause-others
-returns-clause-others g c told v change =
-    rest-minis-others v c.args.mini.now c.extend_mini_listed.new.self c.args.entry (ends_of c.new-ids.result.items) change c.requires.stream (ap ends_of c.new-ids.ensures.items)
-    (c.extend_mini_listed.ensures.spares told) (c.extend_mini_listed.ensures.mini_spares told v change.held)
-
-pub returns-clause-header : goal.returns-clause-header
-returns-clause-header g c told = spared-keeps-header _ c.args.mini.now c.extend_mini_listed.new.self (c.extend_mini_listed.ensures.spares told)
+pub returns-clause-spares : goal.returns-clause-spares
+returns-clause-spares g c told = record {
+  others = λ v change.
+      rest-minis-others v c.args.mini.now c.extend_mini_listed.new.self c.args.entry (ends_of c.new-ids.result.items) change c.requires.stream (ap ends_of c.new-ids.ensures.items)
+      (c.extend_mini_listed.ensures.spares told) (c.extend_mini_listed.ensures.mini_spares told v change.held);
+  header =
+      spared-keeps-header _ c.args.mini.now c.extend_mini_listed.new.self (c.extend_mini_listed.ensures.spares told);
+  unwritten = λ calm.
+      let s = c.args.mini.now in
+      let new = c.extend_mini_listed.new.self in
+      on-both-ways c.extend_mini_listed.result
+      (on_ok_weaker c.extend_mini_listed.result (λ raised. absurd (not-both (table_of new).file.begun (raised.1 (some g c)) calm)) c.extend_mini_listed.ensures.begun)
+      (IfErr-weaker c.extend_mini_listed.result (StopsShortOrFull c.min.result s new) (λ e. bytes_of new ≡ bytes_of s) (λ e stops. short-unwritten s new c.min.result e stops calm)
+      c.extend_mini_listed.ensures.refused);
+}
 
 pub returns-clause-full : goal.returns-clause-full
 returns-clause-full g c =
@@ -69,15 +70,6 @@ returns-clause-still g c =
     let new = c.extend_mini_listed.new.self in
     IfErr-weaker c.extend_mini_listed.result (StopsShortOrFull c.min.result s new) (λ e. IsStill s new ⊎ ((table_of new).file.begun ≡ true)) (short-still s new c.min.result)
     c.extend_mini_listed.ensures.refused
-
-pub returns-clause-unwritten : goal.returns-clause-unwritten
-returns-clause-unwritten g c told calm =
-    let s = c.args.mini.now in
-    let new = c.extend_mini_listed.new.self in
-    on-both-ways c.extend_mini_listed.result
-    (on_ok_weaker c.extend_mini_listed.result (λ raised. absurd (not-both (table_of new).file.begun (raised.1 (some g c)) calm)) c.extend_mini_listed.ensures.begun)
-    (IfErr-weaker c.extend_mini_listed.result (StopsShortOrFull c.min.result s new) (λ e. bytes_of new ≡ bytes_of s) (λ e stops. short-unwritten s new c.min.result e stops calm)
-    c.extend_mini_listed.ensures.refused)
 
 pub returns-clause-refused : goal.returns-clause-refused
 returns-clause-refused g c v held =

@@ -1,18 +1,26 @@
-use Rattle.std.proofs.Common.{◌≡◌, inl, inr, refl, length, arith}
+use Rattle.std.proofs.Common.{◌≡◌, inl, inr, refl, length, arith, ap, ◌∙◌}
 use Rattle.std.proofs.lemmas.Result.{err_from_is_err_and}
+use Rattle.std.proofs.lemmas.Bool.{cases_lt}
+use Rattle.cfb_alloc.specs.Alloc.{AllocatorState}
+use Rattle.cfb_alloc.proofs.BrokenSpared.{after_any}
 use Rattle.cfb_content.proofs.FixedHeader.{table-keeps-header}
 use Rattle.cfb_content.proofs.Refusals.{refused-as}
 use Rattle.cfb_resizing.proofs.TakenRest.{rest-around, rest-full, rest-others}
 use Rattle.cfb_resizing.proofs.TurnedInSectors.{not-usable}
+use Rattle.cfb_resizing.proofs.LengthenedMinis.{not-both}
 use Rattle.cfb_resizing.proofs.growing.take_sectors_left.Goals as goal
 
-pub returns-in_err-extend_chain_by-clause-others : goal.returns-in_err-extend_chain_by-clause-others
-returns-in_err-extend_chain_by-clause-others g c told v change =
-    rest-others c.args.mini.now c.args.entry c.allocator_mut-allocator.result.now c.extend_chain_by.new.self c.allocator_mut-allocator.ensures.value (c.extend_chain_by.ensures.spares told) v change
-    c.requires.stream
-
-pub returns-in_err-extend_chain_by-clause-header : goal.returns-in_err-extend_chain_by-clause-header
-returns-in_err-extend_chain_by-clause-header g c told = table-keeps-header _ c.args.mini.now c.allocator_mut-allocator.result.now c.extend_chain_by.new.self c.allocator_mut-allocator.ensures.value (c.extend_chain_by.ensures.spares told)
+pub returns-in_err-extend_chain_by-clause-spares : goal.returns-in_err-extend_chain_by-clause-spares
+returns-in_err-extend_chain_by-clause-spares g c told = record {
+  others = λ v change.
+      rest-others c.args.mini.now c.args.entry c.allocator_mut-allocator.result.now c.extend_chain_by.new.self c.allocator_mut-allocator.ensures.value (c.extend_chain_by.ensures.spares told) v change
+      c.requires.stream;
+  header =
+      table-keeps-header _ c.args.mini.now c.allocator_mut-allocator.result.now c.extend_chain_by.new.self c.allocator_mut-allocator.ensures.value (c.extend_chain_by.ensures.spares told);
+  unwritten = λ calm.
+      after_any _ _ _ c.in_err-extend_chain_by.field-0.0 c.in_err-extend_chain_by.ensures.refused (λ broken. absurd (not-both c.extend_chain_by.new.self.file.begun broken.0 calm))
+      (λ kept. ap (λ (a : AllocatorState). a.file.bytes) (kept ∙ c.allocator_mut-allocator.ensures.value));
+}
 
 pub returns-in_err-extend_chain_by-clause-err : goal.returns-in_err-extend_chain_by-clause-err
 returns-in_err-extend_chain_by-clause-err g c =
@@ -21,13 +29,19 @@ returns-in_err-extend_chain_by-clause-err g c =
     (λ w. elim w [ inl not ↦ not-usable c.args.mini.now c.allocator_mut-allocator.result.now c.allocator_mut-allocator.ensures.value not | inr ends ↦ absurd (ends.0 refl) ])
     (λ enough. tt) (λ few. tt) (λ u. u) c.in_err-extend_chain_by.field-0.0 c.in_err-extend_chain_by.ensures.err)
 
-pub returns-clause-others : goal.returns-clause-others
-returns-clause-others g c told v change =
-    rest-others c.args.mini.now c.args.entry c.allocator_mut-allocator.result.now c.extend_chain_by.new.self c.allocator_mut-allocator.ensures.value (c.extend_chain_by.ensures.spares told) v change
-    c.requires.stream
-
-pub returns-clause-header : goal.returns-clause-header
-returns-clause-header g c told = table-keeps-header _ c.args.mini.now c.allocator_mut-allocator.result.now c.extend_chain_by.new.self c.allocator_mut-allocator.ensures.value (c.extend_chain_by.ensures.spares told)
+pub returns-clause-spares : goal.returns-clause-spares
+returns-clause-spares g c told = record {
+  others = λ v change.
+      rest-others c.args.mini.now c.args.entry c.allocator_mut-allocator.result.now c.extend_chain_by.new.self c.allocator_mut-allocator.ensures.value (c.extend_chain_by.ensures.spares told) v change
+      c.requires.stream;
+  header =
+      table-keeps-header _ c.args.mini.now c.allocator_mut-allocator.result.now c.extend_chain_by.new.self c.allocator_mut-allocator.ensures.value (c.extend_chain_by.ensures.spares told);
+  unwritten = λ calm.
+      elim (cases_lt 0 c.takable-rest.result) [
+        | inl some ↦ absurd (not-both c.extend_chain_by.new.self.file.begun (c.in_ok-extend_chain_by.ensures.begun.1 some) calm)
+        | inr none ↦ ap (λ (a : AllocatorState). a.file.bytes) (c.extend_chain_by.ensures.none (omega (arith, none)) ∙ c.allocator_mut-allocator.ensures.value)
+      ];
+}
 
 pub returns-clause-around : goal.returns-clause-around
 returns-clause-around g c =

@@ -1,25 +1,26 @@
-use Rattle.std.proofs.Common.{inl, inr, refl, ◌≡◌, ◌∙◌, ap, sym, subst, arith, length}
+use Rattle.std.proofs.Common.{inl, inr, ◌≡◌, ◌∙◌, ap, sym, subst, arith, length}
 use Rattle.std.proofs.lemmas.Bool.{cases_lt}
 use Rattle.std.proofs.lemmas.Result.{err_from_is_err_and}
 use Rattle.cfb_format.specs.Chain.{IsChain}
 use Rattle.cfb_format.specs.Full.{rounded_up}
 use Rattle.cfb_tables.specs.Tables.{first_or_end}
+use Rattle.cfb_alloc.proofs.BrokenSpared.{after_any}
 use Rattle.cfb_content.proofs.Apart.{starts-unnamed}
-use Rattle.cfb_content.proofs.Kept.{nothing-is-moved}
 use Rattle.cfb_content.proofs.Refusals.{refused-as}
 use Rattle.cfb_content.proofs.WholeStreams.{not-whole-minis, owned-minis, whole-minis-as}
 use Rattle.cfb_resizing.specs.Turning.{Turns}
-use Rattle.cfb_content.proofs.FixedHeader.{bytes-keep-header, spared-keeps-header}
+use Rattle.cfb_content.proofs.FixedHeader.{spared-keeps-header}
 use Rattle.cfb_resizing.proofs.CutShort.{mini-cut-takes-few}
 use Rattle.cfb_mini_sectors.specs.State.{MiniState, bytes_of, table_of}
+use Rattle.cfb_content.proofs.Changed.{spares-same}
 use Rattle.cfb_resizing.proofs.LengthenedMinis.{not-both}
 use Rattle.cfb_resizing.proofs.Tightness.{sizes-tight}
 use Rattle.cfb_resizing.proofs.TurnedInMinis.{cut-lacks-none, cut-settles, first-mini, first-unnamed, mini-cut-turns, own-minis-kept}
 use Rattle.cfb_resizing.proofs.SnugMinis.{freed-snug}
 use Rattle.cfb_resizing.proofs.in_place.cut_in_minis.Goals as goal
 
-pub returns-in_err-ids-clause-others : goal.returns-in_err-ids-clause-others
-returns-in_err-ids-clause-others g c told v change = nothing-is-moved c.args.entry c.args.mini.now
+pub returns-in_err-ids-clause-spares : goal.returns-in_err-ids-clause-spares
+returns-in_err-ids-clause-spares g c told = spares-same c.args.mini.now c.args.entry
 
 pub returns-in_err-ids-clause-err : goal.returns-in_err-ids-clause-err
 returns-in_err-ids-clause-err g c =
@@ -37,47 +38,66 @@ cut_mini_listed-requires g c =
           (whole-minis-as s i c.content_in-start.result.0 c.content_in-start.result.1 c.in_ok-ids.ids.items c.content_in-start.ensures.start c.content_in-start.ensures.len c.in_ok-ids.ensures.whole);
     }
 
-pub returns-in_err-cut_mini_listed-clause-others : goal.returns-in_err-cut_mini_listed-clause-others
-returns-in_err-cut_mini_listed-clause-others g c told v change =
-    let s = c.args.mini.now in
-    let i = c.args.entry in
-    let list = c.in_ok-ids.ids.items in
-    let whole = whole-minis-as s i c.content_in-start.result.0 c.content_in-start.result.1 list c.content_in-start.ensures.start c.content_in-start.ensures.len c.in_ok-ids.ensures.whole in
-    own-minis-kept v s c.cut_mini_listed.new.self i list change c.requires.stream (owned-minis s i c.requires.small list whole) (c.cut_mini_listed.ensures.spares told)
-    (c.cut_mini_listed.ensures.mini_spares told v change.held)
+pub returns-in_err-cut_mini_listed-clause-spares : goal.returns-in_err-cut_mini_listed-clause-spares
+returns-in_err-cut_mini_listed-clause-spares g c told = record {
+  others = λ v change.
+      let s = c.args.mini.now in
+      let i = c.args.entry in
+      let list = c.in_ok-ids.ids.items in
+      let whole = whole-minis-as s i c.content_in-start.result.0 c.content_in-start.result.1 list c.content_in-start.ensures.start c.content_in-start.ensures.len c.in_ok-ids.ensures.whole in
+      own-minis-kept v s c.cut_mini_listed.new.self i list change c.requires.stream (owned-minis s i c.requires.small list whole) (c.cut_mini_listed.ensures.spares told)
+      (c.cut_mini_listed.ensures.mini_spares told v change.held);
+  header =
+      spared-keeps-header _ c.args.mini.now c.cut_mini_listed.new.self (c.cut_mini_listed.ensures.spares told);
+  unwritten = λ calm.
+      after_any _ _ _ c.in_err-cut_mini_listed.field-0.0 c.in_err-cut_mini_listed.ensures.refused
+      (λ begun. absurd (not-both (table_of c.cut_mini_listed.new.self).file.begun begun calm)) (λ same. ap bytes_of same);
+}
 
 pub returns-clause-turned : goal.returns-clause-turned
-returns-clause-turned g c told v change =
-    let s = c.args.mini.now in
-    let i = c.args.entry in
-    let new = c.cut_mini_listed.new.self in
-    let list = c.in_ok-ids.ids.items in
-    let list' = c.cut_mini_listed.new.ids.items in
-    let whole = whole-minis-as s i c.content_in-start.result.0 c.content_in-start.result.1 list c.content_in-start.ensures.start c.content_in-start.ensures.len c.in_ok-ids.ensures.whole in
-    subst (λ n. Turns s new i c.args.size n) (sym (c.first_number.ensures ∙ ap first_or_end c.deref.ensures.value))
-    (mini-cut-turns v s new i c.args.size c.div_ceil-wanted.result list list' change c.requires.stream c.requires.small c.requires.shorter whole
-    (omega (arith, c.div_ceil-wanted.ensures)) c.in_ok-cut_mini_listed.ensures.listed c.in_ok-cut_mini_listed.ensures.given_back
-    (cut-settles v s new c.div_ceil-wanted.result list change.held c.in_ok-cut_mini_listed.ensures.room (λ all. (c.cut_mini_listed.ensures.none all).1))
-    c.cut_mini_listed.ensures.limits.version c.cut_mini_listed.ensures.stays c.cut_mini_listed.ensures.chain (c.cut_mini_listed.ensures.bytes told v change.held) (c.in_ok-cut_mini_listed.ensures.wiped told v change.held))
+returns-clause-turned g c told = record {
+  turned = λ v change.
+      let s = c.args.mini.now in
+      let i = c.args.entry in
+      let new = c.cut_mini_listed.new.self in
+      let list = c.in_ok-ids.ids.items in
+      let list' = c.cut_mini_listed.new.ids.items in
+      let whole = whole-minis-as s i c.content_in-start.result.0 c.content_in-start.result.1 list c.content_in-start.ensures.start c.content_in-start.ensures.len c.in_ok-ids.ensures.whole in
+      subst (λ n. Turns s new i c.args.size n) (sym (c.first_number.ensures ∙ ap first_or_end c.deref.ensures.value))
+      (mini-cut-turns v s new i c.args.size c.div_ceil-wanted.result list list' change c.requires.stream c.requires.small c.requires.shorter whole
+      (omega (arith, c.div_ceil-wanted.ensures)) c.in_ok-cut_mini_listed.ensures.listed c.in_ok-cut_mini_listed.ensures.given_back
+      (cut-settles v s new c.div_ceil-wanted.result list change.held c.in_ok-cut_mini_listed.ensures.room (λ all. (c.cut_mini_listed.ensures.none all).1))
+      c.cut_mini_listed.ensures.limits.version c.cut_mini_listed.ensures.stays c.cut_mini_listed.ensures.chain (c.cut_mini_listed.ensures.bytes told v change.held) (c.in_ok-cut_mini_listed.ensures.wiped told v change.held));
+  holds = λ v change.
+      let s = c.args.mini.now in
+      let i = c.args.entry in
+      let list = c.in_ok-ids.ids.items in
+      let shorter = c.requires.shorter in
+      let whole = whole-minis-as s i c.content_in-start.result.0 c.content_in-start.result.1 list c.content_in-start.ensures.start c.content_in-start.ensures.len c.in_ok-ids.ensures.whole in
+      let first = (whole.there 0 (omega (arith, shorter))).listed in
+      c.in_ok-cut_mini_listed.ensures.holds told v change.held (λ none. starts-unnamed v s i change c.requires.stream) (λ zero. first-unnamed s i c.requires.small v change c.requires.stream list whole (omega (arith, first)));
+  snug_mini = λ v change snug.
+      freed-snug c.args.mini.now c.cut_mini_listed.new.self c.div_ceil-wanted.result (length c.in_ok-ids.ids.items)
+      (λ fewer. c.in_ok-cut_mini_listed.ensures.snug fewer v change.held) (λ all. (c.cut_mini_listed.ensures.none all).1) snug;
+}
 
-pub returns-clause-holds : goal.returns-clause-holds
-returns-clause-holds g c told v change =
-    let s = c.args.mini.now in
-    let i = c.args.entry in
-    let list = c.in_ok-ids.ids.items in
-    let shorter = c.requires.shorter in
-    let whole = whole-minis-as s i c.content_in-start.result.0 c.content_in-start.result.1 list c.content_in-start.ensures.start c.content_in-start.ensures.len c.in_ok-ids.ensures.whole in
-    let first = (whole.there 0 (omega (arith, shorter))).listed in
-    c.in_ok-cut_mini_listed.ensures.holds told v change.held (λ none. starts-unnamed v s i change c.requires.stream) (λ zero. first-unnamed s i c.requires.small v change c.requires.stream list whole (omega (arith, first)))
-
-pub returns-clause-others : goal.returns-clause-others
-returns-clause-others g c told v change =
-    let s = c.args.mini.now in
-    let i = c.args.entry in
-    let list = c.in_ok-ids.ids.items in
-    let whole = whole-minis-as s i c.content_in-start.result.0 c.content_in-start.result.1 list c.content_in-start.ensures.start c.content_in-start.ensures.len c.in_ok-ids.ensures.whole in
-    own-minis-kept v s c.cut_mini_listed.new.self i list change c.requires.stream (owned-minis s i c.requires.small list whole) (c.cut_mini_listed.ensures.spares told)
-    (c.cut_mini_listed.ensures.mini_spares told v change.held)
+pub returns-clause-spares : goal.returns-clause-spares
+returns-clause-spares g c told = record {
+  others = λ v change.
+      let s = c.args.mini.now in
+      let i = c.args.entry in
+      let list = c.in_ok-ids.ids.items in
+      let whole = whole-minis-as s i c.content_in-start.result.0 c.content_in-start.result.1 list c.content_in-start.ensures.start c.content_in-start.ensures.len c.in_ok-ids.ensures.whole in
+      own-minis-kept v s c.cut_mini_listed.new.self i list change c.requires.stream (owned-minis s i c.requires.small list whole) (c.cut_mini_listed.ensures.spares told)
+      (c.cut_mini_listed.ensures.mini_spares told v change.held);
+  header =
+      spared-keeps-header _ c.args.mini.now c.cut_mini_listed.new.self (c.cut_mini_listed.ensures.spares told);
+  unwritten = λ calm.
+      elim (cases_lt c.div_ceil-wanted.result (length c.in_ok-ids.ids.items)) [
+        | inl fewer ↦ absurd (not-both (table_of c.cut_mini_listed.new.self).file.begun (c.in_ok-cut_mini_listed.ensures.begun.1 fewer) calm)
+        | inr all ↦ ap (λ (s : MiniState). bytes_of s) (c.cut_mini_listed.ensures.none all).1
+      ];
+}
 
 pub returns-in_err-cut_mini_listed-clause-takes_none : goal.returns-in_err-cut_mini_listed-clause-takes_none
 returns-in_err-cut_mini_listed-clause-takes_none g c = c.cut_mini_listed.ensures.sizes.sectors
@@ -104,23 +124,3 @@ returns-clause-few g c list chain =
     c.in_ok-ids.ids.items left list (omega (arith, c.requires.shorter, c.content_in-start.ensures.len)) c.in_ok-ids.ensures.whole wanted c.in_ok-cut_mini_listed.ensures.listed
     c.cut_mini_listed.ensures.chain
     (subst (λ n. IsChain c.cut_mini_listed.new.self.minifat n list) (c.first_number.ensures ∙ ap first_or_end c.deref.ensures.value) chain)
-
-pub returns-in_err-ids-clause-header : goal.returns-in_err-ids-clause-header
-returns-in_err-ids-clause-header g c told = bytes-keep-header c.args.mini.now c.args.mini.now refl
-
-pub returns-in_err-cut_mini_listed-clause-header : goal.returns-in_err-cut_mini_listed-clause-header
-returns-in_err-cut_mini_listed-clause-header g c told = spared-keeps-header _ c.args.mini.now c.cut_mini_listed.new.self (c.cut_mini_listed.ensures.spares told)
-
-pub returns-clause-header : goal.returns-clause-header
-returns-clause-header g c told = spared-keeps-header _ c.args.mini.now c.cut_mini_listed.new.self (c.cut_mini_listed.ensures.spares told)
-
-pub returns-clause-unwritten : goal.returns-clause-unwritten
-returns-clause-unwritten g c told calm = elim (cases_lt c.div_ceil-wanted.result (length c.in_ok-ids.ids.items)) [
-  | inl fewer ↦ absurd (not-both (table_of c.cut_mini_listed.new.self).file.begun (c.in_ok-cut_mini_listed.ensures.begun.1 fewer) calm)
-  | inr all ↦ ap (λ (s : MiniState). bytes_of s) (c.cut_mini_listed.ensures.none all).1
-]
-
-pub returns-clause-snug_mini : goal.returns-clause-snug_mini
-returns-clause-snug_mini g c told v change snug =
-    freed-snug c.args.mini.now c.cut_mini_listed.new.self c.div_ceil-wanted.result (length c.in_ok-ids.ids.items)
-    (λ fewer. c.in_ok-cut_mini_listed.ensures.snug fewer v change.held) (λ all. (c.cut_mini_listed.ensures.none all).1) snug

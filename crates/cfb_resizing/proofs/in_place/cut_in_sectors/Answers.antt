@@ -1,5 +1,6 @@
-use Rattle.std.proofs.Common.{refl, arith, ap, sym, subst, ◌∙◌}
+use Rattle.std.proofs.Common.{arith, ap, sym, subst, ◌∙◌, inl, inr, length}
 use Rattle.std.proofs.lemmas.Result.{err_from_is_err_and}
+use Rattle.std.proofs.lemmas.Bool.{cases_lt}
 use Rattle.cfb_format.specs.Bytes.{sector_len}
 use Rattle.cfb_format.specs.Chain.{IsChain}
 use Rattle.cfb_format.specs.Full.{rounded_up}
@@ -7,20 +8,21 @@ use Rattle.cfb_tables.specs.Tables.{TableState, first_or_end}
 use Rattle.cfb_alloc.specs.Alloc.{AllocatorState}
 use Rattle.cfb_alloc.specs.ListedChain.{Shortens}
 use Rattle.cfb_alloc.proofs.ListedLemmas.{can_shorten}
+use Rattle.cfb_alloc.proofs.BrokenSpared.{after_any}
 use Rattle.cfb_mini_sectors.proofs.MiniStreams.{begins}
-use Rattle.cfb_content.proofs.Kept.{nothing-is-moved}
 use Rattle.cfb_content.proofs.Refusals.{refused-as}
 use Rattle.cfb_content.proofs.WholeStreams.{not-whole, whole-as}
-use Rattle.cfb_content.proofs.FixedHeader.{bytes-keep-header, table-keeps-header}
+use Rattle.cfb_content.proofs.FixedHeader.{table-keeps-header}
+use Rattle.cfb_content.proofs.Changed.{spares-same}
 use Rattle.cfb_resizing.proofs.CutShort.{cut-takes-few}
 use Rattle.cfb_resizing.proofs.Tightness.{shortened-tight}
 use Rattle.cfb_resizing.proofs.TurnedInSectors.{cut-has-all, cut-held, cut-keeps-tables, cut-spares-others, cut-turned, not-usable}
 use Rattle.cfb_resizing.proofs.SnugMinis.{table-snug}
+use Rattle.cfb_resizing.proofs.LengthenedMinis.{not-both}
 use Rattle.cfb_resizing.proofs.in_place.cut_in_sectors.Goals as goal
 
-pub returns-in_err-ids-clause-others : goal.returns-in_err-ids-clause-others
-returns-in_err-ids-clause-others g c told v change =
-    rw (c.open_whole_chain.ensures.unchanged, c.allocator_mut-allocator.ensures.value) (nothing-is-moved c.args.entry c.args.mini.now)
+pub returns-in_err-ids-clause-spares : goal.returns-in_err-ids-clause-spares
+returns-in_err-ids-clause-spares g c told = rw (c.open_whole_chain.ensures.unchanged, c.allocator_mut-allocator.ensures.value) (spares-same c.args.mini.now c.args.entry)
 
 pub returns-in_err-ids-clause-err : goal.returns-in_err-ids-clause-err
 returns-in_err-ids-clause-err g c =
@@ -43,12 +45,19 @@ cut_listed-requires g c =
           (subst (λ n. IsChain c.allocator_mut-allocator.result.now.tables.fat n ids) (begins c.allocator_mut-allocator.result.now.tables.fat c.content_in-start.result.0 ids chain.follows) chain));
     }
 
-pub returns-in_err-cut_listed-clause-others : goal.returns-in_err-cut_listed-clause-others
-returns-in_err-cut_listed-clause-others g c told v change =
-    cut-spares-others c.args.mini.now c.args.entry c.args.size c.div_ceil-wanted.result c.content_in-start.result.0 c.content_in-start.result.1 c.sector_len.result
-    c.allocator_mut-allocator.result.now c.open_whole_chain.new.allocator c.cut_listed.new.self c.in_ok-ids.ids.items c.cut_listed.new.ids.items c.requires.stream c.requires.large c.requires.shorter
-    c.allocator_mut-allocator.ensures.value (c.open_whole_chain.ensures.unchanged ∙ c.allocator_mut-allocator.ensures.value) c.content_in-start.ensures.start c.content_in-start.ensures.len c.in_ok-ids.ensures.whole c.sector_len.ensures c.div_ceil-wanted.ensures
-    (c.cut_listed.ensures.spares told) v change
+pub returns-in_err-cut_listed-clause-spares : goal.returns-in_err-cut_listed-clause-spares
+returns-in_err-cut_listed-clause-spares g c told = record {
+  others = λ v change.
+      cut-spares-others c.args.mini.now c.args.entry c.args.size c.div_ceil-wanted.result c.content_in-start.result.0 c.content_in-start.result.1 c.sector_len.result
+      c.allocator_mut-allocator.result.now c.open_whole_chain.new.allocator c.cut_listed.new.self c.in_ok-ids.ids.items c.cut_listed.new.ids.items c.requires.stream c.requires.large c.requires.shorter
+      c.allocator_mut-allocator.ensures.value (c.open_whole_chain.ensures.unchanged ∙ c.allocator_mut-allocator.ensures.value) c.content_in-start.ensures.start c.content_in-start.ensures.len c.in_ok-ids.ensures.whole c.sector_len.ensures c.div_ceil-wanted.ensures
+      (c.cut_listed.ensures.spares told) v change;
+  header =
+      table-keeps-header _ c.args.mini.now c.open_whole_chain.new.allocator c.cut_listed.new.self (c.open_whole_chain.ensures.unchanged ∙ c.allocator_mut-allocator.ensures.value) (c.cut_listed.ensures.spares told);
+  unwritten = λ calm.
+      after_any _ _ _ c.in_err-cut_listed.field-0.0 c.in_err-cut_listed.ensures.refused (λ broken. absurd (not-both c.cut_listed.new.self.file.begun broken.0 calm))
+      (λ kept. ap (λ (a : AllocatorState). a.file.bytes) (kept.0 ∙ c.open_whole_chain.ensures.unchanged ∙ c.allocator_mut-allocator.ensures.value));
+}
 
 pub returns-in_err-cut_listed-clause-err : goal.returns-in_err-cut_listed-clause-err
 returns-in_err-cut_listed-clause-err g c =
@@ -57,35 +66,50 @@ returns-in_err-cut_listed-clause-err g c =
     c.in_err-cut_listed.field-0.0 c.in_err-cut_listed.ensures.err)
 
 pub returns-clause-turned : goal.returns-clause-turned
-returns-clause-turned g c told v change =
-    let held = cut-keeps-tables c.args.mini.now c.args.entry c.args.size c.div_ceil-wanted.result c.content_in-start.result.0 c.content_in-start.result.1 c.sector_len.result
-    c.allocator_mut-allocator.result.now c.open_whole_chain.new.allocator c.cut_listed.new.self c.in_ok-ids.ids.items c.cut_listed.new.ids.items c.requires.stream c.requires.large c.requires.shorter
-    c.allocator_mut-allocator.ensures.value (c.open_whole_chain.ensures.unchanged ∙ c.allocator_mut-allocator.ensures.value) c.content_in-start.ensures.start c.content_in-start.ensures.len c.in_ok-ids.ensures.whole c.sector_len.ensures c.div_ceil-wanted.ensures
-    (λ w. c.in_ok-cut_listed.ensures.holds told w) v change in
-    rw c.end_chain.ensures (cut-turned c.args.mini.now c.args.entry c.args.size c.div_ceil-wanted.result c.content_in-start.result.0 c.content_in-start.result.1 c.sector_len.result
-    c.allocator_mut-allocator.result.now c.open_whole_chain.new.allocator c.cut_listed.new.self c.in_ok-ids.ids.items c.cut_listed.new.ids.items c.requires.stream c.requires.large c.requires.shorter
-    c.allocator_mut-allocator.ensures.value (c.open_whole_chain.ensures.unchanged ∙ c.allocator_mut-allocator.ensures.value) c.content_in-start.ensures.start c.content_in-start.ensures.len c.in_ok-ids.ensures.whole c.sector_len.ensures c.div_ceil-wanted.ensures
-    c.in_ok-cut_listed.ensures.shortened (c.cut_listed.ensures.changes told) v change held (c.cut_listed.ensures.chain (subst (λ (a : AllocatorState). IsChain a.tables.fat (first_or_end c.in_ok-ids.ids.items) c.in_ok-ids.ids.items) (sym c.open_whole_chain.ensures.unchanged)
-    (subst (λ n. IsChain c.allocator_mut-allocator.result.now.tables.fat n c.in_ok-ids.ids.items)
-    (begins c.allocator_mut-allocator.result.now.tables.fat c.content_in-start.result.0 c.in_ok-ids.ids.items c.in_ok-ids.ensures.whole.chain.follows) c.in_ok-ids.ensures.whole.chain))))
+returns-clause-turned g c told =
+    rw c.end_chain.ensures (record {
+      turned = λ v change.
+          let held = cut-keeps-tables c.args.mini.now c.args.entry c.args.size c.div_ceil-wanted.result c.content_in-start.result.0 c.content_in-start.result.1 c.sector_len.result
+          c.allocator_mut-allocator.result.now c.open_whole_chain.new.allocator c.cut_listed.new.self c.in_ok-ids.ids.items c.cut_listed.new.ids.items c.requires.stream c.requires.large c.requires.shorter
+          c.allocator_mut-allocator.ensures.value (c.open_whole_chain.ensures.unchanged ∙ c.allocator_mut-allocator.ensures.value) c.content_in-start.ensures.start c.content_in-start.ensures.len c.in_ok-ids.ensures.whole c.sector_len.ensures c.div_ceil-wanted.ensures
+          (λ w. c.in_ok-cut_listed.ensures.holds told w) v change in
+          (cut-turned c.args.mini.now c.args.entry c.args.size c.div_ceil-wanted.result c.content_in-start.result.0 c.content_in-start.result.1 c.sector_len.result
+          c.allocator_mut-allocator.result.now c.open_whole_chain.new.allocator c.cut_listed.new.self c.in_ok-ids.ids.items c.cut_listed.new.ids.items c.requires.stream c.requires.large c.requires.shorter
+          c.allocator_mut-allocator.ensures.value (c.open_whole_chain.ensures.unchanged ∙ c.allocator_mut-allocator.ensures.value) c.content_in-start.ensures.start c.content_in-start.ensures.len c.in_ok-ids.ensures.whole c.sector_len.ensures c.div_ceil-wanted.ensures
+          c.in_ok-cut_listed.ensures.shortened (c.cut_listed.ensures.changes told) v change held (c.cut_listed.ensures.chain (subst (λ (a : AllocatorState). IsChain a.tables.fat (first_or_end c.in_ok-ids.ids.items) c.in_ok-ids.ids.items) (sym c.open_whole_chain.ensures.unchanged)
+          (subst (λ n. IsChain c.allocator_mut-allocator.result.now.tables.fat n c.in_ok-ids.ids.items)
+          (begins c.allocator_mut-allocator.result.now.tables.fat c.content_in-start.result.0 c.in_ok-ids.ids.items c.in_ok-ids.ensures.whole.chain.follows) c.in_ok-ids.ensures.whole.chain))));
+      holds = λ v change.
+          let held = cut-keeps-tables c.args.mini.now c.args.entry c.args.size c.div_ceil-wanted.result c.content_in-start.result.0 c.content_in-start.result.1 c.sector_len.result
+          c.allocator_mut-allocator.result.now c.open_whole_chain.new.allocator c.cut_listed.new.self c.in_ok-ids.ids.items c.cut_listed.new.ids.items c.requires.stream c.requires.large c.requires.shorter
+          c.allocator_mut-allocator.ensures.value (c.open_whole_chain.ensures.unchanged ∙ c.allocator_mut-allocator.ensures.value) c.content_in-start.ensures.start c.content_in-start.ensures.len c.in_ok-ids.ensures.whole c.sector_len.ensures c.div_ceil-wanted.ensures
+          (λ w. c.in_ok-cut_listed.ensures.holds told w) v change in
+          (cut-held c.args.mini.now c.args.entry c.args.size c.div_ceil-wanted.result c.content_in-start.result.0 c.content_in-start.result.1 c.sector_len.result
+          c.allocator_mut-allocator.result.now c.open_whole_chain.new.allocator c.cut_listed.new.self c.in_ok-ids.ids.items c.cut_listed.new.ids.items c.requires.stream c.requires.large c.requires.shorter
+          c.allocator_mut-allocator.ensures.value (c.open_whole_chain.ensures.unchanged ∙ c.allocator_mut-allocator.ensures.value) c.content_in-start.ensures.start c.content_in-start.ensures.len c.in_ok-ids.ensures.whole c.sector_len.ensures c.div_ceil-wanted.ensures
+          c.in_ok-cut_listed.ensures.shortened (c.cut_listed.ensures.changes told) v change held (c.cut_listed.ensures.spares told));
+      snug_mini = λ v change snug.
+          let same = c.open_whole_chain.ensures.unchanged ∙ c.allocator_mut-allocator.ensures.value in
+          (table-snug c.args.mini.now c.cut_listed.new.self
+          (ap (λ (t : TableState). t.version) c.in_ok-cut_listed.ensures.shortened.given_back.rest ∙ ap (λ (a : AllocatorState). a.tables.version) same) snug);
+    })
 
-pub returns-clause-holds : goal.returns-clause-holds
-returns-clause-holds g c told v change =
-    let held = cut-keeps-tables c.args.mini.now c.args.entry c.args.size c.div_ceil-wanted.result c.content_in-start.result.0 c.content_in-start.result.1 c.sector_len.result
-    c.allocator_mut-allocator.result.now c.open_whole_chain.new.allocator c.cut_listed.new.self c.in_ok-ids.ids.items c.cut_listed.new.ids.items c.requires.stream c.requires.large c.requires.shorter
-    c.allocator_mut-allocator.ensures.value (c.open_whole_chain.ensures.unchanged ∙ c.allocator_mut-allocator.ensures.value) c.content_in-start.ensures.start c.content_in-start.ensures.len c.in_ok-ids.ensures.whole c.sector_len.ensures c.div_ceil-wanted.ensures
-    (λ w. c.in_ok-cut_listed.ensures.holds told w) v change in
-    rw c.end_chain.ensures (cut-held c.args.mini.now c.args.entry c.args.size c.div_ceil-wanted.result c.content_in-start.result.0 c.content_in-start.result.1 c.sector_len.result
-    c.allocator_mut-allocator.result.now c.open_whole_chain.new.allocator c.cut_listed.new.self c.in_ok-ids.ids.items c.cut_listed.new.ids.items c.requires.stream c.requires.large c.requires.shorter
-    c.allocator_mut-allocator.ensures.value (c.open_whole_chain.ensures.unchanged ∙ c.allocator_mut-allocator.ensures.value) c.content_in-start.ensures.start c.content_in-start.ensures.len c.in_ok-ids.ensures.whole c.sector_len.ensures c.div_ceil-wanted.ensures
-    c.in_ok-cut_listed.ensures.shortened (c.cut_listed.ensures.changes told) v change held (c.cut_listed.ensures.spares told))
-
-pub returns-clause-others : goal.returns-clause-others
-returns-clause-others g c told v change =
-    rw c.end_chain.ensures (cut-spares-others c.args.mini.now c.args.entry c.args.size c.div_ceil-wanted.result c.content_in-start.result.0 c.content_in-start.result.1 c.sector_len.result
-    c.allocator_mut-allocator.result.now c.open_whole_chain.new.allocator c.cut_listed.new.self c.in_ok-ids.ids.items c.cut_listed.new.ids.items c.requires.stream c.requires.large c.requires.shorter
-    c.allocator_mut-allocator.ensures.value (c.open_whole_chain.ensures.unchanged ∙ c.allocator_mut-allocator.ensures.value) c.content_in-start.ensures.start c.content_in-start.ensures.len c.in_ok-ids.ensures.whole c.sector_len.ensures c.div_ceil-wanted.ensures
-    (c.cut_listed.ensures.spares told) v change)
+pub returns-clause-spares : goal.returns-clause-spares
+returns-clause-spares g c told =
+    rw c.end_chain.ensures (record {
+      others = λ v change.
+          (cut-spares-others c.args.mini.now c.args.entry c.args.size c.div_ceil-wanted.result c.content_in-start.result.0 c.content_in-start.result.1 c.sector_len.result
+          c.allocator_mut-allocator.result.now c.open_whole_chain.new.allocator c.cut_listed.new.self c.in_ok-ids.ids.items c.cut_listed.new.ids.items c.requires.stream c.requires.large c.requires.shorter
+          c.allocator_mut-allocator.ensures.value (c.open_whole_chain.ensures.unchanged ∙ c.allocator_mut-allocator.ensures.value) c.content_in-start.ensures.start c.content_in-start.ensures.len c.in_ok-ids.ensures.whole c.sector_len.ensures c.div_ceil-wanted.ensures
+          (c.cut_listed.ensures.spares told) v change);
+      header =
+          (table-keeps-header _ c.args.mini.now c.open_whole_chain.new.allocator c.cut_listed.new.self (c.open_whole_chain.ensures.unchanged ∙ c.allocator_mut-allocator.ensures.value) (c.cut_listed.ensures.spares told));
+      unwritten = λ calm.
+          elim (cases_lt c.div_ceil-wanted.result (length c.in_ok-ids.ids.items)) [
+            | inl fewer ↦ absurd (not-both c.cut_listed.new.self.file.begun (c.in_ok-cut_listed.ensures.begun.1 fewer) calm)
+            | inr all ↦ ap (λ (a : AllocatorState). a.file.bytes) ((c.cut_listed.ensures.none all).0 ∙ c.open_whole_chain.ensures.unchanged ∙ c.allocator_mut-allocator.ensures.value)
+          ];
+    })
 
 pub returns-clause-tight : goal.returns-clause-tight
 returns-clause-tight g c =
@@ -111,20 +135,3 @@ returns-clause-few g c list chain =
     (begins c.allocator_mut-allocator.result.now.tables.fat c.content_in-start.result.0 c.in_ok-ids.ids.items c.in_ok-ids.ensures.whole.chain.follows) c.in_ok-ids.ensures.whole.chain)))
     (subst (λ (a : AllocatorState). IsChain a.tables.fat c.content_in-start.result.0 list) c.end_chain.ensures chain) in
     few ∙ ap (rounded_up c.args.size) same
-
-pub returns-in_err-ids-clause-header : goal.returns-in_err-ids-clause-header
-returns-in_err-ids-clause-header g c told =
-    rw (c.open_whole_chain.ensures.unchanged, c.allocator_mut-allocator.ensures.value) (bytes-keep-header c.args.mini.now c.args.mini.now refl)
-
-pub returns-in_err-cut_listed-clause-header : goal.returns-in_err-cut_listed-clause-header
-returns-in_err-cut_listed-clause-header g c told = table-keeps-header _ c.args.mini.now c.open_whole_chain.new.allocator c.cut_listed.new.self (c.open_whole_chain.ensures.unchanged ∙ c.allocator_mut-allocator.ensures.value) (c.cut_listed.ensures.spares told)
-
-pub returns-clause-header : goal.returns-clause-header
-returns-clause-header g c told =
-    rw c.end_chain.ensures (table-keeps-header _ c.args.mini.now c.open_whole_chain.new.allocator c.cut_listed.new.self (c.open_whole_chain.ensures.unchanged ∙ c.allocator_mut-allocator.ensures.value) (c.cut_listed.ensures.spares told))
-
-pub returns-clause-snug_mini : goal.returns-clause-snug_mini
-returns-clause-snug_mini g c told v change snug =
-    let same = c.open_whole_chain.ensures.unchanged ∙ c.allocator_mut-allocator.ensures.value in
-    rw c.end_chain.ensures (table-snug c.args.mini.now c.cut_listed.new.self
-    (ap (λ (t : TableState). t.version) c.in_ok-cut_listed.ensures.shortened.given_back.rest ∙ ap (λ (a : AllocatorState). a.tables.version) same) snug)

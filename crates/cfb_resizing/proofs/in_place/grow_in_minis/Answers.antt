@@ -1,29 +1,27 @@
-use Rattle.std.proofs.Common.{refl, ◌≡◌, ◌∙◌, ◌-◌, ℕ, List, length, ap, sym, subst, arith}
+use Rattle.std.proofs.Common.{◌≡◌, ◌∙◌, ◌-◌, ℕ, List, length, ap, sym, subst, arith}
 use Rattle.std.specs.Prelude.{Contains}
 use Rattle.std.proofs.lemmas.Result.{err_from_is_err_and}
 use Rattle.cfb_format.specs.Full.{rounded_up}
 use Rattle.cfb_tables.specs.Tables.{first_or_end}
-use Rattle.cfb_mini_sectors.specs.State.{HoldsMini, MiniState}
-use Rattle.cfb_mini_sectors.specs.Steps.{IsNotHeld}
+use Rattle.cfb_mini_sectors.specs.State.{HoldsMini, MiniState, bytes_of}
+use Rattle.cfb_mini_sectors.specs.Steps.{IsNotHeld, IsSnugMini}
 use Rattle.cfb_mini.specs.MiniSectors.{HasMiniSector}
 use Rattle.cfb_mini.proofs.MiniExtended.{invalid-refused}
-use Rattle.cfb_content.specs.Contents.{KeepsOthers}
-use Rattle.cfb_content.proofs.Kept.{nothing-is-moved}
 use Rattle.cfb_content.proofs.Refusals.{refused-as}
 use Rattle.cfb_content.proofs.StreamEntry.{stream-inside}
 use Rattle.cfb_content.proofs.WholeStreams.{not-whole-minis}
 use Rattle.cfb_resizing.specs.Turning.{Turns}
-use Rattle.cfb_content.proofs.FixedHeader.{bytes-keep-header, header-stays, spared-since-keeps-header}
+use Rattle.cfb_content.proofs.FixedHeader.{spared-since-keeps-header}
+use Rattle.cfb_content.proofs.Changed.{spares-same, spares-as}
 use Rattle.cfb_resizing.proofs.LengthenedMinis.{not-both}
 use Rattle.cfb_resizing.proofs.TurnedInMinis.{grow-minis-lacks, grow-minis-others, grow-minis-room, grow-minis-starts, grow-minis-there, grow-minis-turned, not-held, not-in-stream}
-use Rattle.cfb_mini_sectors.specs.Steps.{IsSnugMini}
 use Rattle.cfb_resizing.proofs.in_place.grow_in_minis.Goals as goal
 
 pub content_in-start-requires : goal.content_in-start-requires
 content_in-start-requires g c = record { inside = stream-inside c.args.mini.now c.args.entry c.requires.stream }
 
-pub returns-in_err-ids-clause-others : goal.returns-in_err-ids-clause-others
-returns-in_err-ids-clause-others g c told v change = nothing-is-moved c.args.entry c.args.mini.now
+pub returns-in_err-ids-clause-spares : goal.returns-in_err-ids-clause-spares
+returns-in_err-ids-clause-spares g c told = spares-same c.args.mini.now c.args.entry
 
 pub returns-in_err-ids-clause-err : goal.returns-in_err-ids-clause-err
 returns-in_err-ids-clause-err g c =
@@ -35,8 +33,8 @@ returns-in_err-ids-clause-err g c =
     (omega (arith, small, longer)))
     (λ u. u) (λ no. absurd no) (λ no. absurd no) c.in_err-ids.field-0.0 c.in_err-ids.ensures.err)
 
-pub returns-then-not-has_minis-clause-others : goal.returns-then-not-has_minis-clause-others
-returns-then-not-has_minis-clause-others g c told v change = nothing-is-moved c.args.entry c.args.mini.now
+pub returns-then-not-has_minis-clause-spares : goal.returns-then-not-has_minis-clause-spares
+returns-then-not-has_minis-clause-spares g c told = spares-same c.args.mini.now c.args.entry
 
 pub returns-then-not-has_minis-clause-err : goal.returns-then-not-has_minis-clause-err
 returns-then-not-has_minis-clause-err g c =
@@ -49,9 +47,8 @@ returns-then-not-has_minis-clause-err g c =
     (λ all. not-both c.has_minis.result (c.has_minis.ensures.1 (subst (λ (l : List ℕ). (m : ℕ) → Contains l m → HasMiniSector s m) (sym c.deref.ensures.value) all))
     c.if-not-has_minis.true))
 
-pub returns-in_err-reserve-clause-others : goal.returns-in_err-reserve-clause-others
-returns-in_err-reserve-clause-others g c told v change =
-    subst (λ (m : MiniState). KeepsOthers c.args.entry c.args.mini.now m) (sym c.reserve.ensures.unchanged) (nothing-is-moved c.args.entry c.args.mini.now)
+pub returns-in_err-reserve-clause-spares : goal.returns-in_err-reserve-clause-spares
+returns-in_err-reserve-clause-spares g c told = spares-as c.args.mini.now c.reserve.new.self c.args.entry c.reserve.ensures.unchanged
 
 pub returns-in_err-reserve-clause-err : goal.returns-in_err-reserve-clause-err
 returns-in_err-reserve-clause-err g c =
@@ -85,14 +82,19 @@ lengthen_in_minis-requires-clause-enough g c =
     c.in_ok-ids.ids.items c.in_ok-ids.ids.items c.requires.stream c.requires.small c.requires.longer c.reserve.ensures.unchanged c.content_in-start.ensures.start
     c.content_in-start.ensures.len c.in_ok-ids.ensures.whole lacking c.in_ok-reserve.ensures.enough
 
-pub returns-in_err-lengthen_in_minis-clause-others : goal.returns-in_err-lengthen_in_minis-clause-others
-returns-in_err-lengthen_in_minis-clause-others g c told v change =
-    let lacking : c.saturating_sub-lacking.result ≡ rounded_up c.args.size 64 - length c.in_ok-ids.ids.items =
-    omega (arith, c.saturating_sub-lacking.ensures, c.div_ceil.ensures, c.len-2.ensures, c.in_ok-ids.ids.ok.0) in
-    grow-minis-others c.args.mini.now c.args.entry c.args.size c.content_in-start.result.0 c.content_in-start.result.1 c.saturating_sub-lacking.result c.reserve.new.self c.lengthen_in_minis.new.mini
-    c.in_ok-ids.ids.items c.lengthen_in_minis.new.ids.items c.requires.stream c.requires.small c.requires.longer c.reserve.ensures.unchanged c.content_in-start.ensures.start
-    c.content_in-start.ensures.len c.in_ok-ids.ensures.whole lacking
-    (c.lengthen_in_minis.ensures.spares told) (λ w held. c.lengthen_in_minis.ensures.mini_spares told w held) v change
+pub returns-in_err-lengthen_in_minis-clause-spares : goal.returns-in_err-lengthen_in_minis-clause-spares
+returns-in_err-lengthen_in_minis-clause-spares g c told = record {
+  others = λ v change.
+      let lacking : c.saturating_sub-lacking.result ≡ rounded_up c.args.size 64 - length c.in_ok-ids.ids.items =
+      omega (arith, c.saturating_sub-lacking.ensures, c.div_ceil.ensures, c.len-2.ensures, c.in_ok-ids.ids.ok.0) in
+      grow-minis-others c.args.mini.now c.args.entry c.args.size c.content_in-start.result.0 c.content_in-start.result.1 c.saturating_sub-lacking.result c.reserve.new.self c.lengthen_in_minis.new.mini
+      c.in_ok-ids.ids.items c.lengthen_in_minis.new.ids.items c.requires.stream c.requires.small c.requires.longer c.reserve.ensures.unchanged c.content_in-start.ensures.start
+      c.content_in-start.ensures.len c.in_ok-ids.ensures.whole lacking
+      (c.lengthen_in_minis.ensures.spares told) (λ w held. c.lengthen_in_minis.ensures.mini_spares told w held) v change;
+  header =
+      spared-since-keeps-header _ c.args.mini.now c.reserve.new.self c.lengthen_in_minis.new.mini c.reserve.ensures.unchanged (c.lengthen_in_minis.ensures.spares told);
+  unwritten = λ calm. c.lengthen_in_minis.ensures.unwritten told calm ∙ ap bytes_of c.reserve.ensures.unchanged;
+}
 
 pub returns-in_err-lengthen_in_minis-clause-err : goal.returns-in_err-lengthen_in_minis-clause-err
 returns-in_err-lengthen_in_minis-clause-err g c =
@@ -101,34 +103,42 @@ returns-in_err-lengthen_in_minis-clause-err g c =
     (λ u. u) c.in_err-lengthen_in_minis.field-0.0 c.in_err-lengthen_in_minis.ensures.err)
 
 pub returns-clause-turned : goal.returns-clause-turned
-returns-clause-turned g c told v change =
-    let lacking : c.saturating_sub-lacking.result ≡ rounded_up c.args.size 64 - length c.in_ok-ids.ids.items =
-    omega (arith, c.saturating_sub-lacking.ensures, c.div_ceil.ensures, c.len-2.ensures, c.in_ok-ids.ids.ok.0) in
-    let s = c.args.mini.now in
-    let new = c.lengthen_in_minis.new.mini in
-    let held = subst (λ (m : MiniState). HoldsMini v m) (sym c.reserve.ensures.unchanged) change.held in
-    let there = grow-minis-there c.args.mini.now c.args.entry c.args.size c.content_in-start.result.0 c.content_in-start.result.1 c.saturating_sub-lacking.result c.reserve.new.self c.reserve.new.self
-    c.in_ok-ids.ids.items c.in_ok-ids.ids.items c.requires.stream c.requires.small c.requires.longer c.reserve.ensures.unchanged c.content_in-start.ensures.start
-    c.content_in-start.ensures.len c.in_ok-ids.ensures.whole lacking in
-    subst (λ n. Turns s new c.args.entry c.args.size n) (sym (c.first_number.ensures ∙ ap first_or_end c.deref-2.ensures.value))
-    (grow-minis-turned c.args.mini.now c.args.entry c.args.size c.content_in-start.result.0 c.content_in-start.result.1 c.saturating_sub-lacking.result c.reserve.new.self c.lengthen_in_minis.new.mini
-    c.in_ok-ids.ids.items c.lengthen_in_minis.new.ids.items c.requires.stream c.requires.small c.requires.longer c.reserve.ensures.unchanged c.content_in-start.ensures.start
-    c.content_in-start.ensures.len c.in_ok-ids.ensures.whole lacking v change
-    c.lengthen_in_minis.ensures.listed c.in_ok-lengthen_in_minis.ensures.count c.in_ok-lengthen_in_minis.ensures.grown c.in_ok-lengthen_in_minis.ensures.taken
-    c.lengthen_in_minis.ensures.none c.lengthen_in_minis.ensures.chain (c.in_ok-lengthen_in_minis.ensures.padded told v held there))
+returns-clause-turned g c told = record {
+  turned = λ v change.
+      let lacking : c.saturating_sub-lacking.result ≡ rounded_up c.args.size 64 - length c.in_ok-ids.ids.items =
+      omega (arith, c.saturating_sub-lacking.ensures, c.div_ceil.ensures, c.len-2.ensures, c.in_ok-ids.ids.ok.0) in
+      let s = c.args.mini.now in
+      let new = c.lengthen_in_minis.new.mini in
+      let held = subst (λ (m : MiniState). HoldsMini v m) (sym c.reserve.ensures.unchanged) change.held in
+      let there = grow-minis-there c.args.mini.now c.args.entry c.args.size c.content_in-start.result.0 c.content_in-start.result.1 c.saturating_sub-lacking.result c.reserve.new.self c.reserve.new.self
+      c.in_ok-ids.ids.items c.in_ok-ids.ids.items c.requires.stream c.requires.small c.requires.longer c.reserve.ensures.unchanged c.content_in-start.ensures.start
+      c.content_in-start.ensures.len c.in_ok-ids.ensures.whole lacking in
+      subst (λ n. Turns s new c.args.entry c.args.size n) (sym (c.first_number.ensures ∙ ap first_or_end c.deref-2.ensures.value))
+      (grow-minis-turned c.args.mini.now c.args.entry c.args.size c.content_in-start.result.0 c.content_in-start.result.1 c.saturating_sub-lacking.result c.reserve.new.self c.lengthen_in_minis.new.mini
+      c.in_ok-ids.ids.items c.lengthen_in_minis.new.ids.items c.requires.stream c.requires.small c.requires.longer c.reserve.ensures.unchanged c.content_in-start.ensures.start
+      c.content_in-start.ensures.len c.in_ok-ids.ensures.whole lacking v change
+      c.lengthen_in_minis.ensures.listed c.in_ok-lengthen_in_minis.ensures.count c.in_ok-lengthen_in_minis.ensures.grown c.in_ok-lengthen_in_minis.ensures.taken
+      c.lengthen_in_minis.ensures.none c.lengthen_in_minis.ensures.chain (c.in_ok-lengthen_in_minis.ensures.padded told v held there));
+  holds = λ v change.
+      c.in_ok-lengthen_in_minis.ensures.holds told v (subst (λ (m : MiniState). HoldsMini v m) (sym c.reserve.ensures.unchanged) change.held);
+  snug_mini = λ v change snug.
+      c.in_ok-lengthen_in_minis.ensures.snug_mini told v (subst (λ (m : MiniState). HoldsMini v m) (sym c.reserve.ensures.unchanged) change.held)
+      (subst IsSnugMini (sym c.reserve.ensures.unchanged) snug);
+}
 
-pub returns-clause-holds : goal.returns-clause-holds
-returns-clause-holds g c told v change =
-    c.in_ok-lengthen_in_minis.ensures.holds told v (subst (λ (m : MiniState). HoldsMini v m) (sym c.reserve.ensures.unchanged) change.held)
-
-pub returns-clause-others : goal.returns-clause-others
-returns-clause-others g c told v change =
-    let lacking : c.saturating_sub-lacking.result ≡ rounded_up c.args.size 64 - length c.in_ok-ids.ids.items =
-    omega (arith, c.saturating_sub-lacking.ensures, c.div_ceil.ensures, c.len-2.ensures, c.in_ok-ids.ids.ok.0) in
-    grow-minis-others c.args.mini.now c.args.entry c.args.size c.content_in-start.result.0 c.content_in-start.result.1 c.saturating_sub-lacking.result c.reserve.new.self c.lengthen_in_minis.new.mini
-    c.in_ok-ids.ids.items c.lengthen_in_minis.new.ids.items c.requires.stream c.requires.small c.requires.longer c.reserve.ensures.unchanged c.content_in-start.ensures.start
-    c.content_in-start.ensures.len c.in_ok-ids.ensures.whole lacking
-    (c.lengthen_in_minis.ensures.spares told) (λ w held. c.lengthen_in_minis.ensures.mini_spares told w held) v change
+pub returns-clause-spares : goal.returns-clause-spares
+returns-clause-spares g c told = record {
+  others = λ v change.
+      let lacking : c.saturating_sub-lacking.result ≡ rounded_up c.args.size 64 - length c.in_ok-ids.ids.items =
+      omega (arith, c.saturating_sub-lacking.ensures, c.div_ceil.ensures, c.len-2.ensures, c.in_ok-ids.ids.ok.0) in
+      grow-minis-others c.args.mini.now c.args.entry c.args.size c.content_in-start.result.0 c.content_in-start.result.1 c.saturating_sub-lacking.result c.reserve.new.self c.lengthen_in_minis.new.mini
+      c.in_ok-ids.ids.items c.lengthen_in_minis.new.ids.items c.requires.stream c.requires.small c.requires.longer c.reserve.ensures.unchanged c.content_in-start.ensures.start
+      c.content_in-start.ensures.len c.in_ok-ids.ensures.whole lacking
+      (c.lengthen_in_minis.ensures.spares told) (λ w held. c.lengthen_in_minis.ensures.mini_spares told w held) v change;
+  header =
+      spared-since-keeps-header _ c.args.mini.now c.reserve.new.self c.lengthen_in_minis.new.mini c.reserve.ensures.unchanged (c.lengthen_in_minis.ensures.spares told);
+  unwritten = λ calm. c.lengthen_in_minis.ensures.unwritten told calm ∙ ap bytes_of c.reserve.ensures.unchanged;
+}
 
 pub returns-clause-enough : goal.returns-clause-enough
 returns-clause-enough g c =
@@ -138,23 +148,3 @@ returns-clause-enough g c =
     c.in_ok-ids.ids.items c.in_ok-ids.ids.items c.requires.stream c.requires.small c.requires.longer c.reserve.ensures.unchanged c.content_in-start.ensures.start
     c.content_in-start.ensures.len c.in_ok-ids.ensures.whole lacking in
     λ few. c.in_ok-reserve.ensures.enough (lacks.0 few)
-
-pub returns-in_err-ids-clause-header : goal.returns-in_err-ids-clause-header
-returns-in_err-ids-clause-header g c told = bytes-keep-header c.args.mini.now c.args.mini.now refl
-
-pub returns-then-not-has_minis-clause-header : goal.returns-then-not-has_minis-clause-header
-returns-then-not-has_minis-clause-header g c told = bytes-keep-header c.args.mini.now c.args.mini.now refl
-
-pub returns-in_err-reserve-clause-header : goal.returns-in_err-reserve-clause-header
-returns-in_err-reserve-clause-header g c told = header-stays c.args.mini.now _ c.reserve.ensures.unchanged
-
-pub returns-in_err-lengthen_in_minis-clause-header : goal.returns-in_err-lengthen_in_minis-clause-header
-returns-in_err-lengthen_in_minis-clause-header g c told = spared-since-keeps-header _ c.args.mini.now c.reserve.new.self c.lengthen_in_minis.new.mini c.reserve.ensures.unchanged (c.lengthen_in_minis.ensures.spares told)
-
-pub returns-clause-header : goal.returns-clause-header
-returns-clause-header g c told = spared-since-keeps-header _ c.args.mini.now c.reserve.new.self c.lengthen_in_minis.new.mini c.reserve.ensures.unchanged (c.lengthen_in_minis.ensures.spares told)
-
-pub returns-clause-snug_mini : goal.returns-clause-snug_mini
-returns-clause-snug_mini g c told v change snug =
-    c.in_ok-lengthen_in_minis.ensures.snug_mini told v (subst (λ (m : MiniState). HoldsMini v m) (sym c.reserve.ensures.unchanged) change.held)
-    (subst IsSnugMini (sym c.reserve.ensures.unchanged) snug)

@@ -1,4 +1,4 @@
-use Rattle.std.proofs.Common.{refl, ◌-◌, ◌∙◌, length, subst, sym, ap}
+use Rattle.std.proofs.Common.{◌-◌, ◌∙◌, length, subst, sym, ap}
 use Rattle.std.proofs.lemmas.Result.{err_from_is_err_and}
 use Rattle.cfb_format.specs.Bytes.{sector_len}
 use Rattle.cfb_format.specs.Chain.{IsChain}
@@ -7,18 +7,17 @@ use Rattle.cfb_tables.specs.Tables.{first_or_end}
 use Rattle.cfb_alloc.specs.Alloc.{AllocatorState, HoldsTables}
 use Rattle.cfb_alloc.specs.ListedChain.{Lengthens}
 use Rattle.cfb_mini_sectors.proofs.MiniStreams.{begins}
-use Rattle.cfb_content.proofs.Kept.{nothing-is-moved}
 use Rattle.cfb_content.proofs.Refusals.{refused-as}
 use Rattle.cfb_content.proofs.WholeStreams.{not-whole}
-use Rattle.cfb_content.proofs.FixedHeader.{bytes-keep-header, table-keeps-header}
+use Rattle.cfb_content.proofs.FixedHeader.{table-keeps-header}
+use Rattle.cfb_content.proofs.Changed.{spares-same}
 use Rattle.cfb_resizing.proofs.Tightness.{lengthened-tight}
 use Rattle.cfb_resizing.proofs.TurnedInSectors.{grow-held, grow-lacks, grow-spares-others, grow-there, grow-turned, not-usable}
 use Rattle.cfb_resizing.proofs.SnugMinis.{table-snug}
 use Rattle.cfb_resizing.proofs.in_place.grow_in_sectors.Goals as goal
 
-pub returns-in_err-ids-clause-others : goal.returns-in_err-ids-clause-others
-returns-in_err-ids-clause-others g c told v change =
-    rw (c.open_whole_chain.ensures.unchanged, c.allocator_mut-allocator.ensures.value) (nothing-is-moved c.args.entry c.args.mini.now)
+pub returns-in_err-ids-clause-spares : goal.returns-in_err-ids-clause-spares
+returns-in_err-ids-clause-spares g c told = rw (c.open_whole_chain.ensures.unchanged, c.allocator_mut-allocator.ensures.value) (spares-same c.args.mini.now c.args.entry)
 
 pub returns-in_err-ids-clause-err : goal.returns-in_err-ids-clause-err
 returns-in_err-ids-clause-err g c =
@@ -37,11 +36,17 @@ lengthen_in_sectors-requires g c =
           (subst (λ n. IsChain c.allocator_mut-allocator.result.now.tables.fat n ids) (begins c.allocator_mut-allocator.result.now.tables.fat c.content_in-start.result.0 ids chain.follows) chain);
     }
 
-pub returns-in_err-lengthen_in_sectors-clause-others : goal.returns-in_err-lengthen_in_sectors-clause-others
-returns-in_err-lengthen_in_sectors-clause-others g c told v change =
-    grow-spares-others c.args.mini.now c.args.entry c.args.size c.content_in-start.result.0 c.content_in-start.result.1 0 c.allocator_mut-allocator.result.now c.open_whole_chain.new.allocator
-    c.lengthen_in_sectors.new.allocator c.in_ok-ids.ids.items c.lengthen_in_sectors.new.ids.items c.requires.stream c.requires.large c.requires.longer c.allocator_mut-allocator.ensures.value
-    (c.open_whole_chain.ensures.unchanged ∙ c.allocator_mut-allocator.ensures.value) c.content_in-start.ensures.start c.content_in-start.ensures.len c.in_ok-ids.ensures.whole (c.lengthen_in_sectors.ensures.spares told) v change
+pub returns-in_err-lengthen_in_sectors-clause-spares : goal.returns-in_err-lengthen_in_sectors-clause-spares
+returns-in_err-lengthen_in_sectors-clause-spares g c told = record {
+  others = λ v change.
+      grow-spares-others c.args.mini.now c.args.entry c.args.size c.content_in-start.result.0 c.content_in-start.result.1 0 c.allocator_mut-allocator.result.now c.open_whole_chain.new.allocator
+      c.lengthen_in_sectors.new.allocator c.in_ok-ids.ids.items c.lengthen_in_sectors.new.ids.items c.requires.stream c.requires.large c.requires.longer c.allocator_mut-allocator.ensures.value
+      (c.open_whole_chain.ensures.unchanged ∙ c.allocator_mut-allocator.ensures.value) c.content_in-start.ensures.start c.content_in-start.ensures.len c.in_ok-ids.ensures.whole (c.lengthen_in_sectors.ensures.spares told) v change;
+  header =
+      table-keeps-header _ c.args.mini.now c.open_whole_chain.new.allocator c.lengthen_in_sectors.new.allocator (c.open_whole_chain.ensures.unchanged ∙ c.allocator_mut-allocator.ensures.value) (c.lengthen_in_sectors.ensures.spares told);
+  unwritten = λ calm.
+      c.lengthen_in_sectors.ensures.unwritten told calm ∙ ap (λ (a : AllocatorState). a.file.bytes) (c.open_whole_chain.ensures.unchanged ∙ c.allocator_mut-allocator.ensures.value);
+}
 
 pub returns-in_err-lengthen_in_sectors-clause-err : goal.returns-in_err-lengthen_in_sectors-clause-err
 returns-in_err-lengthen_in_sectors-clause-err g c =
@@ -53,33 +58,45 @@ returns-in_err-lengthen_in_sectors-clause-err g c =
     c.in_err-lengthen_in_sectors.field-0.0 c.in_err-lengthen_in_sectors.ensures.err)
 
 pub returns-clause-turned : goal.returns-clause-turned
-returns-clause-turned g c told v change =
-    let s = c.args.mini.now in
-    let lent = c.open_whole_chain.new.allocator in
-    let before = subst (λ (a : AllocatorState). HoldsTables v a) (sym (c.open_whole_chain.ensures.unchanged ∙ c.allocator_mut-allocator.ensures.value)) change.held.directory.tables in
-    let there = grow-there s c.args.entry c.args.size c.content_in-start.result.0 c.content_in-start.result.1 0 c.allocator_mut-allocator.result.now lent
-    c.lengthen_in_sectors.new.allocator c.in_ok-ids.ids.items c.lengthen_in_sectors.new.ids.items c.requires.stream c.requires.large c.requires.longer c.allocator_mut-allocator.ensures.value
-    (c.open_whole_chain.ensures.unchanged ∙ c.allocator_mut-allocator.ensures.value) c.content_in-start.ensures.start c.content_in-start.ensures.len c.in_ok-ids.ensures.whole in
-    rw c.end_chain.ensures (grow-turned s c.args.entry c.args.size c.content_in-start.result.0 c.content_in-start.result.1 0 c.allocator_mut-allocator.result.now lent
-    c.lengthen_in_sectors.new.allocator c.in_ok-ids.ids.items c.lengthen_in_sectors.new.ids.items c.requires.stream c.requires.large c.requires.longer c.allocator_mut-allocator.ensures.value
-    (c.open_whole_chain.ensures.unchanged ∙ c.allocator_mut-allocator.ensures.value) c.content_in-start.ensures.start c.content_in-start.ensures.len c.in_ok-ids.ensures.whole c.in_ok-lengthen_in_sectors.ensures.lengthened v change
-    (c.in_ok-lengthen_in_sectors.ensures.holds told v before) c.lengthen_in_sectors.ensures.chain (c.in_ok-lengthen_in_sectors.ensures.padded told v before there))
+returns-clause-turned g c told =
+    rw c.end_chain.ensures (record {
+      turned = λ v change.
+          let s = c.args.mini.now in
+          let lent = c.open_whole_chain.new.allocator in
+          let before = subst (λ (a : AllocatorState). HoldsTables v a) (sym (c.open_whole_chain.ensures.unchanged ∙ c.allocator_mut-allocator.ensures.value)) change.held.directory.tables in
+          let there = grow-there s c.args.entry c.args.size c.content_in-start.result.0 c.content_in-start.result.1 0 c.allocator_mut-allocator.result.now lent
+          c.lengthen_in_sectors.new.allocator c.in_ok-ids.ids.items c.lengthen_in_sectors.new.ids.items c.requires.stream c.requires.large c.requires.longer c.allocator_mut-allocator.ensures.value
+          (c.open_whole_chain.ensures.unchanged ∙ c.allocator_mut-allocator.ensures.value) c.content_in-start.ensures.start c.content_in-start.ensures.len c.in_ok-ids.ensures.whole in
+          (grow-turned s c.args.entry c.args.size c.content_in-start.result.0 c.content_in-start.result.1 0 c.allocator_mut-allocator.result.now lent
+          c.lengthen_in_sectors.new.allocator c.in_ok-ids.ids.items c.lengthen_in_sectors.new.ids.items c.requires.stream c.requires.large c.requires.longer c.allocator_mut-allocator.ensures.value
+          (c.open_whole_chain.ensures.unchanged ∙ c.allocator_mut-allocator.ensures.value) c.content_in-start.ensures.start c.content_in-start.ensures.len c.in_ok-ids.ensures.whole c.in_ok-lengthen_in_sectors.ensures.lengthened v change
+          (c.in_ok-lengthen_in_sectors.ensures.holds told v before) c.lengthen_in_sectors.ensures.chain (c.in_ok-lengthen_in_sectors.ensures.padded told v before there));
+      holds = λ v change.
+          let s = c.args.mini.now in
+          let lent = c.open_whole_chain.new.allocator in
+          let before = subst (λ (a : AllocatorState). HoldsTables v a) (sym (c.open_whole_chain.ensures.unchanged ∙ c.allocator_mut-allocator.ensures.value)) change.held.directory.tables in
+          (grow-held s c.args.entry c.args.size c.content_in-start.result.0 c.content_in-start.result.1 0 c.allocator_mut-allocator.result.now lent
+          c.lengthen_in_sectors.new.allocator c.in_ok-ids.ids.items c.lengthen_in_sectors.new.ids.items c.requires.stream c.requires.large c.requires.longer c.allocator_mut-allocator.ensures.value
+          (c.open_whole_chain.ensures.unchanged ∙ c.allocator_mut-allocator.ensures.value) c.content_in-start.ensures.start c.content_in-start.ensures.len c.in_ok-ids.ensures.whole c.in_ok-lengthen_in_sectors.ensures.lengthened v change
+          (c.in_ok-lengthen_in_sectors.ensures.holds told v before) (c.lengthen_in_sectors.ensures.spares told) c.in_ok-lengthen_in_sectors.ensures.sizes (c.lengthen_in_sectors.ensures.header told));
+      snug_mini = λ v change snug.
+          let same = c.open_whole_chain.ensures.unchanged ∙ c.allocator_mut-allocator.ensures.value in
+          (table-snug c.args.mini.now c.lengthen_in_sectors.new.allocator
+          (c.lengthen_in_sectors.ensures.version ∙ ap (λ (a : AllocatorState). a.tables.version) same) snug);
+    })
 
-pub returns-clause-holds : goal.returns-clause-holds
-returns-clause-holds g c told v change =
-    let s = c.args.mini.now in
-    let lent = c.open_whole_chain.new.allocator in
-    let before = subst (λ (a : AllocatorState). HoldsTables v a) (sym (c.open_whole_chain.ensures.unchanged ∙ c.allocator_mut-allocator.ensures.value)) change.held.directory.tables in
-    rw c.end_chain.ensures (grow-held s c.args.entry c.args.size c.content_in-start.result.0 c.content_in-start.result.1 0 c.allocator_mut-allocator.result.now lent
-    c.lengthen_in_sectors.new.allocator c.in_ok-ids.ids.items c.lengthen_in_sectors.new.ids.items c.requires.stream c.requires.large c.requires.longer c.allocator_mut-allocator.ensures.value
-    (c.open_whole_chain.ensures.unchanged ∙ c.allocator_mut-allocator.ensures.value) c.content_in-start.ensures.start c.content_in-start.ensures.len c.in_ok-ids.ensures.whole c.in_ok-lengthen_in_sectors.ensures.lengthened v change
-    (c.in_ok-lengthen_in_sectors.ensures.holds told v before) (c.lengthen_in_sectors.ensures.spares told) c.in_ok-lengthen_in_sectors.ensures.sizes (c.lengthen_in_sectors.ensures.header told))
-
-pub returns-clause-others : goal.returns-clause-others
-returns-clause-others g c told v change =
-    rw c.end_chain.ensures (grow-spares-others c.args.mini.now c.args.entry c.args.size c.content_in-start.result.0 c.content_in-start.result.1 0 c.allocator_mut-allocator.result.now c.open_whole_chain.new.allocator
-    c.lengthen_in_sectors.new.allocator c.in_ok-ids.ids.items c.lengthen_in_sectors.new.ids.items c.requires.stream c.requires.large c.requires.longer c.allocator_mut-allocator.ensures.value
-    (c.open_whole_chain.ensures.unchanged ∙ c.allocator_mut-allocator.ensures.value) c.content_in-start.ensures.start c.content_in-start.ensures.len c.in_ok-ids.ensures.whole (c.lengthen_in_sectors.ensures.spares told) v change)
+pub returns-clause-spares : goal.returns-clause-spares
+returns-clause-spares g c told =
+    rw c.end_chain.ensures (record {
+      others = λ v change.
+          (grow-spares-others c.args.mini.now c.args.entry c.args.size c.content_in-start.result.0 c.content_in-start.result.1 0 c.allocator_mut-allocator.result.now c.open_whole_chain.new.allocator
+          c.lengthen_in_sectors.new.allocator c.in_ok-ids.ids.items c.lengthen_in_sectors.new.ids.items c.requires.stream c.requires.large c.requires.longer c.allocator_mut-allocator.ensures.value
+          (c.open_whole_chain.ensures.unchanged ∙ c.allocator_mut-allocator.ensures.value) c.content_in-start.ensures.start c.content_in-start.ensures.len c.in_ok-ids.ensures.whole (c.lengthen_in_sectors.ensures.spares told) v change);
+      header =
+          (table-keeps-header _ c.args.mini.now c.open_whole_chain.new.allocator c.lengthen_in_sectors.new.allocator (c.open_whole_chain.ensures.unchanged ∙ c.allocator_mut-allocator.ensures.value) (c.lengthen_in_sectors.ensures.spares told));
+      unwritten = λ calm.
+          c.lengthen_in_sectors.ensures.unwritten told calm ∙ ap (λ (a : AllocatorState). a.file.bytes) (c.open_whole_chain.ensures.unchanged ∙ c.allocator_mut-allocator.ensures.value);
+    })
 
 pub returns-clause-tight : goal.returns-clause-tight
 returns-clause-tight g c =
@@ -96,20 +113,3 @@ returns-clause-enough g c =
     c.lengthen_in_sectors.new.allocator c.in_ok-ids.ids.items c.lengthen_in_sectors.new.ids.items c.requires.stream c.requires.large c.requires.longer c.allocator_mut-allocator.ensures.value
     (c.open_whole_chain.ensures.unchanged ∙ c.allocator_mut-allocator.ensures.value) c.content_in-start.ensures.start c.content_in-start.ensures.len c.in_ok-ids.ensures.whole in
     lacks.1 c.in_ok-lengthen_in_sectors.ensures.enough
-
-pub returns-in_err-ids-clause-header : goal.returns-in_err-ids-clause-header
-returns-in_err-ids-clause-header g c told =
-    rw (c.open_whole_chain.ensures.unchanged, c.allocator_mut-allocator.ensures.value) (bytes-keep-header c.args.mini.now c.args.mini.now refl)
-
-pub returns-in_err-lengthen_in_sectors-clause-header : goal.returns-in_err-lengthen_in_sectors-clause-header
-returns-in_err-lengthen_in_sectors-clause-header g c told = table-keeps-header _ c.args.mini.now c.open_whole_chain.new.allocator c.lengthen_in_sectors.new.allocator (c.open_whole_chain.ensures.unchanged ∙ c.allocator_mut-allocator.ensures.value) (c.lengthen_in_sectors.ensures.spares told)
-
-pub returns-clause-header : goal.returns-clause-header
-returns-clause-header g c told =
-    rw c.end_chain.ensures (table-keeps-header _ c.args.mini.now c.open_whole_chain.new.allocator c.lengthen_in_sectors.new.allocator (c.open_whole_chain.ensures.unchanged ∙ c.allocator_mut-allocator.ensures.value) (c.lengthen_in_sectors.ensures.spares told))
-
-pub returns-clause-snug_mini : goal.returns-clause-snug_mini
-returns-clause-snug_mini g c told v change snug =
-    let same = c.open_whole_chain.ensures.unchanged ∙ c.allocator_mut-allocator.ensures.value in
-    rw c.end_chain.ensures (table-snug c.args.mini.now c.lengthen_in_sectors.new.allocator
-    (c.lengthen_in_sectors.ensures.version ∙ ap (λ (a : AllocatorState). a.tables.version) same) snug)

@@ -11,7 +11,8 @@ use Rattle.cfb_chains.proofs.ChainLists.{ends_among}
 use Rattle.cfb_chains.proofs.Sparing.{gained_spared}
 use Rattle.cfb_mini_sectors.proofs.HeldMini.{no-tables}
 use Rattle.cfb_content.proofs.Refusals.{refused-as}
-use Rattle.cfb_resizing.proofs.LengthenedSectors.{header-left, lacking-is, lengthened-padded, tail-placed}
+use Rattle.cfb_content.proofs.GrownWith.{header-left}
+use Rattle.cfb_resizing.proofs.LengthenedSectors.{lacking-is, lengthened-padded, tail-placed}
 use Rattle.std.specs.List.{IsDistinct}
 use Rattle.std.specs.Prelude.{nat_eq}
 use Rattle.cfb_resizing.proofs.in_place.lengthen_in_sectors.Goals as goal

@@ -5,7 +5,8 @@ use Rattle.cfb_alloc.specs.Alloc.{AllocatorState, IsUsable}
 use Rattle.cfb_alloc.proofs.Answering.{all_ok, on_both, on_ok}
 use Rattle.cfb_mini_sectors.specs.State.{tables_in}
 use Rattle.cfb_mini_sectors.proofs.HeldShortened.{usable-left}
-use Rattle.cfb_resizing.proofs.CarriedToSectors.{carried-apart, carried-around, carried-err, carried-held, carried-makes, carried-mini-spares, carried-padded, carried-refused, carried-spares, carried-tables, carried-tight, carried-zeros, freed-held, room-stays}
+use Rattle.cfb_content.proofs.RoomGiven.{lacking-before}
+use Rattle.cfb_resizing.proofs.CarriedToSectors.{carried-apart, carried-around, carried-err, carried-held, carried-makes, carried-mini-spares, carried-padded, carried-refused, carried-spares, carried-tables, carried-tight, carried-unwritten, carried-zeros, freed-held}
 use Rattle.cfb_resizing.proofs.SnugMinis.{freed-snug, table-snug}
 use Rattle.cfb_resizing.proofs.moving.carry_to_sectors.Goals as goal
 
@@ -89,8 +90,15 @@ returns-clause-refused g c =
     carried-refused c.args.mini.now c.cut_mini_listed.new.self c.args.list.now.items c.allocator_mut.result.now c.begin_in_sectors.new.allocator c.allocator_mut.ensures.value
     c.cut_mini_listed.ensures.limits c.begin_in_sectors.result _ _
     (λ bad. bad (subst (λ (t : TableState). IsUsable t) (sym same) (usable-left (tables_in c.args.mini.now) (tables_in c.cut_mini_listed.new.self) sizes c.requires.usable)))
-    (λ few. c.requires.enough (room-stays (tables_in c.args.mini.now) (tables_in c.cut_mini_listed.new.self) c.args.count sizes (subst (λ (t : TableState). IsTooFew t c.args.count) same few)))
+    (λ few. c.requires.enough.2 (lacking-before c.args.mini.now c.cut_mini_listed.new.self c.args.list.now.items c.requires.enough.0 c.args.count c.requires.enough.1 sizes
+    c.cut_mini_listed.ensures.limits.version c.in_ok-cut_mini_listed.ensures.room c.in_ok-cut_mini_listed.ensures.given_back (subst (λ (t : TableState). IsTooFew t c.args.count) same few)))
     c.in_ok-cut_mini_listed.ensures.begun.1 (λ few. (c.cut_mini_listed.ensures.none few).1) c.begin_in_sectors.ensures.refused c.begin_in_sectors.ensures.err
+
+pub returns-clause-unwritten : goal.returns-clause-unwritten
+returns-clause-unwritten g c calm =
+    carried-unwritten c.args.mini.now c.cut_mini_listed.new.self c.args.list.now.items c.allocator_mut.result.now c.begin_in_sectors.new.allocator c.allocator_mut.ensures.value
+    c.cut_mini_listed.ensures.limits c.begin_in_sectors.result c.in_ok-cut_mini_listed.ensures.begun.1 (λ few. (c.cut_mini_listed.ensures.none few).1)
+    c.begin_in_sectors.ensures.begun c.begin_in_sectors.ensures.refused calm
 
 pub returns-clause-err : goal.returns-clause-err
 returns-clause-err g c =
@@ -98,7 +106,8 @@ returns-clause-err g c =
     let sizes = c.cut_mini_listed.ensures.sizes in
     carried-err c.begin_in_sectors.result _ _ _
     (λ bad. bad (subst (λ (t : TableState). IsUsable t) (sym same) (usable-left (tables_in c.args.mini.now) (tables_in c.cut_mini_listed.new.self) sizes c.requires.usable)))
-    (λ few. c.requires.enough (room-stays (tables_in c.args.mini.now) (tables_in c.cut_mini_listed.new.self) c.args.count sizes (subst (λ (t : TableState). IsTooFew t c.args.count) same few)))
+    (λ few. c.requires.enough.2 (lacking-before c.args.mini.now c.cut_mini_listed.new.self c.args.list.now.items c.requires.enough.0 c.args.count c.requires.enough.1 sizes
+    c.cut_mini_listed.ensures.limits.version c.in_ok-cut_mini_listed.ensures.room c.in_ok-cut_mini_listed.ensures.given_back (subst (λ (t : TableState). IsTooFew t c.args.count) same few)))
     c.begin_in_sectors.ensures.err
 
 pub returns-clause-counts : goal.returns-clause-counts

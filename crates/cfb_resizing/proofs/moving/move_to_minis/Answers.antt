@@ -1,34 +1,31 @@
-use Rattle.std.proofs.Common.{refl, ◌≡◌, ◌∙◌, ℕ, List, length, ap, sym, subst, arith}
+use Rattle.std.proofs.Common.{◌≡◌, ◌∙◌, ℕ, List, length, ap, sym, subst, arith}
 use Rattle.std.proofs.lemmas.Result.{err_from_is_err_and}
 use Rattle.cfb_format.specs.Full.{rounded_up}
 use Rattle.cfb_tables.specs.Changes.{AreDisjoint}
 use Rattle.cfb_tables.specs.Tables.{first_or_end}
 use Rattle.cfb_mini_sectors.specs.State.{HoldsMini, MiniState, bytes_of, tables_in}
-use Rattle.cfb_mini_sectors.specs.Steps.{IsTooFewAfterFor, system_sectors}
+use Rattle.cfb_mini_sectors.specs.Steps.{IsTooFewAfterFor, system_sectors, IsSnugMini}
 use Rattle.cfb_mini.specs.MiniSectors.{IsStill}
 use Rattle.cfb_mini.proofs.MiniExtended.{invalid-refused}
-use Rattle.cfb_content.specs.Contents.{KeepsOthers}
 use Rattle.cfb_content.specs.Parts.{IsWholeChain}
-use Rattle.cfb_content.proofs.Kept.{nothing-is-moved}
 use Rattle.cfb_content.proofs.Refusals.{refused-as}
 use Rattle.cfb_content.proofs.StreamEntry.{stream-inside}
 use Rattle.cfb_content.proofs.WholeStreams.{not-whole}
 use Rattle.cfb_resizing.specs.Turning.{KeepsAround, StopsOrBegun, Turns}
-use Rattle.cfb_content.proofs.FixedHeader.{bytes-keep-header, header-stays, spared-since-keeps-header}
+use Rattle.cfb_content.proofs.FixedHeader.{bytes-keep-header, spared-since-keeps-header}
+use Rattle.cfb_content.proofs.Changed.{spares-same, spares-as}
 use Rattle.cfb_resizing.proofs.CarriedToMinis.{after-then, kept-after}
 use Rattle.cfb_resizing.proofs.MovedToMinis.{few-still, leave-apart, leave-asked, leave-lacks, leave-others, leave-some, leave-turned, still-same}
 use Rattle.cfb_resizing.proofs.MovedToSectors.{still-around, still-kept, still-stops, still-tight}
 use Rattle.cfb_resizing.proofs.TurnedInMinis.{not-held}
-use Rattle.cfb_mini_sectors.specs.Steps.{IsSnugMini}
 use Rattle.cfb_resizing.proofs.moving.move_to_minis.Goals as goal
 
 pub content_in-start-requires : goal.content_in-start-requires
 content_in-start-requires g c =
     record { inside = stream-inside c.args.mini.now c.args.entry c.requires.stream }
 
-pub returns-in_err-old-clause-others : goal.returns-in_err-old-clause-others
-returns-in_err-old-clause-others g c told v change =
-    nothing-is-moved c.args.entry c.args.mini.now
+pub returns-in_err-old-clause-spares : goal.returns-in_err-old-clause-spares
+returns-in_err-old-clause-spares g c told = spares-same c.args.mini.now c.args.entry
 
 pub returns-in_err-old-clause-err : goal.returns-in_err-old-clause-err
 returns-in_err-old-clause-err g c =
@@ -37,21 +34,17 @@ returns-in_err-old-clause-err g c =
     c.content_in-start.ensures.len c.requires.stream c.requires.large in
     rw (p.1, p.2) (refused-as _ _ _ _ _ _ _ _ (λ bad told. none bad) (λ u. u) (λ no. absurd no) (λ no. absurd no) c.in_err-old.field-0.0 c.in_err-old.ensures.err)
 
-pub returns-in_err-reserve-clause-others : goal.returns-in_err-reserve-clause-others
-returns-in_err-reserve-clause-others g c told v change =
-    subst (λ (m : MiniState). KeepsOthers c.args.entry c.args.mini.now m) (sym c.reserve.ensures.unchanged) (nothing-is-moved c.args.entry c.args.mini.now)
+pub returns-in_err-reserve-clause-spares : goal.returns-in_err-reserve-clause-spares
+returns-in_err-reserve-clause-spares g c told = spares-as c.args.mini.now c.reserve.new.self c.args.entry c.reserve.ensures.unchanged
 
-pub returns-in_err-check_growth-clause-others : goal.returns-in_err-check_growth-clause-others
-returns-in_err-check_growth-clause-others g c told v change =
-    subst (λ (m : MiniState). KeepsOthers c.args.entry c.args.mini.now m) (sym c.reserve.ensures.unchanged) (nothing-is-moved c.args.entry c.args.mini.now)
+pub returns-in_err-check_growth-clause-spares : goal.returns-in_err-check_growth-clause-spares
+returns-in_err-check_growth-clause-spares g c told = spares-as c.args.mini.now c.reserve.new.self c.args.entry c.reserve.ensures.unchanged
 
-pub returns-in_err-clone-clause-others : goal.returns-in_err-clone-clause-others
-returns-in_err-clone-clause-others g c told v change =
-    subst (λ (m : MiniState). KeepsOthers c.args.entry c.args.mini.now m) (sym c.reserve.ensures.unchanged) (nothing-is-moved c.args.entry c.args.mini.now)
+pub returns-in_err-clone-clause-spares : goal.returns-in_err-clone-clause-spares
+returns-in_err-clone-clause-spares g c told = spares-as c.args.mini.now c.reserve.new.self c.args.entry c.reserve.ensures.unchanged
 
-pub returns-in_err-ids-clause-others : goal.returns-in_err-ids-clause-others
-returns-in_err-ids-clause-others g c told v change =
-    subst (λ (m : MiniState). KeepsOthers c.args.entry c.args.mini.now m) (sym c.reserve.ensures.unchanged) (nothing-is-moved c.args.entry c.args.mini.now)
+pub returns-in_err-ids-clause-spares : goal.returns-in_err-ids-clause-spares
+returns-in_err-ids-clause-spares g c told = spares-as c.args.mini.now c.reserve.new.self c.args.entry c.reserve.ensures.unchanged
 
 pub returns-in_err-reserve-clause-takes_none : goal.returns-in_err-reserve-clause-takes_none
 returns-in_err-reserve-clause-takes_none g c none = ap (λ (m : MiniState). length (tables_in m).fat) c.reserve.ensures.unchanged
@@ -139,11 +132,17 @@ returns-in_err-check_growth-clause-err g c =
     c.allocator.result.now c.in_ok-old.old.items c.requires.stream c.requires.large c.requires.small c.allocator.ensures c.content_in-start.ensures.start c.content_in-start.ensures.len
     c.in_ok-old.ensures.whole wanted v change)))))
 
-pub returns-in_err-content-clause-others : goal.returns-in_err-content-clause-others
-returns-in_err-content-clause-others g c told v change =
-    let first = c.reserve.ensures.unchanged in
-    let still = subst (λ (m : MiniState). IsStill m c.taken_from_sectors.new.mini) first c.taken_from_sectors.ensures.kept in
-    still-kept v c.args.mini.now c.taken_from_sectors.new.mini c.args.entry change c.requires.stream still (c.taken_from_sectors.ensures.bytes told ∙ ap bytes_of first)
+pub returns-in_err-content-clause-spares : goal.returns-in_err-content-clause-spares
+returns-in_err-content-clause-spares g c told = record {
+  others = λ v change.
+      let first = c.reserve.ensures.unchanged in
+      let still = subst (λ (m : MiniState). IsStill m c.taken_from_sectors.new.mini) first c.taken_from_sectors.ensures.kept in
+      still-kept v c.args.mini.now c.taken_from_sectors.new.mini c.args.entry change c.requires.stream still (c.taken_from_sectors.ensures.bytes told ∙ ap bytes_of first);
+  header =
+      let first = c.reserve.ensures.unchanged in
+      bytes-keep-header c.args.mini.now c.taken_from_sectors.new.mini (c.taken_from_sectors.ensures.bytes told ∙ ap bytes_of first);
+  unwritten = λ calm. c.taken_from_sectors.ensures.bytes told ∙ ap bytes_of c.reserve.ensures.unchanged;
+}
 
 pub carry_to_minis-requires-clause-some : goal.carry_to_minis-requires-clause-some
 carry_to_minis-requires-clause-some g c =
@@ -162,17 +161,25 @@ carry_to_minis-requires-clause-enough g c =
     few-still c.args.mini.now c.taken_from_sectors.new.mini (length c.deref-3.result.now) c.div_ceil-count.result still
     (subst (λ n. IsTooFewAfterFor c.args.mini.now n c.div_ceil-count.result → ⊥) (long ∙ sym (ap (λ (l : List ℕ). length l) c.deref-3.ensures.value)) c.in_ok-reserve.ensures.enough)
 
-pub returns-in_err-carry_to_minis-clause-others : goal.returns-in_err-carry_to_minis-clause-others
-returns-in_err-carry_to_minis-clause-others g c told v change =
-    let wanted : c.div_ceil-count.result ≡ rounded_up c.args.size 64 = omega (arith, c.div_ceil-count.ensures) in
-    let found = subst (λ (l : List ℕ). IsWholeChain c.allocator.result.now.tables.version c.allocator.result.now.tables.fat c.allocator.result.now.file.len
-    c.content_in-start.result.0 c.content_in-start.result.1 l) (sym c.deref-3.ensures.value) c.in_ok-old.ensures.whole in
-    let first = c.reserve.ensures.unchanged in
-    let same = c.in_ok-content.ensures.same told ∙ first in
-    leave-others c.args.mini.now c.taken_from_sectors.new.mini c.carry_to_minis.new.mini c.args.entry c.args.size c.div_ceil-count.result c.content_in-start.result.0 c.content_in-start.result.1
-    c.allocator.result.now c.deref-3.result.now c.requires.stream c.requires.large c.requires.small c.allocator.ensures c.content_in-start.ensures.start c.content_in-start.ensures.len
-    found wanted same (c.carry_to_minis.ensures.spares told)
-    (λ w held apart unnamed. c.carry_to_minis.ensures.mini_spares told w held apart unnamed) v change
+pub returns-in_err-carry_to_minis-clause-spares : goal.returns-in_err-carry_to_minis-clause-spares
+returns-in_err-carry_to_minis-clause-spares g c told = record {
+  others = λ v change.
+      let wanted : c.div_ceil-count.result ≡ rounded_up c.args.size 64 = omega (arith, c.div_ceil-count.ensures) in
+      let found = subst (λ (l : List ℕ). IsWholeChain c.allocator.result.now.tables.version c.allocator.result.now.tables.fat c.allocator.result.now.file.len
+      c.content_in-start.result.0 c.content_in-start.result.1 l) (sym c.deref-3.ensures.value) c.in_ok-old.ensures.whole in
+      let first = c.reserve.ensures.unchanged in
+      let same = c.in_ok-content.ensures.same told ∙ first in
+      leave-others c.args.mini.now c.taken_from_sectors.new.mini c.carry_to_minis.new.mini c.args.entry c.args.size c.div_ceil-count.result c.content_in-start.result.0 c.content_in-start.result.1
+      c.allocator.result.now c.deref-3.result.now c.requires.stream c.requires.large c.requires.small c.allocator.ensures c.content_in-start.ensures.start c.content_in-start.ensures.len
+      found wanted same (c.carry_to_minis.ensures.spares told)
+      (λ w held apart unnamed. c.carry_to_minis.ensures.mini_spares told w held apart unnamed) v change;
+  header =
+      let first = c.reserve.ensures.unchanged in
+      let same = c.in_ok-content.ensures.same told ∙ first in
+      spared-since-keeps-header _ c.args.mini.now c.taken_from_sectors.new.mini c.carry_to_minis.new.mini same (c.carry_to_minis.ensures.spares told);
+  unwritten = λ calm.
+      c.carry_to_minis.ensures.unwritten calm ∙ ap bytes_of (c.in_ok-content.ensures.same told ∙ c.reserve.ensures.unchanged);
+}
 
 pub returns-in_err-carry_to_minis-clause-around : goal.returns-in_err-carry_to_minis-clause-around
 returns-in_err-carry_to_minis-clause-around g c =
@@ -208,42 +215,59 @@ returns-in_err-carry_to_minis-clause-err g c =
     (λ u. u) (λ no. absurd no) (λ u. u) c.in_err-carry_to_minis.field-0.0 c.in_err-carry_to_minis.ensures.err)
 
 pub returns-clause-turned : goal.returns-clause-turned
-returns-clause-turned g c told v change =
-    let wanted : c.div_ceil-count.result ≡ rounded_up c.args.size 64 = omega (arith, c.div_ceil-count.ensures) in
-    let found = subst (λ (l : List ℕ). IsWholeChain c.allocator.result.now.tables.version c.allocator.result.now.tables.fat c.allocator.result.now.file.len
-    c.content_in-start.result.0 c.content_in-start.result.1 l) (sym c.deref-3.ensures.value) c.in_ok-old.ensures.whole in
-    let first = c.reserve.ensures.unchanged in
-    let same = c.in_ok-content.ensures.same told ∙ first in
-    subst (λ n. Turns c.args.mini.now c.carry_to_minis.new.mini c.args.entry c.args.size n) (sym (c.first_number.ensures ∙ ap first_or_end c.deref-5.ensures.value))
-    (leave-turned c.args.mini.now c.taken_from_sectors.new.mini c.carry_to_minis.new.mini c.args.entry c.args.size c.div_ceil-count.result c.content_in-start.result.0 c.content_in-start.result.1
-    c.allocator.result.now c.deref-3.result.now c.requires.stream c.requires.large c.requires.small c.allocator.ensures c.content_in-start.ensures.start c.content_in-start.ensures.len
-    found wanted
-    c.carry_to_minis.new.ids.items c.deref-4.result.now c.in_ok-content.content.items c.deref-2.result.now c.reserve.new.self same first
-    (c.deref-2.ensures.value ∙ sym c.deref-3.ensures.value) c.deref-4.ensures.value v change c.in_ok-carry_to_minis.ensures.carried c.in_ok-carry_to_minis.ensures.chain
-    c.in_ok-carry_to_minis.ensures.count c.in_ok-content.ensures.len (c.in_ok-content.ensures.got told) (c.in_ok-carry_to_minis.ensures.stands told v))
+returns-clause-turned g c told = record {
+  turned = λ v change.
+      let wanted : c.div_ceil-count.result ≡ rounded_up c.args.size 64 = omega (arith, c.div_ceil-count.ensures) in
+      let found = subst (λ (l : List ℕ). IsWholeChain c.allocator.result.now.tables.version c.allocator.result.now.tables.fat c.allocator.result.now.file.len
+      c.content_in-start.result.0 c.content_in-start.result.1 l) (sym c.deref-3.ensures.value) c.in_ok-old.ensures.whole in
+      let first = c.reserve.ensures.unchanged in
+      let same = c.in_ok-content.ensures.same told ∙ first in
+      subst (λ n. Turns c.args.mini.now c.carry_to_minis.new.mini c.args.entry c.args.size n) (sym (c.first_number.ensures ∙ ap first_or_end c.deref-5.ensures.value))
+      (leave-turned c.args.mini.now c.taken_from_sectors.new.mini c.carry_to_minis.new.mini c.args.entry c.args.size c.div_ceil-count.result c.content_in-start.result.0 c.content_in-start.result.1
+      c.allocator.result.now c.deref-3.result.now c.requires.stream c.requires.large c.requires.small c.allocator.ensures c.content_in-start.ensures.start c.content_in-start.ensures.len
+      found wanted
+      c.carry_to_minis.new.ids.items c.deref-4.result.now c.in_ok-content.content.items c.deref-2.result.now c.reserve.new.self same first
+      (c.deref-2.ensures.value ∙ sym c.deref-3.ensures.value) c.deref-4.ensures.value v change c.in_ok-carry_to_minis.ensures.carried c.in_ok-carry_to_minis.ensures.chain
+      c.in_ok-carry_to_minis.ensures.count c.in_ok-content.ensures.len (c.in_ok-content.ensures.got told) (c.in_ok-carry_to_minis.ensures.stands told v));
+  holds = λ v change.
+      let wanted : c.div_ceil-count.result ≡ rounded_up c.args.size 64 = omega (arith, c.div_ceil-count.ensures) in
+      let found = subst (λ (l : List ℕ). IsWholeChain c.allocator.result.now.tables.version c.allocator.result.now.tables.fat c.allocator.result.now.file.len
+      c.content_in-start.result.0 c.content_in-start.result.1 l) (sym c.deref-3.ensures.value) c.in_ok-old.ensures.whole in
+      let first = c.reserve.ensures.unchanged in
+      let same = c.in_ok-content.ensures.same told ∙ first in
+      leave-asked c.args.mini.now c.taken_from_sectors.new.mini c.carry_to_minis.new.mini c.args.entry c.args.size c.div_ceil-count.result c.content_in-start.result.0 c.content_in-start.result.1
+      c.allocator.result.now c.deref-3.result.now c.requires.stream c.requires.large c.requires.small c.allocator.ensures c.content_in-start.ensures.start c.content_in-start.ensures.len
+      found wanted (λ m. HoldsMini v c.carry_to_minis.new.mini) same v change (c.in_ok-carry_to_minis.ensures.holds told v);
+  snug_mini = λ v change snug.
+      let wanted : c.div_ceil-count.result ≡ rounded_up c.args.size 64 = omega (arith, c.div_ceil-count.ensures) in
+      let found = subst (λ (l : List ℕ). IsWholeChain c.allocator.result.now.tables.version c.allocator.result.now.tables.fat c.allocator.result.now.file.len
+      c.content_in-start.result.0 c.content_in-start.result.1 l) (sym c.deref-3.ensures.value) c.in_ok-old.ensures.whole in
+      let first = c.reserve.ensures.unchanged in
+      let same = c.in_ok-content.ensures.same told ∙ first in
+      leave-asked c.args.mini.now c.taken_from_sectors.new.mini c.carry_to_minis.new.mini c.args.entry c.args.size c.div_ceil-count.result c.content_in-start.result.0 c.content_in-start.result.1
+      c.allocator.result.now c.deref-3.result.now c.requires.stream c.requires.large c.requires.small c.allocator.ensures c.content_in-start.ensures.start c.content_in-start.ensures.len
+      found wanted (λ m. IsSnugMini m → IsSnugMini c.carry_to_minis.new.mini) same v change (c.in_ok-carry_to_minis.ensures.snug_mini told v) snug;
+}
 
-pub returns-clause-holds : goal.returns-clause-holds
-returns-clause-holds g c told v change =
-    let wanted : c.div_ceil-count.result ≡ rounded_up c.args.size 64 = omega (arith, c.div_ceil-count.ensures) in
-    let found = subst (λ (l : List ℕ). IsWholeChain c.allocator.result.now.tables.version c.allocator.result.now.tables.fat c.allocator.result.now.file.len
-    c.content_in-start.result.0 c.content_in-start.result.1 l) (sym c.deref-3.ensures.value) c.in_ok-old.ensures.whole in
-    let first = c.reserve.ensures.unchanged in
-    let same = c.in_ok-content.ensures.same told ∙ first in
-    leave-asked c.args.mini.now c.taken_from_sectors.new.mini c.carry_to_minis.new.mini c.args.entry c.args.size c.div_ceil-count.result c.content_in-start.result.0 c.content_in-start.result.1
-    c.allocator.result.now c.deref-3.result.now c.requires.stream c.requires.large c.requires.small c.allocator.ensures c.content_in-start.ensures.start c.content_in-start.ensures.len
-    found wanted (λ m. HoldsMini v c.carry_to_minis.new.mini) same v change (c.in_ok-carry_to_minis.ensures.holds told v)
-
-pub returns-clause-others : goal.returns-clause-others
-returns-clause-others g c told v change =
-    let wanted : c.div_ceil-count.result ≡ rounded_up c.args.size 64 = omega (arith, c.div_ceil-count.ensures) in
-    let found = subst (λ (l : List ℕ). IsWholeChain c.allocator.result.now.tables.version c.allocator.result.now.tables.fat c.allocator.result.now.file.len
-    c.content_in-start.result.0 c.content_in-start.result.1 l) (sym c.deref-3.ensures.value) c.in_ok-old.ensures.whole in
-    let first = c.reserve.ensures.unchanged in
-    let same = c.in_ok-content.ensures.same told ∙ first in
-    leave-others c.args.mini.now c.taken_from_sectors.new.mini c.carry_to_minis.new.mini c.args.entry c.args.size c.div_ceil-count.result c.content_in-start.result.0 c.content_in-start.result.1
-    c.allocator.result.now c.deref-3.result.now c.requires.stream c.requires.large c.requires.small c.allocator.ensures c.content_in-start.ensures.start c.content_in-start.ensures.len
-    found wanted same (c.carry_to_minis.ensures.spares told)
-    (λ w held apart unnamed. c.carry_to_minis.ensures.mini_spares told w held apart unnamed) v change
+pub returns-clause-spares : goal.returns-clause-spares
+returns-clause-spares g c told = record {
+  others = λ v change.
+      let wanted : c.div_ceil-count.result ≡ rounded_up c.args.size 64 = omega (arith, c.div_ceil-count.ensures) in
+      let found = subst (λ (l : List ℕ). IsWholeChain c.allocator.result.now.tables.version c.allocator.result.now.tables.fat c.allocator.result.now.file.len
+      c.content_in-start.result.0 c.content_in-start.result.1 l) (sym c.deref-3.ensures.value) c.in_ok-old.ensures.whole in
+      let first = c.reserve.ensures.unchanged in
+      let same = c.in_ok-content.ensures.same told ∙ first in
+      leave-others c.args.mini.now c.taken_from_sectors.new.mini c.carry_to_minis.new.mini c.args.entry c.args.size c.div_ceil-count.result c.content_in-start.result.0 c.content_in-start.result.1
+      c.allocator.result.now c.deref-3.result.now c.requires.stream c.requires.large c.requires.small c.allocator.ensures c.content_in-start.ensures.start c.content_in-start.ensures.len
+      found wanted same (c.carry_to_minis.ensures.spares told)
+      (λ w held apart unnamed. c.carry_to_minis.ensures.mini_spares told w held apart unnamed) v change;
+  header =
+      let first = c.reserve.ensures.unchanged in
+      let same = c.in_ok-content.ensures.same told ∙ first in
+      spared-since-keeps-header _ c.args.mini.now c.taken_from_sectors.new.mini c.carry_to_minis.new.mini same (c.carry_to_minis.ensures.spares told);
+  unwritten = λ calm.
+      c.carry_to_minis.ensures.unwritten calm ∙ ap bytes_of (c.in_ok-content.ensures.same told ∙ c.reserve.ensures.unchanged);
+}
 
 pub returns-clause-around : goal.returns-clause-around
 returns-clause-around g c =
@@ -265,46 +289,3 @@ returns-clause-enough g c lacking =
     c.allocator.result.now c.in_ok-old.old.items c.requires.stream c.requires.large c.requires.small c.allocator.ensures c.content_in-start.ensures.start c.content_in-start.ensures.len
     c.in_ok-old.ensures.whole wanted in
     c.in_ok-reserve.ensures.enough (subst (λ n. IsTooFewAfterFor c.args.mini.now n c.div_ceil-count.result) (sym long) (lacks.0 lacking))
-
-pub returns-in_err-old-clause-header : goal.returns-in_err-old-clause-header
-returns-in_err-old-clause-header g c told = bytes-keep-header c.args.mini.now c.args.mini.now refl
-
-pub returns-in_err-reserve-clause-header : goal.returns-in_err-reserve-clause-header
-returns-in_err-reserve-clause-header g c told = header-stays c.args.mini.now _ c.reserve.ensures.unchanged
-
-pub returns-in_err-check_growth-clause-header : goal.returns-in_err-check_growth-clause-header
-returns-in_err-check_growth-clause-header g c told = header-stays c.args.mini.now _ c.reserve.ensures.unchanged
-
-pub returns-in_err-clone-clause-header : goal.returns-in_err-clone-clause-header
-returns-in_err-clone-clause-header g c told = header-stays c.args.mini.now _ c.reserve.ensures.unchanged
-
-pub returns-in_err-ids-clause-header : goal.returns-in_err-ids-clause-header
-returns-in_err-ids-clause-header g c told = header-stays c.args.mini.now _ c.reserve.ensures.unchanged
-
-pub returns-in_err-content-clause-header : goal.returns-in_err-content-clause-header
-returns-in_err-content-clause-header g c told =
-    let first = c.reserve.ensures.unchanged in
-    bytes-keep-header c.args.mini.now c.taken_from_sectors.new.mini (c.taken_from_sectors.ensures.bytes told ∙ ap bytes_of first)
-
-pub returns-in_err-carry_to_minis-clause-header : goal.returns-in_err-carry_to_minis-clause-header
-returns-in_err-carry_to_minis-clause-header g c told =
-    let first = c.reserve.ensures.unchanged in
-    let same = c.in_ok-content.ensures.same told ∙ first in
-    spared-since-keeps-header _ c.args.mini.now c.taken_from_sectors.new.mini c.carry_to_minis.new.mini same (c.carry_to_minis.ensures.spares told)
-
-pub returns-clause-header : goal.returns-clause-header
-returns-clause-header g c told =
-    let first = c.reserve.ensures.unchanged in
-    let same = c.in_ok-content.ensures.same told ∙ first in
-    spared-since-keeps-header _ c.args.mini.now c.taken_from_sectors.new.mini c.carry_to_minis.new.mini same (c.carry_to_minis.ensures.spares told)
-
-pub returns-clause-snug_mini : goal.returns-clause-snug_mini
-returns-clause-snug_mini g c told v change snug =
-    let wanted : c.div_ceil-count.result ≡ rounded_up c.args.size 64 = omega (arith, c.div_ceil-count.ensures) in
-    let found = subst (λ (l : List ℕ). IsWholeChain c.allocator.result.now.tables.version c.allocator.result.now.tables.fat c.allocator.result.now.file.len
-    c.content_in-start.result.0 c.content_in-start.result.1 l) (sym c.deref-3.ensures.value) c.in_ok-old.ensures.whole in
-    let first = c.reserve.ensures.unchanged in
-    let same = c.in_ok-content.ensures.same told ∙ first in
-    leave-asked c.args.mini.now c.taken_from_sectors.new.mini c.carry_to_minis.new.mini c.args.entry c.args.size c.div_ceil-count.result c.content_in-start.result.0 c.content_in-start.result.1
-    c.allocator.result.now c.deref-3.result.now c.requires.stream c.requires.large c.requires.small c.allocator.ensures c.content_in-start.ensures.start c.content_in-start.ensures.len
-    found wanted (λ m. IsSnugMini m → IsSnugMini c.carry_to_minis.new.mini) same v change (c.in_ok-carry_to_minis.ensures.snug_mini told v) snug

@@ -8,15 +8,13 @@ use Rattle.cfb_tables.specs.Changes.{NoneFree}
 use Rattle.cfb_tables.specs.Tables.{TableState}
 use Rattle.cfb_mini_sectors.specs.State.{content_of, entries_of}
 use Rattle.cfb_content.specs.Contents.{IsTooLongFor, len_of}
-use Rattle.cfb_content.proofs.FixedHeader.{header-stays, header-then}
-use Rattle.cfb_content.proofs.Kept.{nothing-is-moved, others-kept-then}
 use Rattle.cfb_content.proofs.Outlines.{stream-stays}
 use Rattle.cfb_content.proofs.Readable.{whole-of}
 use Rattle.cfb_content.proofs.Refusals.{refused-as}
 use Rattle.cfb_content.proofs.Rewritten.{written-none}
-use Rattle.cfb_content.proofs.Snug.{same-is-sized}
 use Rattle.cfb_content.proofs.StreamEntry.{stream-inside}
-use Rattle.cfb_resizing.proofs.PutBehind.{appended, filed-entries, filed-sized, filed-tables, filed-used, stops-behind}
+use Rattle.cfb_content.proofs.Changed.{moves-same, spares-same, changed-same, spares-behind}
+use Rattle.cfb_resizing.proofs.PutBehind.{appended, filed-entries, filed-sized, filed-tables, filed-used, stops-behind, filed-alone, still-begun}
 use Rattle.cfb_resizing.proofs.Tightness.{leaves-less}
 use Rattle.cfb_resizing.proofs.SnugMinis.{filed-snug}
 use Rattle.cfb_resizing.proofs.putting.append_all.Goals as goal
@@ -24,11 +22,11 @@ use Rattle.cfb_resizing.proofs.putting.append_all.Goals as goal
 pub content_in-len-requires : goal.content_in-len-requires
 content_in-len-requires g c = record { inside = stream-inside c.args.mini.now c.args.entry c.requires.stream }
 
-pub returns-in_err-list-clause-others : goal.returns-in_err-list-clause-others
-returns-in_err-list-clause-others g c told v change = nothing-is-moved c.args.entry c.args.mini.now
+pub returns-in_err-list-clause-moves : goal.returns-in_err-list-clause-moves
+returns-in_err-list-clause-moves g c = moves-same c.args.mini.now c.args.entry
 
-pub returns-in_err-list-clause-header : goal.returns-in_err-list-clause-header
-returns-in_err-list-clause-header g c told = header-stays c.args.mini.now c.args.mini.now refl
+pub returns-in_err-list-clause-spares : goal.returns-in_err-list-clause-spares
+returns-in_err-list-clause-spares g c told = spares-same c.args.mini.now c.args.entry
 
 -- ---- nothing is to be put
 
@@ -38,15 +36,19 @@ returns-then-is_empty-clause-content g c told v change =
     let whole = whole-of v s c.args.entry change c.requires.stream in
     written-none (content_of s (entry_at (entries_of s) c.args.entry)) c.args.bytes.now (len_of s c.args.entry) (eqb-true (length c.args.bytes.now) 0 (sym c.is_empty.ensures ∙ c.if-is_empty.true)) (omega (arith, whole))
 
-pub returns-then-is_empty-clause-others : goal.returns-then-is_empty-clause-others
-returns-then-is_empty-clause-others g c told v change = nothing-is-moved c.args.entry c.args.mini.now
+pub returns-then-is_empty-clause-moves : goal.returns-then-is_empty-clause-moves
+returns-then-is_empty-clause-moves g c = moves-same c.args.mini.now c.args.entry
 
-pub returns-then-is_empty-clause-header : goal.returns-then-is_empty-clause-header
-returns-then-is_empty-clause-header g c told = header-stays c.args.mini.now c.args.mini.now refl
+pub returns-then-is_empty-clause-spares : goal.returns-then-is_empty-clause-spares
+returns-then-is_empty-clause-spares g c told = spares-same c.args.mini.now c.args.entry
 
-pub returns-then-is_empty-clause-sized : goal.returns-then-is_empty-clause-sized
-returns-then-is_empty-clause-sized g c told v change =
-    same-is-sized v c.args.mini.now c.args.mini.now c.args.entry change c.requires.stream refl refl refl refl
+pub returns-then-is_empty-clause-changed : goal.returns-then-is_empty-clause-changed
+returns-then-is_empty-clause-changed g c told = changed-same c.args.mini.now c.args.entry c.requires.stream
+
+-- ---- it lies in sectors
+
+pub returns-then-len-clause-stays_full : goal.returns-then-len-clause-stays_full
+returns-then-len-clause-stays_full g c told v change stays none = c.append_long_all.ensures.stays_full told v change none
 
 -- ---- it cannot grow
 
@@ -64,23 +66,20 @@ returns-in_err-grow_to-clause-err g c =
 pub write_listed-requires-clause-stream : goal.write_listed-requires-clause-stream
 write_listed-requires-clause-stream g c =
     let grown = c.grow_to.ensures in
-    stream-stays c.args.mini.now c.grow_to.new.mini c.args.entry c.args.entry grown.limits.cases grown.entries c.requires.stream
+    stream-stays c.args.mini.now c.grow_to.new.mini c.args.entry c.args.entry grown.moves.limits.cases grown.moves.entries c.requires.stream
 
-pub returns-in_err-write_listed-clause-others : goal.returns-in_err-write_listed-clause-others
-returns-in_err-write_listed-clause-others g c told v change =
-    let grown = c.grow_to.ensures in
-    others-kept-then c.args.entry c.args.mini.now c.grow_to.new.mini c.write_listed.new.mini grown.limits grown.entries (grown.others told v change)
-    (c.write_listed.ensures.others told v (c.in_ok-grow_to.ensures.holds told v change))
+pub returns-in_err-write_listed-clause-moves : goal.returns-in_err-write_listed-clause-moves
+returns-in_err-write_listed-clause-moves g c = filed-alone c.grow_to.new.mini c.write_listed.new.mini c.write_listed.ensures.rest c.args.mini.now c.args.entry c.grow_to.ensures.moves
 
-pub returns-in_err-write_listed-clause-header : goal.returns-in_err-write_listed-clause-header
-returns-in_err-write_listed-clause-header g c told =
-    header-then c.args.mini.now c.grow_to.new.mini c.write_listed.new.mini c.grow_to.ensures.limits.version
-    (c.grow_to.ensures.header told) (c.write_listed.ensures.header told)
+pub returns-in_err-write_listed-clause-spares : goal.returns-in_err-write_listed-clause-spares
+returns-in_err-write_listed-clause-spares g c told =
+    spares-behind c.args.mini.now c.grow_to.new.mini c.write_listed.new.mini c.args.entry c.grow_to.ensures.moves (c.grow_to.ensures.spares told) (c.in_ok-grow_to.ensures.changed told) (c.write_listed.ensures.others told)
+    (c.write_listed.ensures.header told) (still-begun c.args.mini.now c.grow_to.new.mini c.write_listed.new.mini c.in_err-write_listed.field-0.0 c.in_ok-grow_to.ensures.begun c.in_err-write_listed.ensures.refused)
 
 pub returns-in_err-write_listed-clause-err : goal.returns-in_err-write_listed-clause-err
 returns-in_err-write_listed-clause-err g c =
     let p = err_from_is_err_and c.from_residual-in_err-write_listed.result c.from_residual-in_err-write_listed.ensures.1 in
-    rw (p.1, p.2) (refused-as _ _ _ _ _ _ _ _ (λ bad told v change. bad v (c.in_ok-grow_to.ensures.holds told v change)) (λ u. u) (λ no. absurd no) (λ u. u)
+    rw (p.1, p.2) (refused-as _ _ _ _ _ _ _ _ (λ bad told v change. bad v ((c.in_ok-grow_to.ensures.changed told).holds v change)) (λ u. u) (λ no. absurd no) (λ u. u)
     c.in_err-write_listed.field-0.0 c.in_err-write_listed.ensures.err)
 
 pub returns-in_err-write_listed-clause-refused : goal.returns-in_err-write_listed-clause-refused
@@ -102,40 +101,33 @@ returns-clause-content g c told v change =
     let wanted = len + length from in
     let whole : length was ≡ len = whole-of v s i change c.requires.stream ∙ sym len-is in
     ap (λ (es : List Entry). content_of new (entry_at es i)) (filed-entries mid new c.in_ok-write_listed.ensures.rest)
-    ∙ c.in_ok-write_listed.ensures.content told v (c.in_ok-grow_to.ensures.holds told v change)
-    ∙ ap (λ l. written l len from) (c.in_ok-grow_to.ensures.content told v change)
+    ∙ c.in_ok-write_listed.ensures.content told v ((c.in_ok-grow_to.ensures.changed told).holds v change)
+    ∙ ap (λ l. written l len from) ((c.in_ok-grow_to.ensures.content told).content v change)
     ∙ appended was from len wanted whole refl
     ∙ ap (λ n. written was n from) len-is
 
-pub returns-clause-others : goal.returns-clause-others
-returns-clause-others g c told v change =
-    let grown = c.grow_to.ensures in
-    others-kept-then c.args.entry c.args.mini.now c.grow_to.new.mini c.write_listed.new.mini grown.limits grown.entries (grown.others told v change)
-    (c.write_listed.ensures.others told v (c.in_ok-grow_to.ensures.holds told v change))
+pub returns-clause-moves : goal.returns-clause-moves
+returns-clause-moves g c = filed-alone c.grow_to.new.mini c.write_listed.new.mini c.write_listed.ensures.rest c.args.mini.now c.args.entry c.grow_to.ensures.moves
 
-pub returns-clause-header : goal.returns-clause-header
-returns-clause-header g c told =
-    header-then c.args.mini.now c.grow_to.new.mini c.write_listed.new.mini c.grow_to.ensures.limits.version
-    (c.grow_to.ensures.header told) (c.write_listed.ensures.header told)
+pub returns-clause-spares : goal.returns-clause-spares
+returns-clause-spares g c told =
+    spares-behind c.args.mini.now c.grow_to.new.mini c.write_listed.new.mini c.args.entry c.grow_to.ensures.moves (c.grow_to.ensures.spares told) (c.in_ok-grow_to.ensures.changed told) (c.write_listed.ensures.others told)
+    (c.write_listed.ensures.header told) c.in_ok-write_listed.ensures.begun
 
-pub returns-clause-holds : goal.returns-clause-holds
-returns-clause-holds g c told v change = c.in_ok-write_listed.ensures.holds told v (c.in_ok-grow_to.ensures.holds told v change)
-
-pub returns-clause-owned : goal.returns-clause-owned
-returns-clause-owned g c told v change all =
-    filed-used c.grow_to.new.mini c.write_listed.new.mini c.in_ok-write_listed.ensures.rest (c.in_ok-grow_to.ensures.owned told v change all)
-
-pub returns-clause-sized : goal.returns-clause-sized
-returns-clause-sized g c told v change =
-    filed-sized c.grow_to.new.mini c.write_listed.new.mini c.in_ok-write_listed.ensures.rest c.args.mini.now c.args.entry (c.in_ok-grow_to.ensures.sized told v change)
+pub returns-clause-changed : goal.returns-clause-changed
+returns-clause-changed g c told =
+    let made = c.in_ok-grow_to.ensures.changed told in
+    record {
+      holds = λ v change. c.in_ok-write_listed.ensures.holds told v (made.holds v change);
+      owned = λ v change all. filed-used c.grow_to.new.mini c.write_listed.new.mini c.in_ok-write_listed.ensures.rest (made.owned v change all);
+      sized = λ v change. filed-sized c.grow_to.new.mini c.write_listed.new.mini c.in_ok-write_listed.ensures.rest c.args.mini.now c.args.entry (made.sized v change);
+      snug_mini = λ v change snug. filed-snug c.grow_to.new.mini c.write_listed.new.mini c.in_ok-write_listed.ensures.rest (made.snug_mini v change snug);
+    }
 
 pub returns-clause-stays_full : goal.returns-clause-stays_full
 returns-clause-stays_full g c told v change stays none =
     let s = c.args.mini.now in
     let wanted = c.content_in-len.result.1 + length c.args.bytes.now in
     subst (λ (t : TableState). NoneFree t.fat) (sym (filed-tables c.grow_to.new.mini c.write_listed.new.mini c.in_ok-write_listed.ensures.rest))
-    (c.in_ok-grow_to.ensures.stays_full told v change
+    ((c.in_ok-grow_to.ensures.content told).stays_full v change (omega (arith, c.content_in-len.ensures.len))
     (leaves-less s c.args.entry wanted (len_of s c.args.entry + length c.args.bytes.now) (omega (arith, c.content_in-len.ensures.len)) stays) none)
-
-pub returns-clause-snug_mini : goal.returns-clause-snug_mini
-returns-clause-snug_mini g c told v change snug = filed-snug c.grow_to.new.mini c.write_listed.new.mini c.in_ok-write_listed.ensures.rest (c.in_ok-grow_to.ensures.snug_mini told v change snug)

@@ -1,7 +1,8 @@
-use Rattle.std.proofs.Common.{◌≡◌, ◌+◌, List, inl, inr, refl, sym, ◌∙◌, ap, subst, length, take, arith}
+use Rattle.std.proofs.Common.{◌≡◌, ◌≤◌, ◌+◌, List, inl, inr, refl, sym, ◌∙◌, ap, subst, length, take, arith}
 use Rattle.std.specs.Prelude.{IfOk}
 use Rattle.std.proofs.lemmas.Bool.{eqb-false}
 use Rattle.std.proofs.lemmas.List.{length-take}
+use Rattle.std.proofs.lemmas.Result.{err_from_is_err_and}
 use Rattle.cfb_format.specs.DirectoryEntry.{Entry}
 use Rattle.cfb_format.specs.Medium.{written}
 use Rattle.cfb_format.specs.Siblings.{entry_at}
@@ -9,13 +10,14 @@ use Rattle.cfb_tables.specs.Changes.{NoneFree}
 use Rattle.cfb_tables.specs.Tables.{TableState}
 use Rattle.cfb_mini_sectors.specs.State.{content_of, entries_of}
 use Rattle.cfb_content.specs.Contents.{len_of}
-use Rattle.cfb_content.proofs.FixedHeader.{header-stays}
-use Rattle.cfb_content.proofs.Kept.{nothing-is-moved}
 use Rattle.cfb_content.proofs.Readable.{whole-of}
+use Rattle.cfb_chains.proofs.ChainLists.{on_err}
+use Rattle.cfb_content.proofs.Refusals.{refused-as}
 use Rattle.cfb_content.proofs.Rewritten.{written-none}
 use Rattle.cfb_content.proofs.Snug.{same-is-sized}
 use Rattle.cfb_content.proofs.StreamEntry.{stream-inside}
-use Rattle.cfb_resizing.proofs.PutBehind.{filed-entries, filed-sized, filed-tables, filed-used}
+use Rattle.cfb_content.proofs.Changed.{moves-same, spares-same, changed-same}
+use Rattle.cfb_resizing.proofs.PutBehind.{filed-entries, filed-sized, filed-tables, filed-used, filed-alone}
 use Rattle.cfb_resizing.proofs.Tightness.{leaves-less}
 use Rattle.cfb_resizing.proofs.SnugMinis.{filed-snug}
 use Rattle.cfb_resizing.proofs.putting.put_content.Goals as goal
@@ -32,15 +34,14 @@ returns-then-is_empty-clause-content g c told v change =
     let inside = c.requires.inside in
     written-none (content_of s (entry_at (entries_of s) c.args.entry)) (take 0 c.args.bytes.now) c.args.at (omega (arith, length-take 0 c.args.bytes.now)) (omega (arith, inside, whole))
 
-pub returns-then-is_empty-clause-others : goal.returns-then-is_empty-clause-others
-returns-then-is_empty-clause-others g c told v change = nothing-is-moved c.args.entry c.args.mini.now
+pub returns-then-is_empty-clause-moves : goal.returns-then-is_empty-clause-moves
+returns-then-is_empty-clause-moves g c = moves-same c.args.mini.now c.args.entry
 
-pub returns-then-is_empty-clause-header : goal.returns-then-is_empty-clause-header
-returns-then-is_empty-clause-header g c told = header-stays c.args.mini.now c.args.mini.now refl
+pub returns-then-is_empty-clause-spares : goal.returns-then-is_empty-clause-spares
+returns-then-is_empty-clause-spares g c told = spares-same c.args.mini.now c.args.entry
 
-pub returns-then-is_empty-clause-sized : goal.returns-then-is_empty-clause-sized
-returns-then-is_empty-clause-sized g c told v change =
-    same-is-sized v c.args.mini.now c.args.mini.now c.args.entry change c.requires.stream refl refl refl refl
+pub returns-then-is_empty-clause-changed : goal.returns-then-is_empty-clause-changed
+returns-then-is_empty-clause-changed g c told = changed-same c.args.mini.now c.args.entry c.requires.stream
 
 -- ---- at the end
 
@@ -67,6 +68,13 @@ returns-then-at-len-clause-within g c inside = absurd (elim inside [
   | inr none ↦ eqb-false (length c.args.bytes.now) 0 (sym c.is_empty.ensures ∙ c.if-is_empty.false) none
 ])
 
+-- one byte more was too long, and the end is where they were to stand
+pub returns-then-at-len-clause-err : goal.returns-then-at-len-clause-err
+returns-then-at-len-clause-err g c =
+    let end : len_of c.args.mini.now c.args.entry ≤ c.args.at = omega (arith, c.content_in-len.ensures.len, c.if-at-len.true) in
+    on_err _ _ c.append_content.result
+    (λ e why. refused-as _ _ _ _ _ _ _ _ (λ bad. bad) (λ u. u) (λ long. (end, long)) (λ u. u) e why) c.append_content.ensures.err
+
 -- ---- inside the length
 
 pub returns-clause-content : goal.returns-clause-content
@@ -74,21 +82,49 @@ returns-clause-content g c told v change =
     ap (λ (es : List Entry). content_of c.write_content.new.mini (entry_at es c.args.entry)) (filed-entries c.args.mini.now c.write_content.new.mini c.in_ok-write_content.ensures.rest)
     ∙ c.in_ok-write_content.ensures.content told v change
 
-pub returns-clause-holds : goal.returns-clause-holds
-returns-clause-holds g c told v change = c.in_ok-write_content.ensures.holds told v change
+pub returns-clause-within : goal.returns-clause-within
+returns-clause-within g c inside = c.write_content.ensures.rest
 
-pub returns-clause-owned : goal.returns-clause-owned
-returns-clause-owned g c told v change all = filed-used c.args.mini.now c.write_content.new.mini c.in_ok-write_content.ensures.rest all
+pub returns-clause-moves : goal.returns-clause-moves
+returns-clause-moves g c =
+    filed-alone c.args.mini.now c.write_content.new.mini c.write_content.ensures.rest c.args.mini.now c.args.entry (moves-same c.args.mini.now c.args.entry)
 
-pub returns-clause-sized : goal.returns-clause-sized
-returns-clause-sized g c told v change =
+pub returns-clause-spares : goal.returns-clause-spares
+returns-clause-spares g c told = record {
+  others = λ v change. c.write_content.ensures.others told v change;
+  header = c.write_content.ensures.header told;
+  unwritten = λ calm. c.write_content.ensures.unwritten told calm;
+}
+
+pub returns-in_err-write_content-clause-moves : goal.returns-in_err-write_content-clause-moves
+returns-in_err-write_content-clause-moves g c =
+    filed-alone c.args.mini.now c.write_content.new.mini c.write_content.ensures.rest c.args.mini.now c.args.entry (moves-same c.args.mini.now c.args.entry)
+
+pub returns-in_err-write_content-clause-within : goal.returns-in_err-write_content-clause-within
+returns-in_err-write_content-clause-within g c inside = c.write_content.ensures.rest
+
+pub returns-in_err-write_content-clause-err : goal.returns-in_err-write_content-clause-err
+returns-in_err-write_content-clause-err g c =
+    let p = err_from_is_err_and c.from_residual.result c.from_residual.ensures.1 in
+    rw (p.1, p.2) (refused-as _ _ _ _ _ _ _ _ (λ bad told. bad) (λ u. u) (λ no. absurd no) (λ u. u) c.in_err-write_content.field-0.0 c.in_err-write_content.ensures.err)
+
+pub returns-in_err-write_content-clause-spares : goal.returns-in_err-write_content-clause-spares
+returns-in_err-write_content-clause-spares g c told = record {
+  others = λ v change. c.write_content.ensures.others told v change;
+  header = c.write_content.ensures.header told;
+  unwritten = λ calm. c.write_content.ensures.unwritten told calm;
+}
+
+pub returns-clause-changed : goal.returns-clause-changed
+returns-clause-changed g c told =
     let s = c.args.mini.now in
-    filed-sized s c.write_content.new.mini c.in_ok-write_content.ensures.rest s c.args.entry
-    (same-is-sized v s s c.args.entry change c.requires.stream refl refl refl refl)
+    record {
+      holds = λ v change. c.in_ok-write_content.ensures.holds told v change;
+      owned = λ v change all. filed-used c.args.mini.now c.write_content.new.mini c.in_ok-write_content.ensures.rest all;
+      sized = λ v change. filed-sized c.args.mini.now c.write_content.new.mini c.in_ok-write_content.ensures.rest s c.args.entry (same-is-sized v s s c.args.entry change c.requires.stream refl refl refl refl);
+      snug_mini = λ v change snug. filed-snug c.args.mini.now c.write_content.new.mini c.in_ok-write_content.ensures.rest snug;
+    }
 
 pub returns-clause-stays_full : goal.returns-clause-stays_full
 returns-clause-stays_full g c told v change stays none =
     subst (λ (t : TableState). NoneFree t.fat) (sym (filed-tables c.args.mini.now c.write_content.new.mini c.in_ok-write_content.ensures.rest)) none
-
-pub returns-clause-snug_mini : goal.returns-clause-snug_mini
-returns-clause-snug_mini g c told v change snug = filed-snug c.args.mini.now c.write_content.new.mini c.in_ok-write_content.ensures.rest snug

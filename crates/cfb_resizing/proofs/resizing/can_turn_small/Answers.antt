@@ -1,4 +1,4 @@
-use Rattle.std.proofs.Common.{◌≡◌, ◌<◌, refl, length, arith}
+use Rattle.std.proofs.Common.{◌≡◌, refl, length, arith}
 use Rattle.std.proofs.lemmas.Result.{err_from_is_err_and}
 use Rattle.cfb_content.proofs.Refusals.{refused-as}
 use Rattle.cfb_content.proofs.StreamEntry.{stream-inside}
@@ -11,12 +11,12 @@ content_in-start-requires g c = record { inside = stream-inside c.args.mini.now 
 
 pub returns-then-size-clause-lacks : goal.returns-then-size-clause-lacks
 returns-then-size-clause-lacks g c =
-    entering-can c.args.mini.now c.args.entry c.args.size _ _ refl refl c.div_ceil-needed.result c.sector_len.result c.allocator.result.now c.requires.small c.if-size.true
-    c.allocator.ensures c.sector_len.ensures c.div_ceil-needed.ensures c.can_take.result c.can_take.ensures
+    entering-can c.args.mini.now c.args.entry c.args.size _ _ refl refl c.div_ceil-needed.result c.in_ok-given.given c.sector_len.result c.allocator.result.now c.requires.small c.if-size.true
+    c.allocator.ensures c.sector_len.ensures c.div_ceil-needed.ensures c.in_ok-given.ensures.lacks c.can_take.result c.can_take.ensures
 
 pub returns-in_err-whole_mini_chain-clause-err : goal.returns-in_err-whole_mini_chain-clause-err
 returns-in_err-whole_mini_chain-clause-err g c =
-    let p = err_from_is_err_and c.from_residual.result c.from_residual.ensures.1 in
+    let p = err_from_is_err_and c.from_residual-in_err-whole_mini_chain.result c.from_residual-in_err-whole_mini_chain.ensures.1 in
     rw (p.1, p.2) (refused-as _ _ _ _ _ _ _ _
     (not-whole-minis c.args.mini.now c.args.entry c.content_in-start.result.0 c.content_in-start.result.1 c.content_in-start.ensures.start c.content_in-start.ensures.len c.requires.stream
     c.requires.small)

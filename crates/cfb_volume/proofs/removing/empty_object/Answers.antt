@@ -8,14 +8,12 @@ use Rattle.cfb_trees.proofs.Members.{reached-is-within}
 use Rattle.cfb_trees.proofs.Reached.{below-reached}
 use Rattle.cfb_mini_sectors.specs.State.{HoldsMini, cases_of, entries_of}
 use Rattle.cfb_content.specs.Contents.{IsNotChangeable, IsStreamOf, IsTooLongFor}
-use Rattle.cfb_content.proofs.FixedHeader.{bytes-keep-header}
-use Rattle.cfb_content.proofs.Kept.{nothing-is-moved}
-use Rattle.cfb_content.proofs.Outlines.{same-entries-moved}
+use Rattle.cfb_content.proofs.Changed.{moves-same, spares-same}
 use Rattle.cfb_content.proofs.Snug.{sized-is-snug}
 use Rattle.cfb_volume.proofs.Emptying.{emptying-fits}
 use Rattle.cfb_volume.proofs.RemovedObjects.{below-stream, empty-break, none-emptied}
-use Rattle.cfb_volume.proofs.removing.empty_object.Goals as goal
 use Rattle.cfb_volume.proofs.removing.empty_object.Goals.{In-Stream}
+use Rattle.cfb_volume.proofs.removing.empty_object.Goals as goal
 
 pub dir_entry-requires : goal.dir_entry-requires
 dir_entry-requires g c =
@@ -46,15 +44,15 @@ returns-in_ok-resize_content-in-Stream-clause-emptied g c told =
     let e = c.resize_content.ensures in
     let ok = c.in_ok-resize_content-in-Stream.ensures in
     record {
-      limits = e.limits;
-      entries = e.entries;
-      others = λ v change. e.others told v change;
-      holds = λ v change. ok.holds told v change;
-      owned = λ v change used. ok.owned told v change used;
-      exact = ok.exact;
-      snug = λ v change snug. sized-is-snug c.args.mini.now c.resize_content.new.mini c.args.entry e.limits e.entries (e.others told v change)
-          (stream g (goal.at.returns-in_ok-resize_content-in-Stream-clause-emptied g c).In-Stream) (ok.sized told v change) snug;
-      snug_mini = λ v change snug. ok.snug_mini told v change snug;
+      limits = e.moves.limits;
+      entries = e.moves.entries;
+      others = (e.spares told).others;
+      holds = (ok.changed told).holds;
+      owned = (ok.changed told).owned;
+      exact = ok.tight.exact;
+      snug = λ v change snug. sized-is-snug c.args.mini.now c.resize_content.new.mini c.args.entry e.moves.limits e.moves.entries ((e.spares told).others v change)
+          (stream g (goal.at.returns-in_ok-resize_content-in-Stream-clause-emptied g c).In-Stream) ((ok.changed told).sized v change) snug;
+      snug_mini = (ok.changed told).snug_mini;
       empty = λ stream. ok.len;
     }
 
@@ -63,15 +61,12 @@ returns-in_default g c =
     let s = c.args.mini.now in
     record {
       emptied = λ told. none-emptied s c.args.entry (λ e. c.in_default.not-Stream (ap (λ (x : Entry). x.obj_type) c.dir_entry.ensures ∙ e));
-      entries = same-entries-moved s s c.args.entry refl;
-      others = λ told v change. nothing-is-moved c.args.entry s;
-      header = λ told. bytes-keep-header s s refl;
+      moves = moves-same s c.args.entry;
+      spares = λ told. spares-same s c.args.entry;
       takes_none = refl;
-      limits = record { version = refl; cases = refl; max_sectors = refl; max_mini_sectors = refl };
       none = λ ne. refl;
       quiet = λ down. refl;
       still = tt;
-      unwritten = λ told down. refl;
       err = λ told v change. tt;
       counts = λ told. refl;
     }

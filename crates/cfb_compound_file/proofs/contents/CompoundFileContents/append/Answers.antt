@@ -2,6 +2,7 @@ use Rattle.std.proofs.Common.{◌≡◌, ◌∙◌, ap, arith, false, sym, true}
 use Rattle.cfb_format.specs.Bytes.{max_stream_len}
 use Rattle.cfb_agreement.specs.Files.{IsFullFile}
 use Rattle.cfb_compound_file.specs.Flags.{still_is_tight}
+use Rattle.cfb_compound_file.proofs.Fitting.{fitting}
 use Rattle.cfb_compound_file.proofs.StoredStreams.{append_done, broken_kept, change_refused, changes_in_turn, stream_inside, stream_there}
 use Rattle.cfb_compound_file.proofs.contents.CompoundFileContents.append.Goals as goal
 
@@ -10,6 +11,9 @@ len-len-requires g c = record { inside = stream_inside _ _ (rw (← c.self.view_
 
 pub append-requires-clause-stream : goal.append-requires-clause-stream
 append-requires-clause-stream g c = stream_there _ _ c.entries-entries.ensures.in_order (rw (← c.self.view_is) at c.requires.there)
+
+pub append-requires-clause-fits : goal.append-requires-clause-fits
+append-requires-clause-fits g c = omega (arith, (c.is_inside.ensures.0 c.if-not-is_inside.false).1, c.len-len.ensures, c.stream_len_mask-limit.ensures, ap max_stream_len c.version.ensures)
 
 pub invariant_of-self : goal.invariant_of-self
 invariant_of-self g c = λ told. c.append.ensures.agrees told (c.self.invariant told (sym c.is_failed.ensures ∙ c.if-is_failed.false))
@@ -68,3 +72,23 @@ pub returns-clause-stays : goal.returns-clause-stays
 returns-clause-stays g c =
     let unfailed = sym c.is_failed.ensures ∙ c.if-is_failed.false in
     rw (← c.self.view_is) (λ told. broken_kept _ _ c.append.result (c.append.ensures.refused told (c.self.invariant told unfailed)))
+
+pub returns-clause-foreseen : goal.returns-clause-foreseen
+returns-clause-foreseen g c =
+    let unfailed = sym c.is_failed.ensures ∙ c.if-is_failed.false in
+    rw (← c.self.view_is) (λ told takes. c.append.ensures.foreseen told (c.self.invariant told unfailed))
+
+pub returns-clause-none : goal.returns-clause-none
+returns-clause-none g c = rw (← c.self.view_is) (λ none. (c.append.ensures.none none).1)
+
+pub returns-clause-sure : goal.returns-clause-sure
+returns-clause-sure g c = λ told unfailed sound none. (c.append.ensures.none none).0
+
+pub returns-then-not-is_inside-clause-sure : goal.returns-then-not-is_inside-clause-sure
+returns-then-not-is_inside-clause-sure g c =
+    let unfailed = sym c.is_failed.ensures ∙ c.if-is_failed.false in
+    let stream = stream_there _ _ c.entries-entries.ensures.in_order (rw (← c.self.view_is) at c.requires.there) in
+    λ told calm sound none.
+    let short = (fitting c.self.inside.volume c.args.id unfailed (c.self.invariant told unfailed) stream).within in
+    let inside = c.is_inside.ensures.1 (omega (arith, c.len-len.ensures), omega (arith, none, short, c.len-len.ensures, c.stream_len_mask-limit.ensures, ap max_stream_len c.version.ensures)) in
+    absurd (let w : false ≡ true = sym c.if-not-is_inside.true ∙ inside in cc)

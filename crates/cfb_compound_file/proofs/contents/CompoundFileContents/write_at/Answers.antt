@@ -1,5 +1,6 @@
 use Rattle.std.proofs.Common.{◌≡◌, ◌≤◌, ◌∙◌, ap, arith, false, length, sym, true}
 use Rattle.cfb_format.specs.Bytes.{max_stream_len}
+use Rattle.cfb_mini_sectors.specs.State.{MiniState, tables_in}
 use Rattle.cfb_agreement.specs.Files.{IsFullFile}
 use Rattle.cfb_content.specs.Contents.{len_of}
 use Rattle.cfb_compound_file.specs.Flags.{still_is_tight}
@@ -11,6 +12,9 @@ len-requires g c = record { inside = stream_inside _ _ (rw (← c.self.view_is) 
 
 pub write-requires-clause-stream : goal.write-requires-clause-stream
 write-requires-clause-stream g c = stream_there _ _ c.entries-entries.ensures.in_order (rw (← c.self.view_is) at c.requires.there)
+
+pub write-requires-clause-fits : goal.write-requires-clause-fits
+write-requires-clause-fits g c = omega (arith, (c.is_inside.ensures.0 c.if-not-is_inside.false).1, c.stream_len_mask-limit.ensures, ap max_stream_len c.version.ensures)
 
 pub invariant_of-self : goal.invariant_of-self
 invariant_of-self g c = λ told. c.write.ensures.agrees told (c.self.invariant told (sym c.is_failed.ensures ∙ c.if-is_failed.false))
@@ -39,7 +43,7 @@ pub returns-clause-inside : goal.returns-clause-inside
 returns-clause-inside g c =
     let unfailed = sym c.is_failed.ensures ∙ c.if-is_failed.false in
     rw (← c.self.view_is) (λ told within first k. tables_tight first c.self.inside.volume c.write.new.self unfailed
-    (c.write.ensures.within (write_inside c.args.at (length c.args.bytes.now) (len_of c.self.inside.volume.base c.args.id) within)) k)
+    (ap (λ (s : MiniState). tables_in s) (c.write.ensures.within (write_inside c.args.at (length c.args.bytes.now) (len_of c.self.inside.volume.base c.args.id) within))) k)
 
 pub returns-clause-same_len : goal.returns-clause-same_len
 returns-clause-same_len g c = rw (← c.self.view_is) (λ within. write_same_len c.self.inside.volume c.write.new.self c.args.id c.args.at (length c.args.bytes.now) c.write.result within c.write.ensures.count c.write.ensures.len)
@@ -76,3 +80,8 @@ pub returns-clause-stays : goal.returns-clause-stays
 returns-clause-stays g c =
     let unfailed = sym c.is_failed.ensures ∙ c.if-is_failed.false in
     rw (← c.self.view_is) (λ told. broken_kept _ _ c.write.result (c.write.ensures.refused told (c.self.invariant told unfailed)))
+
+pub returns-clause-foreseen : goal.returns-clause-foreseen
+returns-clause-foreseen g c =
+    let unfailed = sym c.is_failed.ensures ∙ c.if-is_failed.false in
+    rw (← c.self.view_is) (λ told takes some. c.write.ensures.foreseen told (c.self.invariant told unfailed))

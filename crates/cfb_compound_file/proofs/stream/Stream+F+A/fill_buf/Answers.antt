@@ -11,6 +11,7 @@ returns-in-Ok g c = (
     record {
       same_file = refl;
       runs = λ told. rw c.rest.ensures (c.in-Ok.ensures.runs (record { told = told; suits = c.args.self.now.is_open told }));
+      foreseen = λ told. tt;
       goes_on = goes_on_by _ _ _ refl c.fill.ensures.bound (λ told. changed_once _ _ _ (c.fill.ensures.around told).others (c.fill.ensures.around told).tight);
       counts = λ told. (c.in-Ok.ensures.around told).counts;
       calm = λ told calm. (c.fill.ensures.calm told calm).kept;
@@ -28,6 +29,7 @@ returns-in-Err g c = (
     record {
       same_file = refl;
       runs = λ told. (let why = c.in-Err.ensures.refused (record { told = told; suits = c.args.self.now.is_open told }) in record { rules = why.rules; stops = why.stops; stays = stays_or_fails _ _ (c.in-Err.ensures.around told).stays; untouched = why.untouched; counts = (c.in-Err.ensures.around told).counts });
+      foreseen = λ told full. (let k = c.in-Err.ensures.foreseen (record { told = told; suits = c.args.self.now.is_open told }) full in record { pending = k.pending; past = k.past; too_long = k.too_long });
       goes_on = goes_on_by _ _ _ refl c.fill.ensures.bound (λ told. changed_once _ _ _ (c.fill.ensures.around told).others (c.fill.ensures.around told).tight);
       counts = λ told. (c.in-Err.ensures.around told).counts;
       calm = λ told calm. (c.fill.ensures.calm told calm).kept;

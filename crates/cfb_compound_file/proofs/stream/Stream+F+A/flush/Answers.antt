@@ -3,7 +3,7 @@ use Rattle.cfb_stream_window.specs.Windows.{state_of}
 use Rattle.cfb_compound_file.specs.Stored.{stored_of}
 use Rattle.cfb_compound_file.proofs.OpenStreams.{closes_tree}
 use Rattle.cfb_compound_file.proofs.StoredStreams.{changed_once}
-use Rattle.cfb_compound_file.proofs.StreamCalls.{closed_content, flushing_failed, goes_on_by, refused_then, refused_with}
+use Rattle.cfb_compound_file.proofs.StreamCalls.{closed_content, flushing_failed, goes_on_by, refused_as, refused_then, refused_with}
 use Rattle.cfb_compound_file.proofs.stream.Stream+F+A.flush.Goals as goal
 
 pub invariant_of-self : goal.invariant_of-self
@@ -31,3 +31,6 @@ returns-clause-tree g c = λ told first.
     (closed_content s old.window new old.entry c.flush-flushed.result (c.flush-flushed.ensures.stored (record { told = told; suits = old.is_open told }))
     (refused_then _ _ c.flush-flushed.result (c.flush-flushed.ensures.refused (record { told = told; suits = old.is_open told }))
     (λ e why. flushing_failed _ s (stored_of new old.entry) old.window c.flush-flushed.new.self why.rules.0 why.rules.2)))
+
+pub returns-clause-foreseen : goal.returns-clause-foreseen
+returns-clause-foreseen g c = λ told. refused_as _ _ c.flush-flushed.result (c.flush-flushed.ensures.foreseen (record { told = told; suits = c.args.self.now.is_open told })) (λ e why full. (let k = why full in record { pending = k.pending; past = k.past; too_long = k.too_long }))

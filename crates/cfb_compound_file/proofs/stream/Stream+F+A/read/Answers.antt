@@ -1,6 +1,6 @@
 use Rattle.std.proofs.Common.{refl}
 use Rattle.cfb_compound_file.proofs.StoredStreams.{changed_once}
-use Rattle.cfb_compound_file.proofs.StreamCalls.{goes_on_by, refused_with}
+use Rattle.cfb_compound_file.proofs.StreamCalls.{goes_on_by, refused_as, refused_with}
 use Rattle.cfb_compound_file.proofs.stream.Stream+F+A.read.Goals as goal
 
 pub invariant_of-self : goal.invariant_of-self
@@ -24,3 +24,6 @@ returns-clause-counts g c = λ told. (c.read.ensures.around told).counts
 
 pub returns-clause-buffers : goal.returns-clause-buffers
 returns-clause-buffers g c = record { held = c.read.ensures.held; grown = c.read.ensures.grown; straight = c.read.ensures.straight; lean = c.read.ensures.lean; settles = λ told. c.read.ensures.settles (record { told = told; suits = c.args.self.now.is_open told }) }
+
+pub returns-clause-foreseen : goal.returns-clause-foreseen
+returns-clause-foreseen g c = λ told. refused_as _ _ c.read.result (c.read.ensures.foreseen (record { told = told; suits = c.args.self.now.is_open told })) (λ e why full. (let k = why full in record { pending = k.pending; past = k.past; too_long = k.too_long }))

@@ -1,6 +1,6 @@
 use Rattle.std.proofs.Common.{refl}
 use Rattle.cfb_compound_file.proofs.StoredStreams.{changed_once}
-use Rattle.cfb_compound_file.proofs.StreamCalls.{goes_on_by, refused_with}
+use Rattle.cfb_compound_file.proofs.StreamCalls.{goes_on_by, refused_as, refused_with}
 use Rattle.cfb_compound_file.proofs.stream.Stream+F+A.seek.Goals as goal
 
 pub invariant_of-self : goal.invariant_of-self
@@ -21,3 +21,6 @@ returns-clause-counts g c = λ told. (c.seek.ensures.around told).counts
 
 pub returns-clause-buffers : goal.returns-clause-buffers
 returns-clause-buffers g c = record { held = c.seek.ensures.held; stays = c.seek.ensures.stays; sure = c.seek.ensures.sure; room = c.seek.ensures.room; settles = λ told. c.seek.ensures.settles (record { told = told; suits = c.args.self.now.is_open told }) }
+
+pub returns-clause-foreseen : goal.returns-clause-foreseen
+returns-clause-foreseen g c = λ told. refused_as _ _ c.seek.result (c.seek.ensures.foreseen (record { told = told; suits = c.args.self.now.is_open told })) (λ e why full. (let k = why full in record { pending = k.pending; past = k.past; too_long = k.too_long }))

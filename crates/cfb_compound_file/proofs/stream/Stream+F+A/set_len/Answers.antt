@@ -1,6 +1,6 @@
-use Rattle.std.proofs.Common.{refl}
+use Rattle.std.proofs.Common.{inl, inr, refl}
 use Rattle.cfb_compound_file.proofs.StoredStreams.{changed_once}
-use Rattle.cfb_compound_file.proofs.StreamCalls.{between_by, goes_in_turn_by, refused_with}
+use Rattle.cfb_compound_file.proofs.StreamCalls.{between_by, done_as, goes_in_turn_by, refused_as, refused_with}
 use Rattle.cfb_compound_file.proofs.stream.Stream+F+A.set_len.Goals as goal
 
 pub invariant_of-self : goal.invariant_of-self
@@ -26,4 +26,12 @@ pub returns-clause-counts : goal.returns-clause-counts
 returns-clause-counts g c = λ told. (c.set_len.ensures.around told).counts
 
 pub returns-clause-foreseen : goal.returns-clause-foreseen
-returns-clause-foreseen g c = λ told. c.set_len.ensures.foreseen (record { told = told; suits = c.args.self.now.is_open told })
+returns-clause-foreseen g c = λ told. refused_as _ _ c.set_len.result (c.set_len.ensures.foreseen (record { told = told; suits = c.args.self.now.is_open told })) (λ e why full. elim (why full) [
+  | inl same ↦ inl same
+  | inr k ↦ inr (record { lengthened = k.lengthened; had_room = record { before = k.had_room.before; longer = k.had_room.longer; beside = k.had_room.beside }; failed = k.failed })
+])
+
+pub returns-clause-writes_out : goal.returns-clause-writes_out
+returns-clause-writes_out g c = λ told longer room. done_as _ _ c.set_len.result
+    (c.set_len.ensures.writes_out (record { told = told; suits = c.args.self.now.is_open told }) longer (record { before = room.before; longer = room.longer; beside = room.beside }))
+    (λ out. (let b = out.between in record { changes = between_by _ _ out.mid _ b.before b.after b.first b.second; calm = b.calm; settles = out.settles }))

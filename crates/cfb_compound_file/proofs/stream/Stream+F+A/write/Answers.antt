@@ -1,6 +1,6 @@
-use Rattle.std.proofs.Common.{refl}
+use Rattle.std.proofs.Common.{◌≡◌, ◌∙◌, arith, false, inl, inr, refl, sym, true}
 use Rattle.cfb_compound_file.proofs.StoredStreams.{changed_once}
-use Rattle.cfb_compound_file.proofs.StreamCalls.{between_by, goes_in_turn_by, refused_with}
+use Rattle.cfb_compound_file.proofs.StreamCalls.{between_by, goes_in_turn_by, refused_as, refused_with}
 use Rattle.cfb_compound_file.proofs.stream.Stream+F+A.write.Goals as goal
 
 pub invariant_of-self : goal.invariant_of-self
@@ -28,5 +28,24 @@ returns-clause-counts g c = λ told. (c.write.ensures.around told).counts
 pub returns-clause-buffers : goal.returns-clause-buffers
 returns-clause-buffers g c = record { held = c.write.ensures.held; calm = c.write.ensures.calm; keeps_back = c.write.ensures.keeps_back; straight = c.write.ensures.straight; lean = c.write.ensures.lean; settles = λ told. c.write.ensures.settles (record { told = told; suits = c.args.self.now.is_open told }) }
 
+pub returns-clause-foreseen : goal.returns-clause-foreseen
+returns-clause-foreseen g c = λ told. refused_as _ _ c.write.result (c.write.ensures.foreseen (record { told = told; suits = c.args.self.now.is_open told })) (λ e why full. elim (why full) [
+  | inl k ↦ inl (record { pending = k.pending; past = k.past; too_long = k.too_long })
+  | inr k ↦
+      let out = k.1.first in
+      let b = out.between in
+      inr (
+        k.0,
+        record {
+          first = record { changes = between_by _ _ out.mid _ b.before b.after b.first b.second; calm = b.calm; settles = out.settles };
+          at_end = k.1.at_end;
+          too_long = k.1.too_long;
+        },
+      )
+])
+
 pub returns-clause-inside : goal.returns-clause-inside
-returns-clause-inside g c = λ told. c.write.ensures.inside (record { told = told; suits = c.args.self.now.is_open told })
+returns-clause-inside g c = λ told calm inside. refused_as _ _ c.write.result (c.write.ensures.foreseen (record { told = told; suits = c.args.self.now.is_open told })) (λ e why full. elim (why full) [
+  | inl k ↦ (let w : true ≡ false = sym k.pending ∙ calm in cc)
+  | inr k ↦ absurd (omega (arith, k.0, k.1.at_end, inside))
+])

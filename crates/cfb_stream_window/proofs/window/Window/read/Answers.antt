@@ -3,6 +3,7 @@ use Rattle.std.proofs.lemmas.Result.{err_from_is_err_and}
 use Rattle.cfb_rules.specs.StreamCalls.{read}
 use Rattle.cfb_stream_window.specs.Answers.{IsOpen, IsReady}
 use Rattle.cfb_stream_window.specs.Windows.{Window}
+use Rattle.cfb_stream_window.proofs.Asking.{agrees_moved}
 use Rattle.cfb_stream_window.proofs.Reading.{empty_read, end_read, read_runs, past_runs, refused_read, not_empty, is_empty_from}
 use Rattle.cfb_stream_window.proofs.Refusing.{failed_for, read_for}
 use Rattle.cfb_stream_window.proofs.window.Window.read.Goals as goal
@@ -58,3 +59,14 @@ returns-then-not-has_rest-clause-runs g c = λ (h : IsOpen g.C.ReadContents c.ar
     let size = ap (λ (z : Window). z.size) c.self.view_is in
     let e = c.in_ok-count.ensures in
     past_runs _ _ _ _ _ _ a.unfailed (omega (arith, size)) (length c.args.into.now) c.in_ok-count.count (omega (arith, e.most)) (e.ok r)
+
+pub returns-clause-goes_on : goal.returns-clause-goes_on
+returns-clause-goes_on g c = λ (h : IsOpen g.C.ReadContents c.args.content.now c.args.id c.args.self.now).
+    let a = h.suits (sym c.is_failed.ensures ∙ c.if-is_failed.false) in
+    let had = c.in_ok-have_rest.ensures in
+    let k = had.ok (record { told = h.told; agrees = a }) in
+    record {
+      is_open = record { told = (had.around h.told).told; suits = λ _. agrees_moved _ _ _ _ _ k.agrees c.serve.ensures.window };
+      limit = k.limit;
+      sound = k.sound;
+    }

@@ -1,8 +1,11 @@
-use Rattle.std.proofs.Common.{◌≡◌, ◌≤◌, true, ap, arith}
+use Rattle.std.proofs.Common.{◌≡◌, ◌≤◌, ◌∙◌, ℕ, true, false, ap, arith, subst, sym}
 use Rattle.std.proofs.lemmas.Result.{err_from_is_err_and}
+use Rattle.cfb_format.specs.Refused.{CountsError}
+use Rattle.cfb_stream_buffer.proofs.Breaks.{never_full}
+use Rattle.cfb_stream_buffer.specs.Touched.{faults_of}
 use Rattle.cfb_stream_window.specs.Answers.{IsReady}
 use Rattle.cfb_stream_buffer.specs.Contents.{Stored, TakesLen}
-use Rattle.cfb_stream_window.proofs.Writing.{cut_to, resized_to, resized_lost}
+use Rattle.cfb_stream_window.proofs.Writing.{cut_inside, cut_to, resized_to, resized_lost}
 use Rattle.cfb_stream_window.proofs.window.Window.resize.Goals as goal
 
 pub returns-clause-ok : goal.returns-clause-ok
@@ -31,3 +34,29 @@ returns-in_err-settle-clause-refused g c = λ (h : IsReady g.C.ReadContents c.ar
     let p = err_from_is_err_and c.from_residual.result c.from_residual.ensures.1 in
     rw (p.1, p.2) (resized_lost (g.C.Contents.is_full c.settle.new.content) (g.C.Contents.is_too_long c.settle.new.content c.args.id c.args.len) c.args.len s _ _ c.args.self.now c.cut.new.self _ c.in_err-settle.field-0.0 same
     (q.inside r (omega (arith, inside, cut.agrees.total, cut.new_size))) (q.refused r))
+
+pub returns-in_err-settle-clause-foreseen : goal.returns-in_err-settle-clause-foreseen
+returns-in_err-settle-clause-foreseen g c = λ (h : IsReady g.C.ReadContents c.args.content.now c.args.id c.args.self.now) (sound : (g.C.ReadContents.stored c.args.content.now c.args.id).sound ≡ true)
+    (fits : c.args.len ≤ (g.C.ReadContents.stored c.args.content.now c.args.id).limit).
+    let s = g.C.ReadContents.stored c.args.content.now c.args.id in
+    let takes : TakesLen s c.args.len = record { unfailed = h.agrees.unfailed; sound = sound; fits = fits } in
+    let e = c.in_default.ensures in
+    let cut = cut_to s c.args.self.now c.args.len h.agrees sound fits _ c.cut.new.self (e.ok h.told takes) c.cut.ensures.kept c.cut.ensures.past c.cut.ensures.calm in
+    let inside = cut_inside c.args.self.now c.cut.new.self c.args.len c.cut.ensures.kept c.cut.ensures.past c.cut.ensures.calm in
+    let p = err_from_is_err_and c.from_residual.result c.from_residual.ensures.1 in
+    rw (p.1, p.2) (never_full _ _ (c.in_err-settle.ensures.inside (record { told = e.told h.told; agrees = cut.agrees }) (omega (arith, inside, e.len))))
+
+pub returns-in_err-settle-clause-around : goal.returns-in_err-settle-clause-around
+returns-in_err-settle-clause-around g c = λ told.
+    let e = c.in_default.ensures in
+    let q = c.in_err-settle.ensures in
+    let out = q.around (e.told told) in
+    let inside = cut_inside c.args.self.now c.cut.new.self c.args.len c.cut.ensures.kept c.cut.ensures.past c.cut.ensures.calm in
+    let p = err_from_is_err_and c.from_residual.result c.from_residual.ensures.1 in
+    rw (p.1, p.2) (record {
+      told = out.told;
+      others = λ first k. out.others first (e.others told first k);
+      tight = q.within (e.told told) (omega (arith, inside, e.len)) _ (e.tight told);
+      counts = subst (λ (m : ℕ). CountsError (faults_of g.C.ReadContents g.C.Contents) m (g.C.ReadContents.failures c.settle.new.content) c.in_err-settle.field-0.0) (e.counts told) out.counts;
+      stays = λ calm. absurd (let w : true ≡ false = sym q.lost ∙ calm in cc);
+    })

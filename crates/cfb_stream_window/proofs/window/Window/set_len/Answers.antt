@@ -1,4 +1,4 @@
-use Rattle.std.proofs.Common.{◌≢◌, ◌≤◌, ◌∙◌, sym, ap, arith, refl, inl, inr}
+use Rattle.std.proofs.Common.{◌≢◌, ◌≤◌, ◌∙◌, sym, ap, arith, refl, inl}
 use Rattle.std.proofs.lemmas.Result.{err_from_is_err_and}
 use Rattle.cfb_rules.specs.StreamCalls.{set_len}
 use Rattle.cfb_stream_window.specs.Answers.{IsOpen, IsReady}
@@ -92,10 +92,7 @@ returns-in_err-lengthen-clause-foreseen g c = λ (h : IsOpen g.C.ReadContents c.
     let fits : c.args.len ≤ (g.C.ReadContents.stored c.args.content.now c.args.id).limit = omega (arith, c.limit.ensures) in
     let sound = sym c.is_sound.ensures ∙ c.if-not-is_sound.false in
     let p = err_from_is_err_and c.from_residual.result c.from_residual.ensures.1 in
-    rw (p.1, p.2) (λ full. elim (c.in_err-lengthen.ensures.foreseen r sound fits full) [
-      | inl same ↦ inl same
-      | inr failed ↦ inr ((c.is_lengthened.ensures.0 c.if-is_lengthened.true).1, failed)
-    ])
+    rw (p.1, p.2) (c.in_err-lengthen.ensures.foreseen r sound fits)
 
 pub returns-in_err-resize-clause-foreseen : goal.returns-in_err-resize-clause-foreseen
 returns-in_err-resize-clause-foreseen g c = λ (h : IsOpen g.C.ReadContents c.args.content.now c.args.id c.args.self.now).

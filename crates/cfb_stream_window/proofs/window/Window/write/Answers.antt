@@ -5,6 +5,7 @@ use Rattle.cfb_format.specs.Refused.{IsMemory}
 use Rattle.cfb_rules.specs.Runs.{any_cause}
 use Rattle.cfb_rules.specs.StreamCalls.{write}
 use Rattle.cfb_stream_window.specs.Answers.{IsOpen, IsReady}
+use Rattle.cfb_stream_window.proofs.InTurn.{once_between}
 use Rattle.cfb_stream_window.proofs.Reading.{not_empty, is_empty_from}
 use Rattle.cfb_stream_window.proofs.Refusing.{failed_for, broke_for}
 use Rattle.cfb_stream_window.proofs.Writing.{nothing_written, no_room_refused, unsound_refused, straight_runs, kept_runs, kept_agrees, written_broken}
@@ -101,3 +102,6 @@ returns-clause-goes_on g c = λ (h : IsOpen g.C.ReadContents c.args.content.now 
     (omega (arith, length-take {A = ℕ} n (take most bytes), length-take {A = ℕ} most bytes)) (take-take n most bytes within) c.keep.ensures.inside
     (omega (arith, k.place)) c.keep.ensures.window in
     record { is_open = record { told = (had.around h.told).told; suits = λ _. a }; limit = k.limit; sound = k.sound }
+
+pub returns-clause-between : goal.returns-clause-between
+returns-clause-between g c = λ told. once_between g.C.ReadContents g.C.Contents g.met.C.Contents.still_is_tight _ _ _ _ _ told (c.in_ok-have_room.ensures.around told)

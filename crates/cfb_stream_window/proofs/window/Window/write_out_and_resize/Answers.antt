@@ -1,4 +1,4 @@
-use Rattle.std.proofs.Common.{◌≡◌, ◌≤◌, ◌∙◌, ℕ, true, false, arith, subst, sym, inl, inr, refl}
+use Rattle.std.proofs.Common.{◌≡◌, ◌≤◌, ◌∙◌, ℕ, true, false, arith, subst, sym, inl, inr}
 use Rattle.std.proofs.lemmas.Result.{err_from_is_err_and}
 use Rattle.cfb_format.specs.Refused.{IsBreak}
 use Rattle.cfb_format.specs.declared.error.Error.{Error}
@@ -122,3 +122,28 @@ returns-in_err-resize_again-clause-between g c = λ told.
         second = then'.tight;
       },
     )
+
+pub returns-clause-writes_out : goal.returns-clause-writes_out
+returns-clause-writes_out g c = λ (h : IsReady g.C.ReadContents c.args.content.now c.args.id c.args.self.now).
+    let s = g.C.ReadContents.stored c.args.content.now c.args.id in
+    let t = g.C.ReadContents.stored c.resize.new.content c.args.id in
+    let w = c.args.self.now in
+    let is = c.len-size.ensures.value in
+    let sound = h.agrees.trusted c.requires.pending in
+    let e = c.in_ok-resize.ensures in
+    let out = e.around h.told in
+    let then' = c.in_ok-resize_again.ensures.around out.told in
+    let settles = resized_settled s t w c.resize.new.self h.agrees sound (subst (λ (n : ℕ). Resized n s w t c.resize.new.self) is (e.ok h sound (omega (arith, is, h.agrees.within)))) in
+    record {
+      mid = c.resize.new.content;
+      between = record {
+        told = out.told;
+        calm = λ calm. absurd (let x : true ≡ false = sym c.requires.pending ∙ calm in cc);
+        settles = λ (a : LiesOver s w). inr (c.requires.pending, settles);
+        before = out.others;
+        after = then'.others;
+        first = out.tight;
+        second = then'.tight;
+      };
+      settles = settles;
+    }

@@ -1,6 +1,9 @@
-use Rattle.std.proofs.Common.{◌≡◌, ◌≤◌, ◌<◌, ◌+◌, ◌∙◌, ℕ, length, take, max, true, ap, sym, arith, length-take}
+use Rattle.std.proofs.Common.{◌≡◌, ◌≤◌, ◌<◌, ◌+◌, ◌∙◌, ℕ, length, take, max, true, ap, sym, subst, arith, inr, length-take}
+use Rattle.cfb_format.specs.Refused.{IsBreak}
+use Rattle.cfb_format.specs.declared.error.Error.{Error}
+use Rattle.cfb_format.specs.declared.error.Error.TheVariants.{Full}
 use Rattle.cfb_stream_window.specs.Answers.{IsReady}
-use Rattle.cfb_stream_buffer.specs.Contents.{TakesBytes, stored_after_write}
+use Rattle.cfb_stream_buffer.specs.Contents.{Stored, TakesBytes, stored_after_write}
 use Rattle.cfb_stream_window.specs.Windows.{LiesOver, Window}
 use Rattle.cfb_stream_window.proofs.InTurn.{once_between, settled_if}
 use Rattle.cfb_stream_window.proofs.Writing.{straight_to}
@@ -69,3 +72,38 @@ returns-in-Err-clause-between g c = λ told.
         second = up.tight (e.told out.told) _ (e.tight out.told);
       },
     )
+
+pub returns-in-Err-clause-foreseen : goal.returns-in-Err-clause-foreseen
+returns-in-Err-clause-foreseen g c = λ (h : IsReady g.C.ReadContents c.args.content.now c.args.id c.args.self.now) (sound : (g.C.ReadContents.stored c.args.content.now c.args.id).sound ≡ true)
+    (fits : c.args.self.now.base + c.args.self.now.cursor + length c.args.bytes.now ≤ (g.C.ReadContents.stored c.args.content.now c.args.id).limit) (some : 0 < length c.args.bytes.now) (full : c.in-Err.e ≡ Full).
+    let s = g.C.ReadContents.stored c.args.content.now c.args.id in
+    let t = g.C.ReadContents.stored c.leave.new.content c.args.id in
+    let w = c.args.self.now in
+    let left = c.in_ok-leave.ensures in
+    let out = left.around h.told in
+    let k = left.ok h in
+    let e = c.in-Err.ensures in
+    let up = c.give_up.ensures in
+    let at = ap (λ (z : Window). z.base) c.self-2.view_is in
+    let base = ap (λ (z : Window). z.base) left.window in
+    let takes : TakesBytes t c.self-2.inside.base (length c.args.bytes.now) =
+    record { unfailed = k.agrees.unfailed; sound = k.sound ∙ sound; inside = omega (arith, at, k.agrees.begins); fits = omega (arith, at, base, k.limit) } in
+    let end = (subst (λ (z : Error). IsBreak ((t.size ≤ c.self-2.inside.base) × g.C.Contents.is_full c.write_at.new.self) z) full (e.refused out.told takes some).0).0 in
+    let size : t.size ≡ w.size = ap (λ (z : Stored). z.size) (left.stored h) in
+    inr (record {
+      first = record {
+        mid = c.leave.new.content;
+        between = record {
+          told = out.told;
+          calm = left.calm;
+          settles = λ (a : LiesOver s w). settled_if s t w (λ calm. ap (λ content. g.C.ReadContents.stored content c.args.id) (left.calm calm)) (left.stored h);
+          before = out.others;
+          after = λ first k. up.others (e.told out.told) first (e.others out.told first k);
+          first = out.tight;
+          second = up.tight (e.told out.told) _ (e.tight out.told);
+        };
+        settles = left.stored h;
+      };
+      at_end = omega (arith, end, at, base, size, k.agrees.begins);
+      too_long = subst (λ (n : ℕ). g.C.Contents.is_too_long c.leave.new.content c.args.id (n + 1)) size (e.foreseen out.told takes some full);
+    })

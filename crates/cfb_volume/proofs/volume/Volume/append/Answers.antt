@@ -13,7 +13,7 @@ use Rattle.cfb_content.specs.Contents.{IsNotChangeable, IsStreamOf, IsTooLongFor
 use Rattle.cfb_resizing.specs.Turning.{LeavesNoMinis}
 use Rattle.cfb_agreement.specs.Changes.{ChangesOneContent}
 use Rattle.cfb_agreement.specs.Files.{FileState, Holds, SameSetting}
-use Rattle.cfb_volume.proofs.ContentSteps.{WasChanged, WasRefused, ended, ended-changes, ended-entries, ended-holds, ended-same, ended-setting, ended-stream, file_on, refused-agrees, refused-changes, refused-setting, refused-stays, refused-stream}
+use Rattle.cfb_volume.proofs.ContentSteps.{WasRefused, WentWell, ended, ended-changes, ended-entries, ended-holds, ended-same, ended-setting, ended-stream, file_on, refused-agrees, refused-changes, refused-setting, refused-stays, refused-stream}
 use Rattle.cfb_volume.proofs.Refusals.{append-break, why-full}
 use Rattle.cfb_volume.proofs.volume.Volume.append.Goals as goal
 
@@ -28,32 +28,26 @@ append_all-requires-clause-limit g c = subst (λ (f : FileState). len_of f.base 
 refused : (g : _) (c : goal.After-from_residual g) → IsTrue g.F.ReadMedium.tells → WasRefused c.args.self.now.base c.append_all.new.mini c.args.entry
 refused g c told =
     let e = c.append_all.ensures in
-    subst (λ (f : FileState). WasRefused f.base c.append_all.new.mini c.args.entry) c.self.view_is (record {
-      limits = e.limits;
-      entries = e.entries;
-      others = λ v change. e.others told v change;
-      header = e.header told;
-      still = c.in_err-append_all.ensures.still;
-      unwritten = λ calm. e.unwritten told calm;
-    })
+    subst (λ (f : FileState). WasRefused f.base c.append_all.new.mini c.args.entry) c.self.view_is
+    (record { moves = e.moves; spares = e.spares told; still = c.in_err-append_all.ensures.still })
 
 pub returns-in_err-append_all-clause-stream : goal.returns-in_err-append_all-clause-stream
 returns-in_err-append_all-clause-stream g c =
     let mid = c.append_all.new.mini in
     refused-stream c.args.self.now mid c.args.entry c.self.inside.is_sound c.self.inside.buffer_limit
     (ap (λ (f : FileState). f.is_sound) c.self.view_is) (ap (λ (f : FileState). f.buffer_limit) c.self.view_is)
-    (subst (λ (f : FileState). KeepsLimits f.base mid) c.self.view_is c.append_all.ensures.limits)
-    (subst (λ (f : FileState). MovesContent f.base mid c.args.entry) c.self.view_is c.append_all.ensures.entries) c.requires.stream
+    (subst (λ (f : FileState). KeepsLimits f.base mid) c.self.view_is c.append_all.ensures.moves.limits)
+    (subst (λ (f : FileState). MovesContent f.base mid c.args.entry) c.self.view_is c.append_all.ensures.moves.entries) c.requires.stream
 
 pub returns-in_err-append_all-clause-setting : goal.returns-in_err-append_all-clause-setting
 returns-in_err-append_all-clause-setting g c =
     let mid = c.append_all.new.mini in
     refused-setting c.args.self.now mid c.args.entry c.self.inside.is_sound c.self.inside.buffer_limit
     (ap (λ (f : FileState). f.is_sound) c.self.view_is) (ap (λ (f : FileState). f.buffer_limit) c.self.view_is)
-    (subst (λ (f : FileState). KeepsLimits f.base mid) c.self.view_is c.append_all.ensures.limits)
+    (subst (λ (f : FileState). KeepsLimits f.base mid) c.self.view_is c.append_all.ensures.moves.limits)
 
 pub returns-in_err-append_all-clause-entries : goal.returns-in_err-append_all-clause-entries
-returns-in_err-append_all-clause-entries g c = subst (λ (f : FileState). MovesContent f.base c.append_all.new.mini c.args.entry) c.self.view_is c.append_all.ensures.entries
+returns-in_err-append_all-clause-entries g c = subst (λ (f : FileState). MovesContent f.base c.append_all.new.mini c.args.entry) c.self.view_is c.append_all.ensures.moves.entries
 
 pub returns-in_err-append_all-clause-changes : goal.returns-in_err-append_all-clause-changes
 returns-in_err-append_all-clause-changes g c told held =
@@ -99,23 +93,12 @@ returns-in_err-append_all-clause-none g c none = absurd (c.in_err-append_all.ens
 
 -- ---- it went well
 
-changed : (g : _) (c : goal.After-end_change g) → IsTrue g.F.ReadMedium.tells → WasChanged c.args.self.now.base c.append_all.new.mini c.args.entry
+changed : (g : _) (c : goal.After-end_change g) → IsTrue g.F.ReadMedium.tells → WentWell c.args.self.now.base c.append_all.new.mini c.args.entry
 changed g c told =
     let e = c.append_all.ensures in
     let ok = c.in_ok-append_all.ensures in
-    subst (λ (f : FileState). IsStreamOf f.base c.args.entry → WasChanged f.base c.append_all.new.mini c.args.entry) c.self.view_is (λ at. record {
-      stream = at;
-      limits = e.limits;
-      entries = e.entries;
-      others = λ v change. e.others told v change;
-      header = e.header told;
-      holds = λ v change. ok.holds told v change;
-      owned = λ v change all. ok.owned told v change all;
-      sized = λ v change. ok.sized told v change;
-      snug_mini = λ v change snug. ok.snug_mini told v change snug;
-      exact = λ x. ok.tight.exact x;
-      none_free = λ longer. ok.tight.none_free longer;
-    }) c.requires.stream
+    subst (λ (f : FileState). IsStreamOf f.base c.args.entry → WentWell f.base c.append_all.new.mini c.args.entry) c.self.view_is
+    (λ at. record { stream = at; moves = e.moves; spares = e.spares told; changed = ok.changed told; tight = ok.tight }) c.requires.stream
 
 pub returns-clause-stream : goal.returns-clause-stream
 returns-clause-stream g c =
@@ -123,8 +106,8 @@ returns-clause-stream g c =
     subst (λ (s : MiniState). IsStreamOf s c.args.entry) (sym c.end_change.ensures)
     (ended-stream c.args.self.now mid c.args.entry c.self.inside.is_sound c.self.inside.buffer_limit
     (ap (λ (f : FileState). f.is_sound) c.self.view_is) (ap (λ (f : FileState). f.buffer_limit) c.self.view_is)
-    (subst (λ (f : FileState). KeepsLimits f.base mid) c.self.view_is c.append_all.ensures.limits)
-    (subst (λ (f : FileState). MovesContent f.base mid c.args.entry) c.self.view_is c.append_all.ensures.entries) c.requires.stream)
+    (subst (λ (f : FileState). KeepsLimits f.base mid) c.self.view_is c.append_all.ensures.moves.limits)
+    (subst (λ (f : FileState). MovesContent f.base mid c.args.entry) c.self.view_is c.append_all.ensures.moves.entries) c.requires.stream)
 
 pub returns-clause-setting : goal.returns-clause-setting
 returns-clause-setting g c =
@@ -132,7 +115,7 @@ returns-clause-setting g c =
     subst (λ (s : MiniState). SameSetting c.args.self.now (file_on c.self.inside.is_sound c.self.inside.buffer_limit s)) (sym c.end_change.ensures)
     (ended-setting c.args.self.now mid c.args.entry c.self.inside.is_sound c.self.inside.buffer_limit
     (ap (λ (f : FileState). f.is_sound) c.self.view_is) (ap (λ (f : FileState). f.buffer_limit) c.self.view_is)
-    (subst (λ (f : FileState). KeepsLimits f.base mid) c.self.view_is c.append_all.ensures.limits))
+    (subst (λ (f : FileState). KeepsLimits f.base mid) c.self.view_is c.append_all.ensures.moves.limits))
 
 pub returns-clause-entries : goal.returns-clause-entries
 returns-clause-entries g c =
@@ -140,7 +123,7 @@ returns-clause-entries g c =
     subst (λ (s : MiniState). MovesContent c.args.self.now.base s c.args.entry) (sym c.end_change.ensures)
     (ended-entries c.args.self.now mid c.args.entry c.self.inside.is_sound c.self.inside.buffer_limit
     (ap (λ (f : FileState). f.is_sound) c.self.view_is) (ap (λ (f : FileState). f.buffer_limit) c.self.view_is)
-    (subst (λ (f : FileState). MovesContent f.base mid c.args.entry) c.self.view_is c.append_all.ensures.entries))
+    (subst (λ (f : FileState). MovesContent f.base mid c.args.entry) c.self.view_is c.append_all.ensures.moves.entries))
 
 pub returns-clause-changes : goal.returns-clause-changes
 returns-clause-changes g c told held =

@@ -23,8 +23,8 @@ use Rattle.cfb_volume.proofs.ContentSteps.{file_on}
 use Rattle.cfb_volume.proofs.InsertedObjects.{ended, header-ended, same-file}
 use Rattle.cfb_volume.proofs.Refusals.{after-any, after-none, file-after}
 use Rattle.cfb_volume.proofs.RemovedObjects.{WasRemoved, child-stays, empty-break, others-ended, others-then, remove-balanced, remove-finds, remove-holds, remove-keeps-root, remove-made, remove-tree, stays-agrees, stays-by, stays-then, storage-stays, was-removed}
-use Rattle.cfb_volume.proofs.volume.Volume.remove.Goals as goal
 use Rattle.cfb_volume.proofs.volume.Volume.remove.Goals.{After-remove_dir_entry, In_ok-remove_dir_entry}
+use Rattle.cfb_volume.proofs.volume.Volume.remove.Goals as goal
 
 -- what is no stream by the file is none by the layers below it
 not-stream : (s : MiniState) (old : FileState) (sound : Bool) (limit : ℕ) (child : ℕ) → file_on sound limit s ≡ old
@@ -40,7 +40,7 @@ returns-in_err-empty_object-clause-agrees g c told holds =
     let mid = c.empty_object.new.mini in
     let e = ap (λ (f : FileState). f.base) c.self.view_is in
     let still = subst (λ (m : MiniState). IsStill m mid ⊎ ((table_of mid).file.begun ≡ true)) e c.in_err-empty_object.ensures.still in
-    let calm = subst (λ (m : MiniState). (table_of mid).file.begun ≡ false → bytes_of mid ≡ bytes_of m) e (c.empty_object.ensures.unwritten told) in
+    let calm = subst (λ (m : MiniState). (table_of mid).file.begun ≡ false → bytes_of mid ≡ bytes_of m) e (c.empty_object.ensures.spares told).unwritten in
     subst (λ (f : FileState). Agrees f) (same-file s mid mid c.self.inside.is_sound c.self.inside.buffer_limit old c.self.view_is refl)
     (stays-agrees old _ (stays-by old mid still calm c.requires.unfailed) holds)
 
@@ -67,14 +67,14 @@ pub remove_dir_entry-requires-clause-parent : goal.remove_dir_entry-requires-cla
 remove_dir_entry-requires-clause-parent g c =
     let s = c.self.inside.mini in
     let back = sym (ap (λ (f : FileState). f.base) c.self.view_is) in
-    storage-stays s c.empty_object.new.mini c.args.child c.empty_object.ensures.limits c.empty_object.ensures.entries c.args.parent
+    storage-stays s c.empty_object.new.mini c.args.child c.empty_object.ensures.moves.limits c.empty_object.ensures.moves.entries c.args.parent
     (subst (λ (m : MiniState). IsReachedStorage (cases_of m) (entries_of m) c.args.parent) back c.requires.parent)
 
 pub remove_dir_entry-requires-clause-there : goal.remove_dir_entry-requires-clause-there
 remove_dir_entry-requires-clause-there g c =
     let s = c.self.inside.mini in
     let back = sym (ap (λ (f : FileState). f.base) c.self.view_is) in
-    child-stays s c.empty_object.new.mini c.args.child c.empty_object.ensures.limits c.empty_object.ensures.entries c.args.parent c.args.child (chars c.args.name.now)
+    child-stays s c.empty_object.new.mini c.args.child c.empty_object.ensures.moves.limits c.empty_object.ensures.moves.entries c.args.parent c.args.child (chars c.args.name.now)
     (subst (λ (m : MiniState). (list : List ℕ) → HasChildren (cases_of m) (entries_of m) c.args.parent list → IsChildNamed (cases_of m) (entries_of m) (chars c.args.name.now) list c.args.child) back
     c.requires.named)
     (subst (λ (m : MiniState). (entry_at (entries_of m) c.args.child).child ≡ no_stream) back c.requires.childless)
@@ -142,13 +142,13 @@ returns-in_err-empty_object-clause-others g c told holds =
     let old = c.args.self.now in
     let mid = c.empty_object.new.mini in
     let e = ap (λ (f : FileState). f.base) c.self.view_is in
-    subst (λ (m : MiniState). (v : Validation) → IsChangeable v m → KeepsOthers c.args.child m mid) e (c.empty_object.ensures.others told)
+    subst (λ (m : MiniState). (v : Validation) → IsChangeable v m → KeepsOthers c.args.child m mid) e (c.empty_object.ensures.spares told).others
     Permissive (holds.sound c.requires.sound)
 
 -- and so do the bytes of the header that nobody reads
 pub returns-in_err-empty_object-clause-header : goal.returns-in_err-empty_object-clause-header
 returns-in_err-empty_object-clause-header g c told =
-    subst (λ (f : FileState). KeepsFixedHeader f.base c.empty_object.new.mini) c.self.view_is (c.empty_object.ensures.header told)
+    subst (λ (f : FileState). KeepsFixedHeader f.base c.empty_object.new.mini) c.self.view_is (c.empty_object.ensures.spares told).header
 
 header-kept : (g : _) (c : After-remove_dir_entry g) → IsTrue g.F.ReadMedium.tells → KeepsFixedHeader c.args.self.now.base c.remove_dir_entry.new.self
 header-kept g c told =
@@ -156,7 +156,7 @@ header-kept g c told =
     let mid = c.empty_object.new.mini in
     let new = c.remove_dir_entry.new.self in
     subst (λ (f : FileState). KeepsFixedHeader f.base new) c.self.view_is
-    (header-then s mid new c.empty_object.ensures.limits.version (c.empty_object.ensures.header told) (spared-keeps-header _ mid new (c.remove_dir_entry.ensures.spares told)))
+    (header-then s mid new c.empty_object.ensures.moves.limits.version (c.empty_object.ensures.spares told).header (spared-keeps-header _ mid new (c.remove_dir_entry.ensures.spares told)))
 
 pub returns-in_err-remove_dir_entry-clause-header : goal.returns-in_err-remove_dir_entry-clause-header
 returns-in_err-remove_dir_entry-clause-header g c told = header-kept g (goal.at.returns-in_err-remove_dir_entry-clause-header g c).After-remove_dir_entry told

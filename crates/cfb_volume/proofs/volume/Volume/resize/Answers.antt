@@ -11,7 +11,7 @@ use Rattle.cfb_mini_sectors.specs.Steps.{KeepsLimits}
 use Rattle.cfb_content.specs.Contents.{IsNotChangeable, IsStreamOf, IsTooLongFor, MovesContent, len_of}
 use Rattle.cfb_agreement.specs.Changes.{ChangesOneContent}
 use Rattle.cfb_agreement.specs.Files.{FileState, Holds, SameSetting}
-use Rattle.cfb_volume.proofs.ContentSteps.{WasChanged, WasRefused, ended, ended-changes, ended-entries, ended-holds, ended-same, ended-setting, ended-stream, file_on, refused-agrees, refused-changes, refused-setting, refused-stays, refused-stream}
+use Rattle.cfb_volume.proofs.ContentSteps.{WasRefused, WentWell, ended, ended-changes, ended-entries, ended-holds, ended-same, ended-setting, ended-stream, file_on, refused-agrees, refused-changes, refused-setting, refused-stays, refused-stream}
 use Rattle.cfb_volume.proofs.Emptying.{emptying-fits}
 use Rattle.cfb_volume.proofs.Refusals.{file-after, resize-break}
 use Rattle.cfb_volume.proofs.volume.Volume.resize.Goals as goal
@@ -27,36 +27,30 @@ resize_content-requires-clause-limit g c = subst (λ (f : FileState). c.args.len
 refused : (g : _) (c : goal.After-from_residual g) → IsTrue g.F.ReadMedium.tells → WasRefused c.args.self.now.base c.resize_content.new.mini c.args.entry
 refused g c told =
     let e = c.resize_content.ensures in
-    subst (λ (f : FileState). WasRefused f.base c.resize_content.new.mini c.args.entry) c.self.view_is (record {
-      limits = e.limits;
-      entries = e.entries;
-      others = λ v change. e.others told v change;
-      header = e.header told;
-      still = c.in_err-resize_content.ensures.still;
-      unwritten = λ calm. e.unwritten told calm;
-    })
+    subst (λ (f : FileState). WasRefused f.base c.resize_content.new.mini c.args.entry) c.self.view_is
+    (record { moves = e.moves; spares = e.spares told; still = c.in_err-resize_content.ensures.still })
 
 pub returns-in_err-resize_content-clause-stream : goal.returns-in_err-resize_content-clause-stream
 returns-in_err-resize_content-clause-stream g c =
     let mid = c.resize_content.new.mini in
     refused-stream c.args.self.now mid c.args.entry c.self.inside.is_sound c.self.inside.buffer_limit
     (ap (λ (f : FileState). f.is_sound) c.self.view_is) (ap (λ (f : FileState). f.buffer_limit) c.self.view_is)
-    (subst (λ (f : FileState). KeepsLimits f.base mid) c.self.view_is c.resize_content.ensures.limits)
-    (subst (λ (f : FileState). MovesContent f.base mid c.args.entry) c.self.view_is c.resize_content.ensures.entries) c.requires.stream
+    (subst (λ (f : FileState). KeepsLimits f.base mid) c.self.view_is c.resize_content.ensures.moves.limits)
+    (subst (λ (f : FileState). MovesContent f.base mid c.args.entry) c.self.view_is c.resize_content.ensures.moves.entries) c.requires.stream
 
 pub returns-in_err-resize_content-clause-setting : goal.returns-in_err-resize_content-clause-setting
 returns-in_err-resize_content-clause-setting g c =
     let mid = c.resize_content.new.mini in
     refused-setting c.args.self.now mid c.args.entry c.self.inside.is_sound c.self.inside.buffer_limit
     (ap (λ (f : FileState). f.is_sound) c.self.view_is) (ap (λ (f : FileState). f.buffer_limit) c.self.view_is)
-    (subst (λ (f : FileState). KeepsLimits f.base mid) c.self.view_is c.resize_content.ensures.limits)
+    (subst (λ (f : FileState). KeepsLimits f.base mid) c.self.view_is c.resize_content.ensures.moves.limits)
 
 pub returns-in_err-resize_content-clause-none : goal.returns-in_err-resize_content-clause-none
 returns-in_err-resize_content-clause-none g c same =
     absurd (c.in_err-resize_content.ensures.none (subst (λ (f : FileState). c.args.len ≡ len_of f.base c.args.entry) (sym c.self.view_is) same)).0
 
 pub returns-in_err-resize_content-clause-entries : goal.returns-in_err-resize_content-clause-entries
-returns-in_err-resize_content-clause-entries g c = subst (λ (f : FileState). MovesContent f.base c.resize_content.new.mini c.args.entry) c.self.view_is c.resize_content.ensures.entries
+returns-in_err-resize_content-clause-entries g c = subst (λ (f : FileState). MovesContent f.base c.resize_content.new.mini c.args.entry) c.self.view_is c.resize_content.ensures.moves.entries
 
 pub returns-in_err-resize_content-clause-changes : goal.returns-in_err-resize_content-clause-changes
 returns-in_err-resize_content-clause-changes g c told held =
@@ -104,23 +98,12 @@ returns-in_err-resize_content-clause-first g c told none =
 
 -- ---- it went well
 
-changed : (g : _) (c : goal.After-end_change g) → IsTrue g.F.ReadMedium.tells → WasChanged c.args.self.now.base c.resize_content.new.mini c.args.entry
+changed : (g : _) (c : goal.After-end_change g) → IsTrue g.F.ReadMedium.tells → WentWell c.args.self.now.base c.resize_content.new.mini c.args.entry
 changed g c told =
     let e = c.resize_content.ensures in
     let ok = c.in_ok-resize_content.ensures in
-    subst (λ (f : FileState). IsStreamOf f.base c.args.entry → WasChanged f.base c.resize_content.new.mini c.args.entry) c.self.view_is (λ at. record {
-      stream = at;
-      limits = e.limits;
-      entries = e.entries;
-      others = λ v change. e.others told v change;
-      header = e.header told;
-      holds = λ v change. ok.holds told v change;
-      owned = λ v change all. ok.owned told v change all;
-      sized = λ v change. ok.sized told v change;
-      snug_mini = λ v change snug. ok.snug_mini told v change snug;
-      exact = λ x. ok.exact x;
-      none_free = λ longer. ok.none_free longer;
-    }) c.requires.stream
+    subst (λ (f : FileState). IsStreamOf f.base c.args.entry → WentWell f.base c.resize_content.new.mini c.args.entry) c.self.view_is
+    (λ at. record { stream = at; moves = e.moves; spares = e.spares told; changed = ok.changed told; tight = ok.tight }) c.requires.stream
 
 pub returns-clause-len : goal.returns-clause-len
 returns-clause-len g c = ap (λ (s : MiniState). len_of s c.args.entry) c.end_change.ensures ∙ c.in_ok-resize_content.ensures.len
@@ -131,8 +114,8 @@ returns-clause-stream g c =
     subst (λ (s : MiniState). IsStreamOf s c.args.entry) (sym c.end_change.ensures)
     (ended-stream c.args.self.now mid c.args.entry c.self.inside.is_sound c.self.inside.buffer_limit
     (ap (λ (f : FileState). f.is_sound) c.self.view_is) (ap (λ (f : FileState). f.buffer_limit) c.self.view_is)
-    (subst (λ (f : FileState). KeepsLimits f.base mid) c.self.view_is c.resize_content.ensures.limits)
-    (subst (λ (f : FileState). MovesContent f.base mid c.args.entry) c.self.view_is c.resize_content.ensures.entries) c.requires.stream)
+    (subst (λ (f : FileState). KeepsLimits f.base mid) c.self.view_is c.resize_content.ensures.moves.limits)
+    (subst (λ (f : FileState). MovesContent f.base mid c.args.entry) c.self.view_is c.resize_content.ensures.moves.entries) c.requires.stream)
 
 pub returns-clause-setting : goal.returns-clause-setting
 returns-clause-setting g c =
@@ -140,7 +123,7 @@ returns-clause-setting g c =
     subst (λ (s : MiniState). SameSetting c.args.self.now (file_on c.self.inside.is_sound c.self.inside.buffer_limit s)) (sym c.end_change.ensures)
     (ended-setting c.args.self.now mid c.args.entry c.self.inside.is_sound c.self.inside.buffer_limit
     (ap (λ (f : FileState). f.is_sound) c.self.view_is) (ap (λ (f : FileState). f.buffer_limit) c.self.view_is)
-    (subst (λ (f : FileState). KeepsLimits f.base mid) c.self.view_is c.resize_content.ensures.limits))
+    (subst (λ (f : FileState). KeepsLimits f.base mid) c.self.view_is c.resize_content.ensures.moves.limits))
 
 pub returns-clause-none : goal.returns-clause-none
 returns-clause-none g c same =
@@ -158,7 +141,7 @@ returns-clause-content g c told held =
     let sound = subst (λ (f : FileState). IsChangeable Permissive f.base) (sym c.self.view_is) (held.sound c.requires.sound) in
     subst (λ (s : MiniState). content_of s (entry_at (entries_of s) i) ≡ resized (content_of c.args.self.now.base (entry_at (entries_of c.args.self.now.base) i)) c.args.len) (sym c.end_change.ensures)
     (subst (λ (f : FileState). content_of mid (entry_at (entries_of mid) i) ≡ resized (content_of f.base (entry_at (entries_of f.base) i)) c.args.len) c.self.view_is
-    (c.in_ok-resize_content.ensures.content told Permissive sound))
+    ((c.in_ok-resize_content.ensures.content told).content Permissive sound))
 
 pub returns-clause-entries : goal.returns-clause-entries
 returns-clause-entries g c =
@@ -166,7 +149,7 @@ returns-clause-entries g c =
     subst (λ (s : MiniState). MovesContent c.args.self.now.base s c.args.entry) (sym c.end_change.ensures)
     (ended-entries c.args.self.now mid c.args.entry c.self.inside.is_sound c.self.inside.buffer_limit
     (ap (λ (f : FileState). f.is_sound) c.self.view_is) (ap (λ (f : FileState). f.buffer_limit) c.self.view_is)
-    (subst (λ (f : FileState). MovesContent f.base mid c.args.entry) c.self.view_is c.resize_content.ensures.entries))
+    (subst (λ (f : FileState). MovesContent f.base mid c.args.entry) c.self.view_is c.resize_content.ensures.moves.entries))
 
 pub returns-clause-changes : goal.returns-clause-changes
 returns-clause-changes g c told held =

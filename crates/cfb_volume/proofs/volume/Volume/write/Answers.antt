@@ -1,19 +1,21 @@
 use Rattle.std.proofs.Common.{◌≡◌, ◌<◌, ◌≤◌, ◌+◌, ◌⊎◌, max, sym, ◌∙◌, ap, subst, length, take}
 use Rattle.std.specs.Prelude.{IsTrue}
 use Rattle.std.proofs.lemmas.Result.{err_from_is_err_and}
+use Rattle.cfb_format.specs.declared.validate.Validation.{Validation}
 use Rattle.cfb_format.specs.declared.validate.Validation.TheVariants.{Permissive}
 use Rattle.cfb_format.specs.Bytes.{max_stream_len}
 use Rattle.cfb_format.specs.Medium.{written}
 use Rattle.cfb_format.specs.Siblings.{entry_at}
 use Rattle.cfb_tables.specs.Changes.{NoneFree}
-use Rattle.cfb_mini_sectors.specs.State.{IsChangeable, MiniState, content_of, entries_of, table_of, tables_in, version_of}
+use Rattle.cfb_mini_sectors.specs.State.{HoldsMini, IsChangeable, MiniState, content_of, entries_of, table_of, tables_in, version_of}
 use Rattle.cfb_mini_sectors.specs.Steps.{KeepsLimits}
-use Rattle.cfb_content.specs.Contents.{IsNotChangeable, IsStreamOf, MovesContent, len_of}
+use Rattle.cfb_content.specs.Contents.{IsNotChangeable, IsStreamOf, IsTooLongFor, MovesContent, len_of}
+use Rattle.cfb_resizing.specs.Putting.{ChangesFileAlone}
 use Rattle.cfb_resizing.specs.Turning.{LeavesNoMinis}
 use Rattle.cfb_agreement.specs.Changes.{ChangesOneContent}
 use Rattle.cfb_agreement.specs.Files.{FileState, Holds, SameSetting}
-use Rattle.cfb_volume.proofs.ContentSteps.{WasChanged, WasRefused, ended-changes, ended-entries, ended-holds, ended-setting, ended-stream, file_on, refused-agrees, refused-changes, refused-setting, refused-stays, refused-stream}
-use Rattle.cfb_volume.proofs.Refusals.{write-break}
+use Rattle.cfb_volume.proofs.ContentSteps.{WasRefused, WentWell, ended, ended-changes, ended-entries, ended-holds, ended-setting, ended-stream, file_on, refused-agrees, refused-changes, refused-setting, refused-stays, refused-stream}
+use Rattle.cfb_volume.proofs.Refusals.{why-full, write-break}
 use Rattle.cfb_volume.proofs.volume.Volume.write.Goals as goal
 
 pub put_content-requires-clause-stream : goal.put_content-requires-clause-stream
@@ -30,32 +32,26 @@ put_content-requires-clause-limit g c = subst (λ (f : FileState). c.args.at + l
 refused : (g : _) (c : goal.After-from_residual g) → IsTrue g.F.ReadMedium.tells → WasRefused c.args.self.now.base c.put_content.new.mini c.args.entry
 refused g c told =
     let e = c.put_content.ensures in
-    subst (λ (f : FileState). WasRefused f.base c.put_content.new.mini c.args.entry) c.self.view_is (record {
-      limits = e.limits;
-      entries = e.entries;
-      others = λ v change. e.others told v change;
-      header = e.header told;
-      still = c.in_err-count.ensures.still;
-      unwritten = λ calm. e.unwritten told calm;
-    })
+    subst (λ (f : FileState). WasRefused f.base c.put_content.new.mini c.args.entry) c.self.view_is
+    (record { moves = e.moves; spares = e.spares told; still = c.in_err-count.ensures.still })
 
 pub returns-in_err-count-clause-stream : goal.returns-in_err-count-clause-stream
 returns-in_err-count-clause-stream g c =
     let mid = c.put_content.new.mini in
     refused-stream c.args.self.now mid c.args.entry c.self.inside.is_sound c.self.inside.buffer_limit
     (ap (λ (f : FileState). f.is_sound) c.self.view_is) (ap (λ (f : FileState). f.buffer_limit) c.self.view_is)
-    (subst (λ (f : FileState). KeepsLimits f.base mid) c.self.view_is c.put_content.ensures.limits)
-    (subst (λ (f : FileState). MovesContent f.base mid c.args.entry) c.self.view_is c.put_content.ensures.entries) c.requires.stream
+    (subst (λ (f : FileState). KeepsLimits f.base mid) c.self.view_is c.put_content.ensures.moves.limits)
+    (subst (λ (f : FileState). MovesContent f.base mid c.args.entry) c.self.view_is c.put_content.ensures.moves.entries) c.requires.stream
 
 pub returns-in_err-count-clause-setting : goal.returns-in_err-count-clause-setting
 returns-in_err-count-clause-setting g c =
     let mid = c.put_content.new.mini in
     refused-setting c.args.self.now mid c.args.entry c.self.inside.is_sound c.self.inside.buffer_limit
     (ap (λ (f : FileState). f.is_sound) c.self.view_is) (ap (λ (f : FileState). f.buffer_limit) c.self.view_is)
-    (subst (λ (f : FileState). KeepsLimits f.base mid) c.self.view_is c.put_content.ensures.limits)
+    (subst (λ (f : FileState). KeepsLimits f.base mid) c.self.view_is c.put_content.ensures.moves.limits)
 
 pub returns-in_err-count-clause-entries : goal.returns-in_err-count-clause-entries
-returns-in_err-count-clause-entries g c = subst (λ (f : FileState). MovesContent f.base c.put_content.new.mini c.args.entry) c.self.view_is c.put_content.ensures.entries
+returns-in_err-count-clause-entries g c = subst (λ (f : FileState). MovesContent f.base c.put_content.new.mini c.args.entry) c.self.view_is c.put_content.ensures.moves.entries
 
 pub returns-in_err-count-clause-changes : goal.returns-in_err-count-clause-changes
 returns-in_err-count-clause-changes g c told held =
@@ -83,29 +79,30 @@ returns-in_err-count-clause-err g c told held =
     let mid = c.put_content.new.mini in
     let i = c.args.entry in
     let sound : IsChangeable Permissive s = subst (λ (f : FileState). IsChangeable Permissive f.base) (sym c.self.view_is) (held.sound c.requires.sound) in
-    rw (p.1, p.2) (write-break s mid (IsTrue g.F.ReadMedium.tells → IsNotChangeable s) (len_of s i ≤ c.args.at) (len_of c.args.self.now.base i ≤ c.args.at) (λ none. none told Permissive sound)
-    (λ past. subst (λ (f : FileState). len_of f.base i ≤ c.args.at) c.self.view_is past)
+    let Long = (validation : Validation) → HoldsMini validation s → IsTooLongFor s i (len_of s i + 1) in
+    rw (p.1, p.2) (write-break s mid (IsTrue g.F.ReadMedium.tells → IsNotChangeable s) ((len_of s i ≤ c.args.at) × Long) (len_of c.args.self.now.base i ≤ c.args.at) (λ none. none told Permissive sound)
+    (λ past. subst (λ (f : FileState). len_of f.base i ≤ c.args.at) c.self.view_is past.0)
     c.in_err-count.field-0.0 (c.in_err-count.ensures.refused told Permissive sound.held) c.in_err-count.ensures.err)
+
+-- one byte more was too long before
+pub returns-in_err-count-clause-foreseen : goal.returns-in_err-count-clause-foreseen
+returns-in_err-count-clause-foreseen g c told held =
+    let p = err_from_is_err_and c.from_residual.result c.from_residual.ensures.1 in
+    let s = c.self.inside.mini in
+    let i = c.args.entry in
+    let sound : IsChangeable Permissive s = subst (λ (f : FileState). IsChangeable Permissive f.base) (sym c.self.view_is) (held.sound c.requires.sound) in
+    rw (p.1, p.2) (λ is. subst (λ (f : FileState). IsTooLongFor f.base i (len_of f.base i + 1)) c.self.view_is
+    ((why-full (IsTrue g.F.ReadMedium.tells → IsNotChangeable s) ((len_of s i ≤ c.args.at) × ((validation : Validation) → HoldsMini validation s → IsTooLongFor s i (len_of s i + 1)))
+    c.in_err-count.field-0.0 c.in_err-count.ensures.err is).1 Permissive sound.held))
 
 -- ---- it went well
 
-changed : (g : _) (c : goal.After-end_change g) → IsTrue g.F.ReadMedium.tells → WasChanged c.args.self.now.base c.put_content.new.mini c.args.entry
+changed : (g : _) (c : goal.After-end_change g) → IsTrue g.F.ReadMedium.tells → WentWell c.args.self.now.base c.put_content.new.mini c.args.entry
 changed g c told =
     let e = c.put_content.ensures in
     let ok = c.in_ok-count.ensures in
-    subst (λ (f : FileState). IsStreamOf f.base c.args.entry → WasChanged f.base c.put_content.new.mini c.args.entry) c.self.view_is (λ at. record {
-      stream = at;
-      limits = e.limits;
-      entries = e.entries;
-      others = λ v change. e.others told v change;
-      header = e.header told;
-      holds = λ v change. ok.holds told v change;
-      owned = λ v change all. ok.owned told v change all;
-      sized = λ v change. ok.sized told v change;
-      snug_mini = λ v change snug. ok.snug_mini told v change snug;
-      exact = λ x. ok.tight.exact x;
-      none_free = λ longer. ok.tight.none_free longer;
-    }) c.requires.stream
+    subst (λ (f : FileState). IsStreamOf f.base c.args.entry → WentWell f.base c.put_content.new.mini c.args.entry) c.self.view_is
+    (λ at. record { stream = at; moves = e.moves; spares = e.spares told; changed = ok.changed told; tight = ok.tight }) c.requires.stream
 
 pub returns-clause-stream : goal.returns-clause-stream
 returns-clause-stream g c =
@@ -113,8 +110,8 @@ returns-clause-stream g c =
     subst (λ (s : MiniState). IsStreamOf s c.args.entry) (sym c.end_change.ensures)
     (ended-stream c.args.self.now mid c.args.entry c.self.inside.is_sound c.self.inside.buffer_limit
     (ap (λ (f : FileState). f.is_sound) c.self.view_is) (ap (λ (f : FileState). f.buffer_limit) c.self.view_is)
-    (subst (λ (f : FileState). KeepsLimits f.base mid) c.self.view_is c.put_content.ensures.limits)
-    (subst (λ (f : FileState). MovesContent f.base mid c.args.entry) c.self.view_is c.put_content.ensures.entries) c.requires.stream)
+    (subst (λ (f : FileState). KeepsLimits f.base mid) c.self.view_is c.put_content.ensures.moves.limits)
+    (subst (λ (f : FileState). MovesContent f.base mid c.args.entry) c.self.view_is c.put_content.ensures.moves.entries) c.requires.stream)
 
 pub returns-clause-setting : goal.returns-clause-setting
 returns-clause-setting g c =
@@ -122,7 +119,7 @@ returns-clause-setting g c =
     subst (λ (s : MiniState). SameSetting c.args.self.now (file_on c.self.inside.is_sound c.self.inside.buffer_limit s)) (sym c.end_change.ensures)
     (ended-setting c.args.self.now mid c.args.entry c.self.inside.is_sound c.self.inside.buffer_limit
     (ap (λ (f : FileState). f.is_sound) c.self.view_is) (ap (λ (f : FileState). f.buffer_limit) c.self.view_is)
-    (subst (λ (f : FileState). KeepsLimits f.base mid) c.self.view_is c.put_content.ensures.limits))
+    (subst (λ (f : FileState). KeepsLimits f.base mid) c.self.view_is c.put_content.ensures.moves.limits))
 
 pub returns-clause-entries : goal.returns-clause-entries
 returns-clause-entries g c =
@@ -130,7 +127,7 @@ returns-clause-entries g c =
     subst (λ (s : MiniState). MovesContent c.args.self.now.base s c.args.entry) (sym c.end_change.ensures)
     (ended-entries c.args.self.now mid c.args.entry c.self.inside.is_sound c.self.inside.buffer_limit
     (ap (λ (f : FileState). f.is_sound) c.self.view_is) (ap (λ (f : FileState). f.buffer_limit) c.self.view_is)
-    (subst (λ (f : FileState). MovesContent f.base mid c.args.entry) c.self.view_is c.put_content.ensures.entries))
+    (subst (λ (f : FileState). MovesContent f.base mid c.args.entry) c.self.view_is c.put_content.ensures.moves.entries))
 
 pub returns-clause-changes : goal.returns-clause-changes
 returns-clause-changes g c told held =
@@ -179,12 +176,18 @@ returns-clause-stays_full g c told held leaves none =
 
 -- ---- inside the length
 
+-- once the change has ended too
+ended-alone : (old mid : MiniState) → ChangesFileAlone old mid → ChangesFileAlone old (ended mid)
+ended-alone old mid alone = ap ended alone
+
 pub returns-in_err-count-clause-within : goal.returns-in_err-count-clause-within
 returns-in_err-count-clause-within g c inside =
-    subst (λ (f : FileState). (c.args.at < len_of f.base c.args.entry) ⊎ (length c.args.bytes.now ≡ 0) → tables_in c.put_content.new.mini ≡ tables_in f.base) c.self.view_is
+    subst (λ (f : FileState). (c.args.at < len_of f.base c.args.entry) ⊎ (length c.args.bytes.now ≡ 0) → ChangesFileAlone f.base c.put_content.new.mini) c.self.view_is
     c.put_content.ensures.within inside
 
 pub returns-clause-within : goal.returns-clause-within
-returns-clause-within g c inside = ap (λ (s : MiniState). tables_in s) c.end_change.ensures
-    ∙ subst (λ (f : FileState). (c.args.at < len_of f.base c.args.entry) ⊎ (length c.args.bytes.now ≡ 0) → tables_in c.put_content.new.mini ≡ tables_in f.base) c.self.view_is
-    c.put_content.ensures.within inside
+returns-clause-within g c inside =
+    subst (λ (s : MiniState). ChangesFileAlone c.args.self.now.base s) (sym c.end_change.ensures)
+    (ended-alone c.args.self.now.base c.put_content.new.mini
+    (subst (λ (f : FileState). (c.args.at < len_of f.base c.args.entry) ⊎ (length c.args.bytes.now ≡ 0) → ChangesFileAlone f.base c.put_content.new.mini) c.self.view_is
+    c.put_content.ensures.within inside))

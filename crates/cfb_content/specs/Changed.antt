@@ -1,0 +1,31 @@
+-- What a change of one stream's content promises of all else, and of the file once it is made (MS-CFB 2.3, 2.4 and 2.6.3).
+use Rattle.std.specs.Prelude.{ℕ, ◌≡◌, false}
+use Rattle.cfb_format.specs.declared.validate.Validation.{Validation}
+use Rattle.cfb_mini_sectors.specs.State.{IsChangeable, MiniState, bytes_of, table_of}
+use Rattle.cfb_mini_sectors.specs.Steps.{IsSnugMini, KeepsLimits}
+use Rattle.cfb_content.specs.Contents.{AreAllUsed, KeepsFixedHeader, KeepsOthers, MovesContent, SizesChain}
+
+-- ---- of every medium, however the call ends
+
+-- of the entries only the stream's own and the root's change, and of these start and length alone; the limits and the directory's sectors stay
+pub record MovesAlone (old new : MiniState) (i : ℕ) : Type 0 where
+  pub entries : MovesContent old new i
+  pub limits : KeepsLimits old new
+  pub directory : new.directory.sectors ≡ old.directory.sectors
+
+-- ---- of a medium that tells its bytes
+
+-- however the call ends: in a file that could be changed the contents of the other streams stay, in every file what the header says of neither
+-- tables nor chains, and each byte where no change is begun
+pub record SparesOthers (old new : MiniState) (i : ℕ) : Type 0 where
+  pub others : (v : Validation) → IsChangeable v old → KeepsOthers i old new
+  pub header : KeepsFixedHeader old new
+  pub unwritten : (table_of new).file.begun ≡ false → bytes_of new ≡ bytes_of old
+
+-- where the change is made: a file that could be changed can be changed again, and each sector and mini sector is free or in use if it was so;
+-- the stream's chain is as long as it is to be, and MiniFAT and mini stream have exactly what they need if they had
+pub record WasChanged (old new : MiniState) (i : ℕ) : Type 0 where
+  pub holds : (v : Validation) → IsChangeable v old → IsChangeable v new
+  pub owned : (v : Validation) → IsChangeable v old → AreAllUsed old → AreAllUsed new
+  pub sized : (v : Validation) → IsChangeable v old → SizesChain old new i
+  pub snug_mini : (v : Validation) → IsChangeable v old → IsSnugMini old → IsSnugMini new
