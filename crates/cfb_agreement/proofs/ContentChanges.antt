@@ -1,8 +1,10 @@
 -- The tree that the bytes mean once the content of one stream has changed.
-use Rattle.std.proofs.Common.{◌≡◌, ◌≢◌, ℕ, List, true, refl, sym, ◌∙◌, ap, subst, length}
+use Rattle.std.proofs.Common.{◌≡◌, ◌≢◌, inl, inr, ℕ, List, true, refl, sym, ◌∙◌, ap, subst, length}
 use Rattle.std.specs.Prelude.{Contains, Some}
+use Rattle.std.proofs.lemmas.Bool.{cases_eq}
 use Rattle.cfb_format.specs.declared.objtype.ObjType.TheVariants.{Stream}
 use Rattle.cfb_format.specs.declared.validate.Validation.TheVariants.{Permissive}
+use Rattle.cfb_format.specs.Bytes.{end_of_chain}
 use Rattle.cfb_format.specs.DirectoryEntry.{Entry}
 use Rattle.cfb_format.specs.Names.{Cases}
 use Rattle.cfb_format.specs.Reading.{IsOutline, Outline, Reads, stream_numbers}
@@ -26,9 +28,9 @@ use Rattle.cfb_mini_sectors.specs.Steps.{KeepsLimits}
 use Rattle.cfb_mini_sectors.proofs.HeldMini.{held-mini-is-read}
 use Rattle.cfb_content.specs.Contents.{IsStreamOf, KeepsOthers, MovesContent, len_of}
 use Rattle.cfb_content.proofs.Apart.{content-is}
-use Rattle.cfb_content.proofs.Outlines.{moved-at, moved-is-outline, no-root-stream, stream-stays}
+use Rattle.cfb_content.proofs.Outlines.{moved-at, moved-is-outline, no-root-stream, stream-is-no-root, stream-stays}
 use Rattle.cfb_content.proofs.Readable.{kept-is-readable}
-use Rattle.cfb_agreement.specs.Files.{FileState, Holds, SameSetting}
+use Rattle.cfb_agreement.specs.Files.{EmptyStartAtEnd, FileState, Holds, SameSetting}
 use Rattle.cfb_agreement.specs.Laws.{ContentBecomesTree, ContentKeepsMade, ContentKeepsStream}
 use Rattle.cfb_agreement.proofs.HeldBytes.{tree-is}
 
@@ -115,12 +117,27 @@ moved-is-balanced old new i limits moves stream = all-stay-balanced (cases_of ol
     content-keeps-balance (entries_of old) (entries_of new) k moves.same_length (λ j. moved-at old new i j moves)
     (balanced (subst (λ (p : Outline). IsReached p k) (sym same) there) (λ e. kind (ap (λ (x : Entry). x.obj_type) (moved-at old new i k moves) ∙ e))))
 
+-- and each empty stream starts at END, where the one whose content moved does
+pub moved-starts-at-end : (old new : MiniState) (i : ℕ) → KeepsLimits old new → MovesContent old new i → IsStreamOf old i
+    → (len_of new i ≡ 0 → (entry_at (entries_of new) i).start_sector ≡ end_of_chain) → EmptyStartAtEnd old → EmptyStartAtEnd new
+moved-starts-at-end old new i limits moves at own all k now empty = elim (cases_eq k i) [
+  | inl same ↦ subst (λ n. (entry_at (entries_of new) n).start_sector ≡ end_of_chain) (sym same) (own (ap (len_of new) (sym same) ∙ empty))
+  | inr ne ↦
+      let is = moved-is-outline old new i at.outline limits.cases moves at.is in
+      let reached : Contains (stream_numbers at.outline) k =
+      subst (λ (p : Outline). Contains (stream_numbers p) k) (IsOutline-unique (cases_of new) (entries_of new) now.outline at.outline now.is is) now.reached in
+      let there : IsStreamOf old k = record { outline = at.outline; is = at.is; reached = reached } in
+      let same = moves.others k ne (stream-is-no-root old k there) in
+      ap (λ (e : Entry). e.start_sector) same ∙ all k there (sym (ap (λ (e : Entry). e.stream_len) same) ∙ empty)
+]
+
 pub content-keeps-made : ContentKeepsMade
-content-keeps-made i old new limits moves stream made change used exact snug snug_mini = record {
+content-keeps-made i old new limits moves stream made change used exact snug snug_mini empty = record {
   changeable = change;
   used = used;
   exact = exact;
   snug = snug;
   snug_mini = snug_mini;
+  ended = moved-starts-at-end old new i limits moves stream empty made.ended;
   balanced = moved-is-balanced old new i limits moves stream made.balanced;
 }

@@ -72,6 +72,7 @@ module _ (s : MiniState) (n : ℕ) (b : Bool) where
       mini_stream = m.snug_mini.mini_stream;
       start = m.snug_mini.start;
     };
+    ended = λ k at. m.ended k (record { outline = at.outline; is = at.is; reached = at.reached });
     balanced = m.balanced;
   }
 

@@ -2,8 +2,10 @@
 use Rattle.std.specs.Prelude.{ℕ, ◌≡◌, ◌<◌, ◌≤◌, Bool, true, false, length}
 use Rattle.cfb_format.specs.declared.header.Header.{Header}
 use Rattle.cfb_format.specs.declared.validate.Validation.TheVariants.{Permissive, Strict}
+use Rattle.cfb_format.specs.Bytes.{end_of_chain}
 use Rattle.cfb_format.specs.Full.{IsFull}
 use Rattle.cfb_format.specs.Reading.{Outline, Reads}
+use Rattle.cfb_format.specs.Siblings.{entry_at}
 use Rattle.cfb_format.specs.Soundness.{IsSound}
 use Rattle.cfb_tables.specs.Changes.{NoneFree}
 use Rattle.cfb_tables.specs.Tables.{AreExactTables}
@@ -11,7 +13,7 @@ use Rattle.cfb_trees.specs.Balance.{AreAllBalanced}
 use Rattle.cfb_mini_sectors.specs.State.{IsChangeable, MiniState, bytes_of, cases_of, entries_of, parts_of, reading_of, table_of, tables_in, version_of}
 use Rattle.cfb_mini_sectors.specs.Steps.{IsSnugMini, KeepsLimits}
 use Rattle.cfb_mini.specs.MiniSectors.{IsStill}
-use Rattle.cfb_content.specs.Contents.{AreAllUsed, AreSnug, TellsPlaces}
+use Rattle.cfb_content.specs.Contents.{AreAllUsed, AreSnug, IsStreamOf, TellsPlaces, len_of}
 
 -- what the layers below keep, whether the file is sound, and for how many bytes the buffer of a stream may have room
 pub record FileState : Type 0 where
@@ -46,15 +48,21 @@ Agrees file = is_failed file ≡ false → Holds file
 
 -- ---- files that were made here
 
+-- an empty stream of the tree has no chain: it starts at END
+abbrev pub EmptyStartAtEnd : MiniState → Type 0
+EmptyStartAtEnd s = (k : ℕ) → IsStreamOf s k → len_of s k ≡ 0 → (entry_at (entries_of s) k).start_sector ≡ end_of_chain
+
 -- what creation gives and each success keeps: the bytes are sound, and such as strict opening takes; each sector and each mini sector is
 -- free or has an owner; the tables are as long as the file needs, and each stream's chain as long as its length needs, and so are the chains
--- of the MiniFAT and of the mini stream for the mini sectors that there are; and the siblings of each storage are in balance
+-- of the MiniFAT and of the mini stream for the mini sectors that there are; empty streams start at END; and the siblings of each storage are
+-- in balance
 pub record IsAsMade (s : MiniState) : Type 0 where
   pub changeable : IsChangeable Strict s
   pub used : AreAllUsed s
   pub exact : AreExactTables (tables_in s)
   pub snug : AreSnug s
   pub snug_mini : IsSnugMini s
+  pub ended : EmptyStartAtEnd s
   pub balanced : AreAllBalanced (cases_of s) (entries_of s)
 
 -- ---- what stays

@@ -1,6 +1,7 @@
 -- What follows from what a file keeps.
 use Rattle.std.specs.Prelude.{ℕ, ◌≡◌, ◌<◌, ◌≤◌, ◌↔◌, List, Bool, true, false, length, Some}
 use Rattle.cfb_format.specs.declared.validate.Validation.TheVariants.{Permissive, Strict}
+use Rattle.cfb_format.specs.Bytes.{end_of_chain}
 use Rattle.cfb_format.specs.Full.{HasExactTablesFile}
 use Rattle.cfb_format.specs.Meaning.{Means}
 use Rattle.cfb_format.specs.Reading.{IsOutline, IsStrictFile, Outline}
@@ -16,7 +17,7 @@ use Rattle.cfb_objects.specs.Objects.{tree_from}
 use Rattle.cfb_mini_sectors.specs.Held.{with_table}
 use Rattle.cfb_mini_sectors.specs.State.{IsChangeable, MiniState, bytes_of, cases_of, content_of, entries_of, table_of, tables_in}
 use Rattle.cfb_mini_sectors.specs.Steps.{IsSnugMini, KeepsLimits}
-use Rattle.cfb_content.specs.Contents.{AreAllUsed, AreSnug, IsStreamOf, KeepsOthers, MovesContent}
+use Rattle.cfb_content.specs.Contents.{AreAllUsed, AreSnug, IsStreamOf, KeepsOthers, MovesContent, len_of}
 use Rattle.cfb_agreement.specs.Files.{FileState, Holds, IsAsBefore, IsAsMade, SameSetting, failures_of, is_failed}
 use Rattle.cfb_agreement.specs.Changes.{ChangesOneContent, KeepsAllButContent}
 
@@ -80,10 +81,12 @@ ContentBecomesTree = (old new : FileState) (i : ℕ) (o : Outline) (names : List
     → BecomesTree (cases_of old.base) (bytes_of old.base) (bytes_of new.base)
     (content_changed_at (cases_of old.base) (content_of new.base (entry_at (entries_of new.base) i)) names)
 
--- a file that was made here is so again, where the tables and the chains are in order: the balance is kept
+-- a file that was made here is so again, where the tables and the chains are in order, and the stream starts at END if it is empty: the
+-- balance is kept
 abbrev pub ContentKeepsMade : Type 0
 ContentKeepsMade = (i : ℕ) (old new : MiniState) → KeepsLimits old new → MovesContent old new i → IsStreamOf old i → IsAsMade old
-    → IsChangeable Strict new → AreAllUsed new → AreExactTables (tables_in new) → AreSnug new → IsSnugMini new → IsAsMade new
+    → IsChangeable Strict new → AreAllUsed new → AreExactTables (tables_in new) → AreSnug new → IsSnugMini new
+    → (len_of new i ≡ 0 → (entry_at (entries_of new) i).start_sector ≡ end_of_chain) → IsAsMade new
 
 -- the entry is a stream's still
 abbrev pub ContentKeepsStream : Type 0

@@ -13,7 +13,7 @@ use Rattle.cfb_rules.specs.Runs.{CallRuns, Setting}
 use Rattle.cfb_rules.specs.Steps.{CallKind, asking, asking_freely, changing, creating, emptying, flushing, is_changing, kind_of, opening, opening_to_read}
 use Rattle.cfb_agreement.specs.Changes.{StaysOrFails}
 use Rattle.cfb_agreement.specs.Files.{FileState, IsAsBefore, SameSetting, failures_of, is_failed}
-use Rattle.cfb_path_changes.specs.Answers.{ForMemory, IsRefusedBy, IsRefusedInTurn, MeansTree, RunsOn, causes_of_call, setting_of, state_with}
+use Rattle.cfb_path_changes.specs.Answers.{ForMemory, IsRefusedBy, IsRefusedInTurn, MeansTree, RunsOn, StopsInTurn, causes_of_call, setting_of, state_with}
 use Rattle.cfb_commands.specs.Promised.{Asks, CallKeeps, Changes, Refuses, IsKeptBy, promised}
 use Rattle.cfb_commands.specs.Seen.{seen_as, standing_at}
 use Rattle.cfb_commands.proofs.Before.{same_before, seen_before, setting_same, stayed}
@@ -44,11 +44,11 @@ stays_for_memory old new (remove_stream path) stays = stays
 stays_for_memory old new call same = inl (same_before old new same)
 
 refused_before : (old new : FileState) (call : Call) (e : Error)
-    → HasReason (record (at_every_error (new ≡ old)) { medium = λ f. StaysOrFails old new; memory = ForMemory call old new; full = StaysOrFails old new }) e
+    → HasReason (record (at_every_error (new ≡ old)) { medium = λ f. StaysOrFails old new; memory = ForMemory call old new; full = StopsInTurn old new }) e
     → is_failed new ≡ false → IsAsBefore old new
 refused_before old new call (Medium f) why calm = stayed old new why calm
 refused_before old new call Memory why calm = stayed old new (stays_for_memory old new call why) calm
-refused_before old new call Full why calm = stayed old new why calm
+refused_before old new call Full why calm = stayed old new why.1 calm
 refused_before old new call (NotFound d) why calm = same_before old new why
 refused_before old new call (AlreadyExists d) why calm = same_before old new why
 refused_before old new call (InvalidInput d) why calm = same_before old new why
@@ -58,10 +58,10 @@ refused_before old new call Failed why calm = same_before old new why
 
 -- where nothing has changed, all is as before or the file has failed
 less_said : (old new : FileState) (call : Call) (e : Error) → HasReason (record (at_every_error (new ≡ old)) { medium = λ f. StaysOrFails old new; memory = ForMemory call old new; full = new ≡ old }) e
-    → HasReason (record (at_every_error (new ≡ old)) { medium = λ f. StaysOrFails old new; memory = ForMemory call old new; full = StaysOrFails old new }) e
+    → HasReason (record (at_every_error (new ≡ old)) { medium = λ f. StaysOrFails old new; memory = ForMemory call old new; full = StopsInTurn old new }) e
 less_said old new call (Medium f) why = why
 less_said old new call Memory why = why
-less_said old new call Full why = inl (same_before old new why)
+less_said old new call Full why = (λ _. why, inl (same_before old new why))
 less_said old new call (NotFound d) why = why
 less_said old new call (AlreadyExists d) why = why
 less_said old new call (InvalidInput d) why = why
@@ -79,6 +79,7 @@ at_once can_give old call new e why = record {
   balanced = why.balanced;
   spares = why.spares;
   quiet = why.quiet;
+  unsound = why.unsound;
   counts = why.counts;
 }
 

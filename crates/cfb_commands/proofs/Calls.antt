@@ -37,6 +37,7 @@ refused_wider few all old call new e wider why = record {
   balanced = why.balanced;
   spares = why.spares;
   quiet = why.quiet;
+  unsound = why.unsound;
   counts = counts_wider few all (failures_of old) (failures_of new) e wider why.counts;
 }
 

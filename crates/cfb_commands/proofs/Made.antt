@@ -92,14 +92,14 @@ module _ (can_give : MediumFault → Bool) (setting : Setting) where
   calls_stay names s t old new [] (reply ∷ replies) h = elim h [ ]
   calls_stay names s t old new (call ∷ calls) [] h = elim h [ ]
   calls_stay names s t old new (call ∷ calls) (reply ∷ replies) (middle, between, step, rest) =
-      stays_made_then old.file between.file new.file (stream_stays names _ old.file between.file step.kept) (calls_stay names middle t between new calls replies rest)
+      stays_made_then old.file between.file new.file (stream_stays names _ old.file between.file step.kept.keeps) (calls_stay names middle t between new calls replies rest)
 
   streamed_stays : (old new : Standing) (how : Opening) (path : List ℕ) (calls : List StreamCall) (replies : List StreamReply) (closing : Option Refusal)
       → StreamedRun seen_as (promised can_give) setting old how path calls replies closing new → StaysMade old.file new.file
   streamed_stays old new how path calls replies closing h =
       stays_made_then old.file h.opened.file new.file (call_stays old h.opened (opening_call how path) done h.opening)
       (stays_made_then h.opened.file h.worked.file new.file (calls_stay (names_at path) _ h.stream h.opened h.worked calls replies h.works)
-      (stream_stays (names_at path) _ h.worked.file new.file h.closes.kept))
+      (stream_stays (names_at path) _ h.worked.file new.file h.closes.kept.keeps))
 
   command_stays : (old new : Standing) (command : Command) (reply : CommandReply) → CommandRuns seen_as (promised can_give) setting old command reply new → StaysMade old.file new.file
   command_stays old new (by_path call) (replied reply) h = call_stays old new call reply h

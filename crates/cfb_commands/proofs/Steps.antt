@@ -96,7 +96,7 @@ module _ (can_give : MediumFault → Bool) (first opened : FileState) (path : Li
     runs = runs_in call reply w;
     stays = λ leaves calm. seen_before old.file new.file tree tree (w.stays leaves calm);
     counted = w.counted;
-    kept = keeps call reply w;
+    kept = record { keeps = keeps call reply w; stays = w.stays };
   }
 
 pub stream_call_step : (can_give : MediumFault → Bool) (first opened : FileState) (path : List ℕ) (old new : OpenStream) (tree : Tree) (call : StreamCall) (reply : StreamReply)
@@ -132,6 +132,15 @@ closing_step can_give first opened path old new tree closing same agrees means s
         closed = closed_as first opened new path tree (stream_in old) same;
         stays = λ nothing calm. seen_before old.file new tree after (same_before old.file new (c.calm nothing));
         counted = c.counted;
-        kept = record { entry = old.entry; stands = still_named opened old.file old.entry path since.rest since.stands; changes = at_once old.entry old.file new c.changes; once = λ _. c.changes; rest = c.rest };
+        kept = record {
+          keeps = record {
+            entry = old.entry;
+            stands = still_named opened old.file old.entry path since.rest since.stands;
+            changes = at_once old.entry old.file new c.changes;
+            once = λ _. c.changes;
+            rest = c.rest;
+          };
+          calm = c.calm;
+        };
       },
     )

@@ -7,7 +7,7 @@ use Rattle.cfb_rules.specs.Lists.{Deed, LeavesFile, by_call, by_closing, by_stre
 use Rattle.cfb_rules.specs.Refusal.{IsRefusal, Refusal, medium_failed}
 use Rattle.cfb_rules.specs.Runs.{Causes, Closes}
 use Rattle.cfb_rules.specs.Steps.{CallKind, asking, asking_freely, changing, creating, emptying, flushing, kind_of, opening, opening_to_read}
-use Rattle.cfb_rules.specs.StreamCalls.{StreamCall, StreamReply, ask_is_empty, ask_len, ask_position, consume, fill_buf, flush, read, read_to_end, seek, set_len, write}
+use Rattle.cfb_rules.specs.StreamCalls.{StreamCall, StreamReply, StreamState, ask_is_empty, ask_len, ask_position, consume, fill_buf, flush, read, read_to_end, seek, set_len, write}
 use Rattle.cfb_agreement.specs.Files.{FileState, IsAsBefore, failures_of, is_failed}
 use Rattle.cfb_path_changes.specs.Answers.{Answers, IsDoneBy, IsRefusedBy, IsRefusedInTurn, causes_of}
 use Rattle.cfb_path_changes.specs.Finding.{LeadTo, StandsAt}
@@ -81,6 +81,17 @@ pub record StreamKeeps (names : List (List ℕ)) (twice : Bool) (old new : FileS
   pub once : twice ≡ false → ChangesStream entry old new
   pub rest : (first : FileState) → KeepsRest entry first old → KeepsRest entry first new
 
+-- what a call on the open stream at these names keeps. Where it was refused, or had nothing to write, the file is as before but the count of
+-- failures, its stream's bytes in their sectors too, unless it has failed
+pub record StreamCallKeeps (names : List (List ℕ)) (stream : StreamState) (call : StreamCall) (reply : StreamReply) (old new : FileState) : Type 0 where
+  pub keeps : StreamKeeps names (stream.pending && may_come_second call) old new
+  pub stays : LeavesFile stream call reply → is_failed new ≡ false → IsAsBefore old new
+
+-- what its closing keeps: with nothing kept back all of the file
+pub record ClosingKeeps (names : List (List ℕ)) (stream : StreamState) (old new : FileState) : Type 0 where
+  pub keeps : StreamKeeps names false old new
+  pub calm : stream.pending ≡ false → new ≡ old
+
 -- the open stream was opened at this path in a file as it was then, of which nothing but its content has changed since
 pub record IsOpenSince (opened : FileState) (path : List ℕ) (now : OpenStream) : Type 0 where
   pub stands : StandsAt opened now.entry path
@@ -114,5 +125,5 @@ pub record IsClosedOf (opened : FileState) (old : OpenStream) (closing : Option 
 -- what is promised of a file by what was done to it; the medium can give these faults
 abbrev pub promised : (MediumFault → Bool) → Standing → Deed → Standing → Type 0
 promised can_give old (by_call call reply) new = CallKeeps can_give old.file call reply new.file
-promised can_give old (by_stream_call names s call reply t) new = StreamKeeps names (s.pending && may_come_second call) old.file new.file
-promised can_give old (by_closing names s closing) new = StreamKeeps names false old.file new.file
+promised can_give old (by_stream_call names s call reply t) new = StreamCallKeeps names s call reply old.file new.file
+promised can_give old (by_closing names s closing) new = ClosingKeeps names s old.file new.file

@@ -2,6 +2,7 @@ pub mod StoredStreams
 pub mod OpenStreams
 pub mod StreamCalls
 pub mod StdStreams
+pub mod Lending
 pub mod FoundStreams
 pub mod OpenedStreams
 pub mod Fitting

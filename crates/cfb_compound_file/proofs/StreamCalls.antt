@@ -1,9 +1,10 @@
 -- What the window answers, said of an open stream.
 use Rattle.std.proofs.Common.{◌≡◌, ◌⊎◌, inl, inr, ℕ, Bool, true, false, refl, sym, ◌∙◌, ap}
-use Rattle.std.specs.Prelude.{IsTrue, Some, Result, Ok, Err, IfErr, OnErr, OnOk, MatchBool}
+use Rattle.std.specs.Prelude.{IsTrue, Some, Result, Ok, Err, IfErr, OnErr, OnOk, MatchBool, ⊤}
 use Rattle.cfb_format.specs.declared.error.Error.{Error}
+use Rattle.cfb_format.specs.declared.error.Error.TheVariants.{NotFound, AlreadyExists, InvalidInput, InvalidData, Medium, Memory, Full, Unsound, Failed}
 use Rattle.cfb_format.specs.declared.medium.MediumFault.{MediumFault}
-use Rattle.cfb_format.specs.Refused.{CountsError, CountsFailure}
+use Rattle.cfb_format.specs.Refused.{CountsError, CountsFailure, HasReason, no_error}
 use Rattle.cfb_rules.specs.Refusal.{Refusal, failed_earlier}
 use Rattle.cfb_rules.specs.Runs.{BlamesOneOf, Causes, Closes, IsStreamBroken, StaysUnfailed, StreamOnFailed, StreamRun, is_never_refused, is_served, writing_out}
 use Rattle.cfb_rules.specs.StreamCalls.{StreamCall, StreamReply, StreamStep, flush, not_done}
@@ -97,6 +98,20 @@ refused_with P Q can old new (Err e) why counts kept by = by e why counts (stays
 pub refused_as : {T : Type 0} (P Q : Error → Type 0) (result : Result T Error) → IfErr result P → ((e : Error) → P e → Q e) → IfErr result Q
 refused_as P Q (Ok x) why by = tt
 refused_as P Q (Err e) why by = by e why
+
+-- where only a wrong place or a failed file is refused the medium is not blamed
+pub never_counted : {T : Type 0} (can_give : MediumFault → Bool) (result : Result T Error) (count : ℕ)
+    → IfErr result (HasReason (record no_error { failed = ⊤; invalid_input = ⊤ })) → CountsFailure can_give result count count
+never_counted can_give (Ok x) count why = refl
+never_counted can_give (Err (InvalidInput d)) count why = refl
+never_counted can_give (Err Failed) count why = refl
+never_counted can_give (Err (NotFound d)) count why = absurd why
+never_counted can_give (Err (AlreadyExists d)) count why = absurd why
+never_counted can_give (Err (InvalidData d)) count why = absurd why
+never_counted can_give (Err (Medium f)) count why = absurd why
+never_counted can_give (Err Memory) count why = absurd why
+never_counted can_give (Err Full) count why = absurd why
+never_counted can_give (Err Unsound) count why = absurd why
 
 -- what holds once this was done
 pub done_as : {T : Type 0} (P Q : Type 0) (result : Result T Error) → OnOk result P → (P → Q) → OnOk result Q

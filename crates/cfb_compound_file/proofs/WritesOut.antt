@@ -67,6 +67,7 @@ flush-on-failed can file failed = record {
   balanced = λ _ all. all;
   spares = spares_all file flush;
   quiet = λ tree means none. refl;
+  unsound = λ _ _. refl;
   counts = refl;
 }
 
@@ -91,6 +92,7 @@ flush-refused can old new (Err (Medium f)) unfailed setting rest failed is count
   balanced = λ calm. absurd (let w : true ≡ false = sym failed ∙ calm in cc);
   spares = flags_spare old new flush rest;
   quiet = λ tree means none. absurd none;
+  unsound = λ changes. absurd (let w : false ≡ true = changes in cc);
   counts = counts;
 }
 flush-refused can old new (Err (NotFound d)) unfailed setting rest failed is counts = absurd is

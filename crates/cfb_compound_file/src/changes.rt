@@ -1,7 +1,7 @@
 //! Changes of a compound file by paths.
 ghost use Rattle.std.specs.Prelude.{◌||◌, IsTrue, chars};
 ghost use Rattle.cfb_rules.specs.Calls.{create_storage, create_storage_all, remove_storage, remove_storage_all, remove_stream, set_created_time, set_modified_time, set_state_bits, set_storage_clsid, touch};
-ghost use Rattle.cfb_path_changes.specs.Calls.{CallAnswers, CallAnswersInTurn};
+ghost use Rattle.cfb_path_changes.specs.Calls.{CallAnswers, CallAnswersInTurn, HeedsFlags};
 
 use crate::compound_file::CompoundFile;
 use cfb_codecs::timestamp::Timestamp;
@@ -20,7 +20,8 @@ impl<F: Medium, A: Heap + Clone> CompoundFile<F, A> {
     /// `Unsound` in a file that is not sound; `Full` where no entry can be had; `Memory`. Nothing has changed then. `Medium` where the
     /// medium fails: all but the count of failures is as before, or the file has failed.
     pub fn create_storage(&mut self, path: &str, moment: Timestamp) -> Result<(), Error>
-        ensures { IsTrue F.tells → CallAnswers (λ f. F.read_faults f || F.write_faults f)
+        ensures any { HeedsFlags self.old result self.new }
+        ensures does { IsTrue F.tells → CallAnswers (λ f. F.read_faults f || F.write_faults f)
             self.old (create_storage (chars path.now) moment) result self.new }
     {
         creating::create_storage(&mut self.volume, path, moment)
@@ -32,9 +33,10 @@ impl<F: Medium, A: Heap + Clone> CompoundFile<F, A> {
     /// `Failed` on a failed file. By the rules of calls: `InvalidInput` where the path leaves the root or one of its names is not valid;
     /// `AlreadyExists` where a stream is on the way or at its end; and then `Unsound` in a file that is not sound. Nothing has changed
     /// then. `Full` where no entry can be had, `Memory`, and `Medium` where the medium fails: all but the count of failures is as before,
-    /// or the file has failed.
+    /// or the file has failed. Where not one entry could be had nothing has changed after `Full`.
     pub fn create_storage_all(&mut self, path: &str, moment: Timestamp) -> Result<(), Error>
-        ensures { IsTrue F.tells → CallAnswersInTurn (λ f. F.read_faults f || F.write_faults f)
+        ensures any { HeedsFlags self.old result self.new }
+        ensures does { IsTrue F.tells → CallAnswersInTurn (λ f. F.read_faults f || F.write_faults f)
             self.old (create_storage_all (chars path.now) moment) result self.new }
     {
         creating::create_storage_all(&mut self.volume, path, moment)
@@ -46,7 +48,8 @@ impl<F: Medium, A: Heap + Clone> CompoundFile<F, A> {
     /// storage that is not empty; `NotFound` where nothing is there; and then `Unsound` in a file that is not sound; `Memory`. Nothing has
     /// changed then. `Medium` where the medium fails: all but the count of failures is as before, or the file has failed.
     pub fn remove_storage(&mut self, path: &str) -> Result<(), Error>
-        ensures { IsTrue F.tells → CallAnswers (λ f. F.read_faults f || F.write_faults f)
+        ensures any { HeedsFlags self.old result self.new }
+        ensures does { IsTrue F.tells → CallAnswers (λ f. F.read_faults f || F.write_faults f)
             self.old (remove_storage (chars path.now)) result self.new }
     {
         removing::remove_storage(&mut self.volume, path)
@@ -59,7 +62,8 @@ impl<F: Medium, A: Heap + Clone> CompoundFile<F, A> {
     /// and then `Unsound` in a file that is not sound. Nothing has changed then. `Memory`, and `Medium` where the medium fails: all but the
     /// count of failures is as before, or the file has failed.
     pub fn remove_storage_all(&mut self, path: &str) -> Result<(), Error>
-        ensures { IsTrue F.tells → CallAnswers (λ f. F.read_faults f || F.write_faults f)
+        ensures any { HeedsFlags self.old result self.new }
+        ensures does { IsTrue F.tells → CallAnswers (λ f. F.read_faults f || F.write_faults f)
             self.old (remove_storage_all (chars path.now)) result self.new }
     {
         removing::remove_storage_all(&mut self.volume, path)
@@ -71,7 +75,8 @@ impl<F: Medium, A: Heap + Clone> CompoundFile<F, A> {
     /// where nothing is there; and then `Unsound` in a file that is not sound. Nothing has changed then. `Memory`, and `Medium` where the
     /// medium fails: all but the count of failures is as before, or the file has failed.
     pub fn remove_stream(&mut self, path: &str) -> Result<(), Error>
-        ensures { IsTrue F.tells → CallAnswers (λ f. F.read_faults f || F.write_faults f)
+        ensures any { HeedsFlags self.old result self.new }
+        ensures does { IsTrue F.tells → CallAnswers (λ f. F.read_faults f || F.write_faults f)
             self.old (remove_stream (chars path.now)) result self.new }
     {
         removing::remove_stream(&mut self.volume, path)
@@ -83,7 +88,8 @@ impl<F: Medium, A: Heap + Clone> CompoundFile<F, A> {
     /// where nothing is there; and then `Unsound` in a file that is not sound, even where nothing would change; `Memory`. Nothing has
     /// changed then. `Medium` where the medium fails: all but the count of failures is as before, or the file has failed.
     pub fn set_storage_clsid(&mut self, path: &str, clsid: Uuid) -> Result<(), Error>
-        ensures { IsTrue F.tells → CallAnswers (λ f. F.read_faults f || F.write_faults f)
+        ensures any { HeedsFlags self.old result self.new }
+        ensures does { IsTrue F.tells → CallAnswers (λ f. F.read_faults f || F.write_faults f)
             self.old (set_storage_clsid (chars path.now) clsid) result self.new }
     {
         set_field(&mut self.volume, path, NewField::ClassId(clsid))
@@ -95,7 +101,8 @@ impl<F: Medium, A: Heap + Clone> CompoundFile<F, A> {
     /// and then `Unsound` in a file that is not sound, even where nothing would change; `Memory`. Nothing has changed then. `Medium` where
     /// the medium fails: all but the count of failures is as before, or the file has failed.
     pub fn set_state_bits(&mut self, path: &str, bits: u32) -> Result<(), Error>
-        ensures { IsTrue F.tells → CallAnswers (λ f. F.read_faults f || F.write_faults f)
+        ensures any { HeedsFlags self.old result self.new }
+        ensures does { IsTrue F.tells → CallAnswers (λ f. F.read_faults f || F.write_faults f)
             self.old (set_state_bits (chars path.now) bits) result self.new }
     {
         set_field(&mut self.volume, path, NewField::StateBits(bits))
@@ -107,7 +114,8 @@ impl<F: Medium, A: Heap + Clone> CompoundFile<F, A> {
     /// and then `Unsound` in a file that is not sound, even where nothing would change; `Memory`. Nothing has changed then. `Medium` where
     /// the medium fails: all but the count of failures is as before, or the file has failed.
     pub fn set_created_time(&mut self, path: &str, moment: Timestamp) -> Result<(), Error>
-        ensures { IsTrue F.tells → CallAnswers (λ f. F.read_faults f || F.write_faults f)
+        ensures any { HeedsFlags self.old result self.new }
+        ensures does { IsTrue F.tells → CallAnswers (λ f. F.read_faults f || F.write_faults f)
             self.old (set_created_time (chars path.now) moment) result self.new }
     {
         set_field(&mut self.volume, path, NewField::CreatedTime(moment))
@@ -119,7 +127,8 @@ impl<F: Medium, A: Heap + Clone> CompoundFile<F, A> {
     /// and then `Unsound` in a file that is not sound, even where nothing would change; `Memory`. Nothing has changed then. `Medium` where
     /// the medium fails: all but the count of failures is as before, or the file has failed.
     pub fn set_modified_time(&mut self, path: &str, moment: Timestamp) -> Result<(), Error>
-        ensures { IsTrue F.tells → CallAnswers (λ f. F.read_faults f || F.write_faults f)
+        ensures any { HeedsFlags self.old result self.new }
+        ensures does { IsTrue F.tells → CallAnswers (λ f. F.read_faults f || F.write_faults f)
             self.old (set_modified_time (chars path.now) moment) result self.new }
     {
         set_field(&mut self.volume, path, NewField::ModifiedTime(moment))
@@ -131,7 +140,8 @@ impl<F: Medium, A: Heap + Clone> CompoundFile<F, A> {
     /// and then `Unsound` in a file that is not sound, even where nothing would change; `Memory`. Nothing has changed then. `Medium` where
     /// the medium fails: all but the count of failures is as before, or the file has failed.
     pub fn touch(&mut self, path: &str, moment: Timestamp) -> Result<(), Error>
-        ensures { IsTrue F.tells → CallAnswers (λ f. F.read_faults f || F.write_faults f)
+        ensures any { HeedsFlags self.old result self.new }
+        ensures does { IsTrue F.tells → CallAnswers (λ f. F.read_faults f || F.write_faults f)
             self.old (touch (chars path.now) moment) result self.new }
     {
         set_field(&mut self.volume, path, NewField::TouchedTime(moment))

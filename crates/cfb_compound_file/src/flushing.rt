@@ -2,7 +2,7 @@
 ghost use Rattle.std.specs.Prelude.{◌≡◌, false, true, IsTrue, IfErr, OnOk};
 ghost use Rattle.cfb_format.specs.Refused.{HasReason, no_error};
 ghost use Rattle.cfb_rules.specs.Calls.{done, flush};
-ghost use Rattle.cfb_agreement.specs.Files.{failures_of, is_failed};
+ghost use Rattle.cfb_agreement.specs.Files.{SameSetting, failures_of, is_failed};
 ghost use Rattle.cfb_agreement.specs.Laws.{with_flags};
 ghost use Rattle.cfb_path_changes.specs.Answers.{IsDoneBy, IsRefusedBy};
 
@@ -18,6 +18,8 @@ impl<F: Medium, A: Heap> CompoundFile<F, A> {
         ensures ok { IsTrue F.tells → OnOk result (IsDoneBy self.old flush done self.new) }
         ensures same { IsTrue F.tells → OnOk result (self.new ≡ self.old) }
         ensures unfailed { OnOk result (is_failed self.old ≡ false) }
+        ensures ended { OnOk result (is_failed self.new ≡ false) }
+        ensures setting { SameSetting self.old self.new }
         ensures rest { IsTrue F.tells
             → self.new ≡ with_flags self.old (failures_of self.new) (is_failed self.new) }
         ensures refused { IsTrue F.tells

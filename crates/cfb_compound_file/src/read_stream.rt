@@ -142,6 +142,8 @@ impl<'a, F: ReadMedium, A: Heap + Clone> ReadStream<'a, F, A> {
         ensures refused { IsTrue F.tells
             → IfErr result (IsStreamRefusedBy (causes_of_reading (file_of self.old).now
             (file_of self.new).now) (open_of self.old) (seek (whence_of to)) (open_of self.new)) }
+        ensures counts { IsTrue F.tells → CountsFailure F.read_faults result
+            (failures_of (file_of self.old).now) (failures_of (file_of self.new).now) }
         ensures bound { (window_of self.new).bound ≡ (window_of self.old).bound }
         ensures buffers { BuffersSeek F.tells (open_of self.old) (open_of self.new) result to }
     {

@@ -149,6 +149,8 @@ impl<'a, F: Medium, A: Heap + Clone> Write for Stream<'a, F, A> {
         ensures counts { IsTrue F.tells → OnOk result
             (failures_of (file_of self.new).now ≡ failures_of (file_of self.old).now) }
         ensures none { length bytes.now ≡ 0 → (file_of self.new).now ≡ (file_of self.old).now }
+        ensures unsound { (file_of self.old).now.is_sound ≡ false
+            → (file_of self.new).now ≡ (file_of self.old).now }
         ensures buffers { BuffersWrite F.tells
             (open_of self.old) (open_of self.new) result (length bytes.now) }
         ensures inside { IsTrue F.tells → (window_of self.old).pending ≡ false

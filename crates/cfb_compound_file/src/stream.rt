@@ -164,6 +164,8 @@ impl<'a, F: Medium, A: Heap + Clone> Stream<'a, F, A> {
             → CountsFailure (λ f. F.read_faults f || F.write_faults f) result
             (failures_of (file_of self.old).now) (failures_of (file_of self.new).now) }
         ensures none { length bytes.now ≡ 0 → (file_of self.new).now ≡ (file_of self.old).now }
+        ensures unsound { (file_of self.old).now.is_sound ≡ false
+            → (file_of self.new).now ≡ (file_of self.old).now }
         ensures buffers { BuffersWrite F.tells
             (open_of self.old) (open_of self.new) result (length bytes.now) }
         ensures inside { IsTrue F.tells → (window_of self.old).pending ≡ false
@@ -215,6 +217,8 @@ impl<'a, F: Medium, A: Heap + Clone> Stream<'a, F, A> {
             → CountsFailure (λ f. F.read_faults f || F.write_faults f) result
             (failures_of (file_of self.old).now) (failures_of (file_of self.new).now) }
         ensures same { len ≡ (window_of self.old).size
+            → (file_of self.new).now ≡ (file_of self.old).now }
+        ensures unsound { (file_of self.old).now.is_sound ≡ false
             → (file_of self.new).now ≡ (file_of self.old).now }
         ensures foreseen { IsTrue F.tells
             → IfErr result (λ e. e ≡ Error.Full → ((file_of self.new).now ≡ (file_of self.old).now)

@@ -8,7 +8,7 @@ use Rattle.cfb_format.specs.declared.version.Version.TheVariants.{V3, V4}
 use Rattle.cfb_format.specs.Bytes.{free_sector, max_regular_sector, sector_len, words_per_sector}
 use Rattle.cfb_format.specs.Content.{is_large, mini_sector_len, mini_stream_chain}
 use Rattle.cfb_format.specs.Fat.{without_end}
-use Rattle.cfb_format.specs.Full.{CanTake, HasRoom, free_count, mini_sectors_for, mini_sectors_in_chain, minifat_len_for, rounded_up, sectors_for, sectors_in_chain, wanted_for}
+use Rattle.cfb_format.specs.Full.{CanTake, HasRoom, free_count, freed, given_back_for, mini_sectors_for, mini_sectors_in_chain, minifat_len_for, room_behind, rounded_up, sectors_for, sectors_in_chain, wanted_for}
 use Rattle.cfb_format.specs.Siblings.{entry_at}
 use Rattle.cfb_format.specs.Soundness.{mini_sectors_of, mini_stream_sectors, sectors_of}
 use Rattle.cfb_tables.specs.Room.{IsTooFewAfter}
@@ -17,7 +17,7 @@ use Rattle.cfb_mini_sectors.specs.State.{HoldsMini, MiniState, entries_of, mini_
 use Rattle.cfb_mini_sectors.specs.Steps.{IsTooFewAfterFor, minifat_lacks, mini_stream_lacks}
 use Rattle.cfb_content.specs.Contents.{IsTooLongFor, mini_sectors_owned, sectors_owned}
 use Rattle.cfb_content.specs.Laws.{EnoughIsNotTooLong, LackIsTooLong}
-use Rattle.cfb_content.specs.Room.{freed, given_back_then, room_behind, room_given}
+use Rattle.cfb_content.specs.Room.{room_given}
 
 -- ---- numbers
 
@@ -98,7 +98,7 @@ module _ (s : MiniState) (i len : ℕ) where
       none : (n a c : ℕ) → (0 - n) + a + c ≡ a + c
       none n a c = omega arith
 
-  small-given : nat_le 4096 len ≡ false → given_back_then (parts_of s) i len ≡ length (sectors_owned s i)
+  small-given : nat_le 4096 len ≡ false → given_back_for (parts_of s) i len ≡ length (sectors_owned s i)
   small-given b = ap (λ (w : Bool). if w then sectors_in_chain (parts_of s) i else room_behind (parts_of s) i) (is-below len b) ∙ own-len
 
   -- what comes free as the mini sectors do
@@ -121,7 +121,7 @@ module _ (s : MiniState) (i len : ℕ) where
       ]
 
   large-given : nat_le 4096 len ≡ true → (0 < length (mini_sectors_owned s i) → s.mini_stream ≡ mini_stream_chain (parts_of s))
-      → given_back_then (parts_of s) i len ≡ room_given s (mini_sectors_owned s i)
+      → given_back_for (parts_of s) i len ≡ room_given s (mini_sectors_owned s i)
   large-given b kept = ap (λ (w : Bool). if w then sectors_in_chain (parts_of s) i else room_behind (parts_of s) i) (not-below len b) ∙ room-same kept
 
   abbrev lacks : ℕ
@@ -189,7 +189,7 @@ module _ (s : MiniState) (i len : ℕ) where
   small-too-long b kept (inr few) = inl (λ can.
       too-few-is-no-room-after limit (parts_of s) (length (sectors_owned s i)) (minifat_lacks s (count s i len) + mini_stream_lacks s (count s i len)) few
       (subst (λ (n : ℕ). CanTake limit (parts_of s) n (minifat_lacks s (count s i len) + mini_stream_lacks s (count s i len))) (small-given s i len b)
-      (subst (λ (n : ℕ). CanTake limit (parts_of s) (given_back_then (parts_of s) i len) n) (small-wanted s i len b kept) can)))
+      (subst (λ (n : ℕ). CanTake limit (parts_of s) (given_back_for (parts_of s) i len) n) (small-wanted s i len b kept) can)))
 
 pub lack-is-too-long : LackIsTooLong
 lack-is-too-long s i len kept (inl (le, few)) = large-too-long s i len (le-leb 4096 len le) (λ some. kept (inr some)) few

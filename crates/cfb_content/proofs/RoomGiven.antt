@@ -7,7 +7,7 @@ use Rattle.std.proofs.lemmas.List.Elements.{Contains-append_cases, Contains-appe
 use Rattle.cfb_format.specs.Bytes.{end_of_chain, sector_len, words_per_sector}
 use Rattle.cfb_format.specs.Chain.{IsChain}
 use Rattle.cfb_format.specs.Content.{mini_sector_len}
-use Rattle.cfb_format.specs.Full.{free_count, rounded_up}
+use Rattle.cfb_format.specs.Full.{free_count, freed, rounded_up}
 use Rattle.cfb_tables.specs.Changes.{AreDisjoint}
 use Rattle.cfb_tables.specs.Listed.{ends_of}
 use Rattle.cfb_tables.specs.Room.{IsTooFewAfter}
@@ -23,7 +23,7 @@ use Rattle.cfb_mini_sectors.specs.State.{MiniState, mini_stream_of, tables_in, v
 use Rattle.cfb_mini_sectors.specs.Steps.{CanGiveRoomBack, GivesRoomBack, KeepsSizes, minifat_needs, mini_stream_needs}
 use Rattle.cfb_mini_sectors.proofs.BothGrown.{of_ends, some_end}
 use Rattle.cfb_mini_sectors.proofs.ListedChains.{given-busy}
-use Rattle.cfb_content.specs.Room.{ComesFree, freed, minifat_len_left, room_given}
+use Rattle.cfb_content.specs.Room.{ComesFree, minifat_len_left, room_given}
 use Rattle.cfb_content.proofs.FreeCounts.{given-count}
 use Rattle.cfb_content.proofs.Freed.{freed-free, freed-other}
 

@@ -4,7 +4,7 @@ use Rattle.cfb_format.specs.declared.error.Error.{Error}
 use Rattle.cfb_format.specs.declared.validate.Validation.{Validation}
 use Rattle.cfb_format.specs.Content.{content_chain, is_large, mini_chain, mini_sector_len, mini_stream_chain, mini_stream_cutoff, sector_chain}
 use Rattle.cfb_format.specs.DirectoryEntry.{Entry, ButContent}
-use Rattle.cfb_format.specs.Full.{mini_sectors_for, minifat_len_for, sectors_for}
+use Rattle.cfb_format.specs.Full.{IsTooLong, mini_sectors_for, minifat_len_for, sectors_for}
 use Rattle.cfb_format.specs.Reading.{IsOutline, Outline, Reading, stream_numbers}
 use Rattle.cfb_format.specs.Refused.{HasReason, at_every_error}
 use Rattle.cfb_format.specs.Siblings.{entry_at}
@@ -18,7 +18,6 @@ use Rattle.cfb_alloc.specs.Frame.{IsFixedHeaderByte}
 use Rattle.cfb_mini_sectors.specs.State.{IsChangeable, MiniState, bytes_of, cases_of, entries_of, mini_place, parts_of, root_len_of, table_of, tables_in, version_of}
 use Rattle.cfb_mini_sectors.specs.Steps.{IsInMiniStream, IsZeroMini}
 use Rattle.cfb_mini.specs.MiniSectors.{IsStill}
-use Rattle.cfb_content.specs.Room.{IsTooLongThen}
 
 -- ---- which stream
 
@@ -119,7 +118,7 @@ WipesMinis old new i = (m : ℕ) → Contains (mini_sectors_owned old i) m → (
 
 -- the length needs more sectors than there are numbers for, once what the stream leaves is given back, or more mini sectors
 abbrev pub IsTooLongFor : MiniState → ℕ → ℕ → Type 0
-IsTooLongFor s i len = IsTooLongThen (tables_in s).max_sectors (parts_of s) i len ⊎ (s.max_mini_sectors < minifat_len_for (parts_of s) i len)
+IsTooLongFor s i len = IsTooLong (tables_in s).max_sectors (parts_of s) i len ⊎ (s.max_mini_sectors < minifat_len_for (parts_of s) i len)
 
 -- ---- refusals
 

@@ -142,6 +142,7 @@ module _ (one_header : AtMostOneHeader) (one_outline : AtMostOneOutline) (v : Ve
       -- there is no stream
       snug = λ k at. absurd (Contains-nil k (subst (λ (p : Outline). Contains (stream_numbers p) k) (sym (the_outline at.outline at.is)) at.reached));
       snug_mini = no_minis v cases failures limit;
+      ended = λ k at. absurd (Contains-nil k (subst (λ (p : Outline). Contains (stream_numbers p) k) (sym (the_outline at.outline at.is)) at.reached));
       balanced = λ o is. subst (AreBalanced (created_reading v).entries) (the_outline o is) (balanced v);
     }
 

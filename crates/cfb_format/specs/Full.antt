@@ -1,5 +1,5 @@
 -- When a file is full. `limit` is the number of sectors that it may grow to.
-use Rattle.std.specs.Prelude.{ℕ, ◌+◌, ◌-◌, ◌*◌, ◌/◌, ◌≡◌, ◌<◌, ◌≤◌, ◌⊎◌, List, length, Bool, true, false, count_by, nat_le, nat_lt, if◌then◌else◌, ◌==◌}
+use Rattle.std.specs.Prelude.{ℕ, ◌+◌, ◌-◌, ◌*◌, ◌/◌, ◌≡◌, ◌<◌, ◌≤◌, ◌⊎◌, List, [], ◌∷◌, length, slice_set, Bool, true, false, count_by, nat_le, nat_lt, if◌then◌else◌, ◌==◌}
 use Rattle.cfb_format.specs.declared.version.Version.{Version}
 use Rattle.cfb_format.specs.declared.version.Version.TheVariants.{V3, V4}
 use Rattle.cfb_format.specs.declared.objtype.ObjType.{ObjType}
@@ -10,6 +10,7 @@ use Rattle.cfb_format.specs.Reading.{Reading, HasReading}
 use Rattle.cfb_format.specs.Names.{Cases}
 use Rattle.cfb_format.specs.Siblings.{entry_at}
 use Rattle.cfb_format.specs.Content.{mini_sector_len, mini_stream_cutoff, is_large}
+use Rattle.cfb_format.specs.Fat.{without_end}
 use Rattle.cfb_format.specs.Soundness.{mini_stream_sectors, sectors_of, mini_sectors_of}
 use Rattle.cfb_format.specs.Tree.{Objects, nothing, storage, stream, Tree}
 
@@ -79,9 +80,25 @@ wanted_for r i len =
     + (rounded_up (minifat_len_for r i len) (words_per_sector r.header.version) - length r.minifat_sectors)
     + (rounded_up (minifat_len_for r i len * mini_sector_len) (sector_len r.header.version) - length (mini_stream_sectors r))
 
--- how many sectors it gives back first: those of a stream that becomes a mini one
+-- the table with these numbers free
+abbrev pub freed : List ℕ → List ℕ → List ℕ
+freed table [] = table
+freed table (i ∷ list) = freed (slice_set table i free_sector) list
+
+-- how many entries the MiniFAT has once the stream's mini sectors are free
+abbrev pub minifat_len_without : Reading → ℕ → ℕ
+minifat_len_without r i = length (without_end (λ word. word == free_sector) (freed r.minifat (mini_sectors_of r i)))
+
+-- how many sectors the MiniFAT and the mini stream give back then: none where the stream has no mini sector
+abbrev pub room_behind : Reading → ℕ → ℕ
+room_behind r i = if nat_lt 0 (mini_sectors_in_chain r i)
+    then (length r.minifat_sectors - rounded_up (minifat_len_without r i) (words_per_sector r.header.version))
+    + (length (mini_stream_sectors r) - rounded_up (minifat_len_without r i * mini_sector_len) (sector_len r.header.version))
+    else 0
+
+-- how many sectors it gives back first: its own where it becomes a mini one, and those for its mini sectors where it becomes long
 abbrev pub given_back_for : Reading → ℕ → ℕ → ℕ
-given_back_for r i len = if nat_lt len mini_stream_cutoff then sectors_in_chain r i else 0
+given_back_for r i len = if nat_lt len mini_stream_cutoff then sectors_in_chain r i else room_behind r i
 
 -- no sector can be taken
 abbrev pub IsFullOfSectors : ℕ → Reading → Type 0

@@ -70,7 +70,7 @@ fn read_head<F: ReadMedium>(medium: &mut F, validation: Validation) -> Result<He
     read_exact_at(medium, 0, &mut first)?;
     let header = Header::read_from(&first, validation)?;
     if !has_length(header.version, len) {
-        return Err(invalid("too short or too long", len));
+        return Err(invalid("no compound file has this length", len));
     }
     Ok(Head { header, len })
 }

@@ -15,7 +15,7 @@ use Rattle.cfb_format.specs.Meaning.{Means, objects_from, storage_info, stream_i
 use Rattle.cfb_format.specs.Names.{Cases, is_valid_name}
 use Rattle.cfb_format.specs.Path.{names_of_path}
 use Rattle.cfb_format.specs.Reading.{IsOutline, Outline}
-use Rattle.cfb_format.specs.Refused.{CountsError, CountsFailure, HasReason, IsBreak, at_every_error, no_error}
+use Rattle.cfb_format.specs.Refused.{AfterMedium, CountsError, CountsFailure, HasReason, IsBreak, at_every_error, no_error}
 use Rattle.cfb_format.specs.Siblings.{entry_at}
 use Rattle.cfb_format.specs.Tree.{Object, Tree, a_storage}
 use Rattle.cfb_format.proofs.Unique.{Means-unique}
@@ -40,7 +40,7 @@ use Rattle.cfb_entry_changes.specs.Kept.{AllStayBalanced}
 use Rattle.cfb_sequences.specs.Laws.{all_added_at}
 use Rattle.cfb_sequences.proofs.Ways.{stream-is-in-the-way, way-is-free, way-is-there}
 use Rattle.cfb_volume.specs.Adding.{IsFirstAbsent}
-use Rattle.cfb_path_changes.specs.Answers.{ForMemory, IsBalancedFile, IsDoneBy, IsRefusedBy, IsRefusedInTurn, MeansTree, causes_of_call}
+use Rattle.cfb_path_changes.specs.Answers.{ForMemory, IsBalancedFile, IsDoneBy, IsRefusedBy, IsRefusedInTurn, MeansTree, StopsInTurn, causes_of_call}
 use Rattle.cfb_path_changes.specs.Calls.{CallAnswersInTurn}
 use Rattle.cfb_path_changes.specs.declared.placing.Creation.TheVariants.{NewStream}
 use Rattle.cfb_path_changes.specs.Finding.{LeadTo}
@@ -263,17 +263,24 @@ module _ (old : FileState) (path : List ℕ) (moment : ℕ) (names : List (List 
         calm = same_count;
       }
 
+  -- for want of numbers nothing has changed where no entry could be had before
+  stops_full : (full : Type 0) (e : Error) → IsBreak full e → (IsFullForEntry old.base.directory → AfterMedium (is_failed new ≡ true) (new ≡ old) e)
+      → IsBreak (full × (IsFullForEntry old.base.directory → new ≡ old)) e
+  stops_full full Full why stops = (why, stops)
+  stops_full full e why stops = why
+
   pub all_refused : (reads writes : MediumFault → Bool) (e : Error) → StaysOrFails old new → 0 < length (drop passed names) → IsBreak (IsFullForEntry new.base.directory) e
+      → (IsFullForEntry old.base.directory → AfterMedium (is_failed new ≡ true) (new ≡ old) e)
       → CountsError writes (failures_of old) (failures_of new) e → IsRefusedInTurn (λ f. reads f || writes f) old call new e
-  all_refused reads writes e stays some why counts =
-      refused_by_break (λ f. reads f || writes f) call refl old new way.unfailed setting stays (none_changed old new call keeps) header
-      (λ tree means there. absurd (omega (arith, some, no_name_left tree means there))) (StaysOrFails old new)
-      (IsFullForEntry new.base.directory)
+  all_refused reads writes e stays some why stops counts =
+      refused_by_break (λ f. reads f || writes f) call refl old new way.unfailed setting way.sound stays (none_changed old new call keeps) header
+      (λ tree means there. absurd (omega (arith, some, no_name_left tree means there))) (StopsInTurn old new)
+      (IsFullForEntry new.base.directory × (IsFullForEntry old.base.directory → new ≡ old))
       (λ full. (
         λ tree means. creating_lacks (causes_of_call old new) (kind_on (cases_of old.base) tree call)
-            (ap (λ (b : Bool). if b then changing else creating) (not_all_there tree means some)) full,
-        stays,
-      )) e why (λ memory. stays) (counts_either reads writes (failures_of old) (failures_of new) e counts)
+            (ap (λ (b : Bool). if b then changing else creating) (not_all_there tree means some)) full.0,
+        (full.1, stays),
+      )) e (stops_full (IsFullForEntry new.base.directory) e why stops) (λ memory. stays) (counts_either reads writes (failures_of old) (failures_of new) e counts)
 
   -- so the call answers
   pub all_answers : {T : Type 0} (reads writes : MediumFault → Bool) (r : Result T Error) → OnOk r (is_failed new ≡ false) → (IsAsMade old.base → OnOk r (IsAsMade new.base))
@@ -282,10 +289,11 @@ module _ (old : FileState) (path : List ℕ) (moment : ℕ) (names : List (List 
       → OnOk r ((before : List (List ℕ)) (o : Outline) → IsOutline (cases_of old.base) (entries_of old.base) o → number_from (cases_of old.base) (entries_of old.base) 0 o before ≡ Some k
       → BecomesTree (cases_of old.base) (bytes_of old.base) (bytes_of new.base) (all_added_at (cases_of old.base) moment (before ++ drop passed names)))
       → OnErr r (StaysOrFails old new) → OnErr r (0 < length (drop passed names)) → IfErr r (IsBreak (IsFullForEntry new.base.directory))
+      → (IsFullForEntry old.base.directory → IfErr r (AfterMedium (is_failed new ≡ true) (new ≡ old)))
       → CountsFailure writes r (failures_of old) (failures_of new) → CallAnswersInTurn (λ f. reads f || writes f) old call r new
-  all_answers reads writes (Ok x) ended made grows balanced root_len enough same becomes stays some why counts =
+  all_answers reads writes (Ok x) ended made grows balanced root_len enough same becomes stays some why stops counts =
       all_done ended made grows (added_balanced old new held.outline held.reads.outline balanced) root_len enough same counts becomes
-  all_answers reads writes (Err e) ended made grows balanced root_len enough same becomes stays some why counts = all_refused reads writes e stays some why counts
+  all_answers reads writes (Err e) ended made grows balanced root_len enough same becomes stays some why stops counts = all_refused reads writes e stays some why stops counts
 
 -- names that lead on to nothing lead to a storage, where no stream is in the way
 pub way_is : (file : FileState) (path : List ℕ) (names : List (List ℕ)) (passed k : ℕ) → is_failed file ≡ false → file.is_sound ≡ true → names_of_path path ≡ Some names
@@ -329,17 +337,18 @@ refused_in_turn can_give file asked e why = record {
   balanced = why.balanced;
   spares = why.spares;
   quiet = why.quiet;
+  unsound = why.unsound;
   counts = why.counts;
 }
   where
     kept : (e : Error) → HasReason (record (at_every_error (file ≡ file)) { medium = λ f. StaysOrFails file file; memory = ForMemory asked file file; full = file ≡ file }) e
-        → HasReason (record (at_every_error (file ≡ file)) { medium = λ f. StaysOrFails file file; memory = ForMemory asked file file; full = StaysOrFails file file }) e
+        → HasReason (record (at_every_error (file ≡ file)) { medium = λ f. StaysOrFails file file; memory = ForMemory asked file file; full = StopsInTurn file file }) e
     kept (NotFound d) s = s
     kept (AlreadyExists d) s = s
     kept (InvalidInput d) s = s
     kept (InvalidData d) s = s
     kept (Medium f) s = s
     kept Memory s = s
-    kept Full s = inl (unchanged file)
+    kept Full s = (λ _. refl, inl (unchanged file))
     kept Unsound s = s
     kept Failed s = s

@@ -82,7 +82,7 @@ module _ (what : Creation) (moment : ℕ) (old new : FileState) (place : Place) 
       → IsBreak (IsTooLongFor old.base k 0 × (new ≡ old)) e → AfterMedium (Unit {0}) (new ≡ old) e → CountsError can_give (failures_of old) (failures_of new) e
       → (path : List ℕ) → IsPlaceOf old what path place → IsRefusedBy can_give old (creation what moment path) new e
   there_refused can_give e setting stays changes never why first counts path at =
-      refused_by_break can_give (creation what moment path) (creation_asks what moment path).changes old new at.unfailed setting stays
+      refused_by_break can_give (creation what moment path) (creation_asks what moment path).changes old new at.unfailed setting at.sound stays
       (one_spared_not old new (creation what moment path) k changes (there_may_be_lost old what moment path at.names k at.named (there_of path at))) changes.header
       (λ tree means none. absurd (creation_does (cases_of old.base) tree what moment path none))
       (new ≡ old) (IsTooLongFor old.base k 0 × (new ≡ old)) (λ full. absurd (never full.0)) e why
@@ -144,7 +144,7 @@ module _ (what : Creation) (moment : ℕ) (old new : FileState) (place : Place) 
       → CountsError writes (failures_of old) (failures_of new) e
       → (path : List ℕ) → IsPlaceOf old what path place → IsRefusedBy (λ f. reads f || writes f) old (creation what moment path) new e
   missing_refused reads writes e held setting stays keeps header why reason stops counts path at =
-      refused_by_break (λ f. reads f || writes f) (creation what moment path) (creation_asks what moment path).changes old new at.unfailed setting stays
+      refused_by_break (λ f. reads f || writes f) (creation what moment path) (creation_asks what moment path).changes old new at.unfailed setting at.sound stays
       (none_changed old new (creation what moment path) keeps) header
       (λ tree means none. absurd (creation_does (cases_of old.base) tree what moment path none)) (new ≡ old) (IsFullForEntry old.base.directory × (new ≡ old))
       (λ full. (

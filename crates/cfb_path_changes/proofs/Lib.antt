@@ -8,6 +8,7 @@ pub mod Changing
 pub mod Sparing
 pub mod Balanced
 pub mod Refusing
+pub mod Heeding
 pub mod Creation
 pub mod Places
 pub mod NewObjects

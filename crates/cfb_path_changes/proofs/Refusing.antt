@@ -23,7 +23,7 @@ use Rattle.cfb_content.proofs.FixedHeader.{header-stays}
 use Rattle.cfb_agreement.specs.Changes.{StaysOrFails}
 use Rattle.cfb_agreement.specs.Files.{FileState, Holds, IsAsBefore, IsAsMade, SameSetting, failures_of, is_failed}
 use Rattle.cfb_agreement.proofs.Flags.{as-before-same, made-flagged}
-use Rattle.cfb_path_changes.specs.Answers.{ForMemory, IsBalancedFile, IsQuiet, IsRefusedBy, IsRefusedLeaving, KeepsFileBalanced, MeansTree, RunsOn, StaysInOrder, causes_of_call}
+use Rattle.cfb_path_changes.specs.Answers.{ForMemory, IsBalancedFile, IsQuiet, IsRefusedBy, IsRefusedLeaving, KeepsFileBalanced, MeansTree, RunsOn, SparesUnsound, StaysInOrder, causes_of_call}
 use Rattle.cfb_path_changes.specs.Sparing.{SparesStreams}
 use Rattle.cfb_path_changes.specs.Wanted.{AsksAt}
 use Rattle.cfb_path_changes.proofs.CallKinds.{change_breaks}
@@ -74,10 +74,10 @@ never_for_memory medium left e only is = absurd (subst (λ (x : Error). IsMedium
 -- the medium is not blamed
 untouched : (can_give : MediumFault → Bool) (file : FileState) (call : Call) (e : Error) (refusal : Refusal) → IsRefusal refusal e → refusal ≢ medium_failed
     → RunsOn (causes_of_call file file) file call (refused refusal) file → IsRefusedBy can_give file call file e
-untouched can_give file call (NotFound d) refusal is calm runs = record { refusal = refusal; is = is; runs = runs; stays = refl; order = stays_in_order file; balanced = λ _ all. all; spares = spares_all file call; quiet = λ tree means none. refl; counts = refl }
-untouched can_give file call (AlreadyExists d) refusal is calm runs = record { refusal = refusal; is = is; runs = runs; stays = refl; order = stays_in_order file; balanced = λ _ all. all; spares = spares_all file call; quiet = λ tree means none. refl; counts = refl }
-untouched can_give file call (InvalidInput d) refusal is calm runs = record { refusal = refusal; is = is; runs = runs; stays = refl; order = stays_in_order file; balanced = λ _ all. all; spares = spares_all file call; quiet = λ tree means none. refl; counts = refl }
-untouched can_give file call (InvalidData d) refusal is calm runs = record { refusal = refusal; is = is; runs = runs; stays = refl; order = stays_in_order file; balanced = λ _ all. all; spares = spares_all file call; quiet = λ tree means none. refl; counts = refl }
+untouched can_give file call (NotFound d) refusal is calm runs = record { refusal = refusal; is = is; runs = runs; stays = refl; order = stays_in_order file; balanced = λ _ all. all; spares = spares_all file call; quiet = λ tree means none. refl; unsound = λ _ _. refl; counts = refl }
+untouched can_give file call (AlreadyExists d) refusal is calm runs = record { refusal = refusal; is = is; runs = runs; stays = refl; order = stays_in_order file; balanced = λ _ all. all; spares = spares_all file call; quiet = λ tree means none. refl; unsound = λ _ _. refl; counts = refl }
+untouched can_give file call (InvalidInput d) refusal is calm runs = record { refusal = refusal; is = is; runs = runs; stays = refl; order = stays_in_order file; balanced = λ _ all. all; spares = spares_all file call; quiet = λ tree means none. refl; unsound = λ _ _. refl; counts = refl }
+untouched can_give file call (InvalidData d) refusal is calm runs = record { refusal = refusal; is = is; runs = runs; stays = refl; order = stays_in_order file; balanced = λ _ all. all; spares = spares_all file call; quiet = λ tree means none. refl; unsound = λ _ _. refl; counts = refl }
 untouched can_give file call (Medium f) refusal is calm runs = absurd (calm (by_number refusal is))
   where
     by_number : (r : Refusal) → IsRefusal r (Medium f) → r ≡ medium_failed
@@ -90,10 +90,10 @@ untouched can_give file call (Medium f) refusal is calm runs = absurd (calm (by_
     by_number file_full e = absurd (omega (arith, e))
     by_number not_sound e = absurd (omega (arith, e))
     by_number failed_earlier e = absurd (omega (arith, e))
-untouched can_give file call Memory refusal is calm runs = record { refusal = refusal; is = is; runs = runs; stays = none_for_memory file call; order = stays_in_order file; balanced = λ _ all. all; spares = spares_all file call; quiet = λ tree means none. refl; counts = refl }
-untouched can_give file call Full refusal is calm runs = record { refusal = refusal; is = is; runs = runs; stays = refl; order = stays_in_order file; balanced = λ _ all. all; spares = spares_all file call; quiet = λ tree means none. refl; counts = refl }
-untouched can_give file call Unsound refusal is calm runs = record { refusal = refusal; is = is; runs = runs; stays = refl; order = stays_in_order file; balanced = λ _ all. all; spares = spares_all file call; quiet = λ tree means none. refl; counts = refl }
-untouched can_give file call Failed refusal is calm runs = record { refusal = refusal; is = is; runs = runs; stays = refl; order = stays_in_order file; balanced = λ _ all. all; spares = spares_all file call; quiet = λ tree means none. refl; counts = refl }
+untouched can_give file call Memory refusal is calm runs = record { refusal = refusal; is = is; runs = runs; stays = none_for_memory file call; order = stays_in_order file; balanced = λ _ all. all; spares = spares_all file call; quiet = λ tree means none. refl; unsound = λ _ _. refl; counts = refl }
+untouched can_give file call Full refusal is calm runs = record { refusal = refusal; is = is; runs = runs; stays = refl; order = stays_in_order file; balanced = λ _ all. all; spares = spares_all file call; quiet = λ tree means none. refl; unsound = λ _ _. refl; counts = refl }
+untouched can_give file call Unsound refusal is calm runs = record { refusal = refusal; is = is; runs = runs; stays = refl; order = stays_in_order file; balanced = λ _ all. all; spares = spares_all file call; quiet = λ tree means none. refl; unsound = λ _ _. refl; counts = refl }
+untouched can_give file call Failed refusal is calm runs = record { refusal = refusal; is = is; runs = runs; stays = refl; order = stays_in_order file; balanced = λ _ all. all; spares = spares_all file call; quiet = λ tree means none. refl; unsound = λ _ _. refl; counts = refl }
 
 module _ (rule : Cases → Tree → List (List ℕ) → Option Refusal) (path : List ℕ) (call : Call) (asks : AsksAt rule path call) (can_give : MediumFault → Bool) (file : FileState) where
   abbrev IsRefused : Error → Type 0
@@ -159,7 +159,7 @@ module _ (rule : Cases → Tree → List (List ℕ) → Option Refusal) (path : 
 -- ---- refusals by the medium, for memory or fullness
 
 module _ (can_give : MediumFault → Bool) (call : Call) (kind : is_changing (kind_of call) ≡ true) (old new : FileState) (calm : is_failed old ≡ false) (setting : SameSetting old new)
-    (stays : StaysOrFails old new) (spares : SparesStreams old call new) (header : KeepsFixedHeader old.base new.base) (quiet : IsQuiet old call new) where
+    (sound : old.is_sound ≡ true) (stays : StaysOrFails old new) (spares : SparesStreams old call new) (header : KeepsFixedHeader old.base new.base) (quiet : IsQuiet old call new) where
   broken_order : StaysInOrder old new
   broken_order = record {
     setting = setting;
@@ -177,11 +177,14 @@ module _ (can_give : MediumFault → Bool) (call : Call) (kind : is_changing (ki
     | inr failed ↦ absurd (let w : true ≡ false = sym failed ∙ unfailed in cc)
   ]
 
+  broken_unsound : SparesUnsound old call new
+  broken_unsound _ not = absurd (let w : true ≡ false = sym sound ∙ not in cc)
+
   module _ (left : Type 0) where
     broke : (e : Error) (refusal : Refusal) → IsRefusal refusal e → RunsOn (causes_of_call old new) old call (refused refusal) new
         → HasReason (record (at_every_error (new ≡ old)) { medium = λ f. StaysOrFails old new; memory = ForMemory call old new; full = left }) e
         → CountsError can_give (failures_of old) (failures_of new) e → IsRefusedLeaving left can_give old call new e
-    broke e refusal is runs kept counts = record { refusal = refusal; is = is; runs = runs; stays = kept; order = broken_order; balanced = broken_balance; spares = spares; quiet = quiet; counts = counts }
+    broke e refusal is runs kept counts = record { refusal = refusal; is = is; runs = runs; stays = kept; order = broken_order; balanced = broken_balance; spares = spares; quiet = quiet; unsound = broken_unsound; counts = counts }
 
     breaks_so : (refusal : Refusal) → BlamesOneOf (Rises (failures_of old) (failures_of new)) ⊤ ⊥ refusal → (tree : Tree) → MeansTree old tree
         → MayBreak (causes_of_call old new) (kind_on (cases_of old.base) tree call) refusal

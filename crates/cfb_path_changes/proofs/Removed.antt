@@ -193,7 +193,7 @@ module _ (old : FileState) (wanted : Wanted) (path : List ℕ) (names : List (Li
 
   pub removed_not : (can_give : MediumFault → Bool) (e : Error) → StaysOrFails old new → ((entry_at (entries_of old.base) k).obj_type ≢ Stream → AfterMedium (Unit {0}) (new ≡ old) e)
       → IsBreak ⊥ e → CountsError can_give (failures_of old) (failures_of new) e → IsRefusedBy can_give old call new e
-  removed_not can_give e stays first why counts = refused_by_break can_give call asks.changes old new there.unfailed setting stays spared header
+  removed_not can_give e stays first why counts = refused_by_break can_give call asks.changes old new there.unfailed setting there.sound stays spared header
       (λ tree means none. absurd (removal_does (cases_of old.base) tree wanted path none)) (new ≡ old) ⊥ absurd e why
       (λ memory. none_taken wanted one there.suits stays (λ kind. after_memory (Unit {0}) (new ≡ old) e (first kind) memory)) counts
 
@@ -271,5 +271,5 @@ module _ (old : FileState) (path : List ℕ) (names : List (List ℕ)) (k : ℕ)
         → OnErr r (StaysOrFails old new) → IfErr r (IsBreak ⊥) → CountsFailure can_give r (failures_of old) (failures_of new) → CallAnswers can_give old call_all r new
     all_removed_answers can_give (Ok x) parent some none ended balanced made grows tree root stays why counts = all_removed ended balanced made grows counts (becomes_without parent some none tree root)
     all_removed_answers can_give (Err e) parent some none ended balanced made grows tree root stays why counts =
-        refused_by_break can_give call_all (all_asks path).changes old new there.unfailed setting stays spared_beside header
+        refused_by_break can_give call_all (all_asks path).changes old new there.unfailed setting there.sound stays spared_beside header
         (λ tree means none. absurd (removal_does (cases_of old.base) tree AnyObject path none)) (new ≡ old) ⊥ absurd e why (λ memory. stays) counts

@@ -353,7 +353,7 @@ module _ (old : FileState) (field : NewField) (path : List ℕ) (names : List (L
   pub set_refused : (reads writes : MediumFault → Bool) (new : FileState) (e : Error) → takes_field entry_there.obj_type field ≡ true → SameSetting old new → StaysOrFails old new → KeepsStreams old.base new.base → KeepsFixedHeader old.base new.base
       → IsMediumAnd (λ fault. is_failed new ≡ true) e → CountsError writes (failures_of old) (failures_of new) e → IsRefusedBy (λ f. reads f || writes f) old call new e
   set_refused reads writes new e takes setting stays keeps header why counts =
-      refused_by_break (λ f. reads f || writes f) call (setting_asks field path).changes old new there.unfailed setting stays (none_changed old new call keeps) header
+      refused_by_break (λ f. reads f || writes f) call (setting_asks field path).changes old new there.unfailed setting there.sound stays (none_changed old new call keeps) header
       (λ tree means none. absurd (sets_something takes tree means none)) (new ≡ old) ⊥ absurd e
       (medium_breaks e why) (never_for_memory (λ fault. is_failed new ≡ true) (ForMemory call old new) e why) (counts_either reads writes (failures_of old) (failures_of new) e counts)
     where

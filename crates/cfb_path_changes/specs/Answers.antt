@@ -14,7 +14,7 @@ use Rattle.cfb_rules.specs.CallReplies.{has_object}
 use Rattle.cfb_rules.specs.Calls.{Call, Reply, create_storage_all, refused, remove_storage_all, remove_stream, set_created_time, set_modified_time, touch}
 use Rattle.cfb_rules.specs.Refusal.{IsRefusal, Refusal}
 use Rattle.cfb_rules.specs.Runs.{CallRuns, Causes, Setting, TreeState}
-use Rattle.cfb_rules.specs.Steps.{creating, is_there, kind_on}
+use Rattle.cfb_rules.specs.Steps.{creating, is_changing, is_there, kind_of, kind_on}
 use Rattle.cfb_directory.specs.State.{IsFullForEntry}
 use Rattle.cfb_mini_sectors.specs.State.{bytes_of, cases_of, entries_of, root_len_of, version_of}
 use Rattle.cfb_content.specs.Contents.{KeepsFixedHeader}
@@ -90,6 +90,10 @@ HasNothingToDo cases tree call = ⊥
 abbrev pub IsQuiet : FileState → Call → FileState → Type 0
 IsQuiet old call new = (tree : Tree) → MeansTree old tree → HasNothingToDo (cases_of old.base) tree call → new ≡ old
 
+-- a call that would change a file that is not sound leaves it as it is
+abbrev pub SparesUnsound : FileState → Call → FileState → Type 0
+SparesUnsound old call new = is_changing (kind_of call) ≡ true → old.is_sound ≡ false → new ≡ old
+
 -- Where memory lacks nothing has changed; a call of several changes, and one that gives bytes back before it takes an entry away, may have failed
 -- the file
 abbrev pub ForMemory : Call → FileState → FileState → Type 0
@@ -109,7 +113,7 @@ pub record IsDoneBy (old : FileState) (call : Call) (reply : Reply) (new : FileS
   pub calm : failures_of new ≡ failures_of old
 
 -- It was refused: by the rules, and then nothing has changed; since numbers lack, and then so much holds; for memory; or by the medium, and then
--- all is as before but the count of failures, or the file has failed
+-- all is as before but the count of failures, or the file has failed. A file that is not sound has not changed, whatever refused it
 pub record IsRefusedLeaving (full : Type 0) (can_give : MediumFault → Bool) (old : FileState) (call : Call) (new : FileState) (e : Error) : Type 0 where
   pub refusal : Refusal
   pub is : IsRefusal refusal e
@@ -119,12 +123,17 @@ pub record IsRefusedLeaving (full : Type 0) (can_give : MediumFault → Bool) (o
   pub balanced : KeepsFileBalanced old new
   pub spares : SparesStreams old call new
   pub quiet : IsQuiet old call new
+  pub unsound : SparesUnsound old call new
   pub counts : CountsError can_give (failures_of old) (failures_of new) e
 
 -- where numbers lack nothing has changed
 abbrev pub IsRefusedBy : (MediumFault → Bool) → FileState → Call → FileState → Error → Type 0
 IsRefusedBy can_give old call new = IsRefusedLeaving (new ≡ old) can_give old call new
 
+-- numbers lacked for one of several changes in turn: for the first where no entry could be had, and then nothing has changed; else for a later one
+abbrev pub StopsInTurn : FileState → FileState → Type 0
+StopsInTurn old new = (IsFullForEntry old.base.directory → new ≡ old) × StaysOrFails old new
+
 -- of a call that is several changes in turn numbers can lack for a later one
 abbrev pub IsRefusedInTurn : (MediumFault → Bool) → FileState → Call → FileState → Error → Type 0
-IsRefusedInTurn can_give old call new = IsRefusedLeaving (StaysOrFails old new) can_give old call new
+IsRefusedInTurn can_give old call new = IsRefusedLeaving (StopsInTurn old new) can_give old call new

@@ -1,12 +1,12 @@
 //! New storages at paths.
-ghost use Rattle.std.specs.Prelude.{◌≡◌, ◌≤◌, ◌||◌, List, ℕ, true, false, length, map, IsTrue, IfOk, IfErr, OnOk, chars, ⊤};
+ghost use Rattle.std.specs.Prelude.{◌≡◌, ◌≤◌, ◌||◌, List, ℕ, true, false, length, map, IsTrue, IfOk, IfErr, IsErrAnd, OnOk, chars, ⊤};
 ghost use Rattle.std.specs.List.{list_all};
 ghost use Rattle.cfb_format.specs.Names.{is_valid_name};
 ghost use Rattle.cfb_format.specs.Refused.{HasReason, no_error};
 ghost use Rattle.cfb_rules.specs.Calls.{create_storage, create_storage_all};
-ghost use Rattle.cfb_agreement.specs.Files.{Agrees};
+ghost use Rattle.cfb_agreement.specs.Files.{Agrees, is_failed};
 ghost use Rattle.cfb_path_changes.specs.Answers.{IsRefusedBy};
-ghost use Rattle.cfb_path_changes.specs.Calls.{CallAnswers, CallAnswersInTurn};
+ghost use Rattle.cfb_path_changes.specs.Calls.{CallAnswers, CallAnswersInTurn, HeedsFlags};
 ghost use Rattle.cfb_path_changes.specs.Ways.{IsWayOf, LeadAsFarAs};
 
 use crate::finding::kind_of;
@@ -32,6 +32,7 @@ pub fn create_storage<F: Medium, A: Heap + Clone>(
 ) -> Result<(), Error>
     requires agrees { IsTrue F.tells → Agrees volume.old }
     ensures agrees { IsTrue F.tells → Agrees volume.new }
+    ensures any { HeedsFlags volume.old result volume.new }
     ensures does { IsTrue F.tells → CallAnswers (λ f. F.read_faults f || F.write_faults f)
         volume.old (create_storage (chars path.now) moment) result volume.new }
 {
@@ -80,6 +81,7 @@ fn find_way<'p, F: Medium, A: Heap + Clone>(
     requires agrees { IsTrue F.tells → Agrees volume.now }
     ensures found { IfOk result (λ way. IsWayOf volume.now (chars path.now)
         (map (λ name. chars name.now) way.0.items) way.1 way.2) }
+    ensures failed { is_failed volume.now ≡ true → IsErrAnd result (λ e. e ≡ Error.Failed) }
     ensures refused { IsTrue F.tells → IfErr result (λ e. IsRefusedBy (λ f. F.read_faults f
         || F.write_faults f) volume.now (create_storage_all (chars path.now) moment) volume.now e) }
 {
@@ -103,7 +105,8 @@ fn find_way<'p, F: Medium, A: Heap + Clone>(
 ///
 /// `Failed`; by the rules of calls: `InvalidInput` where the path leaves the root or a name is not valid; `AlreadyExists` where a stream is
 /// on the way or at its end; and then `Unsound`. Nothing has changed then. `Full` where no entry can be had, `Memory`, and `Medium` where
-/// the medium fails: all but the count of failures is as before, or the file has failed.
+/// the medium fails: all but the count of failures is as before, or the file has failed. Where not one entry could be had nothing has
+/// changed after `Full`.
 pub fn create_storage_all<F: Medium, A: Heap + Clone>(
     volume: &mut Volume<F, A>,
     path: &str,
@@ -111,6 +114,7 @@ pub fn create_storage_all<F: Medium, A: Heap + Clone>(
 ) -> Result<(), Error>
     requires agrees { IsTrue F.tells → Agrees volume.old }
     ensures agrees { IsTrue F.tells → Agrees volume.new }
+    ensures any { HeedsFlags volume.old result volume.new }
     ensures does { IsTrue F.tells → CallAnswersInTurn (λ f. F.read_faults f || F.write_faults f)
         volume.old (create_storage_all (chars path.now) moment) result volume.new }
 {

@@ -1,11 +1,12 @@
 //! What stands at a path, and whether it is what a call wants there.
-ghost use Rattle.std.specs.Prelude.{◌≡◌, ◌<◌, ◌||◌, List, ℕ, length, IsTrue, IfOk, IfErr, IfNone, IfSome, None, Some, chars, map, Contains};
+ghost use Rattle.std.specs.Prelude.{◌≡◌, ◌<◌, ◌||◌, List, ℕ, length, IsTrue, IfOk, IfErr, IfNone, IfSome, IsErrAnd, None, Some, chars, map, true, Contains};
 ghost use Rattle.cfb_codecs.specs.EntryModel.{entries_of as entries_in, entry_of};
 ghost use Rattle.cfb_format.specs.Path.{names_of_path};
+ghost use Rattle.cfb_format.specs.Refused.{IsInvalidInput};
 ghost use Rattle.cfb_format.specs.Siblings.{entry_at};
 ghost use Rattle.cfb_rules.specs.Calls.{Call};
 ghost use Rattle.cfb_mini_sectors.specs.State.{entries_of};
-ghost use Rattle.cfb_agreement.specs.Files.{Agrees};
+ghost use Rattle.cfb_agreement.specs.Files.{Agrees, is_failed};
 ghost use Rattle.cfb_path_changes.specs.Answers.{IsRefusedBy};
 ghost use Rattle.cfb_path_changes.specs.Finding.{FindingRefused, IsObjectOf, LeadTo};
 ghost use Rattle.cfb_path_changes.specs.Wanted.{AsksFor, IsThereFor, is_wanted};
@@ -81,6 +82,19 @@ fn suits_at<A: Heap>(entries: &[DirEntry<A>], number: u32, wanted: Wanted) -> bo
     suits(&entries[number as usize], wanted)
 }
 
+/// `InvalidInput`, with what stands at a path where something else is wanted.
+fn unsuited(kind: ObjType, wanted: Wanted) -> Error
+    ensures { IsInvalidInput result }
+{
+    let text = match (wanted, kind) {
+        (Wanted::AnyStream, _) => "no stream is at this path",
+        (_, ObjType::Stream) => "a stream is at this path",
+        (_, ObjType::Root) => "the root stays",
+        _ => "the storage is not empty",
+    };
+    Error::InvalidInput(Detail::text(text))
+}
+
 /// The names of the path and the number of what stands at them, for a call that changes it. `Failed`; what `find` refuses, and
 /// `InvalidInput` where it is not what is wanted; `Unsound`; `Memory`.
 pub fn find_wanted<'p, F: Medium, A: Heap + Clone>(
@@ -91,6 +105,7 @@ pub fn find_wanted<'p, F: Medium, A: Heap + Clone>(
     requires agrees { IsTrue F.tells → Agrees volume.now }
     ensures found { IfOk result (λ found. IsThereFor volume.now wanted (chars path.now)
         (map (λ name. chars name.now) found.0.items) found.1) }
+    ensures failed { is_failed volume.now ≡ true → IsErrAnd result (λ e. e ≡ Error.Failed) }
     ensures refused { IsTrue F.tells → IfErr result (λ e. (call : Call)
         → AsksFor wanted (chars path.now) call → IsRefusedBy (λ f. F.read_faults f
         || F.write_faults f) volume.now call volume.now e) }
@@ -100,7 +115,7 @@ pub fn find_wanted<'p, F: Medium, A: Heap + Clone>(
     }
     let (names, number) = find(volume, path)?;
     if !suits_at(volume.entries(), number, wanted) {
-        return Err(Error::InvalidInput(Detail::text("another kind of object is at this path")));
+        return Err(unsuited(kind_of(volume.entries(), number), wanted));
     }
     if !volume.is_sound() {
         return Err(Error::Unsound);

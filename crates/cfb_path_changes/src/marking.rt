@@ -1,7 +1,7 @@
 //! One field of the object at a path is set.
 ghost use Rattle.std.specs.Prelude.{◌≡◌, ◌||◌, IsTrue, chars};
 ghost use Rattle.cfb_agreement.specs.Files.{Agrees};
-ghost use Rattle.cfb_path_changes.specs.Calls.{CallAnswers};
+ghost use Rattle.cfb_path_changes.specs.Calls.{CallAnswers, HeedsFlags};
 ghost use Rattle.cfb_path_changes.specs.Marking.{setting_call, takes_field, wanted_by, with_new_field};
 
 use crate::finding::{Wanted, find_wanted, kind_of};
@@ -83,6 +83,7 @@ pub fn set_field<F: Medium, A: Heap + Clone>(
 ) -> Result<(), Error>
     requires agrees { IsTrue F.tells → Agrees volume.old }
     ensures agrees { IsTrue F.tells → Agrees volume.new }
+    ensures any { HeedsFlags volume.old result volume.new }
     ensures does { IsTrue F.tells → CallAnswers (λ f. F.read_faults f || F.write_faults f)
         volume.old (setting_call field (chars path.now)) result volume.new }
 {

@@ -1,9 +1,9 @@
 //! New objects at paths: where each belongs, and how it gets there.
-ghost use Rattle.std.specs.Prelude.{◌≡◌, ◌⊎◌, ◌||◌, ℕ, List, IsTrue, IfOk, IfErr, OnOk, chars, map};
+ghost use Rattle.std.specs.Prelude.{◌≡◌, ◌⊎◌, ◌||◌, ℕ, List, IsTrue, IfOk, IfErr, IsErrAnd, OnOk, chars, false, map, true};
 ghost use Rattle.cfb_format.specs.Refused.{IsMemory};
 ghost use Rattle.cfb_format.specs.declared.objtype.ObjType.TheVariants.{Stream};
 ghost use Rattle.cfb_rules.specs.Calls.{done};
-ghost use Rattle.cfb_agreement.specs.Files.{Agrees};
+ghost use Rattle.cfb_agreement.specs.Files.{Agrees, SameSetting, is_failed};
 ghost use Rattle.cfb_path_changes.specs.Adding.{RulesRefuse, creation, kind_made, kind_may_stay};
 ghost use Rattle.cfb_path_changes.specs.Answers.{IsDoneBy, IsRefusedBy};
 ghost use Rattle.cfb_path_changes.specs.Place.{HasNewStream, IsPlace, IsPlaceOf, IsSomePlace};
@@ -95,6 +95,7 @@ pub fn place_at<'p, F: Medium, A: Heap + Clone>(
 ) -> Result<Place<'p>, Error>
     requires agrees { IsTrue F.tells → Agrees volume.now }
     ensures ok { IfOk result (IsPlaceOf volume.now what (chars path.now)) }
+    ensures failed { is_failed volume.now ≡ true → IsErrAnd result (λ e. e ≡ Error.Failed) }
     ensures refused { IsTrue F.tells → IfErr result (λ e. (moment : ℕ) → IsRefusedBy (λ f. F.read_faults f
         || F.write_faults f) volume.now (creation what moment (chars path.now)) volume.now e) }
 {
@@ -125,6 +126,8 @@ pub fn fill_place<F: Medium, A: Heap + Clone>(
     ensures filled { kind_made what ≡ Stream
         → IfOk result (HasNewStream volume.old what place.entry volume.new) }
     ensures agrees { IsTrue F.tells → Agrees volume.new }
+    ensures setting { SameSetting volume.old volume.new }
+    ensures ended { OnOk result (is_failed volume.new ≡ false) }
     ensures runs { IsTrue F.tells → OnOk result ((path : List ℕ)
         → IsPlaceOf volume.old what path place.entry
         → IsDoneBy volume.old (creation what moment path) done volume.new) }

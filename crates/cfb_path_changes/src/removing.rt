@@ -3,7 +3,7 @@ ghost use Rattle.std.specs.Prelude.{◌≡◌, ◌||◌, ◌⊎◌, ◌∷◌, L
 ghost use Rattle.cfb_format.specs.Reading.{IsOutline, Outline, numbers};
 ghost use Rattle.cfb_rules.specs.Calls.{Call, remove_storage, remove_storage_all, remove_stream};
 ghost use Rattle.cfb_agreement.specs.Files.{Agrees};
-ghost use Rattle.cfb_path_changes.specs.Calls.{CallAnswers};
+ghost use Rattle.cfb_path_changes.specs.Calls.{CallAnswers, HeedsFlags};
 ghost use Rattle.cfb_path_changes.specs.Finding.{LeadTo};
 ghost use Rattle.cfb_path_changes.specs.Removing.{StandsIn, is_of_one, removal};
 
@@ -39,6 +39,7 @@ fn remove_one<F: Medium, A: Heap + Clone>(
     requires agrees { IsTrue F.tells → Agrees volume.old }
     requires one { is_of_one wanted ≡ true }
     ensures agrees { IsTrue F.tells → Agrees volume.new }
+    ensures any { HeedsFlags volume.old result volume.new }
     ensures does { IsTrue F.tells → CallAnswers (λ f. F.read_faults f || F.write_faults f)
         volume.old (removal wanted (chars path.now)) result volume.new }
 {
@@ -60,6 +61,7 @@ pub fn remove_storage<F: Medium, A: Heap + Clone>(
 ) -> Result<(), Error>
     requires agrees { IsTrue F.tells → Agrees volume.old }
     ensures agrees { IsTrue F.tells → Agrees volume.new }
+    ensures any { HeedsFlags volume.old result volume.new }
     ensures does { IsTrue F.tells → CallAnswers (λ f. F.read_faults f || F.write_faults f)
         volume.old (remove_storage (chars path.now)) result volume.new }
 {
@@ -76,6 +78,7 @@ pub fn remove_stream<F: Medium, A: Heap + Clone>(
 ) -> Result<(), Error>
     requires agrees { IsTrue F.tells → Agrees volume.old }
     ensures agrees { IsTrue F.tells → Agrees volume.new }
+    ensures any { HeedsFlags volume.old result volume.new }
     ensures does { IsTrue F.tells → CallAnswers (λ f. F.read_faults f || F.write_faults f)
         volume.old (remove_stream (chars path.now)) result volume.new }
 {
@@ -94,6 +97,7 @@ pub fn remove_storage_all<F: Medium, A: Heap + Clone>(
 ) -> Result<(), Error>
     requires agrees { IsTrue F.tells → Agrees volume.old }
     ensures agrees { IsTrue F.tells → Agrees volume.new }
+    ensures any { HeedsFlags volume.old result volume.new }
     ensures does { IsTrue F.tells → CallAnswers (λ f. F.read_faults f || F.write_faults f)
         volume.old (remove_storage_all (chars path.now)) result volume.new }
 {

@@ -1,6 +1,6 @@
 -- A stream in sectors that got bytes behind its end as its chain went on, and whose entry says so: what it has, and how it reads.
 use Rattle.std.proofs.Common.{◌≡◌, ◌<◌, ◌≤◌, ◌⊎◌, ◌+◌, ◌-◌, ◌*◌, ◌/◌, ◌%◌, min, true, inl, inr, ℕ, List, [], refl, sym, ◌∙◌, ap, subst, length, arith}
-use Rattle.std.specs.Prelude.{Err, IfErr, IsSome, Ok, OnErr, Result, slice_index}
+use Rattle.std.specs.Prelude.{Err, IfErr, IfOk, IsSome, Ok, OnErr, OnOk, Result, slice_index}
 use Rattle.std.proofs.lemmas.Bool.{cases_lt}
 use Rattle.cfb_format.specs.declared.error.Error.{Error}
 use Rattle.cfb_format.specs.declared.error.Error.TheVariants.{AlreadyExists, Failed, Full, InvalidData, InvalidInput, Medium, Memory, NotFound, Unsound}
@@ -25,17 +25,17 @@ use Rattle.cfb_chains.proofs.PlacedBytes.{grown_place, no_more}
 use Rattle.cfb_mini_sectors.specs.Held.{with_table}
 use Rattle.cfb_mini_sectors.specs.State.{HoldsMini, IsChangeable, MiniState, bytes_of, content_of, entries_of, parts_of, table_of, tables_in, version_of}
 use Rattle.cfb_mini.specs.MiniSectors.{IsStill}
-use Rattle.cfb_content.specs.Contents.{IsStreamOf, SizesChain, len_of, sectors_owned}
+use Rattle.cfb_content.specs.Contents.{IsStreamOf, SizesChain, len_of, mini_sectors_owned, sectors_owned}
 use Rattle.cfb_content.specs.Parts.{IsWholeChain, StandAlong, StaysAlong}
 use Rattle.cfb_content.specs.Uses.{ChangesUse, Owns}
-use Rattle.cfb_content.proofs.Changing.{large-goes-on}
+use Rattle.cfb_content.proofs.Changing.{large-goes-on, small-becomes-large}
 use Rattle.cfb_content.proofs.PlacedOnce.{inside-of}
 use Rattle.cfb_content.proofs.Readable.{large-read-by-places, large-is-there, whole-of}
 use Rattle.cfb_content.proofs.WholeStreams.{large-entry}
-use Rattle.cfb_resizing.specs.Turning.{Appends, LiesInSectors, StopsOrBegun}
+use Rattle.cfb_resizing.specs.Turning.{Appends, LeavesNoMinis, LiesInSectors, MovesWith, PutsBehind, StandBehind, StopsOrBegun}
 use Rattle.cfb_resizing.proofs.Named.{WasNamed, mini-then}
-use Rattle.cfb_resizing.proofs.Tightness.{taken-stays-full}
-use Rattle.cfb_resizing.proofs.Turned.{change, had-large, large, len-is, owns-large, sector-byte, sized-large, tables-then, version-is}
+use Rattle.cfb_resizing.proofs.Tightness.{leaves-nothing, taken-stays-full}
+use Rattle.cfb_resizing.proofs.Turned.{change, had-large, had-small, large, len-is, owns-large, sector-byte, sized-large, tables-then, version-is}
 use Rattle.cfb_resizing.proofs.TurnedInSectors.{grow-owned, grow-whole, grown-in, grown-longer, made-here}
 
 -- ---- bytes behind the end
@@ -66,18 +66,18 @@ pub record WasAppended (old new : MiniState) (i : ℕ) (from : List ℕ) : Type 
 module _ (v : Validation) (old mid new : MiniState) (i size start : ℕ) (from : List ℕ) (was : WasNamed v old mid new i) (held : HoldsMini v new)
     (named : entry_at (entries_of new) i ≡ record (entry_at (entries_of mid) i) { start_sector = start; stream_len = size })
     (size-is : size ≡ len_of old i + length from) where
-  module _ (t : Appends old mid i from start) where
+  module _ (ys : List ℕ) (lies' : LiesInSectors old mid i (len_of old i + length from) start ys) (stands : StandBehind old i from (bytes_of mid) (place_along (version_of mid) ys)) where
     abbrev c : List ℕ
     c = content_of old (entry_at (entries_of old) i)
 
     abbrev xs : List ℕ
     xs = written c (len_of old i) from
 
-    lies : LiesInSectors old mid i size start t.ys
-    lies = subst (λ n. LiesInSectors old mid i n start t.ys) (sym size-is) t.lies
+    lies : LiesInSectors old mid i size start ys
+    lies = subst (λ n. LiesInSectors old mid i n start ys) (sym size-is) lies'
 
-    owns : Owns new i t.ys []
-    owns = owns-large v old mid new i size start was held named t.ys lies
+    owns : Owns new i ys []
+    owns = owns-large v old mid new i size start was held named ys lies
 
     now-is : len_of new i ≡ size
     now-is = len-is v old mid new i size start was held named
@@ -88,35 +88,56 @@ module _ (v : Validation) (old mid new : MiniState) (i size start : ℕ) (from :
     long : length xs ≡ size
     long = let l = length-written c (len_of old i) from in omega (arith, l, whole, size-is)
 
-    at-mid : (k : ℕ) → k < size → slice_index (bytes_of mid) (place_along (version_of mid) t.ys k) ≡ slice_index xs k
-    at-mid k lt = behind-end c from xs (len_of old i) (place_along (version_of mid) t.ys) (bytes_of mid) refl t.kept t.put k (omega (arith, lt, size-is))
+    at-mid : (k : ℕ) → k < size → slice_index (bytes_of mid) (place_along (version_of mid) ys k) ≡ slice_index xs k
+    at-mid k lt = behind-end c from xs (len_of old i) (place_along (version_of mid) ys) (bytes_of mid) refl stands.kept stands.put k (omega (arith, lt, size-is))
 
     reads : content_of new (entry_at (entries_of new) i) ≡ xs
     reads =
         let version = version-is v old mid new i size start was held named in
-        large-read-by-places new i t.ys xs (large v old mid new i size start was held named t.ys lies) owns (omega (arith, long, now-is))
+        large-read-by-places new i ys xs (large v old mid new i size start was held named ys lies) owns (omega (arith, long, now-is))
         (λ k lt.
         let low : k < size = omega (arith, lt, long) in
-        subst (λ (w : Version). (k / sector_len w < length t.ys) × (place_along w t.ys k < length (bytes_of new)) × (slice_index (bytes_of new) (place_along w t.ys k) ≡ slice_index xs k)) (sym version) (
+        subst (λ (w : Version). (k / sector_len w < length ys) × (place_along w ys k < length (bytes_of new)) × (slice_index (bytes_of new) (place_along w ys k) ≡ slice_index xs k)) (sym version) (
           lies.enough k low,
           (let there = lies.there k low in let longer = was.spares.no_shorter in omega (arith, there, longer)),
-          sector-byte v old mid new i size start was held named t.ys lies k low ∙ at-mid k low,
+          sector-byte v old mid new i size start was held named ys lies k low ∙ at-mid k low,
         ))
 
-    pub appended-is : WasAppended old new i from
-    appended-is = record {
-      used = large-goes-on v i old new (sectors_owned old i) t.ys [] t.count (change v old mid new i size start was held named) (mini-then old mid new t.mini was.mini)
-          (tables-then v old mid new i size start was held named (λ (w : TableState). Lengthens t.count (sectors_owned old i) t.ys (tables_in old) w) t.longer)
-          (had-large v old mid new i size start was held named t.was) owns;
+    put-is : ChangesUse old new → WasAppended old new i from
+    put-is used = record {
+      used = used;
       chain = owns.chain;
       content = reads;
       whole = ap (λ (l : List ℕ). length l) reads ∙ long ∙ sym now-is;
-      sized = sized-large v old mid new i size start was held named t.ys lies;
+      sized = sized-large v old mid new i size start was held named ys lies;
     }
 
-pub appended-stays-full : (old new : MiniState) (i start : ℕ) (from : List ℕ) → Appends old new i from start → NoneFree (tables_in old).fat → NoneFree (tables_in new).fat
-appended-stays-full old new i start from t none =
+  -- where its chain went on
+  by-growth : Appends old mid i from start → WasAppended old new i from
+  by-growth t = put-is t.ys t.lies t.stands
+      (large-goes-on v i old new (sectors_owned old i) t.ys [] t.count (change v old mid new i size start was held named) (mini-then old mid new t.mini was.mini)
+      (tables-then v old mid new i size start was held named (λ (w : TableState). Lengthens t.count (sectors_owned old i) t.ys (tables_in old) w) t.longer)
+      (had-large v old mid new i size start was held named t.was) (owns t.ys t.lies t.stands))
+
+  -- and where it moved
+  by-move : MovesWith old mid i (len_of old i + length from) from start → WasAppended old new i from
+  by-move t = put-is t.ys t.lies t.stands
+      (small-becomes-large v i old t.mid new (mini_sectors_owned old i) t.ys t.count (change v old mid new i size start was held named) t.room t.freed
+      (mini-then t.mid mid new t.mini was.mini)
+      (tables-then v old mid new i size start was held named (λ (w : TableState). Lengthens t.count [] t.ys (tables_in t.mid) w) t.longer)
+      (had-small v old mid new i size start was held named t.was) (owns t.ys t.lies t.stands))
+
+  pub appended-is : PutsBehind old mid i from start → WasAppended old new i from
+  appended-is (inl t) = by-growth t
+  appended-is (inr t) = by-move t
+
+pub appended-stays-full : (old new : MiniState) (i start : ℕ) (from : List ℕ) → LeavesNoMinis old i (len_of old i + length from) → PutsBehind old new i from start
+    → NoneFree (tables_in old).fat → NoneFree (tables_in new).fat
+appended-stays-full old new i start from stays (inl t) none =
     taken-stays-full (tables_in old) (tables_in new) (ends_of (sectors_owned old i)) (gained (sectors_owned old i) t.ys) t.longer.taken none
+appended-stays-full old new i start from stays (inr t) none =
+    taken-stays-full (tables_in t.mid) (tables_in new) (ends_of []) (gained [] t.ys) t.longer.taken
+    (subst (λ (s : MiniState). NoneFree (tables_in s).fat) (sym (t.none (leaves-nothing old i (len_of old i + length from) t.was t.lies.large stays))) none)
 
 -- ---- a chain that went on in the allocator that was lent
 
@@ -217,8 +238,7 @@ module _ (s : MiniState) (i size start len count : ℕ) (from : List ℕ) (here 
     longer = grown-longer v s i size needed list list' a change' at big longer all-there.chain refl made-now now held;
     lies = subst (λ n. LiesInSectors s (with_table s a) i n (entry_at (entries_of s) i).start_sector list') size-is
         (grown-in v s i size needed list list' a change' at big longer all-there.chain refl made-now now held stands);
-    kept = λ k lt. subst (λ (u : Version). slice_index a.file.bytes (place_along u list' k) ≡ slice_index (content_of s (entry_at (entries_of s) i)) k) (sym same-version) (stays k lt);
-    put = λ k lt. subst (λ (u : Version). slice_index a.file.bytes (place_along u list' (len_of s i + k)) ≡ slice_index from k) (sym same-version) (put-now k lt).1;
+    stands = subst (λ (u : Version). StandBehind s i from a.file.bytes (place_along u list')) (sym same-version) (record { kept = stays; put = λ k lt. (put-now k lt).1 });
   })
 
 -- ---- refusals
@@ -230,6 +250,10 @@ err-both (Err e) f p q = f e p q
 pub err-then : {T : Type 0} {P : Error → Type 0} {Q : Type 0} (r : Result T Error) → ((e : Error) → P e → Q) → IfErr r P → OnErr r Q
 err-then (Ok x) f p = tt
 err-then (Err e) f p = f e p
+
+pub ok-then : {T : Type 0} {P : T → Type 0} {Q : Type 0} (r : Result T Error) → ((x : T) → P x → Q) → IfOk r P → OnOk r Q
+ok-then (Ok x) f p = f x p
+ok-then (Err e) f p = tt
 
 same-still : (old new : MiniState) → new ≡ old → IsStill old new
 same-still old new same = subst (λ (s : MiniState). IsStill old s) (sym same) refl

@@ -1,6 +1,7 @@
 -- The content of a stream after it left its mini sectors for sectors.
 use Rattle.std.proofs.Common.{◌≡◌, ◌≤◌, ◌<◌, ◌*◌, ◌/◌, ◌%◌, ◌+◌, ◌-◌, ◌⊎◌, max, min, inl, inr, ℕ, List, [], true, refl, sym, ◌∙◌, ap, subst, length, arith}
 use Rattle.std.specs.Prelude.{◌↔◌, Contains, slice_index}
+use Rattle.std.proofs.lemmas.Bool.{cases_lt}
 use Rattle.cfb_format.specs.declared.error.Error.{Error}
 use Rattle.cfb_format.specs.declared.error.Error.TheVariants.{AlreadyExists, Failed, Full, InvalidData, InvalidInput, Medium, Memory, NotFound, Unsound}
 use Rattle.cfb_format.specs.declared.validate.Validation.{Validation}
@@ -33,7 +34,7 @@ use Rattle.cfb_content.proofs.Kept.{spared-is-kept}
 use Rattle.cfb_content.proofs.Readable.{small-is-there}
 use Rattle.cfb_content.proofs.RoomGiven.{given-is-counted}
 use Rattle.cfb_content.proofs.WholeStreams.{no-sectors, owned-minis, small-entry, whole-minis-as}
-use Rattle.cfb_resizing.specs.Turning.{CarriesToSectors, GoesUnnamed, IsPaddedAlong, KeepsAround, KeepsTablesTight, LiesTurnedInSectors, StandsTurned, StopsOrBegun, Turns}
+use Rattle.cfb_resizing.specs.Turning.{CarriesToSectors, GoesUnnamed, IsPaddedAlong, KeepsAround, KeepsTablesTight, LiesInSectors, MovesSoundly, MovesWith, StandBehind, StopsOrBegun, Turns, TurnsSoundly}
 use Rattle.cfb_resizing.proofs.TurnedInMinis.{first-mini, first-unnamed, own-minis-kept}
 use Rattle.cfb_resizing.proofs.TurnedInSectors.{moving-lacks, rounded-up-holds}
 
@@ -94,13 +95,44 @@ still-kept v s new i change at still bytes =
     (λ n c. absurd (Contains-nil n c))
     (no-mini-touched [] s new (ap (λ (m : MiniState). m.minifat) still) (ap (λ (m : MiniState). m.mini_stream) still) bytes) (λ m c. absurd (Contains-nil m c))
 
+-- ---- what is put into the new sectors
+
+-- what stands behind what was read, or alone where nothing was
+module _ (len : ℕ) (joined lent content from : List ℕ) (is : lent ≡ joined) (none : len ≡ 0 → joined ≡ []) (long : 0 < len → length joined ≡ len + length from)
+    (alone : length lent ≡ 0 → content ≡ from) (all : 0 < length lent → content ≡ lent) where
+  nothing : len ≡ 0 → content ≡ from
+  nothing zero = alone (ap (λ (l : List ℕ). length l) (is ∙ none zero))
+
+  joined-is : 0 < len → content ≡ joined
+  joined-is some = all (omega (arith, ap (λ (l : List ℕ). length l) is, long some, some)) ∙ is
+
+  pub whole-long : length content ≡ len + length from
+  whole-long = elim (cases_lt 0 len) [
+    | inl some ↦ ap (λ (l : List ℕ). length l) (joined-is some) ∙ long some
+    | inr few ↦ omega (arith, ap (λ (l : List ℕ). length l) (nothing (omega (arith, few))), few)
+  ]
+
+  pub whole-first : (there : ℕ → ℕ) → ((k : ℕ) → k < len → slice_index joined k ≡ there k) → (k : ℕ) → k < len → slice_index content k ≡ there k
+  whole-first there got k lt = ap (λ (l : List ℕ). slice_index l k) (joined-is (omega (arith, lt))) ∙ got k lt
+
+  pub whole-last : (0 < len → (k : ℕ) → k < length from → slice_index joined (len + k) ≡ slice_index from k) → (k : ℕ) → k < length from
+      → slice_index content (len + k) ≡ slice_index from k
+  whole-last put k lt = elim (cases_lt 0 len) [
+    | inl some ↦ ap (λ (l : List ℕ). slice_index l (len + k)) (joined-is some) ∙ put some k lt
+    | inr few ↦
+        let same : len + k ≡ k = omega (arith, few) in
+        ap (λ (l : List ℕ). slice_index l (len + k)) (nothing (omega (arith, few))) ∙ ap (λ n. slice_index from n) same
+  ]
+
 -- ---- the content in its new sectors
 
-module _ (v : Validation) (s new : MiniState) (i size count : ℕ) (list ids bytes : List ℕ) (change : IsChangeable v s) (at : IsStreamOf s i) (short : len_of s i < 4096)
-    (large : 4096 ≤ size) (whole : IsWholeMiniChain s (entry_at (entries_of s) i).start_sector (len_of s i) list) (count-is : count ≡ rounded_up size (sector_len (version_of s)))
-    (carried : CarriesToSectors count list ids s new) (apart : AreDisjoint ids (system_sectors new)) (around : KeepsAround s new) (held : HoldsMini v new)
+module _ (v : Validation) (s new : MiniState) (i size count : ℕ) (list ids bytes from : List ℕ) (change : IsChangeable v s) (at : IsStreamOf s i) (short : len_of s i < 4096)
+    (large : 4096 ≤ size) (fits : len_of s i + length from ≤ size) (whole : IsWholeMiniChain s (entry_at (entries_of s) i).start_sector (len_of s i) list)
+    (count-is : count ≡ rounded_up size (sector_len (version_of s)))
+    (carried : CarriesToSectors count list ids s new) (apart : AreDisjoint ids (system_sectors new)) (around : KeepsAround s new)
     (chain : IsChain (tables_in new).fat (first_or_end ids) ids)
-    (len : length bytes ≡ len_of s i) (got : (k : ℕ) → k < len_of s i → slice_index bytes k ≡ slice_index (bytes_of s) (mini_place_along s list k))
+    (len : length bytes ≡ len_of s i + length from) (got : (k : ℕ) → k < len_of s i → slice_index bytes k ≡ slice_index (bytes_of s) (mini_place_along s list k))
+    (put : (k : ℕ) → k < length from → slice_index bytes (len_of s i + k) ≡ slice_index from k)
     (padded : IsPaddedAlong (length bytes) (count * sector_len (version_of s)) (λ k. k) (place_along (version_of s) ids) bytes (bytes_of new))
     (wiped : (m : ℕ) → Contains list m → IsInMiniStream new m → IsZeroMini new m) where
   owned : mini_sectors_owned s i ≡ list
@@ -120,17 +152,16 @@ module _ (v : Validation) (s new : MiniState) (i size count : ℕ) (list ids byt
       let sum = carried.longer.count in
       omega (arith, below, sum, count-is)
 
-  stands : StandsTurned s i size (bytes_of new) (place_along (version_of s) ids)
-  stands = record {
-    there = λ k lt. padded.there k (room k lt);
-    kept = λ k lt early.
-        padded.kept k (room k lt) (omega (arith, early, len)) ∙ got k early
-        ∙ subst (λ (l : List ℕ). slice_index (bytes_of s) (mini_place_along s l k) ≡ slice_index (content_of s (entry_at (entries_of s) i)) k) owned
-        ((small-is-there v s i change at (small-entry s i short)).bytes k early);
-    zeros = λ k from lt. padded.zeros k (omega (arith, from, len)) (room k lt);
-  }
+  kept : (k : ℕ) → k < len_of s i → slice_index (bytes_of new) (place_along (version_of s) ids k) ≡ slice_index (content_of s (entry_at (entries_of s) i)) k
+  kept k early =
+      padded.kept k (room k (omega (arith, early, fits))) (omega (arith, early, len)) ∙ got k early
+      ∙ subst (λ (l : List ℕ). slice_index (bytes_of s) (mini_place_along s l k) ≡ slice_index (content_of s (entry_at (entries_of s) i)) k) owned
+      ((small-is-there v s i change at (small-entry s i short)).bytes k early)
 
-  lies : LiesTurnedInSectors s new i size (first_or_end ids) ids
+  behind : (k : ℕ) → k < length from → slice_index (bytes_of new) (place_along (version_of s) ids (len_of s i + k)) ≡ slice_index from k
+  behind k lt = padded.kept (len_of s i + k) (room (len_of s i + k) (omega (arith, lt, fits))) (omega (arith, lt, len)) ∙ put k lt
+
+  lies : LiesInSectors s new i size (first_or_end ids) ids
   lies = record {
     large = large;
     chain = chain;
@@ -140,12 +171,11 @@ module _ (v : Validation) (s new : MiniState) (i size count : ℕ) (list ids byt
         let all : length ids ≡ max (rounded_up size (sector_len (version_of s))) 0 = omega (arith, carried.longer.count, count-is) in
         all ∙ (λ j. max (rounded_up size (sector_len (sym version j))) (length (sym (no-sectors s i short) j)));
     apart = apart;
-    tables_apart = no-tables v (table_of new) (first_or_end ids) ids held.directory.tables chain;
-    stands = subst (λ w. StandsTurned s i size (bytes_of new) (place_along w ids)) (sym version) stands;
+    there = λ k lt. subst (λ w. place_along w ids k < length (bytes_of new)) (sym version) (padded.there k (room k lt));
   }
 
-  pub moved-turns : Turns s new i size (first_or_end ids)
-  moved-turns = inr (inr (inr (inr (inr (record {
+  pub moved-with : MovesWith s new i size from (first_or_end ids)
+  moved-with = record {
     was = small-entry s i short;
     mid = carried.mid;
     ys = ids;
@@ -157,7 +187,47 @@ module _ (v : Validation) (s new : MiniState) (i size count : ℕ) (list ids byt
     mini = carried.mini;
     longer = carried.longer;
     lies = lies;
-  })))))
+    stands = subst (λ w. StandBehind s i from (bytes_of new) (place_along w ids)) (sym version) (record { kept = kept; put = behind });
+    zeros = subst (λ w. (k : ℕ) → len_of s i + length from ≤ k → k < size → slice_index (bytes_of new) (place_along w ids k) ≡ 0) (sym version)
+        (λ k late lt. padded.zeros k (omega (arith, late, len)) (room k lt));
+  }
+
+-- with no bytes it was given another length alone
+pub moved-turns : (v : Validation) (s new : MiniState) (i size start : ℕ) (from : List ℕ) → length from ≡ 0 → HoldsMini v new → MovesWith s new i size from start
+    → Turns s new i size start
+moved-turns v s new i size start from none held t = inr (inr (inr (inr (inr (record {
+  was = t.was;
+  mid = t.mid;
+  ys = t.ys;
+  count = t.count;
+  room = t.room;
+  none = t.none;
+  freed = t.freed;
+  wiped = t.wiped;
+  mini = t.mini;
+  longer = t.longer;
+  lies = record {
+    large = t.lies.large;
+    chain = t.lies.chain;
+    enough = t.lies.enough;
+    fewer = t.lies.fewer;
+    more = t.lies.more;
+    apart = t.lies.apart;
+    tables_apart = no-tables v (table_of new) start t.ys held.directory.tables t.lies.chain;
+    stands = record {
+      there = t.lies.there;
+      kept = λ k lt early. t.stands.kept k early;
+      zeros = λ k late lt. t.zeros k (omega (arith, late, none)) lt;
+    };
+  };
+})))))
+
+pub moved-turns-soundly : (s new : MiniState) (i size start : ℕ) (from : List ℕ) → length from ≡ 0 → MovesSoundly s new i size from start → TurnsSoundly s new i size start
+moved-turns-soundly s new i size start from none t = record {
+  turned = λ v change. moved-turns v s new i size start from none (t.holds v change) (t.moved v change);
+  holds = t.holds;
+  snug_mini = t.snug_mini;
+}
 
 -- ---- what the calls say of it
 
@@ -213,24 +283,31 @@ module _ (s mid new : MiniState) (i size count start len l : ℕ) (list : List �
   pub move-held : mid ≡ s → (v : Validation) → (HoldsMini v mid → GoesUnnamed mid list → HoldsMini v new) → IsChangeable v s → HoldsMini v new
   move-held same v holds change = (subst (λ (m : MiniState). HoldsMini v m → GoesUnnamed m list → HoldsMini v new) same holds) change.held (unnamed v change)
 
-  pub move-turned : (ids bytes content listed : List ℕ) (first : MiniState) → mid ≡ s → first ≡ s → listed ≡ list → bytes ≡ content → (v : Validation) → IsChangeable v s
+  -- the bytes fit into the chain that begins
+  pub move-fits : (n : ℕ) → n ≤ size → IsStill s mid → (k : ℕ) → k < n → k / sector_len (version_of mid) < count
+  move-fits n le still k lt =
+      subst (λ w. k / sector_len w < count) (sym (ap version_of still))
+      (subst (λ m. k / sector_len (version_of s) < m) (sym wanted) (rounded-up-holds (version_of s) k size (omega (arith, lt, le))))
+
+  pub move-moved : (ids content from listed : List ℕ) (first : MiniState) → len_of s i + length from ≤ size → mid ≡ s → first ≡ s → listed ≡ list
+      → (v : Validation) → IsChangeable v s
       → (HoldsMini v mid → CarriesToSectors count list ids mid new) → (HoldsMini v mid → GoesUnnamed mid list → AreDisjoint ids (system_sectors new))
-      → KeepsAround mid new → IsChain (tables_in new).fat (first_or_end ids) ids
-      → (HoldsMini v mid → GoesUnnamed mid list → HoldsMini v new) → length content ≡ len
+      → KeepsAround mid new → IsChain (tables_in new).fat (first_or_end ids) ids → length content ≡ len + length from
       → ((k : ℕ) → k < len → slice_index content k ≡ slice_index (bytes_of first) (mini_place_along first listed k))
+      → ((k : ℕ) → k < length from → slice_index content (len + k) ≡ slice_index from k)
       → (HoldsMini v mid → GoesUnnamed mid list
-      → IsPaddedAlong (length bytes) (count * sector_len (version_of mid)) (λ k. k) (place_along (version_of mid) ids) bytes (bytes_of new))
+      → IsPaddedAlong (length content) (count * sector_len (version_of mid)) (λ k. k) (place_along (version_of mid) ids) content (bytes_of new))
       → (HoldsMini v mid → GoesUnnamed mid list → (m : ℕ) → Contains list m → IsInMiniStream new m → IsZeroMini new m)
-      → Turns s new i size (first_or_end ids)
-  move-turned ids bytes content listed first same same-first listed-is bytes-is v change carried apart around chain holds long got padded wiped =
+      → MovesWith s new i size from (first_or_end ids)
+  move-moved ids content from listed first fits same same-first listed-is v change carried apart around chain long got put padded wiped =
       let named = unnamed v change in
-      moved-turns v s new i size count list ids bytes change at short large there wanted
+      moved-with v s new i size count list ids content from change at short large fits there wanted
       ((subst (λ (m : MiniState). HoldsMini v m → CarriesToSectors count list ids m new) same carried) change.held)
       ((subst (λ (m : MiniState). HoldsMini v m → GoesUnnamed m list → AreDisjoint ids (system_sectors new)) same apart) change.held named)
-      (subst (λ (m : MiniState). KeepsAround m new) same around) (move-held same v holds change) chain
-      (ap (λ (z : List ℕ). length z) bytes-is ∙ long ∙ len-is)
-      (λ k lt. ap (λ (z : List ℕ). slice_index z k) bytes-is ∙ got k (omega (arith, lt, len-is))
-      ∙ (λ j. slice_index (bytes_of (same-first j)) (mini_place_along (same-first j) (listed-is j) k)))
+      (subst (λ (m : MiniState). KeepsAround m new) same around) chain
+      (long ∙ ap (λ n. n + length from) len-is)
+      (λ k lt. got k (omega (arith, lt, len-is)) ∙ (λ j. slice_index (bytes_of (same-first j)) (mini_place_along (same-first j) (listed-is j) k)))
+      (λ k lt. ap (λ n. slice_index content (n + k)) (sym len-is) ∙ put k lt)
       ((subst (λ (m : MiniState). HoldsMini v m → GoesUnnamed m list
-      → IsPaddedAlong (length bytes) (count * sector_len (version_of m)) (λ k. k) (place_along (version_of m) ids) bytes (bytes_of new)) same padded) change.held named)
+      → IsPaddedAlong (length content) (count * sector_len (version_of m)) (λ k. k) (place_along (version_of m) ids) content (bytes_of new)) same padded) change.held named)
       ((subst (λ (m : MiniState). HoldsMini v m → GoesUnnamed m list → (k : ℕ) → Contains list k → IsInMiniStream new k → IsZeroMini new k) same wiped) change.held named)

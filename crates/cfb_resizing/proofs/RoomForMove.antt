@@ -10,7 +10,7 @@ use Rattle.cfb_format.specs.Bytes.{free_sector, sector_len, words_per_sector}
 use Rattle.cfb_format.specs.Chain.{IsChain}
 use Rattle.cfb_format.specs.Content.{mini_sector_len}
 use Rattle.cfb_format.specs.Fat.{without_end}
-use Rattle.cfb_format.specs.Full.{rounded_up}
+use Rattle.cfb_format.specs.Full.{freed, rounded_up}
 use Rattle.cfb_tables.specs.Room.{IsTooFewAfter}
 use Rattle.cfb_tables.specs.Tables.{TableState, first_or_end}
 use Rattle.cfb_tables.proofs.ListedLemmas.{end_chain}
@@ -21,7 +21,7 @@ use Rattle.cfb_mini_sectors.specs.Giving.{CanGiveBack}
 use Rattle.cfb_mini_sectors.specs.State.{MiniState, mini_stream_of, tables_in, version_of}
 use Rattle.cfb_mini_sectors.specs.Steps.{CanGiveRoomBack}
 use Rattle.cfb_mini_sectors.proofs.ListedChains.{chains-apart}
-use Rattle.cfb_content.specs.Room.{freed, minifat_len_left, room_given}
+use Rattle.cfb_content.specs.Room.{minifat_len_left, room_given}
 use Rattle.cfb_content.proofs.Freed.{freed-length, freed-permuted}
 use Rattle.cfb_content.proofs.RoomGiven.{given-is-counted, more-given, room-some}
 

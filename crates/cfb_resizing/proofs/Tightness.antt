@@ -5,7 +5,9 @@ use Rattle.std.proofs.lemmas.Bool.{cases_lt, le-leb, leb-true}
 use Rattle.std.proofs.lemmas.List.Elements.{Contains-append_cases, Contains-append_right}
 use Rattle.cfb_format.specs.Bytes.{free_sector, words_per_sector}
 use Rattle.cfb_format.specs.Chain.{value}
+use Rattle.cfb_format.specs.Content.{is_large, mini_stream_cutoff}
 use Rattle.cfb_format.specs.Full.{rounded_up}
+use Rattle.cfb_format.specs.Siblings.{entry_at}
 use Rattle.cfb_tables.specs.Changes.{NoneFree}
 use Rattle.cfb_tables.specs.Listed.{ends_of, gained}
 use Rattle.cfb_tables.specs.Tables.{AreExactTables, HasTaken, TableState}
@@ -13,7 +15,7 @@ use Rattle.cfb_tables.proofs.Members.{Contains-or, first_of_three}
 use Rattle.cfb_tables.proofs.TakenLemmas.{taken-busy}
 use Rattle.cfb_alloc.specs.Alloc.{AllocatorState}
 use Rattle.cfb_alloc.specs.ListedChain.{Lengthens, Shortens}
-use Rattle.cfb_mini_sectors.specs.State.{MiniState, mini_stream_of, tables_in}
+use Rattle.cfb_mini_sectors.specs.State.{MiniState, entries_of, mini_stream_of, tables_in}
 use Rattle.cfb_mini_sectors.specs.Steps.{GrowsFor, KeepsMini, KeepsSizes, KeepsSystem, system_sectors}
 use Rattle.cfb_mini_sectors.specs.Held.{with_table}
 use Rattle.cfb_mini.specs.MiniSectors.{ChangesFileOnly}
@@ -102,6 +104,13 @@ leaves-less s i size more le (inl empty) = inl empty
 leaves-less s i size more le (inr (inl large)) = inr (inl large)
 leaves-less s i size more le (inr (inr small)) = inr (inr (omega (arith, le, small)))
 
+-- and one that had no mini sectors, where it moves out of none
+pub leaves-nothing : (old : MiniState) (i size : ℕ) → is_large (entry_at (entries_of old) i) ≡ false → mini_stream_cutoff ≤ size → LeavesNoMinis old i size
+    → mini_sectors_owned old i ≡ []
+leaves-nothing old i size was big (inl empty) = (empty-owns-nothing old i empty).mini_sectors_are
+leaves-nothing old i size was big (inr (inl large)) = absurd (let f : true ≡ false = sym (le-leb 4096 (len_of old i) large) ∙ was in cc)
+leaves-nothing old i size was big (inr (inr small)) = absurd (omega (arith, small, big))
+
 pub turned-stays-full : (old new : MiniState) (i size start : ℕ) → len_of old i ≤ size → LeavesNoMinis old i size → Turns old new i size start
     → NoneFree (tables_in old).fat → NoneFree (tables_in new).fat
 turned-stays-full old new i size start le stays (inl t) none =
@@ -116,14 +125,7 @@ turned-stays-full old new i size start le stays (inr (inr (inr (inr (inl t))))) 
     absurd (let large = leb-true 4096 (len_of old i) t.was in let small = t.lies.small in omega (arith, large, small, le))
 turned-stays-full old new i size start le stays (inr (inr (inr (inr (inr t))))) none =
     taken-stays-full (tables_in t.mid) (tables_in new) (ends_of []) (gained [] t.ys) t.longer.taken
-    (subst (λ (s : MiniState). NoneFree (tables_in s).fat) (sym (t.none nothing)) none)
-  where
-    nothing : mini_sectors_owned old i ≡ []
-    nothing = elim stays [
-      | inl empty ↦ (empty-owns-nothing old i empty).mini_sectors_are
-      | inr (inl large) ↦ absurd (let f : true ≡ false = sym (le-leb 4096 (len_of old i) large) ∙ t.was in cc)
-      | inr (inr small) ↦ absurd (let large = t.lies.large in omega (arith, small, large))
-    ]
+    (subst (λ (s : MiniState). NoneFree (tables_in s).fat) (sym (t.none (leaves-nothing old i size t.was t.lies.large stays))) none)
 
 -- ---- sectors
 

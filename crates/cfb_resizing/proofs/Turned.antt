@@ -1,6 +1,6 @@
 -- A stream whose content was given another length, and whose entry says so: what it has, that it is used in order, and how it reads.
 use Rattle.std.proofs.Common.{◌≡◌, ◌<◌, ◌≤◌, ◌+◌, ◌/◌, ◌%◌, ◌*◌, inl, inr, max, ℕ, List, [], ◌++◌, Bool, true, false, refl, sym, ◌∙◌, ap, subst, length, arith}
-use Rattle.std.specs.Prelude.{Contains, Err, IsSome, Ok, OnOk, Option, Result, nat_le, slice_index, take, drop, unwrap_or, ◌==◌}
+use Rattle.std.specs.Prelude.{Contains, Err, IsSome, Ok, OnOk, Option, Result, nat_le, slice_index, take, drop, unwrap_or}
 use Rattle.std.proofs.lemmas.Bool.{cases_eq, le-leb, leb-true}
 use Rattle.std.proofs.lemmas.List.Elements.{Contains-append_cases, Contains-append_left, Contains-get_or}
 use Rattle.std.proofs.lemmas.List.{take-append-drop}
@@ -32,9 +32,8 @@ use Rattle.cfb_content.specs.Laws.{StandsResized}
 use Rattle.cfb_content.specs.Uses.{ChangesContent, ChangesUse, Owns}
 use Rattle.cfb_content.specs.Changed.{WasChanged}
 use Rattle.cfb_content.proofs.Changing.{growth-stays, large-becomes-small, large-goes-on, large-is-cut, same-is-used, small-becomes-large, small-goes-on, small-is-cut}
-use Rattle.cfb_content.proofs.Apart.{maybe-chain}
-use Rattle.cfb_content.proofs.Kept.{next-start, stream-room}
-use Rattle.cfb_content.proofs.Owned.{empty-owns-nothing, large-no-mini, large-owns-its-chain, small-no-sector, small-owned, small-owns-its-chain}
+use Rattle.cfb_content.proofs.Kept.{next-start}
+use Rattle.cfb_content.proofs.Owned.{empty-owns-nothing, large-no-mini, large-owns-its-chain, small-no-sector, small-owns-its-chain}
 use Rattle.cfb_content.proofs.Readable.{stream-owns-its-own}
 use Rattle.cfb_content.proofs.Rewritten.{large-is-resized, resized-len, small-is-resized}
 use Rattle.cfb_content.proofs.Snug.{large-needs, small-needs, snug-in-minis, snug-in-sectors}
@@ -113,7 +112,7 @@ module _ (v : Validation) (old mid new : MiniState) (i size start : ℕ) (was : 
   pub had-large : is_large (entry_at (entries_of old) i) ≡ true → Owns old i (sectors_owned old i) []
   had-large b = subst (λ (l : List ℕ). Owns old i (sectors_owned old i) l) (large-no-mini old (entry_at (entries_of old) i) b) had
 
-  had-small : is_large (entry_at (entries_of old) i) ≡ false → Owns old i [] (mini_sectors_owned old i)
+  pub had-small : is_large (entry_at (entries_of old) i) ≡ false → Owns old i [] (mini_sectors_owned old i)
   had-small b = subst (λ (l : List ℕ). Owns old i l (mini_sectors_owned old i)) (small-no-sector old (entry_at (entries_of old) i) b) had
 
   -- ---- what it gave back

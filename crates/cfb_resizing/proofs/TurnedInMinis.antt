@@ -21,7 +21,6 @@ use Rattle.cfb_tables.proofs.RoomLemmas.{nothing-given-back}
 use Rattle.cfb_tables.proofs.Members.{Contains-here, Contains-nil, distinct-apart}
 use Rattle.cfb_chains.proofs.ChainContent.{taken_index}
 use Rattle.cfb_mini_table.specs.MiniTable.{MiniGivesBack, TakesMini}
-use Rattle.cfb_soundness.specs.Places.{mini_start}
 use Rattle.cfb_mini_sectors.specs.State.{HoldsMini, IsChangeable, MiniState, bytes_of, content_of, entries_of, mini_place, mini_stream_of, table_of, tables_in, version_of}
 use Rattle.cfb_mini_sectors.specs.Steps.{BeginsSystem, CanGiveRoomBack, GivesRoomBack, GrowsFor, IsInMiniStream, IsNotHeld, IsTooFewAfterFor, IsTooFewFor, IsZeroMini, KeepsMini, KeepsSystem, SettlesRoom, SparesMini, minifat_lacks, minifat_len_with, mini_stream_lacks, system_sectors}
 use Rattle.cfb_mini_sectors.proofs.HeldShortened.{taken-among}

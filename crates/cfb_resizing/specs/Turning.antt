@@ -198,6 +198,11 @@ pub record ResizesContent (old new : MiniState) (i size : ℕ) : Type 0 where
   pub stays_full : (v : Validation) → IsChangeable v old → len_of old i ≤ size → LeavesNoMinis old i size
       → NoneFree (tables_in old).fat → NoneFree (tables_in new).fat
 
+-- at these places stand the bytes of the stream as it was, and these behind them
+pub record StandBehind (old : MiniState) (i : ℕ) (from bytes : List ℕ) (place : ℕ → ℕ) : Type 0 where
+  pub kept : (k : ℕ) → k < len_of old i → slice_index bytes (place k) ≡ slice_index (content_of old (entry_at (entries_of old) i)) k
+  pub put : (k : ℕ) → k < length from → slice_index bytes (place (len_of old i + k)) ≡ slice_index from k
+
 -- a large stream's chain went on, or had room, and these bytes stand behind what it had; it starts there
 pub record Appends (old new : MiniState) (i : ℕ) (from : List ℕ) (start : ℕ) : Type 0 where
   pub was : is_large (entry_at (entries_of old) i) ≡ true
@@ -206,9 +211,34 @@ pub record Appends (old new : MiniState) (i : ℕ) (from : List ℕ) (start : �
   pub mini : KeepsMini old new
   pub longer : Lengthens count (sectors_owned old i) ys (tables_in old) (tables_in new)
   pub lies : LiesInSectors old new i (len_of old i + length from) start ys
-  pub kept : (k : ℕ) → k < len_of old i
-      → slice_index (bytes_of new) (place_along (version_of new) ys k) ≡ slice_index (content_of old (entry_at (entries_of old) i)) k
-  pub put : (k : ℕ) → k < length from → slice_index (bytes_of new) (place_along (version_of new) ys (len_of old i + k)) ≡ slice_index from k
+  pub stands : StandBehind old i from (bytes_of new) (place_along (version_of new) ys)
+
+-- a small stream's mini chain was freed, if it had one, the MiniFAT and the mini stream gave back what they did not need, and then a chain
+-- began with what the stream had, these bytes behind that, and zeros behind them up to `size`; it starts there
+pub record MovesWith (old new : MiniState) (i size : ℕ) (from : List ℕ) (start : ℕ) : Type 0 where
+  pub was : is_large (entry_at (entries_of old) i) ≡ false
+  pub mid : MiniState
+  pub ys : List ℕ
+  pub count : ℕ
+  pub room : SettlesRoom old mid
+  pub none : mini_sectors_owned old i ≡ [] → mid ≡ old
+  pub freed : MiniGivesBack [] (mini_sectors_owned old i) old.minifat mid.minifat
+  pub wiped : (m : ℕ) → Contains (mini_sectors_owned old i) m → IsInMiniStream new m → IsZeroMini new m
+  pub mini : KeepsMini mid new
+  pub longer : Lengthens count [] ys (tables_in mid) (tables_in new)
+  pub lies : LiesInSectors old new i size start ys
+  pub stands : StandBehind old i from (bytes_of new) (place_along (version_of new) ys)
+  pub zeros : (k : ℕ) → len_of old i + length from ≤ k → k < size → slice_index (bytes_of new) (place_along (version_of new) ys k) ≡ 0
+
+-- and a file that could be changed holds the directory and the mini sectors again; MiniFAT and mini stream have exactly what they need if they had
+pub record MovesSoundly (old new : MiniState) (i size : ℕ) (from : List ℕ) (start : ℕ) : Type 0 where
+  pub moved : (v : Validation) → IsChangeable v old → MovesWith old new i size from start
+  pub holds : (v : Validation) → IsChangeable v old → HoldsMini v new
+  pub snug_mini : (v : Validation) → IsChangeable v old → IsSnugMini old → IsSnugMini new
+
+-- a stream that lies in sectors now got these bytes behind what it had, where it lay or as it moved there; it starts there
+abbrev pub PutsBehind : MiniState → MiniState → ℕ → List ℕ → ℕ → Type 0
+PutsBehind old new i from start = Appends old new i from start ⊎ MovesWith old new i (len_of old i + length from) from start
 
 -- ---- what every change of a content leaves alone, and what it makes of the tables
 

@@ -55,7 +55,7 @@ pub(crate) fn len_in_sectors<F: ReadMedium, A: Heap + Clone>(
 
 /// How long a stream can become that moves out of its mini sectors into sectors, at most `wanted`, with what comes free then: 0 where not even
 /// the least such length can be had.
-fn len_once_moved<F: ReadMedium, A: Heap + Clone>(
+pub(crate) fn len_once_moved<F: ReadMedium, A: Heap + Clone>(
     mini: &MiniAllocator<F, A>,
     entry: u32,
     wanted: u64,

@@ -1,6 +1,6 @@
 //! Contents that move between sectors and mini sectors (MS-CFB 2.6.3): the old chain is free before the new one is taken, and all memory
 //! is had before the first write.
-ghost use Rattle.std.specs.Prelude.{◌⊎◌, length, slice_index, Contains, ◌≡◌, ◌<◌, ◌≤◌, ◌/◌, ◌*◌, ◌++◌, ◌||◌, [], ℕ, None, false, true, IsTrue, IfOk, IfErr, OnOk, OnErr};
+ghost use Rattle.std.specs.Prelude.{◌⊎◌, length, slice_index, Contains, ◌≡◌, ◌<◌, ◌≤◌, ◌/◌, ◌*◌, ◌++◌, ◌+◌, ◌||◌, [], ℕ, None, false, true, IsTrue, IfOk, IfErr, OnOk, OnErr};
 ghost use Rattle.cfb_format.specs.declared.validate.Validation.{Validation};
 ghost use Rattle.cfb_format.specs.Bytes.{end_of_chain, max_stream_len, sector_len};
 ghost use Rattle.cfb_format.specs.Chain.{IsChain};
@@ -24,7 +24,7 @@ ghost use Rattle.cfb_content.specs.Contents.{IsNotChangeable, IsStreamOf, len_of
 ghost use Rattle.cfb_content.specs.Laws.{LacksNumbersFor};
 ghost use Rattle.cfb_content.specs.Room.{ComesFree};
 ghost use Rattle.cfb_content.specs.Parts.{IsThereInMinis, IsThereInSectors, StandAlong};
-ghost use Rattle.cfb_resizing.specs.Turning.{CarriesToMinis, CarriesToSectors, GoesUnnamed, IsPaddedAlong, KeepsAround, KeepsTablesTight, StopsOrBegun, TurnsSoundly};
+ghost use Rattle.cfb_resizing.specs.Turning.{CarriesToMinis, CarriesToSectors, GoesUnnamed, IsPaddedAlong, KeepsAround, KeepsTablesTight, MovesSoundly, StopsOrBegun, TurnsSoundly};
 
 use crate::room::{room_for_move, stream_sectors};
 use cfb_alloc::alloc::Allocator;
@@ -302,8 +302,81 @@ fn taken_from_minis<F: ReadMedium, A: Heap + Clone>(
     Ok(bytes)
 }
 
-/// Moves a stream from mini sectors into sectors, with zeros behind it up to `size` bytes, and answers where it starts then. What comes free
-/// with its mini sectors serves the sectors that it takes.
+/// The first bytes of these mini sectors, and `bytes` behind them. Where there are no first ones nothing is joined: `bytes` are all then, and
+/// need no copy. `Medium` where the medium fails, and `Memory`.
+fn joined_from_minis<F: ReadMedium, A: Heap + Clone>(
+    mini: &mut MiniAllocator<F, A>,
+    list: &[u32],
+    len: usize,
+    bytes: &[u8],
+) -> Result<Vec<u8, A>, Error>
+    requires there { (k : ℕ) → k < len → IsThereInMinis mini.old list.now k }
+    ensures kept { IsStill mini.old mini.new }
+    ensures none { len ≡ 0 → IfOk result (λ joined. joined.items ≡ []) }
+    ensures len { 0 < len → IfOk result (λ joined. length joined.items ≡ len + length bytes.now) }
+    ensures got { IsTrue F.tells → IfOk result (λ joined. (k : ℕ) → k < len → slice_index joined.items k ≡ slice_index (bytes_of mini.old) (mini_place_along mini.old list.now k)) }
+    ensures put { 0 < len → IfOk result (λ joined. (k : ℕ) → k < length bytes.now → slice_index joined.items (len + k) ≡ slice_index bytes.now k) }
+    ensures same { IsTrue F.tells → OnOk result (mini.new ≡ mini.old) }
+    ensures bytes { IsTrue F.tells → bytes_of mini.new ≡ bytes_of mini.old }
+    ensures refused { IsTrue F.tells → IfErr result (AfterMedium Unit (mini.new ≡ mini.old)) }
+    ensures err { IfErr result (ChangeRefused ⊥ Unit ⊥ Unit) }
+    ensures counts { IsTrue F.tells → CountsFailure F.read_faults result (table_of mini.old).file.failures (table_of mini.new).file.failures }
+{
+    let mut joined = taken_from_minis(mini, list, len)?;
+    if len > 0 {
+        joined.extend_from_slice(bytes)?;
+    }
+    Ok(joined)
+}
+
+/// What was joined, or these bytes where nothing was.
+fn joined_or<'a>(joined: &'a [u8], bytes: &'a [u8]) -> &'a [u8]
+    ensures none { length joined.now ≡ 0 → result.now ≡ bytes.now }
+    ensures some { 0 < length joined.now → result.now ≡ joined.now }
+{
+    if joined.is_empty() { bytes } else { joined }
+}
+
+/// Moves a stream from mini sectors into sectors, with these bytes behind what it has and zeros behind them up to `size` bytes, and answers
+/// where it starts then: its sectors hold all of that from the first write on. What comes free with its mini sectors serves the sectors that it
+/// takes. Its chain is kept.
+pub(crate) fn move_with<F: Medium, A: Heap + Clone>(
+    mini: &mut MiniAllocator<F, A>,
+    entry: u32,
+    size: u64,
+    bytes: &[u8],
+) -> Result<u32, Error>
+    requires stream { IsStreamOf mini.old entry }
+    requires limit { size ≤ max_stream_len (version_of mini.old) }
+    requires small { len_of mini.old entry < mini_stream_cutoff }
+    requires large { mini_stream_cutoff ≤ size }
+    requires fits { len_of mini.old entry + length bytes.now ≤ size }
+    ensures moved { IsTrue F.tells → IfOk result (λ start. MovesSoundly mini.old mini.new entry size bytes.now start) }
+    ensures spares { IsTrue F.tells → SparesOthers mini.old mini.new entry }
+    ensures around { KeepsAround mini.old mini.new }
+    ensures tight { OnOk result (KeepsTablesTight mini.old mini.new) }
+    ensures enough { OnOk result (LacksNumbersFor mini.old entry size → ⊥) }
+    ensures refused { IsTrue F.tells → IfErr result (StopsOrBegun mini.old mini.new) }
+    ensures still { OnErr result (IsStill mini.old mini.new ⊎ ((table_of mini.new).file.begun ≡ true)) }
+    ensures err { IfErr result (ChangeRefused (IsTrue F.tells → IsNotChangeable mini.old) Unit (LacksNumbersFor mini.old entry size) Unit) }
+    ensures counts { IsTrue F.tells
+        → CountsFailure (λ f. F.read_faults f || F.write_faults f) result (table_of mini.old).file.failures (table_of mini.new).file.failures }
+{
+    let (start, len) = content_in(mini, entry);
+    let mut old = whole_mini_chain(mini, start, len)?;
+    let count = size.div_ceil(mini.sector_len() as u64) as usize;
+    let given = room_for_move(mini, entry, count)?;
+    mini.allocator_mut().reserve(count.saturating_sub(given))?;
+    let mut ids = Vec::with_capacity(mini.heap().clone()?, count)?;
+    let joined = joined_from_minis(mini, &old, len as usize, bytes)?;
+    let content = joined_or(&joined, bytes);
+    carry_to_sectors(mini, &mut old, &mut ids, count, content)?;
+    let first = first_number(&ids);
+    mini.allocator_mut().end_chain(ids);
+    Ok(first)
+}
+
+/// Moves a stream from mini sectors into sectors, with zeros behind it up to `size` bytes, and answers where it starts then.
 pub(crate) fn move_to_sectors<F: Medium, A: Heap + Clone>(
     mini: &mut MiniAllocator<F, A>,
     entry: u32,
@@ -324,13 +397,5 @@ pub(crate) fn move_to_sectors<F: Medium, A: Heap + Clone>(
     ensures counts { IsTrue F.tells
         → CountsFailure (λ f. F.read_faults f || F.write_faults f) result (table_of mini.old).file.failures (table_of mini.new).file.failures }
 {
-    let (start, len) = content_in(mini, entry);
-    let mut old = whole_mini_chain(mini, start, len)?;
-    let count = size.div_ceil(mini.sector_len() as u64) as usize;
-    let given = room_for_move(mini, entry, count)?;
-    mini.allocator_mut().reserve(count.saturating_sub(given))?;
-    let mut ids = Vec::with_capacity(mini.heap().clone()?, count)?;
-    let content = taken_from_minis(mini, &old, len as usize)?;
-    carry_to_sectors(mini, &mut old, &mut ids, count, &content)?;
-    Ok(first_number(&ids))
+    move_with(mini, entry, size, &[])
 }

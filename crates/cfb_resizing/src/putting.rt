@@ -14,8 +14,8 @@ ghost use Rattle.cfb_content.specs.Contents.{IsNotChangeable, IsStreamOf, IsTooL
 ghost use Rattle.cfb_resizing.specs.Putting.{ChangesFileAlone};
 ghost use Rattle.cfb_resizing.specs.Turning.{KeepsTablesTight, LeavesNoMinis, StopsOrIsFull};
 
-use crate::appending::{append_long, append_long_all};
-use crate::growing::{grow_content, grow_to};
+use crate::appending::{append_long, append_long_all, append_up_to};
+use crate::growing::{grow_content, grow_to, len_once_moved};
 use cfb_content::reading::content_in;
 use cfb_content::writing::{write_content, write_listed};
 use cfb_format::consts::{MINI_SECTOR_LEN, MINI_STREAM_CUTOFF};
@@ -24,23 +24,14 @@ use cfb_format::medium::{Medium, ReadMedium};
 use cfb_mini::mini_allocator::MiniAllocator;
 use std::alloc::Allocator as Heap;
 
-/// A list with room for the chain of a stream once it is so long, if that is not kept: the chain of a stream that grows in sectors is.
-/// `Memory`.
-fn list_for<F: ReadMedium, A: Heap + Clone>(
+/// A list with room for the mini chain of any stream in mini sectors. `Memory`.
+fn list_for_minis<F: ReadMedium, A: Heap + Clone>(
     mini: &MiniAllocator<F, A>,
-    entry: u32,
-    wanted: u64,
 ) -> Result<Vec<u32, A>, Error>
-    requires stream { IsStreamOf mini.now entry }
     ensures err { IfErr result IsMemory }
 {
-    let (_, len) = content_in(mini, entry);
-    let mut list = Vec::new(mini.heap().clone()?);
-    if len < MINI_STREAM_CUTOFF as u64 {
-        let sectors = wanted.div_ceil(mini.sector_len() as u64) as usize;
-        list.reserve(sectors.max(MINI_STREAM_CUTOFF as usize / MINI_SECTOR_LEN))?;
-    }
-    Ok(list)
+    let heap = mini.heap().clone()?;
+    Ok(Vec::with_capacity(heap, MINI_STREAM_CUTOFF as usize / MINI_SECTOR_LEN)?)
 }
 
 /// Puts a beginning of `bytes` behind the end of the stream of that entry, as far as there are numbers for them, and answers how many bytes
@@ -77,8 +68,12 @@ fn append_content<F: Medium, A: Heap + Clone>(
         return append_long(mini, entry, bytes);
     }
     let wanted = len + bytes.len() as u64;
+    let moved = len_once_moved(mini, entry, wanted)?;
+    if moved > 0 {
+        return append_up_to(mini, entry, bytes, moved);
+    }
     // Once the stream has grown memory is not to be wanted: it could not go back.
-    let list = list_for(mini, entry, wanted)?;
+    let list = list_for_minis(mini)?;
     let grown = grow_content(mini, entry, wanted)?;
     let count = (grown - len) as usize;
     write_listed(mini, list, entry, len, &bytes[..count])?;
@@ -169,12 +164,12 @@ pub fn append_all<F: Medium, A: Heap + Clone>(
         return Ok(());
     }
     let (_, len) = content_in(mini, entry);
-    if len >= MINI_STREAM_CUTOFF as u64 {
+    let wanted = len + bytes.len() as u64;
+    if wanted >= MINI_STREAM_CUTOFF as u64 {
         return append_long_all(mini, entry, bytes);
     }
-    let wanted = len + bytes.len() as u64;
     // Once the stream has grown memory is not to be wanted: it could not go back.
-    let list = list_for(mini, entry, wanted)?;
+    let list = list_for_minis(mini)?;
     grow_to(mini, entry, wanted)?;
     write_listed(mini, list, entry, len, bytes)?;
     Ok(())

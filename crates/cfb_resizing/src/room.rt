@@ -6,13 +6,14 @@ ghost use Rattle.cfb_format.specs.Bytes.{free_sector, max_regular_sector};
 ghost use Rattle.cfb_format.specs.Chain.{value};
 ghost use Rattle.cfb_format.specs.Content.{mini_stream_cutoff};
 ghost use Rattle.cfb_format.specs.Fat.{without_end};
+ghost use Rattle.cfb_format.specs.Full.{freed};
 ghost use Rattle.cfb_format.specs.Refused.{IsInvalidData};
 ghost use Rattle.cfb_tables.specs.Refused.{ChangeRefused};
 ghost use Rattle.cfb_tables.specs.Room.{IsTooFewAfter};
 ghost use Rattle.cfb_mini_sectors.specs.State.{mini_stream_of, tables_in};
 ghost use Rattle.cfb_mini_sectors.specs.Steps.{CanGiveRoomBack, IsNotHeld};
 ghost use Rattle.cfb_content.specs.Contents.{IsNotChangeable, IsStreamOf, len_of, mini_sectors_owned};
-ghost use Rattle.cfb_content.specs.Room.{ComesFree, freed, room_given};
+ghost use Rattle.cfb_content.specs.Room.{ComesFree, room_given};
 
 use cfb_content::in_minis::whole_mini_chain;
 use cfb_content::reading::content_in;

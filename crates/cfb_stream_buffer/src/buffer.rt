@@ -1,8 +1,8 @@
 //! A piece of a stream in memory. Places and lengths are in bytes.
-ghost use Rattle.std.specs.Prelude.{◌≡◌, ◌+◌, ◌*◌, ◌<◌, ◌≤◌, min, max, [], OnOk, OnErr, IfOk, IfErr, length, take, drop, ◌++◌};
+ghost use Rattle.std.specs.Prelude.{◌≡◌, ◌+◌, ◌*◌, ◌-◌, ◌<◌, ◌≤◌, min, max, [], OnOk, OnErr, IfOk, IfErr, length, take, drop, ◌++◌, replicate, vec_len, vec_capacity};
 ghost use Rattle.cfb_stream_buffer.specs.Contents.{IsRefusedRead, ReadsPart};
 ghost use Rattle.cfb_stream_buffer.specs.Touched.{IsRead};
-ghost use Rattle.cfb_stream_buffer.specs.Buffers.{emptied, put_over, RefilledFrom, RefillStays};
+ghost use Rattle.cfb_stream_buffer.specs.Buffers.{bytes_in, room_in, emptied, put_over, RefilledFrom, RefillStays};
 
 use crate::content::ReadContents;
 use cfb_format::error::Error;
@@ -15,10 +15,12 @@ const LEAST_ROOM: usize = 1024;
 /// How many times as much room a buffer has once it has grown.
 const GROWTH_FACTOR: usize = 4;
 
-/// A buffer that grows up to its bound: the greater of its limit and `LEAST_ROOM`.
+/// A buffer that grows up to its bound: the greater of its limit and `LEAST_ROOM`. It takes no more memory
+/// than it has room for.
 #[derive(Drop)]
 pub struct StreamBuffer<A: Allocator = Global> {
-    memory: Vec<u8, A>,
+    /// It is out only while it grows.
+    memory: Option<Vec<u8, A>>,
     cursor: usize,
     filled: usize,
     bound: usize,
@@ -26,13 +28,14 @@ pub struct StreamBuffer<A: Allocator = Global> {
 
 impl<A: Allocator> Model for StreamBuffer<A> {
     ghost use Rattle.std.specs.Prelude.{ℕ, List, length, take, ◌≤◌};
-    ghost use Rattle.cfb_stream_buffer.specs.Buffers.{Buffered, BufferStands};
+    ghost use Rattle.cfb_stream_buffer.specs.Buffers.{Buffered, BufferStands, bytes_in, room_in};
 
     ghost Value = { Buffered };
 
-    ghost view = { λ b. record { filled = take b.filled b.memory.items; cursor = b.cursor; room = length b.memory.items; bound = b.bound } };
+    ghost view = { λ b. record { filled = take b.filled (bytes_in b.memory); cursor = b.cursor; room = room_in b.memory; bound = b.bound } };
 
-    ghost invariant = { λ b. BufferStands b.cursor b.filled (length b.memory.items) b.bound };
+    ghost invariant = { λ b. BufferStands b.cursor
+        b.filled (length (bytes_in b.memory)) (room_in b.memory) b.bound };
 }
 
 impl<A: Allocator> StreamBuffer<A> {
@@ -40,10 +43,10 @@ impl<A: Allocator> StreamBuffer<A> {
     pub fn new(alloc: A, limit: usize) -> Result<StreamBuffer<A>, AllocError>
         ensures { IfOk result (λ b. b ≡ record { filled = []; cursor = 0; room = 1024; bound = max 1024 limit }) }
     {
-        let mut memory = Vec::new(alloc);
-        memory.resize(LEAST_ROOM, 0)?;
+        let mut memory = Vec::with_capacity(alloc, LEAST_ROOM)?;
+        fill_up(&mut memory, LEAST_ROOM);
         Ok(StreamBuffer {
-            memory,
+            memory: Some(memory),
             cursor: 0,
             filled: 0,
             bound: limit.max(LEAST_ROOM),
@@ -77,7 +80,7 @@ impl<A: Allocator> StreamBuffer<A> {
         ensures bound { self.now.room ≤ self.now.bound }
         ensures some { 1 ≤ self.now.room }
     {
-        self.memory.len()
+        bytes_of(&self.memory).len()
     }
 
     /// For how many bytes it can have room.
@@ -91,14 +94,14 @@ impl<A: Allocator> StreamBuffer<A> {
     pub fn rest(&self) -> &[u8]
         ensures { result.now ≡ drop self.now.cursor self.now.filled }
     {
-        &self.memory[self.cursor..self.filled]
+        &bytes_of(&self.memory)[self.cursor..self.filled]
     }
 
     /// The bytes that it holds.
     pub fn filled(&self) -> &[u8]
         ensures { result.now ≡ self.now.filled }
     {
-        &self.memory[..self.filled]
+        &bytes_of(&self.memory)[..self.filled]
     }
 
     /// Holds nothing from now on.
@@ -143,11 +146,7 @@ impl<A: Allocator> StreamBuffer<A> {
         ensures ok { OnOk result (self.new ≡ record self.old { room = max self.old.room (min (4 * self.old.room) self.old.bound) }) }
         ensures refused { OnErr result (self.new ≡ self.old) }
     {
-        let wanted = self
-            .memory
-            .len()
-            .saturating_mul(GROWTH_FACTOR)
-            .min(self.bound);
+        let wanted = self.room().saturating_mul(GROWTH_FACTOR).min(self.bound);
         self.grow_to(wanted)
     }
 
@@ -165,10 +164,12 @@ impl<A: Allocator> StreamBuffer<A> {
         ensures ok { OnOk result (self.new ≡ record self.old { room = max self.old.room wanted }) }
         ensures refused { OnErr result (self.new ≡ self.old) }
     {
-        if wanted > self.memory.len() {
-            self.memory.resize(wanted, 0)?;
-        }
-        Ok(())
+        let Some(memory) = self.memory.take() else {
+            unreachable!()
+        };
+        let (memory, answer) = with_room(memory, wanted);
+        self.memory = Some(memory);
+        answer
     }
 
     /// Holds what lies at a place instead, before the end by `left`. Where this is refused it holds
@@ -190,9 +191,12 @@ impl<A: Allocator> StreamBuffer<A> {
         ensures ok { C.tells content.old → at < (C.stored content.old id).size → OnOk result (RefilledFrom (C.stored content.old id).content at self.new) }
         ensures refused { C.tells content.old → at < (C.stored content.old id).size → IfErr result (IsRefusedRead (C.stored content.old id) at) }
     {
+        let Some(memory) = &mut self.memory else {
+            unreachable!()
+        };
         self.cursor = 0;
         self.filled = 0;
-        self.filled = read_front(content, id, at, left, &mut self.memory)?;
+        self.filled = read_front(content, id, at, left, memory)?;
         Ok(())
     }
 }
@@ -220,7 +224,63 @@ pub fn read_front<C: ReadContents>(
     content.read_at(id, at, &mut into[..most])
 }
 
-fn put_into(memory: &mut [u8], at: usize, bytes: &[u8])
+/// Its bytes.
+fn bytes_of<A: Allocator>(memory: &Option<Vec<u8, A>>) -> &[u8]
+    ensures { result.now ≡ bytes_in memory.now }
+{
+    match memory {
+        Some(memory) => memory.as_slice(),
+        None => &[],
+    }
+}
+
+/// Lets a list that is full have so many bytes, and takes memory for just these.
+fn with_room<A: Allocator>(memory: Vec<u8, A>, len: usize) -> (Vec<u8, A>, Result<(), AllocError>)
+    requires full { length memory.items ≡ vec_capacity memory }
+    ensures full { length result.0.items ≡ vec_capacity result.0 }
+    ensures items { result.0.items
+        ≡ memory.items ++ replicate (length result.0.items - length memory.items) 0 }
+    ensures ok { OnOk result.1 (vec_capacity result.0 ≡ max (vec_capacity memory) len) }
+    ensures refused { OnErr result.1 (vec_capacity result.0 ≡ vec_capacity memory) }
+{
+    let mut memory = memory;
+    let more = len.saturating_sub(memory.len());
+    if let Err(refused) = memory.reserve_exact(more) {
+        return (memory, Err(refused));
+    }
+    fill_up(&mut memory, more);
+    (memory, Ok(()))
+}
+
+/// Appends so many zeros in the memory that a list has. That `Vec::resize` takes no more than that no clause of it says. The list is one
+/// of the caller's own, and not lent to it, so that the loop can become one call.
+fn fill_up<A: Allocator>(memory: &mut Vec<u8, A>, count: usize)
+    requires room { vec_len memory.old + count ≤ vec_capacity memory.old }
+    ensures items { memory.new.items ≡ memory.old.items ++ replicate count 0 }
+    ensures len { vec_len memory.new ≡ vec_len memory.old + count }
+    ensures capacity { vec_capacity memory.new ≡ vec_capacity memory.old }
+{
+    let mut done = 0;
+    while done < count {
+        memory.push_reserved(0);
+        done += 1;
+    }
+}
+
+/// Puts bytes at a place, over others.
+fn put_into<A: Allocator>(memory: &mut Option<Vec<u8, A>>, at: usize, bytes: &[u8])
+    requires some { 0 < room_in memory.old }
+    requires inside { at + length bytes.now ≤ length (bytes_in memory.old) }
+    ensures bytes { bytes_in memory.new ≡ take at (bytes_in memory.old)
+        ++ (bytes.now ++ drop (length bytes.now) (drop at (bytes_in memory.old))) }
+    ensures len { length (bytes_in memory.new) ≡ length (bytes_in memory.old) }
+    ensures room { room_in memory.new ≡ room_in memory.old }
+{
+    let Some(memory) = memory else { unreachable!() };
+    lay_over(memory, at, bytes);
+}
+
+fn lay_over(memory: &mut [u8], at: usize, bytes: &[u8])
     requires { at + length bytes.now ≤ length memory.old }
     ensures { memory.new ≡ take at memory.old ++ (bytes.now ++ drop (length bytes.now) (drop at memory.old)) }
 {

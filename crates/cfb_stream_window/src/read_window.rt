@@ -1,6 +1,6 @@
 //! The buffered stream that is only read. Lengths and places are in bytes.
-ghost use Rattle.std.specs.Prelude.{◌≡◌, ◌+◌, ◌-◌, ◌<◌, ◌≤◌, ◌==◌, ◌⊎◌, ◌++◌, min, max, ℕ, false, OnOk, OnErr, IfOk, IfErr, length, take, drop, Some, None};
-ghost use Rattle.cfb_format.specs.Refused.{IsMemory};
+ghost use Rattle.std.specs.Prelude.{◌≡◌, ◌+◌, ◌-◌, ◌<◌, ◌≤◌, ◌==◌, ◌⊎◌, ◌++◌, min, max, ℕ, false, OnOk, OnErr, IfOk, IfErr, length, take, drop, Some, None, ⊤};
+ghost use Rattle.cfb_format.specs.Refused.{HasReason, IsMemory, no_error};
 ghost use Rattle.cfb_rules.specs.StreamCalls.{StreamStep, read, fill_buf, consume, seek, read_to_end, ask_len, ask_position, ask_is_empty, ready, got, offset, answered, opened};
 ghost use Rattle.cfb_stream_buffer.specs.Contents.{Stored, stream_setting_of, IsFitting};
 ghost use Rattle.cfb_stream_window.specs.Windows.{state_of, LiesOver, Carries, ReadBrokeOff, Unreadable, StandsInside, WentTo, window_opened, target_of, whence_of, ReadPast};
@@ -226,6 +226,7 @@ impl<A: Allocator> ReadWindow<A> {
             → IfOk result (λ at. RunsReading C.ReadContents content.now id self.old (seek (whence_of to)) (offset at) content.now self.new) }
         ensures refused { IsOpen C.ReadContents content.now id self.old
             → IfErr result (IsRefusedReading C.ReadContents content.now id self.old (seek (whence_of to)) content.now self.new) }
+        ensures kinds { IfErr result (HasReason (record no_error { failed = ⊤; invalid_input = ⊤ })) }
         ensures goes_on { IsOpen C.ReadContents content.now id self.old → GoesOn C.ReadContents content.now content.now id self.new }
         ensures sure { (C.stored content.now id).failed ≡ false → OnErr result (target_of self.old.size (self.old.base + self.old.cursor) to ≡ None) }
         ensures stays { (at : ℕ) → target_of self.old.size (self.old.base + self.old.cursor) to ≡ Some at

@@ -26,6 +26,7 @@ use Rattle.cfb_agreement.proofs.HeldBytes.{changeable-is-held}
 use Rattle.cfb_entry_changes.specs.Clearing.{ClearsStorage, WritesClearing}
 use Rattle.cfb_entry_changes.proofs.Emptied.{cleared-empties-tree, cleared-has-outline, cleared-is-all-used, cleared-is-balanced, cleared-is-changeable, cleared-is-snug, cleared-is-snug-mini}
 use Rattle.cfb_volume.specs.Clearing.{emptied_at}
+use Rattle.cfb_volume.proofs.EmptyStreams.{cleared-at-end}
 use Rattle.cfb_volume.proofs.InsertedObjects.{ended, file_with}
 
 -- what the layers below say of it
@@ -87,6 +88,7 @@ module _ (old : FileState) (mid : MiniState) (top : ℕ) (t : ClearsStorage old.
         exact = subst (λ u. AreExactTables u) (sym t.kept.tables) made.exact;
         snug = cleared-is-snug Strict old.base mid top all made.snug;
         snug_mini = cleared-is-snug-mini old.base mid top t made.snug_mini;
+        ended = cleared-at-end old.base mid top t made.ended;
         balanced = all-stay-balanced (cases_of old.base) (cases_of mid) (entries_of old.base) (entries_of mid) t.storage.outline t.storage.is
             (cleared-is-balanced old.base mid top t) made.balanced;
       })

@@ -1,18 +1,20 @@
 -- What the layers below made of one stream's content is one change of the file: once it has ended, and where it broke off.
 use Rattle.std.proofs.Common.{◌≡◌, ◌⊎◌, inl, inr, ℕ, Bool, true, false, sym, ◌∙◌, ap, subst}
 use Rattle.cfb_format.specs.declared.validate.Validation.TheVariants.{Permissive, Strict}
+use Rattle.cfb_format.specs.Bytes.{end_of_chain}
 use Rattle.cfb_format.specs.Reading.{IsOutline}
+use Rattle.cfb_format.specs.Siblings.{entry_at}
 use Rattle.cfb_mini_sectors.specs.Held.{with_table}
 use Rattle.cfb_mini_sectors.specs.State.{MiniState, cases_of, entries_of, table_of}
 use Rattle.cfb_mini_sectors.specs.Steps.{KeepsLimits}
 use Rattle.cfb_mini.specs.MiniSectors.{IsStill}
 use Rattle.cfb_content.specs.Changed.{MovesAlone, SparesOthers, WasChanged}
-use Rattle.cfb_content.specs.Contents.{IsStreamOf, MovesContent}
+use Rattle.cfb_content.specs.Contents.{IsStreamOf, MovesContent, len_of}
 use Rattle.cfb_content.proofs.Outlines.{moved-is-outline, stream-stays}
 use Rattle.cfb_content.proofs.Snug.{sized-is-snug}
 use Rattle.cfb_resizing.specs.Turning.{KeepsTablesTight}
 use Rattle.cfb_agreement.specs.Changes.{ChangesOneContent, StaysOrFails}
-use Rattle.cfb_agreement.specs.Files.{Agrees, FileState, Holds, IsAsMade, GrowsTightly, SameSetting, failures_of, is_failed}
+use Rattle.cfb_agreement.specs.Files.{Agrees, EmptyStartAtEnd, FileState, Holds, IsAsMade, GrowsTightly, SameSetting, failures_of, is_failed}
 use Rattle.cfb_agreement.proofs.ContentChanges.{content-keeps-made}
 use Rattle.cfb_agreement.proofs.Flags.{as-before-same, flags-not-made, flags-not-read}
 use Rattle.cfb_agreement.proofs.HeldBytes.{changeable-is-held}
@@ -33,6 +35,7 @@ pub record WentWell (old new : MiniState) (i : ℕ) : Type 0 where
   pub spares : SparesOthers old new i
   pub changed : WasChanged old new i
   pub tight : KeepsTablesTight old new
+  pub at_end : EmptyStartAtEnd old → len_of new i ≡ 0 → (entry_at (entries_of new) i).start_sector ≡ end_of_chain
 
 -- and of one that was refused
 pub record WasRefused (old new : MiniState) (i : ℕ) : Type 0 where
@@ -73,7 +76,7 @@ module _ (old : FileState) (mid : MiniState) (i : ℕ) (sound : Bool) (limit : �
     made-then made =
         content-keeps-made i old.base mid was.moves.limits was.moves.entries was.stream made (was.changed.holds Strict made.changeable) (was.changed.owned Strict made.changeable made.used) (was.tight.exact made.exact)
         (sized-is-snug old.base mid i was.moves.limits was.moves.entries (was.spares.others Strict made.changeable) was.stream (was.changed.sized Strict made.changeable) made.snug)
-        (was.changed.snug_mini Strict made.changeable made.snug_mini)
+        (was.changed.snug_mini Strict made.changeable made.snug_mini) (was.at_end made.ended)
 
     module _ (held : Holds old) (certain : old.is_sound ≡ true) where
       pub ended-holds : Holds (file_on sound limit (ended mid))

@@ -38,6 +38,7 @@ use Rattle.cfb_agreement.specs.Changes.{KeepsStreams, StaysOrFails, object_added
 use Rattle.cfb_agreement.specs.Files.{Agrees, FileState, Holds, IsAsBefore, IsAsMade, IsFullFile, is_failed}
 use Rattle.cfb_agreement.proofs.Flags.{flags-not-read, made-flagged}
 use Rattle.cfb_agreement.proofs.HeldBytes.{changeable-is-held}
+use Rattle.cfb_volume.proofs.EmptyStreams.{put-at-end}
 
 -- ---- once the change has ended
 
@@ -110,6 +111,7 @@ module _ (old : FileState) (mid : MiniState) (parent n : ℕ) (name : List ℕ) 
         exact = put-is-exact old.base mid parent n name kind moment put made.exact;
         snug = put-is-snug Strict old.base mid parent n name kind moment all made.snug;
         snug_mini = put-is-snug-mini old.base mid parent n name kind moment put made.snug_mini;
+        ended = put-at-end old.base mid parent n name kind moment put made.ended;
         balanced = all-stay-balanced (cases_of old.base) (cases_of mid) (entries_of old.base) (entries_of mid) put.storage.outline put.storage.is
             (put-is-balanced old.base mid parent n name kind moment put) made.balanced;
       })

@@ -1,3 +1,4 @@
+pub mod EmptyStreams
 pub mod InsertedObjects
 pub mod ContentSteps
 pub mod Fullness

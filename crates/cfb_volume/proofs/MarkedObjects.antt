@@ -30,6 +30,7 @@ use Rattle.cfb_content.specs.Contents.{len_of}
 use Rattle.cfb_entry_changes.specs.Kept.{AllStayBalanced, FindsTheSame}
 use Rattle.cfb_entry_changes.specs.Marking.{GivesFields, MarksEntry, WritesFields}
 use Rattle.cfb_entry_changes.proofs.Marked.{marked-changes-tree, marked-has-outline, marked-is-all-used, marked-is-balanced, marked-is-changeable, marked-is-found, marked-is-snug, marked-is-snug-mini, marked-keeps-root}
+use Rattle.cfb_volume.proofs.EmptyStreams.{marked-at-end}
 use Rattle.cfb_volume.proofs.InsertedObjects.{ended, file_with}
 
 -- the entry of a reached object can be read back
@@ -76,6 +77,7 @@ module _ {tells : Bool} {old : FileState} {mid : MiniState} {i : ℕ} {Are : Fie
           exact = subst (λ u. AreExactTables u) (sym m.marks.kept.tables) made.exact;
           snug = marked-is-snug Strict old.base mid i m.fields m.outline m.is all made.snug;
           snug_mini = marked-is-snug-mini old.base mid i m.fields m.marks made.snug_mini;
+          ended = marked-at-end old.base mid i m.fields m.marks m.outline m.is made.ended;
           balanced = all-stay-balanced (cases_of old.base) (cases_of mid) (entries_of old.base) (entries_of mid) m.outline m.is
               (marked-is-balanced old.base mid i m.fields m.marks) made.balanced;
         })

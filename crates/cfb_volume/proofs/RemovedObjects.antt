@@ -55,6 +55,7 @@ use Rattle.cfb_entry_changes.proofs.TakenBalance.{taken-is-balanced}
 use Rattle.cfb_format.specs.Refused.{IsBreak}
 use Rattle.cfb_volume.specs.Removing.{WasEmptied}
 use Rattle.cfb_volume.proofs.Balances.{all-but-balanced}
+use Rattle.cfb_volume.proofs.EmptyStreams.{taken-at-end}
 use Rattle.cfb_volume.proofs.InsertedObjects.{ended, file_with, refused-stays}
 
 -- ---- emptied
@@ -68,6 +69,7 @@ none-emptied s i ne = record {
   holds = λ v change. change;
   owned = λ v change used. used;
   exact = λ exact. exact;
+  at_end = λ ended. ended;
   snug = λ v change snug. snug;
   snug_mini = λ v change snug. snug;
   empty = λ e. absurd (ne e);
@@ -254,6 +256,7 @@ module _ {old : FileState} {mid new : MiniState} {parent child : ℕ} {name : Li
         exact = subst (λ u. AreExactTables u) (sym r.taken.kept.tables) (r.emptied.exact made.exact);
         snug = taken-is-snug Strict mid new parent name all (r.emptied.snug Strict made.changeable made.snug);
         snug_mini = taken-is-snug-mini mid new parent name r.taken (r.emptied.snug_mini Strict made.changeable made.snug_mini);
+        ended = taken-at-end mid new parent name r.taken (r.emptied.at_end made.ended);
         balanced = all-but-balanced old.base (ended new) child p p_is remove-balanced made.balanced;
       })
 

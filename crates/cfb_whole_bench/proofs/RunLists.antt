@@ -1,25 +1,25 @@
 -- A list of commands on a file in memory.
 use Rattle.std.proofs.Common.{◌≡◌, ◌∙◌, ℕ, Bool, true, false, List, refl, sym, ap, subst}
 use Rattle.std.specs.Prelude.{Option, Some, None}
-use Rattle.cfb_format.specs.declared.medium.MediumFault.{MediumFault}
 use Rattle.cfb_format.specs.declared.version.Version.{Version}
 use Rattle.cfb_format.specs.Bytes.{max_stream_len}
 use Rattle.cfb_format.specs.Created.{empty_tree}
 use Rattle.cfb_format.specs.Meaning.{Means}
+use Rattle.cfb_format.specs.Memory.{is_refused_growth}
 use Rattle.cfb_format.specs.Names.{Cases}
 use Rattle.cfb_format.specs.Tree.{Tree}
-use Rattle.cfb_rules.specs.Lists.{Command, CommandReply, IsLegal}
+use Rattle.cfb_rules.specs.Lists.{Command, CommandReply, IsLegal, IsLegalRun}
 use Rattle.cfb_rules.specs.Runs.{Setting}
 use Rattle.cfb_rules.proofs.LegalRuns.{trees_legal}
 use Rattle.cfb_mini_sectors.specs.State.{bytes_of, cases_of, root_len_of}
-use Rattle.cfb_agreement.specs.Files.{FileState, is_failed}
+use Rattle.cfb_agreement.specs.Files.{FileState, failures_of, is_failed}
 use Rattle.cfb_path_changes.specs.Answers.{MeansTree, setting_of, state_with}
 use Rattle.cfb_commands.specs.Made.{StaysMade}
 use Rattle.cfb_commands.specs.Promised.{promised}
 use Rattle.cfb_commands.specs.Seen.{seen_as, standing_at}
 use Rattle.cfb_commands.specs.Working.{RunsLegally}
-use Rattle.cfb_whole_bench.specs.Lists.{RunsTo, setting_in}
-use Rattle.cfb_whole_bench.specs.OneStream.{IsMadeWith, IsReopenedWith}
+use Rattle.cfb_whole_bench.specs.Lists.{IsOpenedFrom, RunsTo, setting_in}
+use Rattle.cfb_whole_bench.specs.OneStream.{IsMadeWith}
 
 module _ (version : Version) (old new : FileState) (is : IsMadeWith version empty_tree old) where
   setting_is : setting_of old ≡ setting_in version
@@ -40,23 +40,27 @@ module _ (version : Version) (old new : FileState) (is : IsMadeWith version empt
     means = subst (λ (cs : Cases). Means cs (bytes_of new.base) after) (stays.setting.limits.cases ∙ is.letters) (means calm);
   }
 
-  module _ (can_give : MediumFault → Bool) (commands : List Command) (replies : List CommandReply) (runs : RunsLegally can_give old commands replies new) where
+  module _ (commands : List Command) (replies : List CommandReply) (runs : RunsLegally is_refused_growth old commands replies new) where
     abbrev pub tree_after : Tree
     tree_after = (runs empty_tree means_nothing).0
 
+    legal_run : IsLegalRun seen_as (promised is_refused_growth) (setting_in version) (standing_at old empty_tree) commands replies (standing_at new tree_after)
+    legal_run =
+        subst (λ (s : Setting). IsLegalRun seen_as (promised is_refused_growth) s (standing_at old empty_tree) commands replies (standing_at new tree_after)) setting_is
+        (runs empty_tree means_nothing).2
+
     legal : IsLegal (setting_in version) (record { tree = empty_tree; root_len = root_len_of old.base; failed = false }) commands replies (state_with new tree_after)
     legal =
-        subst (λ (s : Setting). IsLegal s (record { tree = empty_tree; root_len = root_len_of old.base; failed = false }) commands replies (state_with new tree_after)) setting_is
-        (subst (λ (b : Bool). IsLegal (setting_of old) (record { tree = empty_tree; root_len = root_len_of old.base; failed = b }) commands replies (state_with new tree_after)) is.unfailed
-        (trees_legal seen_as (promised can_give) (setting_of old) (standing_at old empty_tree) (standing_at new tree_after) commands replies (runs empty_tree means_nothing).2))
+        subst (λ (b : Bool). IsLegal (setting_in version) (record { tree = empty_tree; root_len = root_len_of old.base; failed = b }) commands replies (state_with new tree_after)) is.unfailed
+        (trees_legal seen_as (promised is_refused_growth) (setting_in version) (standing_at old empty_tree) (standing_at new tree_after) commands replies legal_run)
 
     -- the file failed
-    pub ran_and_failed : is_failed new ≡ true → RunsTo version commands replies None
-    ran_and_failed failed = record { root_len = root_len_of old.base; last = state_with new tree_after; legal = legal; opened = failed }
+    pub ran_and_failed : failures_of old ≡ 0 → is_failed new ≡ true → RunsTo version commands replies None
+    ran_and_failed none failed = record { first = old; last = new; tree = tree_after; begins = is; calm = none; runs = legal_run; legal = legal; opened = failed }
 
     -- it was opened again
-    pub ran_and_opened : (reopened : FileState) → is_failed new ≡ false → IsReopenedWith version tree_after reopened → RunsTo version commands replies (Some reopened)
-    ran_and_opened reopened calm opened = record { root_len = root_len_of old.base; last = state_with new tree_after; legal = legal; opened = (calm, opened) }
+    pub ran_and_opened : failures_of old ≡ 0 → (reopened : FileState) → IsOpenedFrom version tree_after new reopened → RunsTo version commands replies (Some reopened)
+    ran_and_opened none reopened opened = record { first = old; last = new; tree = tree_after; begins = is; calm = none; runs = legal_run; legal = legal; opened = opened }
 
     -- what opening it again needs
     pub made_after : StaysMade old new → is_failed new ≡ false → IsMadeWith version tree_after new

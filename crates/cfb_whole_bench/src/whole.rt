@@ -10,7 +10,7 @@ ghost use Rattle.cfb_mini_sectors.specs.State.{bytes_of, version_of};
 ghost use Rattle.cfb_opening.specs.Acceptable.{IsRefused};
 ghost use Rattle.cfb_format.specs.Tree.{Tree};
 ghost use Rattle.cfb_format.specs.declared.version.Version.{Version as VersionOf};
-ghost use Rattle.cfb_agreement.specs.Files.{FileState};
+ghost use Rattle.cfb_agreement.specs.Files.{FileState, failures_of};
 ghost use Rattle.cfb_compound_file.specs.Streams.{file_of, open_of};
 ghost use Rattle.cfb_whole_bench.specs.Changes.{ListAt, after, after_all, after_write, empty_list, some_too_long};
 ghost use Rattle.cfb_whole_bench.specs.declared.whole.Change.TheVariants.{Write};
@@ -130,6 +130,7 @@ pub(crate) fn made<A: Allocator + Clone>(
 ) -> Result<CompoundFile<MemoryMedium<A>, A>, Error>
     ensures ok { IfOk result (IsMadeWith version empty_tree) }
     ensures bytes { IfOk result (λ file. bytes_of file.base ≡ created_bytes version) }
+    ensures calm { IfOk result (λ file. failures_of file ≡ 0) }
     ensures refused { IfErr result IsWantOfMemory }
 {
     laws::bytes::created_file_is_right();
@@ -145,6 +146,7 @@ pub(crate) fn reopened<A: Allocator + Clone>(
     ensures ok { (version : VersionOf) (tree : Tree)
         → IsMadeWith version tree file → IfOk result (IsReopenedWith version tree) }
     ensures bytes { IfOk result (λ new. bytes_of new.base ≡ bytes_of file.base) }
+    ensures failures { IfOk result (λ new. failures_of new ≡ failures_of file) }
     ensures refused { (version : VersionOf) (tree : Tree)
         → IsMadeWith version tree file → IfErr result IsWantOfMemory }
 {

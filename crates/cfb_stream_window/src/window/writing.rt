@@ -37,6 +37,7 @@ impl<A: Allocator> Window<A> {
         ensures goes_on { IsOpen C.ReadContents content.old id self.old → GoesOn C.ReadContents content.old content.new id self.new }
         ensures settles { IsOpen C.ReadContents content.old id self.old → length bytes.now < 65536 → OnOk result (IsSettled (C.stored content.old id) self.old (C.stored content.new id)) }
         ensures none { length bytes.now ≡ 0 → content.new ≡ content.old }
+        ensures unsound { (C.stored content.old id).sound ≡ false → content.new ≡ content.old }
         ensures held { length bytes.now < 65536 → HasBufferRoom self.old → content.new ≡ content.old }
         ensures keeps_back { 0 < length bytes.now → length bytes.now < 65536 → OnOk result (self.new.pending ≡ true) }
         ensures straight { 65536 ≤ length bytes.now → OnOk result (self.new.pending ≡ false) }
@@ -220,6 +221,7 @@ impl<A: Allocator> Window<A> {
         ensures refused { IsOpen C.ReadContents content.old id self.old → IfErr result (IsLengthRefusedOn C.ReadContents C.Contents.own content.old id self.old len content.new self.new) }
         ensures goes_on { IsOpen C.ReadContents content.old id self.old → GoesOn C.ReadContents content.old content.new id self.new }
         ensures same { len ≡ self.old.size → content.new ≡ content.old }
+        ensures unsound { (C.stored content.old id).sound ≡ false → content.new ≡ content.old }
         ensures foreseen { IsOpen C.ReadContents content.old id self.old
             → IfErr result (λ e. e ≡ Error.Full → (content.new ≡ content.old)
             ⊎ LosesRoomBetween C.ReadContents C.Contents.own content.old id self.old len content.new) }

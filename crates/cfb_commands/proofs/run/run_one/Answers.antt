@@ -23,7 +23,7 @@ returns-in-CreateStorage-clause-answers g c =
     let call = create_storage (chars (string_bytes c.in-CreateStorage.path)) c.in-CreateStorage.moment in
     rw c.in-CreateStorage.is (λ told. by_call can_give file new call (call_answer (λ _. done) c.create_storage.result)
     (changed can_give file call new c.create_storage.result
-    (subst (λ (text : List ℕ). CallAnswers can_give file (create_storage (chars text) c.in-CreateStorage.moment) c.create_storage.result new) c.deref.ensures (c.create_storage.ensures told)) (λ e why. why)))
+    (subst (λ (text : List ℕ). CallAnswers can_give file (create_storage (chars text) c.in-CreateStorage.moment) c.create_storage.result new) c.deref.ensures (c.create_storage.ensures.does told)) (λ e why. why)))
 
 pub returns-in-RemoveStorage-clause-answers : goal.returns-in-RemoveStorage-clause-answers
 returns-in-RemoveStorage-clause-answers g c =
@@ -33,7 +33,7 @@ returns-in-RemoveStorage-clause-answers g c =
     let call = remove_storage (chars (string_bytes c.in-RemoveStorage.path)) in
     rw c.in-RemoveStorage.is (λ told. by_call can_give file new call (call_answer (λ _. done) c.remove_storage.result)
     (changed can_give file call new c.remove_storage.result
-    (subst (λ (text : List ℕ). CallAnswers can_give file (remove_storage (chars text)) c.remove_storage.result new) c.deref-in-RemoveStorage.ensures (c.remove_storage.ensures told)) (λ e why. why)))
+    (subst (λ (text : List ℕ). CallAnswers can_give file (remove_storage (chars text)) c.remove_storage.result new) c.deref-in-RemoveStorage.ensures (c.remove_storage.ensures.does told)) (λ e why. why)))
 
 pub returns-in-RemoveStorageAll-clause-answers : goal.returns-in-RemoveStorageAll-clause-answers
 returns-in-RemoveStorageAll-clause-answers g c =
@@ -43,7 +43,7 @@ returns-in-RemoveStorageAll-clause-answers g c =
     let call = remove_storage_all (chars (string_bytes c.in-RemoveStorageAll.path)) in
     rw c.in-RemoveStorageAll.is (λ told. by_call can_give file new call (call_answer (λ _. done) c.remove_storage_all.result)
     (changed can_give file call new c.remove_storage_all.result
-    (subst (λ (text : List ℕ). CallAnswers can_give file (remove_storage_all (chars text)) c.remove_storage_all.result new) c.deref-in-RemoveStorageAll.ensures (c.remove_storage_all.ensures told)) (λ e why. why)))
+    (subst (λ (text : List ℕ). CallAnswers can_give file (remove_storage_all (chars text)) c.remove_storage_all.result new) c.deref-in-RemoveStorageAll.ensures (c.remove_storage_all.ensures.does told)) (λ e why. why)))
 
 pub returns-in-RemoveStream-clause-answers : goal.returns-in-RemoveStream-clause-answers
 returns-in-RemoveStream-clause-answers g c =
@@ -53,7 +53,7 @@ returns-in-RemoveStream-clause-answers g c =
     let call = remove_stream (chars (string_bytes c.in-RemoveStream.path)) in
     rw c.in-RemoveStream.is (λ told. by_call can_give file new call (call_answer (λ _. done) c.remove_stream.result)
     (changed can_give file call new c.remove_stream.result
-    (subst (λ (text : List ℕ). CallAnswers can_give file (remove_stream (chars text)) c.remove_stream.result new) c.deref-in-RemoveStream.ensures (c.remove_stream.ensures told)) (λ e why. why)))
+    (subst (λ (text : List ℕ). CallAnswers can_give file (remove_stream (chars text)) c.remove_stream.result new) c.deref-in-RemoveStream.ensures (c.remove_stream.ensures.does told)) (λ e why. why)))
 
 pub returns-in-SetStorageClsid-clause-answers : goal.returns-in-SetStorageClsid-clause-answers
 returns-in-SetStorageClsid-clause-answers g c =
@@ -63,7 +63,7 @@ returns-in-SetStorageClsid-clause-answers g c =
     let call = set_storage_clsid (chars (string_bytes c.in-SetStorageClsid.path)) c.in-SetStorageClsid.clsid in
     rw c.in-SetStorageClsid.is (λ told. by_call can_give file new call (call_answer (λ _. done) c.set_storage_clsid.result)
     (changed can_give file call new c.set_storage_clsid.result
-    (subst (λ (text : List ℕ). CallAnswers can_give file (set_storage_clsid (chars text) c.in-SetStorageClsid.clsid) c.set_storage_clsid.result new) c.deref-in-SetStorageClsid.ensures (c.set_storage_clsid.ensures told)) (λ e why. why)))
+    (subst (λ (text : List ℕ). CallAnswers can_give file (set_storage_clsid (chars text) c.in-SetStorageClsid.clsid) c.set_storage_clsid.result new) c.deref-in-SetStorageClsid.ensures (c.set_storage_clsid.ensures.does told)) (λ e why. why)))
 
 pub returns-in-SetStateBits-clause-answers : goal.returns-in-SetStateBits-clause-answers
 returns-in-SetStateBits-clause-answers g c =
@@ -73,7 +73,7 @@ returns-in-SetStateBits-clause-answers g c =
     let call = set_state_bits (chars (string_bytes c.in-SetStateBits.path)) c.in-SetStateBits.bits in
     rw c.in-SetStateBits.is (λ told. by_call can_give file new call (call_answer (λ _. done) c.set_state_bits.result)
     (changed can_give file call new c.set_state_bits.result
-    (subst (λ (text : List ℕ). CallAnswers can_give file (set_state_bits (chars text) c.in-SetStateBits.bits) c.set_state_bits.result new) c.deref-in-SetStateBits.ensures (c.set_state_bits.ensures told)) (λ e why. why)))
+    (subst (λ (text : List ℕ). CallAnswers can_give file (set_state_bits (chars text) c.in-SetStateBits.bits) c.set_state_bits.result new) c.deref-in-SetStateBits.ensures (c.set_state_bits.ensures.does told)) (λ e why. why)))
 
 pub returns-in-SetCreatedTime-clause-answers : goal.returns-in-SetCreatedTime-clause-answers
 returns-in-SetCreatedTime-clause-answers g c =
@@ -83,7 +83,7 @@ returns-in-SetCreatedTime-clause-answers g c =
     let call = set_created_time (chars (string_bytes c.in-SetCreatedTime.path)) c.in-SetCreatedTime.moment in
     rw c.in-SetCreatedTime.is (λ told. by_call can_give file new call (call_answer (λ _. done) c.set_created_time.result)
     (changed can_give file call new c.set_created_time.result
-    (subst (λ (text : List ℕ). CallAnswers can_give file (set_created_time (chars text) c.in-SetCreatedTime.moment) c.set_created_time.result new) c.deref-in-SetCreatedTime.ensures (c.set_created_time.ensures told)) (λ e why. why)))
+    (subst (λ (text : List ℕ). CallAnswers can_give file (set_created_time (chars text) c.in-SetCreatedTime.moment) c.set_created_time.result new) c.deref-in-SetCreatedTime.ensures (c.set_created_time.ensures.does told)) (λ e why. why)))
 
 pub returns-in-SetModifiedTime-clause-answers : goal.returns-in-SetModifiedTime-clause-answers
 returns-in-SetModifiedTime-clause-answers g c =
@@ -93,7 +93,7 @@ returns-in-SetModifiedTime-clause-answers g c =
     let call = set_modified_time (chars (string_bytes c.in-SetModifiedTime.path)) c.in-SetModifiedTime.moment in
     rw c.in-SetModifiedTime.is (λ told. by_call can_give file new call (call_answer (λ _. done) c.set_modified_time.result)
     (changed can_give file call new c.set_modified_time.result
-    (subst (λ (text : List ℕ). CallAnswers can_give file (set_modified_time (chars text) c.in-SetModifiedTime.moment) c.set_modified_time.result new) c.deref-in-SetModifiedTime.ensures (c.set_modified_time.ensures told)) (λ e why. why)))
+    (subst (λ (text : List ℕ). CallAnswers can_give file (set_modified_time (chars text) c.in-SetModifiedTime.moment) c.set_modified_time.result new) c.deref-in-SetModifiedTime.ensures (c.set_modified_time.ensures.does told)) (λ e why. why)))
 
 pub returns-in-Touch-clause-answers : goal.returns-in-Touch-clause-answers
 returns-in-Touch-clause-answers g c =
@@ -103,7 +103,7 @@ returns-in-Touch-clause-answers g c =
     let call = touch (chars (string_bytes c.in-Touch.path)) c.in-Touch.moment in
     rw c.in-Touch.is (λ told. by_call can_give file new call (call_answer (λ _. done) c.touch.result)
     (changed can_give file call new c.touch.result
-    (subst (λ (text : List ℕ). CallAnswers can_give file (touch (chars text) c.in-Touch.moment) c.touch.result new) c.deref-in-Touch.ensures (c.touch.ensures told)) (λ e why. why)))
+    (subst (λ (text : List ℕ). CallAnswers can_give file (touch (chars text) c.in-Touch.moment) c.touch.result new) c.deref-in-Touch.ensures (c.touch.ensures.does told)) (λ e why. why)))
 
 pub returns-in-CreateStorageAll-clause-answers : goal.returns-in-CreateStorageAll-clause-answers
 returns-in-CreateStorageAll-clause-answers g c =
@@ -113,7 +113,7 @@ returns-in-CreateStorageAll-clause-answers g c =
     let path = chars (string_bytes c.in-CreateStorageAll.path) in
     rw c.in-CreateStorageAll.is (λ told. by_call can_give file new (create_storage_all path c.in-CreateStorageAll.moment) (call_answer (λ _. done) c.create_storage_all.result)
     (changed_in_turn can_give file path c.in-CreateStorageAll.moment new c.create_storage_all.result
-    (subst (λ (text : List ℕ). CallAnswersInTurn can_give file (create_storage_all (chars text) c.in-CreateStorageAll.moment) c.create_storage_all.result new) c.deref-in-CreateStorageAll.ensures (c.create_storage_all.ensures told))))
+    (subst (λ (text : List ℕ). CallAnswersInTurn can_give file (create_storage_all (chars text) c.in-CreateStorageAll.moment) c.create_storage_all.result new) c.deref-in-CreateStorageAll.ensures (c.create_storage_all.ensures.does told))))
 
 pub returns-in-Flush-clause-answers : goal.returns-in-Flush-clause-answers
 returns-in-Flush-clause-answers g c =
@@ -181,34 +181,34 @@ returns-in-Stream-clause-of_kind g c =
     )
 
 pub returns-in-CreateStorage-clause-given : goal.returns-in-CreateStorage-clause-given
-returns-in-CreateStorage-clause-given g c = λ told. changes_given _ c.args.file.now _ c.create_storage.result c.create_storage.new.self (c.create_storage.ensures told)
+returns-in-CreateStorage-clause-given g c = λ told. changes_given _ c.args.file.now _ c.create_storage.result c.create_storage.new.self (c.create_storage.ensures.does told)
 
 pub returns-in-RemoveStorage-clause-given : goal.returns-in-RemoveStorage-clause-given
-returns-in-RemoveStorage-clause-given g c = λ told. changes_given _ c.args.file.now _ c.remove_storage.result c.remove_storage.new.self (c.remove_storage.ensures told)
+returns-in-RemoveStorage-clause-given g c = λ told. changes_given _ c.args.file.now _ c.remove_storage.result c.remove_storage.new.self (c.remove_storage.ensures.does told)
 
 pub returns-in-RemoveStorageAll-clause-given : goal.returns-in-RemoveStorageAll-clause-given
-returns-in-RemoveStorageAll-clause-given g c = λ told. changes_given _ c.args.file.now _ c.remove_storage_all.result c.remove_storage_all.new.self (c.remove_storage_all.ensures told)
+returns-in-RemoveStorageAll-clause-given g c = λ told. changes_given _ c.args.file.now _ c.remove_storage_all.result c.remove_storage_all.new.self (c.remove_storage_all.ensures.does told)
 
 pub returns-in-RemoveStream-clause-given : goal.returns-in-RemoveStream-clause-given
-returns-in-RemoveStream-clause-given g c = λ told. changes_given _ c.args.file.now _ c.remove_stream.result c.remove_stream.new.self (c.remove_stream.ensures told)
+returns-in-RemoveStream-clause-given g c = λ told. changes_given _ c.args.file.now _ c.remove_stream.result c.remove_stream.new.self (c.remove_stream.ensures.does told)
 
 pub returns-in-SetStorageClsid-clause-given : goal.returns-in-SetStorageClsid-clause-given
-returns-in-SetStorageClsid-clause-given g c = λ told. changes_given _ c.args.file.now _ c.set_storage_clsid.result c.set_storage_clsid.new.self (c.set_storage_clsid.ensures told)
+returns-in-SetStorageClsid-clause-given g c = λ told. changes_given _ c.args.file.now _ c.set_storage_clsid.result c.set_storage_clsid.new.self (c.set_storage_clsid.ensures.does told)
 
 pub returns-in-SetStateBits-clause-given : goal.returns-in-SetStateBits-clause-given
-returns-in-SetStateBits-clause-given g c = λ told. changes_given _ c.args.file.now _ c.set_state_bits.result c.set_state_bits.new.self (c.set_state_bits.ensures told)
+returns-in-SetStateBits-clause-given g c = λ told. changes_given _ c.args.file.now _ c.set_state_bits.result c.set_state_bits.new.self (c.set_state_bits.ensures.does told)
 
 pub returns-in-SetCreatedTime-clause-given : goal.returns-in-SetCreatedTime-clause-given
-returns-in-SetCreatedTime-clause-given g c = λ told. changes_given _ c.args.file.now _ c.set_created_time.result c.set_created_time.new.self (c.set_created_time.ensures told)
+returns-in-SetCreatedTime-clause-given g c = λ told. changes_given _ c.args.file.now _ c.set_created_time.result c.set_created_time.new.self (c.set_created_time.ensures.does told)
 
 pub returns-in-SetModifiedTime-clause-given : goal.returns-in-SetModifiedTime-clause-given
-returns-in-SetModifiedTime-clause-given g c = λ told. changes_given _ c.args.file.now _ c.set_modified_time.result c.set_modified_time.new.self (c.set_modified_time.ensures told)
+returns-in-SetModifiedTime-clause-given g c = λ told. changes_given _ c.args.file.now _ c.set_modified_time.result c.set_modified_time.new.self (c.set_modified_time.ensures.does told)
 
 pub returns-in-Touch-clause-given : goal.returns-in-Touch-clause-given
-returns-in-Touch-clause-given g c = λ told. changes_given _ c.args.file.now _ c.touch.result c.touch.new.self (c.touch.ensures told)
+returns-in-Touch-clause-given g c = λ told. changes_given _ c.args.file.now _ c.touch.result c.touch.new.self (c.touch.ensures.does told)
 
 pub returns-in-CreateStorageAll-clause-given : goal.returns-in-CreateStorageAll-clause-given
-returns-in-CreateStorageAll-clause-given g c = λ told. turns_given _ c.args.file.now _ c.create_storage_all.result c.create_storage_all.new.self (c.create_storage_all.ensures told)
+returns-in-CreateStorageAll-clause-given g c = λ told. turns_given _ c.args.file.now _ c.create_storage_all.result c.create_storage_all.new.self (c.create_storage_all.ensures.does told)
 
 pub returns-in-Flush-clause-given : goal.returns-in-Flush-clause-given
 returns-in-Flush-clause-given g c = λ told.

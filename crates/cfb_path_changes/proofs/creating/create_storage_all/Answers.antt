@@ -10,6 +10,7 @@ use Rattle.cfb_mini_sectors.specs.State.{bytes_of, cases_of, entries_of}
 use Rattle.cfb_sequences.specs.Laws.{all_added_at}
 use Rattle.cfb_volume.specs.Adding.{IsFirstAbsent}
 use Rattle.cfb_path_changes.proofs.AllStorages.{all_answers, left_valid, names_left, refused_in_turn}
+use Rattle.cfb_path_changes.proofs.Heeding.{heeds_change, heeds_refused}
 use Rattle.cfb_path_changes.proofs.creating.create_storage_all.Goals as goal
 
 -- names, as the code has them
@@ -54,4 +55,16 @@ returns-clause-does g c =
     (subst (λ (n : ℕ). 0 < n → OnOk r (IsFullForEntry old.base.directory → ⊥)) count w.enough) (subst (λ (n : ℕ). n ≡ 0 → OnOk r (new ≡ old)) count w.quiet)
     (subst (λ (names : List (List ℕ)). OnOk r ((before : List (List ℕ)) (o : Outline) → IsOutline (cases_of old.base) (entries_of old.base) o → number_from (cases_of old.base) (entries_of old.base) 0 o before ≡ Some k
     → BecomesTree (cases_of old.base) (bytes_of old.base) (bytes_of new.base) (all_added_at (cases_of old.base) c.args.moment (before ++ names)))) left (w.tree told held))
-    (w.refused told held) (subst (λ (n : ℕ). OnErr r (0 < n)) count w.some) (w.err told held) (w.counts told)
+    (w.refused told held) (subst (λ (n : ℕ). OnErr r (0 < n)) count w.some) (w.err told held) w.stops (w.counts told)
+
+-- ---- over any medium
+
+pub returns-in_err-names-clause-any : goal.returns-in_err-names-clause-any
+returns-in_err-names-clause-any g c =
+    let p = err_from_is_err_and c.from_residual.result c.from_residual.ensures.1 in
+    rw (p.1, p.2) (heeds_refused c.args.volume.now _ tt (λ failed. c.in_err-names.ensures.failed failed))
+
+pub returns-clause-any : goal.returns-clause-any
+returns-clause-any g c =
+    let way = c.in_ok-names.ensures.found in
+    heeds_change c.args.volume.now c.insert_all.result c.insert_all.new.self way.unfailed way.sound c.insert_all.ensures.setting c.insert_all.ensures.ended

@@ -1,4 +1,4 @@
-use Rattle.std.proofs.Common.{◌≡◌, ◌∙◌, rules, ap, chars, map, refl, sym, subst, Bor, List, ℕ}
+use Rattle.std.proofs.Common.{◌≡◌, ◌∙◌, false, true, rules, ap, chars, map, refl, sym, subst, Bor, List, ℕ}
 use denote.Enum.Bare.{same_false, same_true}
 use Rattle.cfb_format.specs.contracts.objtype.ObjType.{the_type}
 use Rattle.std.specs.List.{list_all}
@@ -85,3 +85,23 @@ returns-clause-found g c =
     way_is c.args.volume.now (chars c.args.path.now) names c.way_down-passed.result.0 c.way_down-passed.result.1 (sym c.is_failed.ensures ∙ c.if-is_failed.false)
     (sym c.is_sound.ensures ∙ c.if-not-is_sound.false) c.in_ok-names.ensures.ok valid leads
     (λ e. same_false the_type c.kind_of.result Stream (sym c.eq.ensures ∙ c.if-eq.false) (kind ∙ e)) c.entries.ensures.in_order
+
+-- ---- on a failed file nothing else is answered
+
+pub returns-in_err-clone-clause-failed : goal.returns-in_err-clone-clause-failed
+returns-in_err-clone-clause-failed g c = λ failed. absurd (let w : true ≡ false = sym failed ∙ sym c.is_failed.ensures ∙ c.if-is_failed.false in cc)
+
+pub returns-in_err-names-clause-failed : goal.returns-in_err-names-clause-failed
+returns-in_err-names-clause-failed g c = λ failed. absurd (let w : true ≡ false = sym failed ∙ sym c.is_failed.ensures ∙ c.if-is_failed.false in cc)
+
+pub returns-in_err-validate_names-clause-failed : goal.returns-in_err-validate_names-clause-failed
+returns-in_err-validate_names-clause-failed g c = λ failed. absurd (let w : true ≡ false = sym failed ∙ sym c.is_failed.ensures ∙ c.if-is_failed.false in cc)
+
+pub returns-then-eq-clause-failed : goal.returns-then-eq-clause-failed
+returns-then-eq-clause-failed g c = λ failed. absurd (let w : true ≡ false = sym failed ∙ sym c.is_failed.ensures ∙ c.if-is_failed.false in cc)
+
+pub returns-then-not-is_sound-clause-failed : goal.returns-then-not-is_sound-clause-failed
+returns-then-not-is_sound-clause-failed g c = λ failed. absurd (let w : true ≡ false = sym failed ∙ sym c.is_failed.ensures ∙ c.if-is_failed.false in cc)
+
+pub returns-clause-failed : goal.returns-clause-failed
+returns-clause-failed g c = λ failed. absurd (let w : true ≡ false = sym failed ∙ sym c.is_failed.ensures ∙ c.if-is_failed.false in cc)

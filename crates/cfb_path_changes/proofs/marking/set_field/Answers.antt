@@ -10,7 +10,9 @@ use Rattle.cfb_entry_changes.specs.Marking.{GivesFields}
 use Rattle.cfb_path_changes.specs.Marking.{setting_call, takes_field, with_new_field}
 use Rattle.cfb_path_changes.specs.Wanted.{AsksFor, IsThereFor}
 use Rattle.cfb_path_changes.specs.declared.finding.Wanted.{Wanted}
+use Rattle.cfb_path_changes.proofs.Heeding.{heeds_change, heeds_refused}
 use Rattle.cfb_path_changes.proofs.Numbers.{object-within}
+use Rattle.cfb_path_changes.proofs.Refusing.{unchanged_setting}
 use Rattle.cfb_path_changes.proofs.SetFields.{field_is_valid, gives_field, set_answers, setting_asks, storage_change, stream_change, unset_done}
 use Rattle.cfb_path_changes.proofs.marking.set_field.Goals as goal
 
@@ -67,3 +69,20 @@ returns-clause-does g c =
     (on_ok_weaker r (λ x. x (storage_change c.args.field) (stream_change c.args.field) (names_of c.in_ok-_names._names.items) held.outline held.reads.outline (there.leads held.outline held.reads.outline)
     (λ fields post. subst (λ (f : Fields). GivesFields e f (storage_change c.args.field) (stream_change c.args.field)) (search rules) (gives_field e c.args.field (there.suits, takes)))) (w.tree told held))
     (w.refused told held) (w.err told held) (w.counts told)
+
+-- ---- over any medium
+
+pub returns-in_err-_names-clause-any : goal.returns-in_err-_names-clause-any
+returns-in_err-_names-clause-any g c =
+    let p = err_from_is_err_and c.from_residual.result c.from_residual.ensures.1 in
+    rw (p.1, p.2) (heeds_refused c.args.volume.now _ tt (λ failed. c.in_err-_names.ensures.failed failed))
+
+pub returns-then-not-is_set_of-clause-any : goal.returns-then-not-is_set_of-clause-any
+returns-then-not-is_set_of-clause-any g c =
+    let there = c.in_ok-_names.ensures.found in
+    heeds_change c.args.volume.now _ c.args.volume.now there.unfailed there.sound (unchanged_setting c.args.volume.now) there.unfailed
+
+pub returns-clause-any : goal.returns-clause-any
+returns-clause-any g c =
+    let there = c.in_ok-_names.ensures.found in
+    heeds_change c.args.volume.now c.set_fields.result c.set_fields.new.self there.unfailed there.sound c.set_fields.ensures.setting c.set_fields.ensures.ended

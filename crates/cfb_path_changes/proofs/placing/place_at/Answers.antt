@@ -1,4 +1,4 @@
-use Rattle.std.proofs.Common.{◌≡◌, false, ◌∙◌, sym, map, chars, subst, refl, Bor, ℕ, List, ◌⊎◌, inl, inr}
+use Rattle.std.proofs.Common.{◌≡◌, false, true, ◌∙◌, sym, map, chars, subst, refl, Bor, ℕ, List, ◌⊎◌, inl, inr}
 use Rattle.std.proofs.lemmas.Result.{err_from_is_err_and}
 use Rattle.cfb_format.specs.declared.error.Error.{Error}
 use Rattle.cfb_format.specs.declared.medium.MediumFault.{MediumFault}
@@ -61,3 +61,20 @@ returns-then-not-is_sound-clause-refused g c =
     (place_is_allowed c.args.volume.now c.args.what (map (λ name. chars name.now) c.in_ok-names.names.items) c.in_ok-place.place
     (subst (λ (names : List (Bor (List ℕ))). IsPlace c.args.volume.now c.args.what (map (λ name. chars name.now) names) c.in_ok-place.place) c.deref.ensures.value c.in_ok-place.ensures.ok))
     (sym c.is_sound.ensures ∙ c.if-not-is_sound.true)
+
+-- ---- on a failed file nothing else is answered
+
+pub returns-in_err-clone-clause-failed : goal.returns-in_err-clone-clause-failed
+returns-in_err-clone-clause-failed g c = λ failed. absurd (let w : true ≡ false = sym failed ∙ sym c.is_failed.ensures ∙ c.if-is_failed.false in cc)
+
+pub returns-in_err-names-clause-failed : goal.returns-in_err-names-clause-failed
+returns-in_err-names-clause-failed g c = λ failed. absurd (let w : true ≡ false = sym failed ∙ sym c.is_failed.ensures ∙ c.if-is_failed.false in cc)
+
+pub returns-in_err-place-clause-failed : goal.returns-in_err-place-clause-failed
+returns-in_err-place-clause-failed g c = λ failed. absurd (let w : true ≡ false = sym failed ∙ sym c.is_failed.ensures ∙ c.if-is_failed.false in cc)
+
+pub returns-then-not-is_sound-clause-failed : goal.returns-then-not-is_sound-clause-failed
+returns-then-not-is_sound-clause-failed g c = λ failed. absurd (let w : true ≡ false = sym failed ∙ sym c.is_failed.ensures ∙ c.if-is_failed.false in cc)
+
+pub returns-clause-failed : goal.returns-clause-failed
+returns-clause-failed g c = λ failed. absurd (let w : true ≡ false = sym failed ∙ sym c.is_failed.ensures ∙ c.if-is_failed.false in cc)

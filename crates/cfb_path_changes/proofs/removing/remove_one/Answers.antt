@@ -1,7 +1,9 @@
 use Rattle.std.proofs.Common.{◌∙◌, ap, chars, map, sym, subst, List, ℕ, Bor}
 use Rattle.std.proofs.lemmas.Result.{err_from_is_err_and}
 use Rattle.cfb_path_changes.specs.Removing.{StandsIn, removal}
+use Rattle.cfb_path_changes.proofs.Heeding.{heeds_change, heeds_refused}
 use Rattle.cfb_path_changes.proofs.Removed.{none_is_root, removal_asks, removed_answers}
+use Rattle.cfb_path_changes.proofs.Refusing.{unchanged_setting}
 use Rattle.cfb_path_changes.proofs.removing.remove_one.Goals as goal
 
 pub returns-in_err-names-clause-does : goal.returns-in_err-names-clause-does
@@ -28,3 +30,20 @@ returns-clause-does g c =
     let there = c.in_ok-names.ensures.found in
     λ told. none_is_root c.args.volume.now c.args.wanted (chars c.args.path.now) _ c.in_ok-names.number c.requires.one there (c.requires.agrees told there.unfailed)
     (ap (λ (names : List (Bor (List ℕ))). map (λ (name : Bor (List ℕ)). chars name.now) names) (sym c.deref.ensures.value) ∙ c.in-None.ensures.none)
+
+-- ---- over any medium
+
+pub returns-in_err-names-clause-any : goal.returns-in_err-names-clause-any
+returns-in_err-names-clause-any g c =
+    let p = err_from_is_err_and c.from_residual.result c.from_residual.ensures.1 in
+    rw (p.1, p.2) (heeds_refused c.args.volume.now _ tt (λ failed. c.in_err-names.ensures.failed failed))
+
+pub returns-in-Some-clause-any : goal.returns-in-Some-clause-any
+returns-in-Some-clause-any g c =
+    let there = c.in_ok-names.ensures.found in
+    heeds_change c.args.volume.now c.remove.result c.remove.new.self there.unfailed there.sound c.remove.ensures.setting c.remove.ensures.ended
+
+pub returns-clause-any : goal.returns-clause-any
+returns-clause-any g c =
+    let there = c.in_ok-names.ensures.found in
+    heeds_change c.args.volume.now _ c.args.volume.now there.unfailed there.sound (unchanged_setting c.args.volume.now) tt

@@ -3,6 +3,7 @@ use Rattle.std.specs.Prelude.{Option, Some, None, IfNone, IfSome}
 use Rattle.std.proofs.lemmas.Result.{err_from_is_err_and}
 use Rattle.cfb_rules.specs.Calls.{remove_storage_all}
 use Rattle.cfb_path_changes.specs.Removing.{StandsIn}
+use Rattle.cfb_path_changes.proofs.Heeding.{heeds_change, heeds_refused}
 use Rattle.cfb_path_changes.proofs.Removed.{all_asks, all_removed_answers, root_is_first}
 use Rattle.cfb_path_changes.proofs.removing.remove_storage_all.Goals as goal
 
@@ -53,3 +54,15 @@ returns-clause-does g c =
     let held = c.requires.agrees told there.unfailed in
     all_removed_answers c.args.volume.now (chars c.args.path.now) (names_of c.in_ok-names.names.items) c.in_ok-names.number there held c.remove_all.new.self w.setting (w.others told held) (w.header told held)
     _ c.remove_all.result c.storage_of-storage.result some nothing w.ended (w.balanced told) (λ made. w.made told held made) w.grows (w.tree told held) (w.root_tree told held) (w.refused told held) (w.err told held) (w.counts told)
+
+-- ---- over any medium
+
+pub returns-in_err-names-clause-any : goal.returns-in_err-names-clause-any
+returns-in_err-names-clause-any g c =
+    let p = err_from_is_err_and c.from_residual.result c.from_residual.ensures.1 in
+    rw (p.1, p.2) (heeds_refused c.args.volume.now _ tt (λ failed. c.in_err-names.ensures.failed failed))
+
+pub returns-clause-any : goal.returns-clause-any
+returns-clause-any g c =
+    let there = c.in_ok-names.ensures.found in
+    heeds_change c.args.volume.now c.remove_all.result c.remove_all.new.self there.unfailed there.sound c.remove_all.ensures.setting c.remove_all.ensures.ended

@@ -1,41 +1,16 @@
-use Rattle.std.proofs.Common.{◌≡◌, ◌+◌, ◌-◌, true, false, sym, ◌∙◌, subst, length, take, arith}
-use Rattle.std.specs.Prelude.{IsTrue}
-use Rattle.std.proofs.lemmas.List.{length-take}
+use Rattle.std.proofs.Common.{◌≡◌, ◌+◌, inl, inr, sym, ◌∙◌, length, arith}
 use Rattle.std.proofs.lemmas.Result.{err_from_is_err_and}
-use Rattle.cfb_format.specs.declared.validate.Validation.{Validation}
-use Rattle.cfb_directory.specs.Growing.{ArePlaced}
-use Rattle.cfb_directory.proofs.Placed.{held_places}
-use Rattle.cfb_mini_sectors.specs.State.{HoldsMini}
-use Rattle.cfb_content.specs.Contents.{IsNotChangeable, IsTooLongFor, len_of}
-use Rattle.cfb_content.specs.Laws.{LacksNumbersFor}
+use Rattle.cfb_chains.proofs.ChainLists.{on_err}
+use Rattle.cfb_content.specs.Contents.{len_of}
 use Rattle.cfb_content.proofs.Fullness.{lack-is-too-long}
 use Rattle.cfb_content.proofs.Changed.{moves-same, spares-same}
-use Rattle.cfb_content.proofs.Refusals.{invalid-refused, refused-as}
+use Rattle.cfb_content.proofs.Refusals.{refused-as}
 use Rattle.cfb_content.proofs.StreamEntry.{stream-inside}
-use Rattle.cfb_resizing.proofs.Appended.{still-of}
 use Rattle.cfb_resizing.proofs.Named.{around-moves}
-use Rattle.cfb_resizing.proofs.TakenRest.{begun-or-full}
 use Rattle.cfb_resizing.proofs.appending.append_long.Goals as goal
 
 pub content_in-len-requires : goal.content_in-len-requires
 content_in-len-requires g c = record { inside = stream-inside c.args.mini.now c.args.entry c.requires.stream }
-
--- ---- no slot for each entry
-
-pub returns-then-not-is_placed-clause-moves : goal.returns-then-not-is_placed-clause-moves
-returns-then-not-is_placed-clause-moves g c = moves-same c.args.mini.now c.args.entry
-
-pub returns-then-not-is_placed-clause-spares : goal.returns-then-not-is_placed-clause-spares
-returns-then-not-is_placed-clause-spares g c told = spares-same c.args.mini.now c.args.entry
-
-pub returns-then-not-is_placed-clause-err : goal.returns-then-not-is_placed-clause-err
-returns-then-not-is_placed-clause-err g c =
-    let s = c.args.mini.now in
-    let none : IsTrue g.F.ReadMedium.tells → IsNotChangeable s = λ told v change.
-    (let placed : IsTrue c.is_placed.result = c.is_placed.ensures.1 (subst ArePlaced (sym c.directory.ensures) (held_places v s.directory change.held.directory)) in
-    let clash : true ≡ false = sym placed ∙ c.if-not-is_placed.true in cc) in
-    let Long = (validation : Validation) → HoldsMini validation s → IsTooLongFor s c.args.entry (len_of s c.args.entry + 1) in
-    invalid-refused (IsTrue g.F.ReadMedium.tells → IsNotChangeable s) (Unit {0}) Long (Unit {0}) c.unplaced.result c.unplaced.ensures none
 
 -- ---- a stream that can grow
 
@@ -53,62 +28,18 @@ returns-in_err-size-clause-err g c =
     let p = err_from_is_err_and c.from_residual.result c.from_residual.ensures.1 in
     rw (p.1, p.2) (refused-as _ _ _ _ _ _ _ _ (λ bad told. bad) (λ u. u) (λ no. absurd no) (λ no. absurd no) c.in_err-size.field-0.0 c.in_err-size.ensures.err)
 
-pub returns-in_err-append_in_sectors-clause-still : goal.returns-in_err-append_in_sectors-clause-still
-returns-in_err-append_in_sectors-clause-still g c =
-    let p = err_from_is_err_and c.from_residual-in_err-append_in_sectors.result c.from_residual-in_err-append_in_sectors.ensures.1 in
-    rw p.1 (still-of c.args.mini.now c.append_in_sectors.new.mini c.in_err-append_in_sectors.field-0.0 c.in_err-append_in_sectors.ensures.refused)
+pub append_up_to-requires-clause-large : goal.append_up_to-requires-clause-large
+append_up_to-requires-clause-large g c = let large = c.requires.large in omega (arith, large, c.content_in-len.ensures.len, c.if-size-len.true)
 
--- how many of the bytes that is
-pub append_in_sectors-requires-clause-limit : goal.append_in_sectors-requires-clause-limit
-append_in_sectors-requires-clause-limit g c =
-    let size = length-take (c.in_ok-size.size - c.content_in-len.result.1) c.args.bytes.now in
-    let limit = c.requires.limit in
-    omega (arith, size, limit)
-
-pub append_in_sectors-requires-clause-some : goal.append_in_sectors-requires-clause-some
-append_in_sectors-requires-clause-some g c =
-    let size = length-take (c.in_ok-size.size - c.content_in-len.result.1) c.args.bytes.now in
-    omega (arith, size, c.if-size-len.true, c.requires.some)
-
-pub append_in_sectors-requires-clause-placed : goal.append_in_sectors-requires-clause-placed
-append_in_sectors-requires-clause-placed g c = subst ArePlaced c.directory.ensures (c.is_placed.ensures.0 c.if-not-is_placed.false)
-
-pub append_in_sectors-requires-clause-enough : goal.append_in_sectors-requires-clause-enough
-append_in_sectors-requires-clause-enough g c =
-    let size = length-take (c.in_ok-size.size - c.content_in-len.result.1) c.args.bytes.now in
-    let within = c.in_ok-size.ensures.within in
-    let sum : c.in_ok-size.size ≡ len_of c.args.mini.now c.args.entry + length (take (c.in_ok-size.size - c.content_in-len.result.1) c.args.bytes.now) =
-    omega (arith, size, c.content_in-len.ensures.len, within.0, within.1) in
-    λ lacks. c.in_ok-size.ensures.enough (subst (λ n. LacksNumbersFor c.args.mini.now c.args.entry n) (sym sum) lacks)
-
-pub returns-in_err-append_in_sectors-clause-refused : goal.returns-in_err-append_in_sectors-clause-refused
-returns-in_err-append_in_sectors-clause-refused g c told v held =
-    let p = err_from_is_err_and c.from_residual-in_err-append_in_sectors.result c.from_residual-in_err-append_in_sectors.ensures.1 in
-    rw (p.1, p.2) (begun-or-full c.args.mini.now c.append_in_sectors.new.mini (IsNotChangeable c.args.mini.now) ⊥ c.in_err-append_in_sectors.field-0.0
-    (λ no. no) c.in_err-append_in_sectors.ensures.refused c.in_err-append_in_sectors.ensures.err)
-
-pub returns-in_err-append_in_sectors-clause-err : goal.returns-in_err-append_in_sectors-clause-err
-returns-in_err-append_in_sectors-clause-err g c =
-    let p = err_from_is_err_and c.from_residual-in_err-append_in_sectors.result c.from_residual-in_err-append_in_sectors.ensures.1 in
-    rw (p.1, p.2) (refused-as _ _ _ _ _ _ _ _ (λ bad told. bad) (λ u. u) (λ no. absurd no) (λ u. u) c.in_err-append_in_sectors.field-0.0 c.in_err-append_in_sectors.ensures.err)
-
-pub returns-then-size-len-clause-count : goal.returns-then-size-len-clause-count
-returns-then-size-len-clause-count g c =
-    let within = c.in_ok-size.ensures.within in
-    (omega (arith, c.if-size-len.true), omega (arith, within.1, c.content_in-len.ensures.len))
-
-pub returns-then-size-len-clause-len : goal.returns-then-size-len-clause-len
-returns-then-size-len-clause-len g c =
-    let size = length-take (c.in_ok-size.size - c.content_in-len.result.1) c.args.bytes.now in
-    let within = c.in_ok-size.ensures.within in
-    let grown = c.in_ok-append_in_sectors.ensures.len in
-    omega (arith, size, grown, within.1, c.content_in-len.ensures.len)
-
-pub returns-then-size-len-clause-content : goal.returns-then-size-len-clause-content
-returns-then-size-len-clause-content g c told v change = c.in_ok-append_in_sectors.ensures.content told v change
+pub append_up_to-requires-clause-within : goal.append_up_to-requires-clause-within
+append_up_to-requires-clause-within g c = let within = c.in_ok-size.ensures.within in omega (arith, within.1, c.content_in-len.ensures.len)
 
 pub returns-then-size-len-clause-stays_full : goal.returns-then-size-len-clause-stays_full
-returns-then-size-len-clause-stays_full g c told v change none = c.in_ok-append_in_sectors.ensures.stays_full told v change none
+returns-then-size-len-clause-stays_full g c told v change none = c.append_up_to.ensures.stays_full told v change (inr (inl c.requires.large)) none
+
+pub returns-then-size-len-clause-err : goal.returns-then-size-len-clause-err
+returns-then-size-len-clause-err g c =
+    on_err _ _ c.append_up_to.result (λ e why. refused-as _ _ _ _ _ _ _ _ (λ bad. bad) (λ u. u) (λ no. absurd no) (λ u. u) e why) c.append_up_to.ensures.err
 
 -- ---- one that can't
 

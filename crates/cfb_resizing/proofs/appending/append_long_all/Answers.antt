@@ -1,18 +1,14 @@
-use Rattle.std.proofs.Common.{◌≡◌, ◌+◌, ◌≢◌, true, false, sym, ◌∙◌, ap, subst, length, arith}
+use Rattle.std.proofs.Common.{◌≡◌, ◌+◌, ◌≢◌, sym, ◌∙◌, ap, subst, length, arith}
 use Rattle.std.specs.Prelude.{IsTrue}
 use Rattle.std.proofs.lemmas.Result.{err_from_is_err_and}
-use Rattle.cfb_format.specs.declared.validate.Validation.{Validation}
-use Rattle.cfb_directory.specs.Growing.{ArePlaced}
-use Rattle.cfb_directory.proofs.Placed.{held_places}
-use Rattle.cfb_mini_sectors.specs.State.{HoldsMini}
 use Rattle.cfb_content.specs.Contents.{IsNotChangeable, IsTooLongFor, len_of}
 use Rattle.cfb_content.specs.Laws.{LacksNumbersFor}
 use Rattle.cfb_content.proofs.Fullness.{lack-is-too-long}
 use Rattle.cfb_content.proofs.Changed.{moves-same, spares-same}
-use Rattle.cfb_content.proofs.Refusals.{invalid-refused, refused-as}
+use Rattle.cfb_content.proofs.Refusals.{refused-as}
 use Rattle.cfb_content.proofs.StreamEntry.{stream-inside}
 use Rattle.cfb_chains.proofs.ChainLists.{on_err}
-use Rattle.cfb_resizing.proofs.Appended.{err-both, err-then, still-of}
+use Rattle.cfb_resizing.proofs.Appended.{err-both}
 use Rattle.cfb_resizing.proofs.CanGrow.{refused-lacks}
 use Rattle.cfb_resizing.proofs.Named.{around-moves}
 use Rattle.cfb_resizing.proofs.TakenRest.{begun-or-full}
@@ -20,23 +16,6 @@ use Rattle.cfb_resizing.proofs.appending.append_long_all.Goals as goal
 
 pub content_in-len-requires : goal.content_in-len-requires
 content_in-len-requires g c = record { inside = stream-inside c.args.mini.now c.args.entry c.requires.stream }
-
--- ---- no slot for each entry
-
-pub returns-then-not-is_placed-clause-moves : goal.returns-then-not-is_placed-clause-moves
-returns-then-not-is_placed-clause-moves g c = moves-same c.args.mini.now c.args.entry
-
-pub returns-then-not-is_placed-clause-spares : goal.returns-then-not-is_placed-clause-spares
-returns-then-not-is_placed-clause-spares g c told = spares-same c.args.mini.now c.args.entry
-
-pub returns-then-not-is_placed-clause-err : goal.returns-then-not-is_placed-clause-err
-returns-then-not-is_placed-clause-err g c =
-    let s = c.args.mini.now in
-    let none : IsTrue g.F.ReadMedium.tells → IsNotChangeable s = λ told v change.
-    (let placed : IsTrue c.is_placed.result = c.is_placed.ensures.1 (subst ArePlaced (sym c.directory.ensures) (held_places v s.directory change.held.directory)) in
-    let clash : true ≡ false = sym placed ∙ c.if-not-is_placed.true in cc) in
-    let Long = (validation : Validation) → HoldsMini validation s → IsTooLongFor s c.args.entry (len_of s c.args.entry + length c.args.bytes.now) in
-    invalid-refused (IsTrue g.F.ReadMedium.tells → IsNotChangeable s) (Unit {0}) Long (Unit {0}) c.unplaced.result c.unplaced.ensures none
 
 -- ---- a length that can be had
 
@@ -48,9 +27,6 @@ returns-in_err-fits-clause-moves g c = moves-same c.args.mini.now c.args.entry
 
 pub returns-in_err-fits-clause-spares : goal.returns-in_err-fits-clause-spares
 returns-in_err-fits-clause-spares g c told = spares-same c.args.mini.now c.args.entry
-
-pub append_in_sectors-requires-clause-placed : goal.append_in_sectors-requires-clause-placed
-append_in_sectors-requires-clause-placed g c = subst ArePlaced c.directory.ensures (c.is_placed.ensures.0 c.if-not-is_placed.false)
 
 pub append_in_sectors-requires-clause-enough : goal.append_in_sectors-requires-clause-enough
 append_in_sectors-requires-clause-enough g c =
@@ -64,20 +40,16 @@ append_in_sectors-requires-clause-enough g c =
 pub returns-then-fits-clause-refused : goal.returns-then-fits-clause-refused
 returns-then-fits-clause-refused g c told v held =
     err-both c.append_in_sectors.result
-    (λ e stops why. begun-or-full c.args.mini.now c.append_in_sectors.new.mini (IsNotChangeable c.args.mini.now) ⊥ e (λ no. no) stops why)
-    c.append_in_sectors.ensures.refused c.append_in_sectors.ensures.err
-
-pub returns-then-fits-clause-still : goal.returns-then-fits-clause-still
-returns-then-fits-clause-still g c =
-    err-then c.append_in_sectors.result (λ e stops. still-of c.args.mini.now c.append_in_sectors.new.mini e stops) c.append_in_sectors.ensures.refused
+    (λ e stops why. begun-or-full c.args.mini.now c.append_in_sectors.new.mini (IsTrue g.F.ReadMedium.tells → IsNotChangeable c.args.mini.now) ⊥ e (λ no. no) stops why)
+    (c.append_in_sectors.ensures.refused told) c.append_in_sectors.ensures.err
 
 pub returns-then-fits-clause-err : goal.returns-then-fits-clause-err
 returns-then-fits-clause-err g c =
     on_err _ _ c.append_in_sectors.result
-    (λ e why. refused-as _ _ _ _ _ _ _ _ (λ bad told. bad) (λ u. u) (λ no. absurd no) (λ u. u) e why) c.append_in_sectors.ensures.err
+    (λ e why. refused-as _ _ _ _ _ _ _ _ (λ bad. bad) (λ u. u) (λ no. absurd no) (λ u. u) e why) c.append_in_sectors.ensures.err
 
 pub returns-then-fits-clause-stays_full : goal.returns-then-fits-clause-stays_full
-returns-then-fits-clause-stays_full g c told v change none = c.append_in_sectors.ensures.stays_full told v change none
+returns-then-fits-clause-stays_full g c told v change stays none = c.append_in_sectors.ensures.stays_full told v change stays none
 
 -- ---- one that can't
 

@@ -45,10 +45,13 @@ returns-then-is_empty-clause-spares g c told = spares-same c.args.mini.now c.arg
 pub returns-then-is_empty-clause-changed : goal.returns-then-is_empty-clause-changed
 returns-then-is_empty-clause-changed g c told = changed-same c.args.mini.now c.args.entry c.requires.stream
 
--- ---- it lies in sectors
+-- ---- it lies in sectors then
 
-pub returns-then-len-clause-stays_full : goal.returns-then-len-clause-stays_full
-returns-then-len-clause-stays_full g c told v change stays none = c.append_long_all.ensures.stays_full told v change none
+pub append_long_all-requires-clause-large : goal.append_long_all-requires-clause-large
+append_long_all-requires-clause-large g c = omega (arith, c.if-wanted.true, c.content_in-len.ensures.len)
+
+pub returns-then-wanted-clause-stays_full : goal.returns-then-wanted-clause-stays_full
+returns-then-wanted-clause-stays_full g c told v change stays none = c.append_long_all.ensures.stays_full told v change stays none
 
 -- ---- it cannot grow
 

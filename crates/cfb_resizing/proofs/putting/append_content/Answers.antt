@@ -1,6 +1,7 @@
 use Rattle.std.proofs.Common.{◌≡◌, ◌-◌, ◌+◌, List, sym, ◌∙◌, ap, subst, length, take, arith}
 use Rattle.std.proofs.lemmas.List.{length-take}
 use Rattle.std.proofs.lemmas.Result.{err_from_is_err_and}
+use Rattle.cfb_chains.proofs.ChainLists.{on_err}
 use Rattle.cfb_format.specs.DirectoryEntry.{Entry}
 use Rattle.cfb_format.specs.Medium.{written}
 use Rattle.cfb_format.specs.Siblings.{entry_at}
@@ -13,7 +14,7 @@ use Rattle.cfb_content.proofs.Readable.{whole-of}
 use Rattle.cfb_content.proofs.Refusals.{refused-as}
 use Rattle.cfb_content.proofs.StreamEntry.{stream-inside}
 use Rattle.cfb_content.proofs.Changed.{moves-same, spares-same, spares-behind}
-use Rattle.cfb_resizing.proofs.PutBehind.{appended, filed-entries, filed-sized, filed-tables, filed-used, filed-alone, still-begun}
+use Rattle.cfb_resizing.proofs.PutBehind.{appended, filed-entries, filed-sized, filed-tables, filed-used, filed-alone, still-begun, stops-behind, tight-then}
 use Rattle.cfb_resizing.proofs.Tightness.{leaves-less}
 use Rattle.cfb_resizing.proofs.SnugMinis.{filed-snug}
 use Rattle.cfb_resizing.proofs.putting.append_content.Goals as goal
@@ -31,6 +32,42 @@ returns-in_err-list-clause-spares g c told = spares-same c.args.mini.now c.args.
 
 pub returns-then-len-clause-stays_full : goal.returns-then-len-clause-stays_full
 returns-then-len-clause-stays_full g c told v change stays none = c.append_long.ensures.stays_full told v change none
+
+-- ---- it moves
+
+pub returns-in_err-moved-clause-moves : goal.returns-in_err-moved-clause-moves
+returns-in_err-moved-clause-moves g c = moves-same c.args.mini.now c.args.entry
+
+pub returns-in_err-moved-clause-spares : goal.returns-in_err-moved-clause-spares
+returns-in_err-moved-clause-spares g c told = spares-same c.args.mini.now c.args.entry
+
+pub returns-in_err-moved-clause-err : goal.returns-in_err-moved-clause-err
+returns-in_err-moved-clause-err g c =
+    let p = err_from_is_err_and c.from_residual.result c.from_residual.ensures.1 in
+    rw (p.1, p.2) (refused-as _ _ _ _ _ _ _ _ (λ bad told. bad) (λ u. u) (λ no. absurd no) (λ no. absurd no) c.in_err-moved.field-0.0 c.in_err-moved.ensures.err)
+
+pub append_up_to-requires-clause-longer : goal.append_up_to-requires-clause-longer
+append_up_to-requires-clause-longer g c =
+    let within = c.in_ok-moved.ensures.within c.if-moved-gt0.true in
+    omega (arith, within.0, c.if-len.false, c.content_in-len.ensures.len)
+
+pub append_up_to-requires-clause-within : goal.append_up_to-requires-clause-within
+append_up_to-requires-clause-within g c =
+    let within = c.in_ok-moved.ensures.within c.if-moved-gt0.true in
+    omega (arith, within.1, c.content_in-len.ensures.len)
+
+pub append_up_to-requires-clause-large : goal.append_up_to-requires-clause-large
+append_up_to-requires-clause-large g c = (c.in_ok-moved.ensures.within c.if-moved-gt0.true).0
+
+pub append_up_to-requires-clause-enough : goal.append_up_to-requires-clause-enough
+append_up_to-requires-clause-enough g c = c.in_ok-moved.ensures.enough c.if-moved-gt0.true
+
+pub returns-then-moved-gt0-clause-err : goal.returns-then-moved-gt0-clause-err
+returns-then-moved-gt0-clause-err g c =
+    on_err _ _ c.append_up_to.result (λ e why. refused-as _ _ _ _ _ _ _ _ (λ bad. bad) (λ u. u) (λ no. absurd no) (λ u. u) e why) c.append_up_to.ensures.err
+
+pub returns-then-moved-gt0-clause-stays_full : goal.returns-then-moved-gt0-clause-stays_full
+returns-then-moved-gt0-clause-stays_full g c told v change stays none = c.append_up_to.ensures.stays_full told v change stays none
 
 -- ---- it has grown
 
@@ -52,6 +89,17 @@ returns-in_err-write_listed-clause-err g c =
     let p = err_from_is_err_and c.from_residual-in_err-write_listed.result c.from_residual-in_err-write_listed.ensures.1 in
     rw (p.1, p.2) (refused-as _ _ _ _ _ _ _ _ (λ bad told v change. bad v ((c.in_ok-grown.ensures.changed told).holds v change)) (λ u. u) (λ no. absurd no) (λ u. u)
     c.in_err-write_listed.field-0.0 c.in_err-write_listed.ensures.err)
+
+pub returns-in_err-write_listed-clause-refused : goal.returns-in_err-write_listed-clause-refused
+returns-in_err-write_listed-clause-refused g c told v held =
+    let p = err_from_is_err_and c.from_residual-in_err-write_listed.result c.from_residual-in_err-write_listed.ensures.1 in
+    rw (p.1, p.2) (stops-behind c.args.mini.now c.grow_content.new.mini c.write_listed.new.mini c.in_err-write_listed.field-0.0 c.in_ok-grown.ensures.begun
+    c.in_err-write_listed.ensures.refused c.in_err-write_listed.ensures.err)
+
+pub returns-clause-tight : goal.returns-clause-tight
+returns-clause-tight g c =
+    tight-then c.args.mini.now c.grow_content.new.mini c.write_listed.new.mini c.in_ok-grown.ensures.tight
+    (filed-tables c.grow_content.new.mini c.write_listed.new.mini c.in_ok-write_listed.ensures.rest)
 
 pub returns-clause-content : goal.returns-clause-content
 returns-clause-content g c told v change =

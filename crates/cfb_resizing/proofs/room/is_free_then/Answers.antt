@@ -2,8 +2,8 @@ use Rattle.std.proofs.Common.{◌≡◌, ◌≢◌, ◌∙◌, Bool, sym, subst,
 use Rattle.std.specs.Prelude.{◌↔◌, IsTrue}
 use Rattle.cfb_format.specs.Bytes.{free_sector}
 use Rattle.cfb_format.specs.Chain.{value}
+use Rattle.cfb_format.specs.Full.{freed}
 use Rattle.cfb_tables.proofs.Members.{value-at}
-use Rattle.cfb_content.specs.Room.{freed}
 use Rattle.cfb_content.proofs.Freed.{free-now, searched-free}
 use Rattle.cfb_resizing.proofs.room.is_free_then.Goals as goal
 

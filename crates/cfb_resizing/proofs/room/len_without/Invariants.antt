@@ -1,7 +1,7 @@
 use Rattle.std.proofs.Common.{◌≡◌, ℕ, ◌<◌, ◌≤◌, length}
 use Rattle.cfb_format.specs.Bytes.{free_sector}
 use Rattle.cfb_format.specs.Chain.{value}
-use Rattle.cfb_content.specs.Room.{freed}
+use Rattle.cfb_format.specs.Full.{freed}
 use Rattle.cfb_resizing.proofs.room.len_without.Given as goal
 
 abbrev pub invariant-loop-len : goal.invariant-loop-len

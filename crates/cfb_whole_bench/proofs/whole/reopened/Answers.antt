@@ -1,6 +1,6 @@
 use Rattle.std.proofs.Common.{refl}
 use Rattle.cfb_whole_bench.proofs.Reopened.{opened_if, refused_if}
-use Rattle.cfb_whole_bench.proofs.MadeBytes.{kept_bytes}
+use Rattle.cfb_whole_bench.proofs.MadeBytes.{kept_bytes, kept_failures}
 use Rattle.cfb_whole_bench.proofs.whole.reopened.Goals as goal
 
 pub returns-clause-ok : goal.returns-clause-ok
@@ -16,3 +16,7 @@ returns-clause-refused g c version tree is =
 pub returns-clause-bytes : goal.returns-clause-bytes
 returns-clause-bytes g c =
     kept_bytes c.into_inner.result.bytes _ c.into_inner.result.failures _ c.open.result c.into_inner.ensures.bytes (c.open.ensures.answers refl)
+
+pub returns-clause-failures : goal.returns-clause-failures
+returns-clause-failures g c =
+    kept_failures c.into_inner.result.bytes _ _ _ c.open.result c.into_inner.ensures.failures (c.open.ensures.answers refl)

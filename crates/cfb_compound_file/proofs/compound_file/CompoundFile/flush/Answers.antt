@@ -1,4 +1,5 @@
 use Rattle.std.proofs.Common.{sym, ◌∙◌}
+use Rattle.cfb_path_changes.proofs.Refusing.{unchanged_setting}
 use Rattle.cfb_compound_file.proofs.StoredStreams.{agrees_with_flags}
 use Rattle.cfb_compound_file.proofs.WritesOut.{flush-on-failed, flush-refused, flush-served}
 use Rattle.cfb_compound_file.proofs.compound_file.CompoundFile.flush.Goals as goal
@@ -17,3 +18,9 @@ pub returns-clause-refused : goal.returns-clause-refused
 returns-clause-refused g c = rw (← c.self.view_is)
     (λ told. flush-refused g.F.Medium.write_faults c.self.inside.volume c.flush.new.self c.flush.result (sym c.is_failed.ensures ∙ c.if-is_failed.false)
     c.flush.ensures.setting (c.flush.ensures.rest told) c.flush.ensures.failed c.flush.ensures.err (c.flush.ensures.counts told))
+
+pub returns-then-is_failed-clause-setting : goal.returns-then-is_failed-clause-setting
+returns-then-is_failed-clause-setting g c = unchanged_setting c.args.self.now
+
+pub returns-clause-setting : goal.returns-clause-setting
+returns-clause-setting g c = rw (← c.self.view_is) c.flush.ensures.setting

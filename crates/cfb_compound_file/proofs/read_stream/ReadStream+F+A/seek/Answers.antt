@@ -1,5 +1,5 @@
 use Rattle.std.proofs.Common.{refl}
-use Rattle.cfb_compound_file.proofs.StreamCalls.{refused_as, settles_none}
+use Rattle.cfb_compound_file.proofs.StreamCalls.{never_counted, refused_as, settles_none}
 use Rattle.cfb_compound_file.proofs.read_stream.ReadStream+F+A.seek.Goals as goal
 
 pub invariant_of-self : goal.invariant_of-self
@@ -10,6 +10,9 @@ returns-clause-runs g c = λ told. c.seek.ensures.runs (record { told = told; su
 
 pub returns-clause-refused : goal.returns-clause-refused
 returns-clause-refused g c = λ told. refused_as _ _ c.seek.result (c.seek.ensures.refused (record { told = told; suits = c.args.self.now.is_open told })) (λ e why. why.rules)
+
+pub returns-clause-counts : goal.returns-clause-counts
+returns-clause-counts g c = λ told. never_counted _ c.seek.result _ c.seek.ensures.kinds
 
 pub returns-clause-buffers : goal.returns-clause-buffers
 returns-clause-buffers g c = record {

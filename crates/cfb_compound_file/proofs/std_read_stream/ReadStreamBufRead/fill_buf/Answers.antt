@@ -1,10 +1,11 @@
-use Rattle.std.proofs.Common.{false, refl}
+use Rattle.std.proofs.Common.{◌≤◌, false, inl, refl, arith}
 use Rattle.cfb_std_streams.proofs.Knowing.{lent_ahead, lent_end, lent_front, lent_keeps, lent_unfailed, nothing_said, rest_stays}
 use Rattle.cfb_compound_file.specs.Stored.{stored_of}
 use Rattle.cfb_compound_file.specs.StdStreams.{rest_to_read}
 use Rattle.cfb_compound_file.specs.StreamAnswers.{causes_of_reading, open_stream_of}
 use Rattle.cfb_compound_file.proofs.StdStreams.{same_failed}
-use Rattle.cfb_compound_file.proofs.StreamCalls.{stays_or_fails}
+use Rattle.cfb_compound_file.proofs.StoredStreams.{reads_change}
+use Rattle.cfb_compound_file.proofs.StreamCalls.{goes_on_by, stays_or_fails}
 use Rattle.cfb_rules.specs.StreamCalls.{fill_buf}
 use Rattle.cfb_compound_file.proofs.std_read_stream.ReadStreamBufRead.fill_buf.Goals as goal
 
@@ -15,7 +16,21 @@ returns-in-Ok g c =
     (λ told. old.is_open told) (λ _ _. refl) c.rest.result.now _ c.rest.ensures (λ told. c.in-Ok.ensures.runs (record { told = told; suits = old.is_open told })) in
     let ahead = lent_ahead g.F.ReadMedium.tells (causes_of_reading old.file.now c.fill.new.content) (stored_of old.file.now old.entry) (stored_of c.fill.new.content old.entry) old.window c.fill.new.self false false
     (λ told. old.is_open told) (λ _ _. refl) c.rest.result.now _ c.rest.ensures (λ told. c.in-Ok.ensures.runs (record { told = told; suits = old.is_open told })) in (
-      (refl, (λ _. tt), (keeps, ahead)),
+      (
+        refl,
+        (λ _. tt),
+        (
+          (keeps, ahead),
+          record {
+            same_file = refl;
+            runs = λ told. rw c.rest.ensures (c.in-Ok.ensures.runs (record { told = told; suits = old.is_open told }));
+            goes_on = goes_on_by _ _ _ refl c.fill.ensures.bound (λ told. reads_change _ _ _ (c.fill.ensures.around told).kept);
+            counts = λ told. (c.in-Ok.ensures.around told).counts;
+            kept = λ told. (c.fill.ensures.around told).kept;
+            buffers = record { held = c.fill.ensures.held; grown = λ _. c.fill.ensures.grown; straight = λ (many : 65536 ≤ 0). absurd (omega (arith, many)); lean = c.fill.ensures.lean; settles = λ told. inl (c.in-Ok.ensures.around told).same };
+          },
+        ),
+      ),
       record {
         front = lent_front g.F.ReadMedium.tells (causes_of_reading old.file.now c.fill.new.content) (stored_of old.file.now old.entry) (stored_of c.fill.new.content old.entry) old.window c.fill.new.self false false
             (λ told. old.is_open told) (λ _ _. refl) c.rest.result.now _ c.rest.ensures (λ told. c.in-Ok.ensures.runs (record { told = told; suits = old.is_open told }));
@@ -36,7 +51,25 @@ returns-in-Err g c =
     (λ told. old.is_open told) (λ _ _. refl) fill_buf
     (λ told _. same_failed old.file.now c.fill.new.content (c.fill.ensures.around told).kept)
     (λ told. (let why = (c.in-Err.ensures.refused (record { told = told; suits = old.is_open told })).rules in (why.0, why.2))) in (
-      (refl, (λ _. tt), (keeps, nothing_said known)),
+      (
+        refl,
+        (λ _. tt),
+        (
+          (keeps, nothing_said known),
+          record {
+            same_file = refl;
+            runs = λ told. (let why = c.in-Err.ensures.refused (record { told = told; suits = old.is_open told }) in (
+              c.in-Err.error,
+              c.std_error.ensures,
+              record { rules = why.rules; stops = why.stops; stays = stays_or_fails _ _ (λ _. (c.in-Err.ensures.around told).kept); untouched = why.untouched; counts = (c.in-Err.ensures.around told).counts },
+            ));
+            goes_on = goes_on_by _ _ _ refl c.fill.ensures.bound (λ told. reads_change _ _ _ (c.fill.ensures.around told).kept);
+            counts = λ told. tt;
+            kept = λ told. (c.fill.ensures.around told).kept;
+            buffers = record { held = c.fill.ensures.held; grown = λ _. c.fill.ensures.grown; straight = λ (many : 65536 ≤ 0). absurd (omega (arith, many)); lean = c.fill.ensures.lean; settles = λ told. tt };
+          },
+        ),
+      ),
       record {
         front = nothing_said known;
         end = nothing_said known;

@@ -1,10 +1,11 @@
-use Rattle.std.proofs.Common.{refl}
+use Rattle.std.proofs.Common.{◌≤◌, refl, arith}
 use Rattle.cfb_std_streams.proofs.Knowing.{calm_then, lent_ahead, lent_end, lent_from, lent_front, lent_keeps, lent_unfailed, nothing_said, rest_stays}
 use Rattle.cfb_compound_file.specs.Stored.{stored_of}
 use Rattle.cfb_compound_file.specs.StdStreams.{rest_in}
 use Rattle.cfb_compound_file.specs.StreamAnswers.{open_stream_of}
 use Rattle.cfb_compound_file.proofs.StdStreams.{same_failed}
-use Rattle.cfb_compound_file.proofs.StreamCalls.{stays_or_fails}
+use Rattle.cfb_compound_file.proofs.StoredStreams.{changed_once}
+use Rattle.cfb_compound_file.proofs.StreamCalls.{goes_on_by, stays_or_fails}
 use Rattle.cfb_rules.specs.StreamCalls.{fill_buf}
 use Rattle.cfb_path_changes.specs.Answers.{causes_of}
 use Rattle.cfb_compound_file.proofs.std_stream.StreamBufRead.fill_buf.Goals as goal
@@ -16,7 +17,21 @@ returns-in-Ok g c =
     old.window.pending c.fill.new.self.pending (λ told. old.is_open told) (calm_then old.window.pending c.fill.new.self.pending) c.rest.result.now _ c.rest.ensures (λ told. c.in-Ok.ensures.runs (record { told = told; suits = old.is_open told })) in
     let ahead = lent_ahead g.F.ReadMedium.tells (causes_of old.file.now c.fill.new.content) (stored_of old.file.now old.entry) (stored_of c.fill.new.content old.entry) old.window c.fill.new.self
     old.window.pending c.fill.new.self.pending (λ told. old.is_open told) (calm_then old.window.pending c.fill.new.self.pending) c.rest.result.now _ c.rest.ensures (λ told. c.in-Ok.ensures.runs (record { told = told; suits = old.is_open told })) in (
-      (refl, (λ _. tt), (keeps, ahead)),
+      (
+        refl,
+        (λ _. tt),
+        (
+          (keeps, ahead),
+          record {
+            same_file = refl;
+            runs = λ told. rw c.rest.ensures (c.in-Ok.ensures.runs (record { told = told; suits = old.is_open told }));
+            goes_on = goes_on_by _ _ _ refl c.fill.ensures.bound (λ told. changed_once _ _ _ (c.fill.ensures.around told).others (c.fill.ensures.around told).tight);
+            counts = λ told. (c.in-Ok.ensures.around told).counts;
+            calm = λ told calm. (c.fill.ensures.calm told calm).kept;
+            buffers = record { held = c.fill.ensures.held; grown = λ _. c.fill.ensures.grown; straight = λ (many : 65536 ≤ 0). absurd (omega (arith, many)); lean = c.fill.ensures.lean; settles = λ told. c.in-Ok.ensures.settles (record { told = told; suits = old.is_open told }) };
+          },
+        ),
+      ),
       record {
         front = lent_front g.F.ReadMedium.tells (causes_of old.file.now c.fill.new.content) (stored_of old.file.now old.entry) (stored_of c.fill.new.content old.entry) old.window c.fill.new.self
             old.window.pending c.fill.new.self.pending (λ told. old.is_open told) (calm_then old.window.pending c.fill.new.self.pending) c.rest.result.now _ c.rest.ensures (λ told. c.in-Ok.ensures.runs (record { told = told; suits = old.is_open told }));
@@ -39,7 +54,25 @@ returns-in-Err g c =
     old.window.pending c.fill.new.self.pending (λ told. old.is_open told) (calm_then old.window.pending c.fill.new.self.pending) fill_buf
     (λ told calm. same_failed old.file.now c.fill.new.content (c.fill.ensures.calm told calm).kept)
     (λ told. (let why = (c.in-Err.ensures.refused (record { told = told; suits = old.is_open told })).rules in (why.0, why.2))) in (
-      (refl, (λ _. tt), (keeps, nothing_said known)),
+      (
+        refl,
+        (λ _. tt),
+        (
+          (keeps, nothing_said known),
+          record {
+            same_file = refl;
+            runs = λ told. (let why = c.in-Err.ensures.refused (record { told = told; suits = old.is_open told }) in (
+              c.in-Err.error,
+              c.std_error.ensures,
+              record { rules = why.rules; stops = why.stops; stays = stays_or_fails _ _ (c.in-Err.ensures.around told).stays; untouched = why.untouched; counts = (c.in-Err.ensures.around told).counts },
+            ));
+            goes_on = goes_on_by _ _ _ refl c.fill.ensures.bound (λ told. changed_once _ _ _ (c.fill.ensures.around told).others (c.fill.ensures.around told).tight);
+            counts = λ told. tt;
+            calm = λ told calm. (c.fill.ensures.calm told calm).kept;
+            buffers = record { held = c.fill.ensures.held; grown = λ _. c.fill.ensures.grown; straight = λ (many : 65536 ≤ 0). absurd (omega (arith, many)); lean = c.fill.ensures.lean; settles = λ told. tt };
+          },
+        ),
+      ),
       record {
         front = nothing_said known;
         end = nothing_said known;

@@ -1,4 +1,4 @@
-use Rattle.std.proofs.Common.{◌≡◌, ◌≤◌, ◌+◌, false, sym, ◌∙◌, ap, subst, length}
+use Rattle.std.proofs.Common.{◌≡◌, ◌<◌, ◌≤◌, ◌+◌, false, sym, ◌∙◌, ap, subst, length, arith}
 use Rattle.std.specs.Prelude.{IsTrue}
 use Rattle.std.proofs.lemmas.Result.{err_from_is_err_and}
 use Rattle.cfb_format.specs.declared.validate.Validation.{Validation}
@@ -12,8 +12,9 @@ use Rattle.cfb_mini_sectors.specs.Steps.{KeepsLimits}
 use Rattle.cfb_content.specs.Contents.{IsNotChangeable, IsStreamOf, IsTooLongFor, MovesContent, len_of}
 use Rattle.cfb_resizing.specs.Turning.{LeavesNoMinis}
 use Rattle.cfb_agreement.specs.Changes.{ChangesOneContent}
-use Rattle.cfb_agreement.specs.Files.{FileState, Holds, SameSetting}
+use Rattle.cfb_agreement.specs.Files.{EmptyStartAtEnd, FileState, Holds, SameSetting}
 use Rattle.cfb_volume.proofs.ContentSteps.{WasRefused, WentWell, ended, ended-changes, ended-entries, ended-holds, ended-same, ended-setting, ended-stream, file_on, refused-agrees, refused-changes, refused-setting, refused-stays, refused-stream}
+use Rattle.cfb_volume.proofs.EmptyStreams.{put-in-at-end}
 use Rattle.cfb_volume.proofs.Refusals.{append-break, why-full}
 use Rattle.cfb_volume.proofs.volume.Volume.append.Goals as goal
 
@@ -97,8 +98,12 @@ changed : (g : _) (c : goal.After-end_change g) → IsTrue g.F.ReadMedium.tells 
 changed g c told =
     let e = c.append_all.ensures in
     let ok = c.in_ok-append_all.ensures in
+    let s = c.self.inside.mini in
+    let i = c.args.entry in
+    let longer : 0 < length c.args.bytes.now → 0 < len_of c.append_all.new.mini i = λ more. let len = ok.len in omega (arith, len, more) in
+    let at-end = λ (at : IsStreamOf s i) (all : EmptyStartAtEnd s). put-in-at-end s c.append_all.new.mini i (length c.args.bytes.now) longer (λ none. ap entries_of (ok.none none).1) (all i at) in
     subst (λ (f : FileState). IsStreamOf f.base c.args.entry → WentWell f.base c.append_all.new.mini c.args.entry) c.self.view_is
-    (λ at. record { stream = at; moves = e.moves; spares = e.spares told; changed = ok.changed told; tight = ok.tight }) c.requires.stream
+    (λ at. record { stream = at; moves = e.moves; spares = e.spares told; changed = ok.changed told; tight = ok.tight; at_end = at-end at }) c.requires.stream
 
 pub returns-clause-stream : goal.returns-clause-stream
 returns-clause-stream g c =
