@@ -26,11 +26,12 @@ use Rattle.cfb_objects.proofs.Fields.{content-changes-in-place}
 use Rattle.cfb_mini_sectors.specs.State.{IsChangeable, MiniState, bytes_of, cases_of, content_of, entries_of, reading_of}
 use Rattle.cfb_mini_sectors.specs.Steps.{KeepsLimits}
 use Rattle.cfb_mini_sectors.proofs.HeldMini.{held-mini-is-read}
-use Rattle.cfb_content.specs.Contents.{IsStreamOf, KeepsOthers, MovesContent, len_of}
+use Rattle.cfb_content.specs.Changed.{StaysTidy}
+use Rattle.cfb_content.specs.Contents.{IsStreamOf, KeepsOthers, MovesContent, dir_count_of, len_of}
 use Rattle.cfb_content.proofs.Apart.{content-is}
 use Rattle.cfb_content.proofs.Outlines.{moved-at, moved-is-outline, no-root-stream, stream-is-no-root, stream-stays}
 use Rattle.cfb_content.proofs.Readable.{kept-is-readable}
-use Rattle.cfb_agreement.specs.Files.{EmptyStartAtEnd, FileState, Holds, SameSetting}
+use Rattle.cfb_agreement.specs.Files.{EmptyStartAtEnd, FileState, Holds, IsCounted, IsTidy, SameSetting}
 use Rattle.cfb_agreement.specs.Laws.{ContentBecomesTree, ContentKeepsMade, ContentKeepsStream}
 use Rattle.cfb_agreement.proofs.HeldBytes.{tree-is}
 
@@ -131,13 +132,26 @@ moved-starts-at-end old new i limits moves at own all k now empty = elim (cases_
       ap (λ (e : Entry). e.start_sector) same ∙ all k there (sym (ap (λ (e : Entry). e.stream_len) same) ∙ empty)
 ]
 
+-- the header counts the directory's sectors still where it has those that it had
+pub same-counted : (old new : MiniState) → KeepsLimits old new → new.directory.sectors ≡ old.directory.sectors → dir_count_of new ≡ dir_count_of old
+    → IsCounted old → IsCounted new
+same-counted old new limits sectors count counted four = count ∙ counted (sym limits.version ∙ four) ∙ ap (λ (l : List ℕ). length l) (sym sectors)
+
+pub stays-tidy : (old new : MiniState) → KeepsLimits old new → new.directory.sectors ≡ old.directory.sectors → StaysTidy old new → EmptyStartAtEnd new
+    → IsTidy old → IsTidy new
+stays-tidy old new limits sectors stays ended was = record {
+  whole = stays.whole was.whole;
+  counted = same-counted old new limits sectors stays.counted was.counted;
+  ended = ended;
+}
+
 pub content-keeps-made : ContentKeepsMade
-content-keeps-made i old new limits moves stream made change used exact snug snug_mini empty = record {
+content-keeps-made i old new moves stream made change tidy used exact snug snug_mini empty = record {
   changeable = change;
+  tidy = stays-tidy old new moves.limits moves.directory tidy (moved-starts-at-end old new i moves.limits moves.entries stream empty made.tidy.ended) made.tidy;
   used = used;
   exact = exact;
   snug = snug;
   snug_mini = snug_mini;
-  ended = moved-starts-at-end old new i limits moves stream empty made.ended;
-  balanced = moved-is-balanced old new i limits moves stream made.balanced;
+  balanced = moved-is-balanced old new i moves.limits moves.entries stream made.balanced;
 }

@@ -1,29 +1,30 @@
--- Neither the flag of a change that was begun nor the count of failures is read where it is said what a file holds.
-use Rattle.std.proofs.Common.{◌≡◌, ℕ, List, Bool, ◌∙◌, ap}
+-- Of what is kept of the medium bytes and length alone are read where it is said what a file holds, neither the flag of a change that was begun nor
+-- the count of failures; nor is the limit of sectors.
+use Rattle.std.proofs.Common.{◌≡◌, ℕ, List, Bool, ◌∙◌, ap, length}
 use Rattle.cfb_format.specs.declared.validate.Validation.{Validation}
 use Rattle.cfb_format.specs.declared.validate.Validation.TheVariants.{Permissive, Strict}
 use Rattle.cfb_format.specs.Header.{IfStrict}
-use Rattle.cfb_alloc.specs.Alloc.{HoldsTables}
+use Rattle.cfb_alloc.specs.Alloc.{AllocatorState, HoldsTables}
 use Rattle.cfb_directory.specs.State.{HoldsDirectory}
 use Rattle.cfb_mini_sectors.specs.Held.{with_table}
-use Rattle.cfb_mini_sectors.specs.State.{HoldsMini, IsChangeable, IsStrictMini, MiniState, table_of}
+use Rattle.cfb_mini_sectors.specs.State.{HoldsMini, IsChangeable, IsStrictMini, MiniState, bytes_of, table_of, tables_in}
 use Rattle.cfb_agreement.specs.Files.{IsAsMade, failures_of, is_failed}
 use Rattle.cfb_agreement.specs.Laws.{AsBeforeIsSame, FlagsAreNotMade, FlagsAreNotRead}
 
--- the same with this count of failures, and with a change begun or not
-abbrev pub flagged : MiniState → ℕ → Bool → MiniState
-flagged s n b = with_table s (record (table_of s) { file = record (table_of s).file { failures = n; begun = b } })
+-- the same with what this allocator keeps of a medium of the same bytes, and with its limit of sectors
+abbrev pub over : MiniState → AllocatorState → MiniState
+over s a = with_table s (record { file = record a.file { bytes = bytes_of s }; tables = record (tables_in s) { max_sectors = a.tables.max_sectors } })
 
-module _ (s : MiniState) (n : ℕ) (b : Bool) where
-  tables-flagged : (v : Validation) → HoldsTables v (table_of s) → HoldsTables v (table_of (flagged s n b))
-  tables-flagged v t = record {
-    holds = record { measured = t.holds.measured; listed = t.holds.listed; agrees = t.holds.agrees; strict = t.holds.strict; apart = t.holds.apart };
+module _ (s : MiniState) (a : AllocatorState) (measured : a.file.len ≡ length (bytes_of s)) where
+  tables-over : (v : Validation) → HoldsTables v (table_of s) → HoldsTables v (table_of (over s a))
+  tables-over v t = record {
+    holds = record { measured = measured; listed = t.holds.listed; agrees = t.holds.agrees; strict = t.holds.strict; apart = t.holds.apart };
     clean = t.clean;
   }
 
-  directory-flagged : (v : Validation) → HoldsDirectory v s.directory → HoldsDirectory v (flagged s n b).directory
-  directory-flagged v d = record {
-    tables = tables-flagged v d.tables;
+  directory-over : (v : Validation) → HoldsDirectory v s.directory → HoldsDirectory v (over s a).directory
+  directory-over v d = record {
+    tables = tables-over v d.tables;
     sizes = d.sizes;
     chain = d.chain;
     some = d.some;
@@ -36,13 +37,13 @@ module _ (s : MiniState) (n : ℕ) (b : Bool) where
     strict_header = d.strict_header;
   }
 
-  strict-flagged : (v : Validation) → IfStrict v (IsStrictMini s) → IfStrict v (IsStrictMini (flagged s n b))
-  strict-flagged Permissive m = tt
-  strict-flagged Strict m = record { minifat_len = m.minifat_len; minifat_count = m.minifat_count }
+  strict-over : (v : Validation) → IfStrict v (IsStrictMini s) → IfStrict v (IsStrictMini (over s a))
+  strict-over Permissive m = tt
+  strict-over Strict m = record { minifat_len = m.minifat_len; minifat_count = m.minifat_count }
 
-  mini-flagged : (v : Validation) → HoldsMini v s → HoldsMini v (flagged s n b)
-  mini-flagged v m = record {
-    directory = directory-flagged v m.directory;
+  mini-over : (v : Validation) → HoldsMini v s → HoldsMini v (over s a)
+  mini-over v m = record {
+    directory = directory-over v m.directory;
     limit = m.limit;
     first = m.first;
     chain = m.chain;
@@ -52,17 +53,22 @@ module _ (s : MiniState) (n : ℕ) (b : Bool) where
     clean = m.clean;
     mini_stream = record { sectors = m.mini_stream.sectors; kept = m.mini_stream.kept; chain = m.mini_stream.chain; room = m.mini_stream.room };
     apart = m.apart;
-    strict = strict-flagged v m.strict;
+    strict = strict-over v m.strict;
   }
 
-  pub changeable-flagged : (v : Validation) → IsChangeable v s → IsChangeable v (flagged s n b)
-  changeable-flagged v c = record { held = mini-flagged v c.held; sound = c.sound }
+  pub changeable-over : (v : Validation) → IsChangeable v s → IsChangeable v (over s a)
+  changeable-over v c = record { held = mini-over v c.held; sound = c.sound }
 
-  pub made-flagged : IsAsMade s → IsAsMade (flagged s n b)
-  made-flagged m = record {
-    changeable = changeable-flagged Strict m.changeable;
+  pub made-over : IsAsMade s → IsAsMade (over s a)
+  made-over m = record {
+    changeable = changeable-over Strict m.changeable;
+    tidy = record {
+      whole = m.tidy.whole;
+      counted = m.tidy.counted;
+      ended = λ k at. m.tidy.ended k (record { outline = at.outline; is = at.is; reached = at.reached });
+    };
     used = record { sectors = m.used.sectors; mini_sectors = m.used.mini_sectors };
-    exact = m.exact;
+    exact = record { fats = m.exact.fats; difats = m.exact.difats };
     snug = λ k at.
         let fits = m.snug k (record { outline = at.outline; is = at.is; reached = at.reached }) in
         record { sectors = fits.sectors; mini_sectors = fits.mini_sectors };
@@ -72,9 +78,24 @@ module _ (s : MiniState) (n : ℕ) (b : Bool) where
       mini_stream = m.snug_mini.mini_stream;
       start = m.snug_mini.start;
     };
-    ended = λ k at. m.ended k (record { outline = at.outline; is = at.is; reached = at.reached });
     balanced = m.balanced;
   }
+
+-- ---- the flags
+
+-- with this count of failures, and with a change begun or not
+abbrev pub table_flagged : MiniState → ℕ → Bool → AllocatorState
+table_flagged s n b = record (table_of s) { file = record (table_of s).file { failures = n; begun = b } }
+
+abbrev pub flagged : MiniState → ℕ → Bool → MiniState
+flagged s n b = with_table s (table_flagged s n b)
+
+module _ (s : MiniState) (n : ℕ) (b : Bool) where
+  pub changeable-flagged : (v : Validation) → IsChangeable v s → IsChangeable v (flagged s n b)
+  changeable-flagged v c = changeable-over s (table_flagged s n b) c.held.directory.tables.holds.measured v c
+
+  pub made-flagged : IsAsMade s → IsAsMade (flagged s n b)
+  made-flagged m = made-over s (table_flagged s n b) m.changeable.held.directory.tables.holds.measured m
 
 pub flags-not-read : FlagsAreNotRead
 flags-not-read file n b h = record {

@@ -1,4 +1,5 @@
 pub mod Flags
 pub mod HeldBytes
+pub mod Reopened
 pub mod ContentChanges
 pub mod InTurn

@@ -1,9 +1,11 @@
 -- What a file keeps in memory, and when that is what its bytes say.
-use Rattle.std.specs.Prelude.{ℕ, ◌≡◌, ◌<◌, ◌≤◌, Bool, true, false, length}
+use Rattle.std.specs.Prelude.{ℕ, ◌≡◌, ◌<◌, ◌≤◌, List, Bool, true, false, length}
 use Rattle.cfb_format.specs.declared.header.Header.{Header}
 use Rattle.cfb_format.specs.declared.validate.Validation.TheVariants.{Permissive, Strict}
+use Rattle.cfb_format.specs.declared.version.Version.TheVariants.{V4}
 use Rattle.cfb_format.specs.Bytes.{end_of_chain}
 use Rattle.cfb_format.specs.Full.{IsFull}
+use Rattle.cfb_format.specs.Names.{Cases}
 use Rattle.cfb_format.specs.Reading.{Outline, Reads}
 use Rattle.cfb_format.specs.Siblings.{entry_at}
 use Rattle.cfb_format.specs.Soundness.{IsSound}
@@ -12,8 +14,8 @@ use Rattle.cfb_tables.specs.Tables.{AreExactTables}
 use Rattle.cfb_trees.specs.Balance.{AreAllBalanced}
 use Rattle.cfb_mini_sectors.specs.State.{IsChangeable, MiniState, bytes_of, cases_of, entries_of, parts_of, reading_of, table_of, tables_in, version_of}
 use Rattle.cfb_mini_sectors.specs.Steps.{IsSnugMini, KeepsLimits}
-use Rattle.cfb_mini.specs.MiniSectors.{IsStill}
-use Rattle.cfb_content.specs.Contents.{AreAllUsed, AreSnug, IsStreamOf, TellsPlaces, len_of}
+use Rattle.cfb_mini.specs.MiniSectors.{IsStill, IsWhole}
+use Rattle.cfb_content.specs.Contents.{AreAllUsed, AreSnug, IsStreamOf, TellsPlaces, dir_count_of, len_of}
 
 -- what the layers below keep, whether the file is sound, and for how many bytes the buffer of a stream may have room
 pub record FileState : Type 0 where
@@ -48,22 +50,40 @@ Agrees file = is_failed file ≡ false → Holds file
 
 -- ---- files that were made here
 
+-- in version 4 the header counts exactly the directory's sectors (MS-CFB 2.2)
+abbrev pub IsCounted : MiniState → Type 0
+IsCounted s = version_of s ≡ V4 → dir_count_of s ≡ length s.directory.sectors
+
 -- an empty stream of the tree has no chain: it starts at END
 abbrev pub EmptyStartAtEnd : MiniState → Type 0
 EmptyStartAtEnd s = (k : ℕ) → IsStreamOf s k → len_of s k ≡ 0 → (entry_at (entries_of s) k).start_sector ≡ end_of_chain
 
--- what creation gives and each success keeps: the bytes are sound, and such as strict opening takes; each sector and each mini sector is
+-- what strict opening does not ask: the file is a whole number of sectors, the header counts the directory's exactly, and empty streams start at
+-- END
+pub record IsTidy (s : MiniState) : Type 0 where
+  pub whole : IsWhole (table_of s)
+  pub counted : IsCounted s
+  pub ended : EmptyStartAtEnd s
+
+-- what creation gives and each success keeps: the bytes are sound, and such as strict opening takes, and tidy; each sector and each mini sector is
 -- free or has an owner; the tables are as long as the file needs, and each stream's chain as long as its length needs, and so are the chains
--- of the MiniFAT and of the mini stream for the mini sectors that there are; empty streams start at END; and the siblings of each storage are
--- in balance
+-- of the MiniFAT and of the mini stream for the mini sectors that there are; and the siblings of each storage are in balance
 pub record IsAsMade (s : MiniState) : Type 0 where
   pub changeable : IsChangeable Strict s
+  pub tidy : IsTidy s
   pub used : AreAllUsed s
   pub exact : AreExactTables (tables_in s)
   pub snug : AreSnug s
   pub snug_mini : IsSnugMini s
-  pub ended : EmptyStartAtEnd s
   pub balanced : AreAllBalanced (cases_of s) (entries_of s)
+
+-- these are the bytes of such a file, which compares names by these letters
+pub record IsMadeFile (cases : Cases) (bytes : List ℕ) : Type 0 where
+  pub file : FileState
+  pub holds : Holds file
+  pub made : IsAsMade file.base
+  pub same_bytes : bytes_of file.base ≡ bytes
+  pub letters : cases_of file.base ≡ cases
 
 -- ---- what stays
 

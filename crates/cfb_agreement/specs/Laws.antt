@@ -16,9 +16,10 @@ use Rattle.cfb_objects.specs.Laws.{BecomesTree}
 use Rattle.cfb_objects.specs.Objects.{tree_from}
 use Rattle.cfb_mini_sectors.specs.Held.{with_table}
 use Rattle.cfb_mini_sectors.specs.State.{IsChangeable, MiniState, bytes_of, cases_of, content_of, entries_of, table_of, tables_in}
-use Rattle.cfb_mini_sectors.specs.Steps.{IsSnugMini, KeepsLimits}
+use Rattle.cfb_mini_sectors.specs.Steps.{IsSnugMini}
+use Rattle.cfb_content.specs.Changed.{MovesAlone, StaysTidy}
 use Rattle.cfb_content.specs.Contents.{AreAllUsed, AreSnug, IsStreamOf, KeepsOthers, MovesContent, len_of}
-use Rattle.cfb_agreement.specs.Files.{FileState, Holds, IsAsBefore, IsAsMade, SameSetting, failures_of, is_failed}
+use Rattle.cfb_agreement.specs.Files.{FileState, Holds, IsAsBefore, IsAsMade, IsMadeFile, SameSetting, failures_of, is_failed}
 use Rattle.cfb_agreement.specs.Changes.{ChangesOneContent, KeepsAllButContent}
 
 -- ---- what is held
@@ -56,6 +57,10 @@ HeldMeansItsTree = (file : FileState) (o : Outline) → Holds file → IsOutline
 abbrev pub SoundIsExact : Type 0
 SoundIsExact = (file : FileState) → Holds file → (file.is_sound ≡ true) ↔ IsSoundFile (cases_of file.base) (bytes_of file.base)
 
+-- it is as made exactly if they are those of a file that is: so one that was made here is as made again once it is opened from its bytes
+abbrev pub MadeIsExact : Type 0
+MadeIsExact = (file : FileState) → Holds file → IsAsMade file.base ↔ IsMadeFile (cases_of file.base) (bytes_of file.base)
+
 -- those of a file that was made here are what strict opening takes, each sector is free or has an owner, the tables are exact, and each
 -- storage's tree of siblings is low
 pub record IsInOrder (file : FileState) : Type 0 where
@@ -81,11 +86,11 @@ ContentBecomesTree = (old new : FileState) (i : ℕ) (o : Outline) (names : List
     → BecomesTree (cases_of old.base) (bytes_of old.base) (bytes_of new.base)
     (content_changed_at (cases_of old.base) (content_of new.base (entry_at (entries_of new.base) i)) names)
 
--- a file that was made here is so again, where the tables and the chains are in order, and the stream starts at END if it is empty: the
--- balance is kept
+-- a file that was made here is so again, where the tables and the chains are in order, the file stays tidy, and the stream starts at END if it
+-- is empty: the balance is kept
 abbrev pub ContentKeepsMade : Type 0
-ContentKeepsMade = (i : ℕ) (old new : MiniState) → KeepsLimits old new → MovesContent old new i → IsStreamOf old i → IsAsMade old
-    → IsChangeable Strict new → AreAllUsed new → AreExactTables (tables_in new) → AreSnug new → IsSnugMini new
+ContentKeepsMade = (i : ℕ) (old new : MiniState) → MovesAlone old new i → IsStreamOf old i → IsAsMade old
+    → IsChangeable Strict new → StaysTidy old new → AreAllUsed new → AreExactTables (tables_in new) → AreSnug new → IsSnugMini new
     → (len_of new i ≡ 0 → (entry_at (entries_of new) i).start_sector ≡ end_of_chain) → IsAsMade new
 
 -- the entry is a stream's still

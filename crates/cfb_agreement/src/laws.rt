@@ -1,5 +1,5 @@
 //! What follows from what a file keeps. None of these functions does anything: each has a law as its contract.
-ghost use Rattle.cfb_agreement.specs.Laws.{AsBeforeIsNone, AsBeforeIsSame, AsMadeIsInOrder, AsMadeIsLow, ChangeableIsHeld, ContentBecomesTree, ContentKeepsMade, ContentKeepsStream, ContentsInTurn, FlagsAreNotMade, FlagsAreNotRead, HeldMeansItsTree, OneChangeKeepsRest, RestIsKeptInTurn, SameContentIsNone, SoundIsExact};
+ghost use Rattle.cfb_agreement.specs.Laws.{AsBeforeIsNone, AsBeforeIsSame, AsMadeIsInOrder, AsMadeIsLow, ChangeableIsHeld, ContentBecomesTree, ContentKeepsMade, ContentKeepsStream, ContentsInTurn, FlagsAreNotMade, FlagsAreNotRead, HeldMeansItsTree, MadeIsExact, OneChangeKeepsRest, RestIsKeptInTurn, SameContentIsNone, SoundIsExact};
 
 /// What holds does not hang on whether a change was begun, nor on the count of failures.
 pub fn flags_are_not_read()
@@ -13,10 +13,12 @@ pub fn changeable_files_are_held()
     ensures { ChangeableIsHeld }
 {}
 
-/// What is held is the tree that the bytes mean, and whether they are sound; the bytes of a file that was made here are in order.
+/// What is held is the tree that the bytes mean, and whether they are sound, and whether they are those of a file that was made here; and
+/// these are in order.
 pub fn bytes_are_what_is_held()
     ensures means { HeldMeansItsTree }
     ensures sound { SoundIsExact }
+    ensures made { MadeIsExact }
     ensures in_order { AsMadeIsInOrder }
 {}
 

@@ -85,7 +85,7 @@ at_once can_give old call new e why = record {
 
 -- what every refused call promises
 pub in_turn : (can_give : MediumFault → Bool) (old : FileState) (call : Call) (new : FileState) (e : Error) → Refuses can_give old call new e → IsRefusedInTurn can_give old call new e
-in_turn can_give old (create_storage_all path moment) new e why = why
+in_turn can_give old (create_storage_all path moment) new e why = why.0
 in_turn can_give old call new e why = at_once can_give old call new e why
 
 -- a refusal is known by its number

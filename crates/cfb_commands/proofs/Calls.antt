@@ -7,7 +7,7 @@ use Rattle.cfb_format.specs.declared.medium.MediumFault.{MediumFault}
 use Rattle.cfb_format.specs.Refused.{CountsError}
 use Rattle.cfb_rules.specs.Calls.{Call, create_storage_all, done, flush}
 use Rattle.cfb_agreement.specs.Files.{FileState, failures_of}
-use Rattle.cfb_path_changes.specs.Answers.{IsDoneBy, IsRefusedBy}
+use Rattle.cfb_path_changes.specs.Answers.{IsDoneBy, IsRefusedBy, LacksRoomOnTheWay}
 use Rattle.cfb_path_changes.specs.Calls.{CallAnswers, CallAnswersInTurn}
 use Rattle.cfb_commands.specs.Promised.{CallKeeps, Changes, Refuses}
 use Rattle.cfb_commands.specs.Commands.{call_answer}
@@ -63,6 +63,7 @@ changed can_give old call new (Err e) answers so = (e, refusal_is e, so e answer
 
 -- one that makes storages in turn
 pub changed_in_turn : {T : Type 0} (can_give : MediumFault → Bool) (old : FileState) (path : List ℕ) (moment : ℕ) (new : FileState) (result : Result T Error)
-    → CallAnswersInTurn can_give old (create_storage_all path moment) result new → CallKeeps can_give old (create_storage_all path moment) (call_answer (λ _. done) result) new
-changed_in_turn can_give old path moment new (Ok x) answers = answers
-changed_in_turn can_give old path moment new (Err e) answers = (e, refusal_is e, answers)
+    → CallAnswersInTurn can_give old (create_storage_all path moment) result new → IfErr result (λ e. e ≡ Full → LacksRoomOnTheWay old path moment new)
+    → CallKeeps can_give old (create_storage_all path moment) (call_answer (λ _. done) result) new
+changed_in_turn can_give old path moment new (Ok x) answers lacks = answers
+changed_in_turn can_give old path moment new (Err e) answers lacks = (e, refusal_is e, (answers, lacks))

@@ -85,10 +85,10 @@ module _ (can_give : MediumFault → Bool) where
   openings_given (Err e) why = opening_given e why
 
   -- the making of a stream, of which more is known where it was refused
-  pub makings_given : {T : Type 0} (told : Type 0) (old last : FileState) (call : Call) (result : Result T Error) → told
-      → OnErr result (IfErr result (λ e. told → IsRefusedBy can_give old call last e)) → IfErr result (CanBeGiven can_give)
-  makings_given told old last call (Ok x) is why = tt
-  makings_given told old last call (Err e) is why = counted (failures_of old) (failures_of last) e (why is).counts
+  pub makings_given : {T : Type 0} (told : Type 0) (more : Error → Type 0) (old last : FileState) (call : Call) (result : Result T Error) → told
+      → OnErr result (IfErr result (λ e. more e × (told → IsRefusedBy can_give old call last e))) → IfErr result (CanBeGiven can_give)
+  makings_given told more old last call (Ok x) is why = tt
+  makings_given told more old last call (Err e) is why = counted (failures_of old) (failures_of last) e (why.1 is).counts
 
 -- ---- one after the other
 

@@ -3,9 +3,10 @@ use Rattle.std.proofs.Common.{◌≡◌, ◌∙◌, ◌<◌, ◌≤◌, ◌-◌,
 use Rattle.std.proofs.lemmas.Bool.Decides.{nat_tests}
 use Rattle.std.specs.Prelude.{IfErr, IfOk, IsTrue, Result, Ok, Err}
 use Rattle.cfb_format.specs.declared.error.Error.{Error}
+use Rattle.cfb_format.specs.declared.error.Error.TheVariants.{Full}
 use Rattle.cfb_format.specs.declared.medium.MediumFault.{MediumFault}
 use Rattle.cfb_format.specs.Refused.{CountsFailure}
-use Rattle.cfb_rules.specs.Refusal.{Refusal, failed_earlier, out_of_memory}
+use Rattle.cfb_rules.specs.Refusal.{Refusal, failed_earlier, file_full, out_of_memory}
 use Rattle.cfb_rules.specs.Runs.{is_never_refused, is_served, may_leave_failed, reading, work_of}
 use Rattle.cfb_rules.specs.StreamCalls.{StreamCall, StreamReply, not_done, read}
 use Rattle.cfb_agreement.specs.Files.{IsAsBefore, failures_of, is_failed}
@@ -15,12 +16,12 @@ use Rattle.cfb_compound_file.specs.StreamAnswers.{GoesOn, GoesOnInTurn, IsStream
 use Rattle.cfb_compound_file.proofs.StoredStreams.{nothing_changes}
 use Rattle.cfb_compound_file.proofs.StreamCalls.{goes_at_once}
 use Rattle.cfb_compound_file.specs.Stored.{ChangesStream}
-use Rattle.cfb_commands.specs.Promised.{IsWorkedOn, causes_on, may_come_second}
+use Rattle.cfb_commands.specs.Promised.{IsWorkedOn, LacksRoomFor, causes_on, may_come_second}
 use Rattle.cfb_commands.proofs.Before.{same_before, stayed}
 use Rattle.cfb_commands.proofs.CallSteps.{uncounted}
 use Rattle.cfb_commands.specs.Commands.{refusal_of, stream_answer}
 use Rattle.cfb_commands.specs.Working.{LendsNothing}
-use Rattle.cfb_commands.proofs.Errors.{known, refusal_is}
+use Rattle.cfb_commands.proofs.Errors.{failed_never_full, known, memory_never_full, refusal_is, reply_full}
 use Rattle.cfb_commands.proofs.Lending.{failed_runs, lends, memory_runs, runs_lend, short_runs}
 
 -- ---- a call that was served, or refused
@@ -58,48 +59,53 @@ module _ (old : OpenStream) (call : StreamCall) (new : OpenStream) (goes : GoesB
     counted = λ none. counts;
     goes_on = goes.0;
     once = goes.1;
+    foreseen = λ full. absurd (let w : true ≡ false = sym served ∙ ap is_served full in cc);
   }
 
   pub refused_on : (can_give : MediumFault → Bool) (e : Error) → IsStreamRefused (causes_on old.entry call old.file new.file) can_give old call new e
-      → IsWorkedOn old call (not_done (refusal_of e)) new
-  refused_on can_give e why = record {
+      → (e ≡ Full → LacksRoomFor call old new) → IsWorkedOn old call (not_done (refusal_of e)) new
+  refused_on can_give e why lacks = record {
     runs = subst (λ (r : Refusal). StreamRunsBy (causes_on old.entry call old.file new.file) old call (not_done r) new) (known why.rules.0 e why.rules.1) why.rules.2;
     stays = λ leaves calm. stayed old.file new.file why.stays calm;
     counted = λ none. uncounted can_give (failures_of old.file) (failures_of new.file) (refusal_of e) e (refusal_is e) why.counts none;
     goes_on = goes.0;
     once = goes.1;
+    foreseen = λ full. lacks (reply_full e full);
   }
 
   module _ {T : Type 0} (answer : T → StreamReply) (serves : (x : T) → is_served (answer x) ≡ true) (can_give : MediumFault → Bool) where
     pub worked_on : (result : Result T Error) → IfOk result (λ x. StreamRunsBy (causes_on old.entry call old.file new.file) old call (answer x) new)
         → IfErr result (IsStreamRefused (causes_on old.entry call old.file new.file) can_give old call new)
+        → IfErr result (λ e. e ≡ Full → LacksRoomFor call old new)
         → CountsFailure can_give result (failures_of old.file) (failures_of new.file) → IsQuiet → IsWorkedOn old call (stream_answer answer result) new
-    worked_on (Ok x) runs refused counts quiet = served_on (answer x) (serves x) runs counts quiet
-    worked_on (Err e) runs refused counts quiet = refused_on can_give e refused
+    worked_on (Ok x) runs refused lacks counts quiet = served_on (answer x) (serves x) runs counts quiet
+    worked_on (Err e) runs refused lacks counts quiet = refused_on can_give e refused lacks
 
 -- ---- a call that leaves all as it is
 
 goes_nowhere : (s : OpenStream) → GoesOn true s s
 goes_nowhere s = record { entry = refl; bound = refl; changes = λ _. nothing_changes s.entry s.file; rest = λ _ first k. k }
 
-pub left_alone : (s : OpenStream) (call : StreamCall) (reply : StreamReply) → StreamRunsBy (causes_on s.entry call s.file s.file) s call reply s → IsWorkedOn s call reply s
-left_alone s call reply runs = record {
+pub left_alone : (s : OpenStream) (call : StreamCall) (reply : StreamReply) → (reply ≡ not_done file_full → ⊥) → StreamRunsBy (causes_on s.entry call s.file s.file) s call reply s
+    → IsWorkedOn s call reply s
+left_alone s call reply never runs = record {
   runs = runs;
   stays = λ leaves calm. same_before s.file s.file refl;
   counted = λ none. refl;
   goes_on = (goes_told true s call s refl (goes_nowhere s)).0;
   once = λ _. nothing_changes s.entry s.file;
+  foreseen = λ full. absurd (never full);
 }
 
 module _ (s : OpenStream) (call : StreamCall) where
   pub failed_on : is_failed s.file ≡ true → is_never_refused call ≡ false → IsWorkedOn s call (not_done failed_earlier) s
   unfolding Runs
-  failed_on failed never = left_alone s call (not_done failed_earlier)
+  failed_on failed never = left_alone s call (not_done failed_earlier) failed_never_full
       (failed_runs (causes_on s.entry call s.file s.file) (stream_setting_of (stored_in s)) (run_in s) call failed never)
 
   pub memory_on : is_failed s.file ≡ false → LendsNothing s → work_of (stream_in s) call ≡ reading → IsWorkedOn s call (not_done out_of_memory) s
   unfolding Runs
-  memory_on calm nothing reads = left_alone s call (not_done out_of_memory)
+  memory_on calm nothing reads = left_alone s call (not_done out_of_memory) memory_never_full
       (memory_runs (causes_on s.entry call s.file s.file) (stream_setting_of (stored_in s)) (run_in s) call calm (nothing calm) reads)
 
 -- ---- a read of no more than is left
@@ -113,6 +119,7 @@ shorter old new reply wanted less is inside w = record {
   counted = w.counted;
   goes_on = w.goes_on;
   once = λ _. w.once refl;
+  foreseen = w.foreseen;
 }
 
 -- ---- nothing is lent

@@ -14,8 +14,8 @@ use Rattle.cfb_stream_window.specs.Windows.{Runs}
 use Rattle.cfb_path_changes.specs.Answers.{MeansTree, setting_of, state_with}
 use Rattle.cfb_path_changes.specs.Finding.{StandsAt}
 use Rattle.cfb_compound_file.specs.Stored.{ChangesInTurn, ChangesStream, KeepsRest}
-use Rattle.cfb_compound_file.specs.StreamAnswers.{OpenStream, closed_tree, run_in, stream_in}
-use Rattle.cfb_commands.specs.Promised.{IsClosedOf, IsOpenSince, IsWorkedOn, StreamKeeps, causes_on, may_come_second, promised}
+use Rattle.cfb_compound_file.specs.StreamAnswers.{OpenStream, closed_tree, open_stream_of, run_in, stream_in}
+use Rattle.cfb_commands.specs.Promised.{IsClosedOf, IsOpenSince, IsWorkedOn, LacksRoomAt, LacksRoomFor, StreamKeeps, causes_on, may_come_second, promised}
 use Rattle.cfb_compound_file.proofs.StreamCalls.{at_once}
 use Rattle.cfb_commands.specs.Seen.{seen_as, standing_at}
 use Rattle.cfb_commands.proofs.Before.{same_before, seen_before, setting_same, setting_then, still_named}
@@ -90,13 +90,25 @@ module _ (can_give : MediumFault → Bool) (first opened : FileState) (path : Li
       (subst (λ (s : StreamSetting). StreamCallRuns (causes_on old.entry call old.file new.file) s (run_in old) call reply (run_in new))
       (ap (λ (s : Setting). s.stream) (setting_same first old.file setting)) w.runs)
 
+  -- and lacked before it
+  lacked : (call : StreamCall) (reply : StreamReply) → IsWorkedOn old call reply new → LacksRoomFor call old new
+      → LacksRoomAt (names_at path) (stream_in old) call old.file new.file
+  lacked call reply w lacks = record {
+    entry = old.entry;
+    stands = still_named opened old.file old.entry path since.rest since.stands;
+    before = old.window;
+    after = new.window;
+    seen = refl;
+    lacks = subst (λ (k : ℕ). LacksRoomFor call old (open_stream_of new.file k new.window)) w.goes_on.entry lacks;
+  }
+
   step_of : (call : StreamCall) (reply : StreamReply) → IsWorkedOn old call reply new
       → StreamCallStep seen_as (promised can_give) (setting_of first) (names_at path) (stream_in old) (standing_at old.file tree) call reply (stream_in new) (standing_at new.file tree)
   step_of call reply w = record {
     runs = runs_in call reply w;
     stays = λ leaves calm. seen_before old.file new.file tree tree (w.stays leaves calm);
     counted = w.counted;
-    kept = record { keeps = keeps call reply w; stays = w.stays };
+    kept = record { keeps = keeps call reply w; stays = w.stays; foreseen = λ full. lacked call reply w (w.foreseen full) };
   }
 
 pub stream_call_step : (can_give : MediumFault → Bool) (first opened : FileState) (path : List ℕ) (old new : OpenStream) (tree : Tree) (call : StreamCall) (reply : StreamReply)
@@ -141,6 +153,14 @@ closing_step can_give first opened path old new tree closing same agrees means s
             rest = c.rest;
           };
           calm = c.calm;
+          foreseen = λ full. record {
+            entry = old.entry;
+            stands = still_named opened old.file old.entry path since.rest since.stands;
+            before = old.window;
+            after = old.window;
+            seen = refl;
+            lacks = c.foreseen full;
+          };
         };
       },
     )

@@ -1,7 +1,8 @@
 -- Operations one after the other, and the closing behind them.
-use Rattle.std.proofs.Common.{◌≡◌, ◌<◌, ◌+◌, ℕ, Bool, false, List, [], ◌∷◌, ◌++◌, refl, sym, subst, get_or, length, map, take}
-use Rattle.std.specs.Prelude.{IfErr, OnOk, Some, None, Result, Ok, Err}
+use Rattle.std.proofs.Common.{◌≡◌, ◌<◌, ◌+◌, ℕ, Bool, false, true, List, [], ◌∷◌, ◌++◌, ap, refl, sym, subst, get_or, length, map, take}
+use Rattle.std.specs.Prelude.{IfErr, OnOk, Option, Some, None, Result, Ok, Err, is_some}
 use Rattle.cfb_format.specs.declared.error.Error.{Error}
+use Rattle.cfb_format.specs.declared.error.Error.TheVariants.{Full}
 use Rattle.cfb_format.specs.declared.medium.MediumFault.{MediumFault}
 use Rattle.cfb_format.specs.Refused.{CountsFailure}
 use Rattle.cfb_format.specs.Tree.{Tree}
@@ -14,7 +15,7 @@ use Rattle.cfb_sequences.proofs.Lists.{stream-calls-go-on}
 use Rattle.cfb_agreement.specs.Files.{FileState, SameSetting, failures_of, is_failed}
 use Rattle.cfb_path_changes.specs.Answers.{causes_of, setting_of}
 use Rattle.cfb_compound_file.specs.Stored.{ChangesStream, KeepsRest}
-use Rattle.cfb_compound_file.specs.StreamAnswers.{ClosesTree, IsClosingRefused, OpenStream, run_in, stream_in}
+use Rattle.cfb_compound_file.specs.StreamAnswers.{ClosesTree, IsClosingRefused, LacksRoomToWriteOut, OpenStream, run_in, stream_in}
 use Rattle.cfb_commands.specs.Promised.{IsClosedOf, IsOpenSince, IsWorkedOn, promised}
 use Rattle.cfb_commands.specs.Seen.{seen_as, standing_at}
 use Rattle.cfb_commands.proofs.CallSteps.{uncounted}
@@ -24,7 +25,7 @@ use Rattle.cfb_commands.specs.declared.command.StreamOp.TheVariants.{Read, ReadT
 use Rattle.cfb_commands.specs.declared.command.StreamReply.{StreamReply}
 use Rattle.cfb_commands.specs.Commands.{closing_of, refusal_of, stream_call_of, stream_reply_of}
 use Rattle.cfb_commands.specs.Working.{LendsNothing, Works}
-use Rattle.cfb_commands.proofs.Errors.{known, refusal_is}
+use Rattle.cfb_commands.proofs.Errors.{closing_full, known, refusal_is}
 use Rattle.cfb_commands.proofs.Growing.{put_more, taken_more}
 use Rattle.cfb_commands.proofs.Lending.{lends}
 use Rattle.cfb_commands.proofs.Operations.{lends_still}
@@ -73,20 +74,23 @@ pub closed_of : {T : Type 0} (can_give : MediumFault → Bool) (opened : FileSta
     → OnOk result (Closes (causes_of old.file new) (run_in old) None (is_failed new)) → IfErr result (IsClosingRefused can_give old new)
     → ClosesTree opened old.entry (stream_in old).content new → ChangesStream old.entry old.file new
     → ((first : FileState) → KeepsRest old.entry first old.file → KeepsRest old.entry first new) → (old.window.pending ≡ false → new ≡ old.file)
+    → IfErr result (λ e. e ≡ Full → LacksRoomToWriteOut old)
     → CountsFailure can_give result (failures_of old.file) (failures_of new) → IsClosedOf opened old (closing_of result) new
-closed_of can_give opened old (Ok x) new closes refused tree changes rest calm counts = record {
+closed_of can_give opened old (Ok x) new closes refused tree changes rest calm lacks counts = record {
   closes = closes;
   tree = tree;
   changes = changes;
   rest = rest;
   calm = calm;
+  foreseen = λ full. absurd (let w : false ≡ true = ap (λ (o : Option Refusal). is_some o) full in cc);
   counted = λ none. counts;
 }
-closed_of can_give opened old (Err e) new closes refused tree changes rest calm counts = record {
+closed_of can_give opened old (Err e) new closes refused tree changes rest calm lacks counts = record {
   closes = subst (λ (r : Refusal). Closes (causes_of old.file new) (run_in old) (Some r) (is_failed new)) (known refused.refusal e refused.is) refused.closes;
   tree = tree;
   changes = changes;
   rest = rest;
   calm = calm;
+  foreseen = λ full. lacks (closing_full e full);
   counted = λ none. uncounted can_give (failures_of old.file) (failures_of new) (refusal_of e) e (refusal_is e) counts none;
 }

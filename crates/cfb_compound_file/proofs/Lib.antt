@@ -14,3 +14,4 @@ pub mod MadeFiles
 pub mod Reopening
 pub mod Beginning
 pub mod RefusedKinds
+pub mod Heeding

@@ -10,6 +10,7 @@ use Rattle.cfb_objects.proofs.Balance.{balanced-is-red-apart}
 use Rattle.cfb_mini_sectors.specs.State.{HoldsMini, bytes_of, cases_of, entries_of, reading_of, version_of}
 use Rattle.cfb_mini_sectors.proofs.HeldMini.{held-mini-is-strict}
 use Rattle.cfb_agreement.specs.Files.{FileState, Holds, IsAsMade}
+use Rattle.cfb_agreement.proofs.Reopened.{made-is-exact}
 use Rattle.cfb_compound_file.specs.Opening.{CanBeReopened, IsAcceptedAs}
 
 -- as long as the MiniFAT has no more mini sectors than the limit that memory keeps, each has a number
@@ -37,4 +38,5 @@ module _ (file : FileState) (held : Holds file) (short : length file.base.minifa
     strict = λ (made : IsAsMade file.base). accepted Strict Strict made.changeable.held
         (held-mini-is-strict file.base held.header held.outline made.changeable.held held.reads.header held.reads.outline
         (balanced-is-red-apart (cases_of file.base) (entries_of file.base) held.outline held.reads.outline (made.balanced held.outline held.reads.outline)));
+    made = (made-is-exact file held).0;
   }

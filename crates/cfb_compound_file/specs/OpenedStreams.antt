@@ -1,10 +1,10 @@
 -- What opening a stream answers.
-use Rattle.std.specs.Prelude.{ℕ, ◌≡◌, ◌≢◌, ◌⊎◌, List, true, false, Some, None}
+use Rattle.std.specs.Prelude.{ℕ, ◌≡◌, ◌≢◌, ◌⊎◌, List, MatchResult, Result, true, false, Some, None}
 use Rattle.cfb_format.specs.declared.error.Error.{Error}
 use Rattle.cfb_format.specs.declared.objtype.ObjType.TheVariants.{Stream}
 use Rattle.cfb_format.specs.Path.{names_of_path}
 use Rattle.cfb_format.specs.Reading.{IsOutline, Outline}
-use Rattle.cfb_format.specs.Refused.{HasReason, no_error}
+use Rattle.cfb_format.specs.Refused.{HasReason, Reasons, no_error}
 use Rattle.cfb_format.specs.Siblings.{entry_at}
 use Rattle.cfb_siblings.specs.Paths.{number_at_path}
 use Rattle.cfb_mini_sectors.specs.State.{cases_of, entries_of}
@@ -36,12 +36,23 @@ pub record IsStreamAt (file : FileState) (path : List ℕ) (number : ℕ) : Type
   pub stream : IsStreamOf file.base number
 
 -- why a stream is not found: the file failed earlier; or the path leaves the root, or leads to a storage; or nothing stands there
-abbrev pub IsNotFound : FileState → List ℕ → Error → Type 0
-IsNotFound file path = HasReason (record no_error {
+abbrev pub reasons_not_found : FileState → List ℕ → Reasons
+reasons_not_found file path = record no_error {
   failed = is_failed file ≡ true;
   invalid_input = (is_failed file ≡ false) × ((names_of_path path ≡ None) ⊎ IsNoStreamAt file path);
   not_found = (is_failed file ≡ false) × ((names : List (List ℕ)) × (names_of_path path ≡ Some names)) × StandsNowhere file path;
-})
+}
+
+abbrev pub IsNotFound : FileState → List ℕ → Error → Type 0
+IsNotFound file path = HasReason (reasons_not_found file path)
+
+-- why it is not opened: it is not found, or it is, and memory lacks for its buffer
+abbrev pub IsNotOpened : FileState → List ℕ → Error → Type 0
+IsNotOpened file path = HasReason (record (reasons_not_found file path) { memory = is_failed file ≡ false })
+
+-- over any medium, also one of whose bytes nothing is known: it was opened in a file that has not failed, or not, for one of these reasons
+abbrev pub OpensOrNot : {T : Type 0} → FileState → List ℕ → Result T Error → Type 0
+OpensOrNot file path result = MatchResult result (λ _. is_failed file ≡ false) (IsNotOpened file path)
 
 -- nothing stands at this path: it leaves the root, or has names that lead to nothing
 abbrev pub IsNowhere : List ℕ → Error → Type 0

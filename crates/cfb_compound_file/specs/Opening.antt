@@ -12,7 +12,7 @@ use Rattle.cfb_format.specs.Reading.{Reading}
 use Rattle.cfb_format.specs.Refused.{HasReason, no_error}
 use Rattle.cfb_format.specs.Soundness.{IsSoundFile}
 use Rattle.cfb_mini_sectors.specs.State.{bytes_of, cases_of, tables_in, version_of}
-use Rattle.cfb_agreement.specs.Files.{FileState, Holds, IsAsMade, failures_of, is_failed}
+use Rattle.cfb_agreement.specs.Files.{FileState, Holds, IsAsMade, IsMadeFile, failures_of, is_failed}
 use Rattle.cfb_opening.specs.Acceptable.{IsAcceptable}
 use Rattle.cfb_opening.specs.Opened.{IsOpened, OpeningRefused}
 
@@ -36,10 +36,12 @@ strict_options = record permissive_options { validation = Strict }
 -- ---- opening
 
 -- the file was opened on a medium with these bytes, after so many failures of its calls, as the options want it: opening in their mode accepts the
--- bytes, and memory holds what they say; and the file counts as sound exactly if the bytes are
+-- bytes, and memory holds what they say; the file counts as sound exactly if the bytes are, and it is as made exactly if they are those of a file
+-- that was made here
 pub record IsOpenedWith (options : Options) (bytes : List ℕ) (failures : ℕ) (file : FileState) : Type 0 where
   pub opened : IsOpened options.validation options.cases options.max_sectors bytes failures file.base file.is_sound
   pub sound : (file.is_sound ≡ true) ↔ IsSoundFile options.cases bytes
+  pub made : IsAsMade file.base ↔ IsMadeFile options.cases bytes
   pub buffer_limit : file.buffer_limit ≡ options.buffer_limit
 
 -- why it was not: opening in their mode does not accept the bytes; the medium failed, by a fault that it can give by reading; or memory was refused
@@ -54,10 +56,12 @@ pub record IsAcceptedAs (version : Version) (validation : Validation) (cases : C
   pub accepted : IsAcceptable validation cases bytes reading
   pub in_version : reading.header.version ≡ version
 
--- opening accepts the bytes of the file in its version; and so does strict opening, if the file was made here
+-- opening accepts the bytes of the file in its version; and if the file was made here so does strict opening, and they are those of such a file,
+-- so that what is opened from them is as made again
 pub record CanBeReopened (file : FileState) : Type 0 where
   pub permissive : IsAcceptedAs (version_of file.base) Permissive (cases_of file.base) (bytes_of file.base)
   pub strict : IsAsMade file.base → IsAcceptedAs (version_of file.base) Strict (cases_of file.base) (bytes_of file.base)
+  pub made : IsAsMade file.base → IsMadeFile (cases_of file.base) (bytes_of file.base)
 
 -- ---- making a file
 

@@ -17,7 +17,7 @@ use Rattle.cfb_stream_window.specs.contracts.read_window.ReadWindow as window
 use Rattle.cfb_rules.specs.StreamCalls.{fill_buf, got}
 use Rattle.cfb_compound_file.specs.Buffering.{BuffersRead}
 use Rattle.cfb_compound_file.specs.Stored.{kept_of}
-use Rattle.cfb_compound_file.specs.StreamAnswers.{GoesOn, IsStreamRefused, OpenStream, StreamRunsBy, causes_of_reading, open_stream_of}
+use Rattle.cfb_compound_file.specs.StreamAnswers.{GoesOn, IsFailed, IsStreamRefused, OpenStream, StreamHeedsReading, StreamRunsBy, causes_of_reading, open_stream_of}
 
 module _ {F A : Type 0} {r : reading.Ghosts F} {b : held.Ghosts Window} where
   -- the file that it borrows
@@ -44,6 +44,7 @@ module _ (F A : RattleType) (r : reading.Ghosts F.Denot) (h : heap.Ghosts A.Deno
   -- bytes were lent, or this was refused; and once they are given back, this is the stream
   pub record IsFilled (result : Result (Bor (List ℕ)) Error) (old new : ReadStream F.Denot A.Denot Window r b) : Type 0 where
     pub same_file : (file_of new).ghost_name ≡ (file_of old).ghost_name
+    pub any : StreamHeedsReading IsFailed (open_of old) result (open_of new)
     pub runs : IsTrue r.tells → MatchResult result (λ bytes. StreamRunsBy (causes_of_reading (file_of old).now (file_of new).now) (open_of old) fill_buf (got bytes.now) (open_of new))
         (IsStreamRefused (causes_of_reading (file_of old).now (file_of new).now) r.read_faults (open_of old) fill_buf (open_of new))
     pub goes_on : GoesOn r.tells (open_of old) (open_of new)

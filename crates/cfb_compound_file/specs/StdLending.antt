@@ -28,7 +28,7 @@ use Rattle.cfb_compound_file.specs.contracts.stream.Stream as stream
 use Rattle.cfb_compound_file.specs.ReadStreams as reads
 use Rattle.cfb_compound_file.specs.Streams as writes
 use Rattle.cfb_compound_file.specs.StdStreams.{rest_in, rest_to_read}
-use Rattle.cfb_compound_file.specs.StreamAnswers.{GoesOn, IsStreamRefused, OpenStream, StreamRunsBy, StreamRunsOn, causes_of_reading, stored_in}
+use Rattle.cfb_compound_file.specs.StreamAnswers.{GoesOn, IsFailed, IsStreamRefused, OpenStream, StreamHeedsFlags, StreamHeedsReading, StreamRunsBy, StreamRunsOn, causes_of_reading, stored_in}
 
 -- they are a beginning of what is left, and none only at the end
 pub record IsLentFrom (old : OpenStream) (bytes : List ℕ) : Type 0 where
@@ -48,6 +48,7 @@ IsReadLendingRefused can_give old e = (new : OpenStream) × IsStreamRefused (cau
 module _ (F A : RattleType) (r : reading.Ghosts F.Denot) (h : heap.Ghosts A.Denot) {b : held.Ghosts Window} where
   pub record IsFilledToRead (result : Result (Bor (List ℕ)) StdError) (old new : ReadStream F.Denot A.Denot Window r b) : Type 0 where
     pub same_file : (reads.file_of new).ghost_name ≡ (reads.file_of old).ghost_name
+    pub any : StreamHeedsReading (StandsFor IsFailed) (reads.open_of old) result (reads.open_of new)
     pub runs : IsTrue r.tells → MatchResult result
         (λ bytes. StreamRunsBy (causes_of_reading (reads.file_of old).now (reads.file_of new).now) (reads.open_of old) fill_buf (got bytes.now) (reads.open_of new))
         (StandsFor (IsStreamRefused (causes_of_reading (reads.file_of old).now (reads.file_of new).now) r.read_faults (reads.open_of old) fill_buf (reads.open_of new)))
@@ -64,6 +65,7 @@ module _ (F A : RattleType) (r : reading.Ghosts F.Denot) (h : heap.Ghosts A.Deno
 module _ (F A : RattleType) (r : reading.Ghosts F.Denot) (g : writing.Ghosts F.Denot) (h : heap.Ghosts A.Denot) {b : held.Ghosts Window} where
   pub record IsFilled (result : Result (Bor (List ℕ)) StdError) (old new : Stream F.Denot A.Denot Window g r b) : Type 0 where
     pub same_file : (writes.file_of new).ghost_name ≡ (writes.file_of old).ghost_name
+    pub any : StreamHeedsFlags (StandsFor IsFailed) (writes.open_of old) result (writes.open_of new)
     pub runs : IsTrue r.tells → MatchResult result (λ bytes. StreamRunsOn (writes.open_of old) fill_buf (got bytes.now) (writes.open_of new))
         (StandsFor (IsStreamRefused (causes_of (writes.file_of old).now (writes.file_of new).now) (λ f. r.read_faults f || g.write_faults f)
         (writes.open_of old) fill_buf (writes.open_of new)))

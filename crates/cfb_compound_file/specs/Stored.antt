@@ -1,8 +1,10 @@
 -- The streams of a file as lists of bytes, and how one of them changes.
-use Rattle.std.specs.Prelude.{ℕ, ◌≡◌, [], true, false, if◌then◌else◌}
+use Rattle.std.specs.Prelude.{ℕ, ◌≡◌, Bool, [], true, false, if◌then◌else◌}
+use Rattle.cfb_format.specs.declared.version.Version.{Version}
 use Rattle.cfb_format.specs.Bytes.{max_stream_len}
+use Rattle.cfb_format.specs.Names.{Cases}
 use Rattle.cfb_format.specs.Siblings.{entry_at}
-use Rattle.cfb_mini_sectors.specs.State.{bytes_of, content_of, entries_of, version_of}
+use Rattle.cfb_mini_sectors.specs.State.{bytes_of, cases_of, content_of, entries_of, tables_in, version_of}
 use Rattle.cfb_content.specs.Contents.{IsStreamOf, KeepsFixedHeader, KeepsOthers, MovesContent, len_of}
 use Rattle.cfb_agreement.specs.Changes.{ChangesOneContent, KeepsAllButContent}
 use Rattle.cfb_agreement.specs.Files.{FileState, GrowsTightly, SameSetting, is_failed}
@@ -22,6 +24,25 @@ stored_of file entry = record {
 -- the file but for the count of failures
 abbrev pub kept_of : FileState → FileState
 kept_of file = with_flags file 0 (is_failed file)
+
+-- what no call on a stream changes, as one value: the version, the letters, the limits, and whether the file is sound
+pub record FileSetting : Type 0 where
+  pub version : Version
+  pub cases : Cases
+  pub max_sectors : ℕ
+  pub max_mini_sectors : ℕ
+  pub is_sound : Bool
+  pub buffer_limit : ℕ
+
+abbrev pub setting_of : FileState → FileSetting
+setting_of file = record {
+  version = version_of file.base;
+  cases = cases_of file.base;
+  max_sectors = (tables_in file.base).max_sectors;
+  max_mini_sectors = file.base.max_mini_sectors;
+  is_sound = file.is_sound;
+  buffer_limit = file.buffer_limit;
+}
 
 -- ---- what changes
 

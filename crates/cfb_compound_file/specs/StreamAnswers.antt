@@ -1,6 +1,7 @@
 -- What the calls on an open stream answer, and what they leave.
-use Rattle.std.specs.Prelude.{ℕ, ◌+◌, ◌≡◌, ◌<◌, ◌≤◌, ◌⊎◌, Bool, true, false, IsTrue, List, Option, Some, None, Result, Ok, Err, if◌then◌else◌}
+use Rattle.std.specs.Prelude.{ℕ, ◌+◌, ◌≡◌, ◌<◌, ◌≤◌, ◌⊎◌, Bool, true, false, IsTrue, IsErrAnd, List, OnErr, OnOk, Option, Some, None, Result, Ok, Err, if◌then◌else◌}
 use Rattle.cfb_format.specs.declared.error.Error.{Error}
+use Rattle.cfb_format.specs.declared.error.Error.TheVariants.{Failed}
 use Rattle.cfb_format.specs.declared.medium.MediumFault.{MediumFault}
 use Rattle.cfb_format.specs.Refused.{CountsError}
 use Rattle.cfb_format.specs.Tree.{Tree}
@@ -10,7 +11,7 @@ use Rattle.cfb_rules.specs.StreamCalls.{StreamCall, StreamReply, StreamState}
 use Rattle.cfb_mini_sectors.specs.State.{cases_of}
 use Rattle.cfb_content.specs.Contents.{IsTooLongFor}
 use Rattle.cfb_agreement.specs.Changes.{StaysOrFails}
-use Rattle.cfb_agreement.specs.Files.{Agrees, FileState, failures_of, is_failed}
+use Rattle.cfb_agreement.specs.Files.{Agrees, FileState, SameSetting, failures_of, is_failed}
 use Rattle.cfb_stream_buffer.specs.Contents.{CanHave, KeptOrFailed, Stored}
 use Rattle.cfb_stream_window.specs.Answers.{AtRefusal}
 use Rattle.cfb_stream_window.specs.Windows.{IsCallRefused, IsLengthened, IsSettled, Runs, Window, run_of, settled, state_of}
@@ -89,6 +90,29 @@ pub record GoesOnInTurn (tells : Bool) (old new : OpenStream) : Type 0 where
   pub calm : (told : IsTrue tells) → old.window.pending ≡ false → (changes told).between ≡ old.file
   pub settles : (told : IsTrue tells) → is_failed old.file ≡ false → IsSettled (stored_in old) old.window (stored_of (changes told).between old.entry)
   pub rest : IsTrue tells → (first : FileState) → KeepsRest old.entry first old.file → KeepsRest old.entry first new.file
+
+-- ---- over any medium, also one of whose bytes nothing is known
+
+-- the file failed earlier
+abbrev pub IsFailed : Error → Type 0
+IsFailed e = e ≡ Failed
+
+-- Version, letters, limits and soundness stay. A file that has failed stays as it is, and so does the stream, and the call answers so, by an
+-- error that tells of it; and a file in which it was done has not failed.
+pub record StreamHeedsFlags {T E : Type 0} (tells_of_it : E → Type 0) (old : OpenStream) (result : Result T E) (new : OpenStream) : Type 0 where
+  pub setting : SameSetting old.file new.file
+  pub failed : is_failed old.file ≡ true → IsErrAnd result tells_of_it × (new ≡ old)
+  pub unfailed : OnOk result (is_failed new.file ≡ false)
+
+-- a flush, and closing: where it is refused the file has failed
+pub record StreamHeedsWritingOut {T E : Type 0} (tells_of_it : E → Type 0) (old : OpenStream) (result : Result T E) (new : OpenStream) : Type 0 where
+  pub heeds : StreamHeedsFlags tells_of_it old result new
+  pub lost : OnErr result (is_failed new.file ≡ true)
+
+-- a call on a stream that is only read: it fails no file
+pub record StreamHeedsReading {T E : Type 0} (tells_of_it : E → Type 0) (old : OpenStream) (result : Result T E) (new : OpenStream) : Type 0 where
+  pub heeds : StreamHeedsFlags tells_of_it old result new
+  pub same : is_failed new.file ≡ is_failed old.file
 
 -- ---- where numbers lack
 

@@ -20,7 +20,7 @@ use Rattle.cfb_rules.specs.StreamCalls.{fill_buf, got}
 use Rattle.cfb_path_changes.specs.Answers.{causes_of}
 use Rattle.cfb_compound_file.specs.Buffering.{BuffersRead}
 use Rattle.cfb_compound_file.specs.Stored.{kept_of}
-use Rattle.cfb_compound_file.specs.StreamAnswers.{GoesOn, IsStreamRefused, LacksRoomToWriteOut, OpenStream, StreamRunsOn, open_stream_of}
+use Rattle.cfb_compound_file.specs.StreamAnswers.{GoesOn, IsFailed, IsStreamRefused, LacksRoomToWriteOut, OpenStream, StreamHeedsFlags, StreamRunsOn, open_stream_of}
 
 module _ {F A : Type 0} {g : writing.Ghosts F} {r : reading.Ghosts F} {b : held.Ghosts Window} where
   -- the file that it borrows
@@ -47,6 +47,7 @@ module _ (F A : RattleType) (r : reading.Ghosts F.Denot) (g : writing.Ghosts F.D
   -- bytes were lent, or this was refused; and once they are given back, this is the stream
   pub record IsFilled (result : Result (Bor (List ℕ)) Error) (old new : Stream F.Denot A.Denot Window g r b) : Type 0 where
     pub same_file : (file_of new).ghost_name ≡ (file_of old).ghost_name
+    pub any : StreamHeedsFlags IsFailed (open_of old) result (open_of new)
     pub runs : IsTrue r.tells → MatchResult result (λ bytes. StreamRunsOn (open_of old) fill_buf (got bytes.now) (open_of new))
         (IsStreamRefused (causes_of (file_of old).now (file_of new).now) (λ f. r.read_faults f || g.write_faults f) (open_of old) fill_buf (open_of new))
     pub foreseen : IsTrue r.tells → IfErr result (λ e. e ≡ Full → LacksRoomToWriteOut (open_of old))

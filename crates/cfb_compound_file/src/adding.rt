@@ -1,5 +1,5 @@
 //! New streams in a compound file.
-ghost use Rattle.std.specs.Prelude.{◌≡◌, ◌||◌, [], max, IsTrue, IfOk, IfErr, chars};
+ghost use Rattle.std.specs.Prelude.{◌≡◌, ◌||◌, [], max, Err, IsTrue, IfOk, IfErr, chars};
 ghost use Rattle.std.specs.Borrow.{sem};
 ghost use Rattle.cfb_format.specs.Refused.{IsMemory};
 ghost use Rattle.cfb_rules.specs.Calls.{create_new_stream, create_stream};
@@ -7,6 +7,7 @@ ghost use Rattle.cfb_compound_file.specs.Adding.{IsCreatedBy, MakesStream};
 ghost use Rattle.cfb_compound_file.specs.StreamAnswers.{open_stream_of};
 ghost use Rattle.cfb_path_changes.specs.Adding.{creation};
 ghost use Rattle.cfb_path_changes.specs.Answers.{IsRefusedBy};
+ghost use Rattle.cfb_path_changes.specs.Calls.{HeedsFlags};
 
 use crate::compound_file::CompoundFile;
 use crate::stream::Stream;
@@ -41,6 +42,7 @@ impl<F: Medium, A: Heap + Clone> CompoundFile<F, A> {
         requires stream { MakesStream what }
         ensures created { IfOk result (λ s. IsCreatedBy F.tells self.old (creation what 0
             (chars path.now)) (chars path.now) (open_stream_of self.new s.0 s.1)) }
+        ensures any { HeedsFlags self.old result self.new }
         ensures refused { IsTrue F.tells → IfErr result (IsRefusedBy (λ f. F.read_faults f
             || F.write_faults f) self.old (creation what 0 (chars path.now)) self.new) }
     {
@@ -67,8 +69,9 @@ impl<F: Medium, A: Heap + Clone> CompoundFile<F, A> {
         ensures created { IfOk result (λ s. IsCreatedBy F.tells self.old
             (create_stream (chars path.now)) (chars path.now) (open_of s)) }
         ensures* refused { sem 𝓛 (file_rests F.row A.row F.ReadMedium F.Medium.own A.Allocator
-            (λ old last e. IsTrue F.tells → IsRefusedBy (λ f. F.read_faults f
-            || F.write_faults f) old (create_stream (chars path.now)) last e) self.entry result) }
+            (λ old last e. HeedsFlags {T = Unit {0}} old (Err e) last × (IsTrue F.tells
+            → IsRefusedBy (λ f. F.read_faults f || F.write_faults f) old
+            (create_stream (chars path.now)) last e)) self.entry result) }
     {
         let (entry, window) = self.add_stream(path, Creation::EmptyStream)?;
         Ok(Stream {
@@ -87,8 +90,9 @@ impl<F: Medium, A: Heap + Clone> CompoundFile<F, A> {
             (create_new_stream (chars path.now)) (chars path.now) (open_of s)) }
         ensures* refused { sem 𝓛
             (file_rests F.row A.row F.ReadMedium F.Medium.own A.Allocator (λ old last e.
-            IsTrue F.tells → IsRefusedBy (λ f. F.read_faults f || F.write_faults f) old
-            (create_new_stream (chars path.now)) last e) self.entry result) }
+            HeedsFlags {T = Unit {0}} old (Err e) last × (IsTrue F.tells
+            → IsRefusedBy (λ f. F.read_faults f || F.write_faults f) old
+            (create_new_stream (chars path.now)) last e)) self.entry result) }
     {
         let (entry, window) = self.add_stream(path, Creation::NewStream)?;
         Ok(Stream {

@@ -1,6 +1,7 @@
 //! Changes of a compound file by paths.
-ghost use Rattle.std.specs.Prelude.{◌||◌, IsTrue, chars};
+ghost use Rattle.std.specs.Prelude.{◌≡◌, ◌||◌, IfErr, IsTrue, chars};
 ghost use Rattle.cfb_rules.specs.Calls.{create_storage, create_storage_all, remove_storage, remove_storage_all, remove_stream, set_created_time, set_modified_time, set_state_bits, set_storage_clsid, touch};
+ghost use Rattle.cfb_path_changes.specs.Answers.{LacksRoomOnTheWay};
 ghost use Rattle.cfb_path_changes.specs.Calls.{CallAnswers, CallAnswersInTurn, HeedsFlags};
 
 use crate::compound_file::CompoundFile;
@@ -33,11 +34,14 @@ impl<F: Medium, A: Heap + Clone> CompoundFile<F, A> {
     /// `Failed` on a failed file. By the rules of calls: `InvalidInput` where the path leaves the root or one of its names is not valid;
     /// `AlreadyExists` where a stream is on the way or at its end; and then `Unsound` in a file that is not sound. Nothing has changed
     /// then. `Full` where no entry can be had, `Memory`, and `Medium` where the medium fails: all but the count of failures is as before,
-    /// or the file has failed. Where not one entry could be had nothing has changed after `Full`.
+    /// or the file has failed. Where not one entry could be had nothing has changed after `Full`; and else `Full` comes only where the
+    /// storages before have taken the last entry that could be had.
     pub fn create_storage_all(&mut self, path: &str, moment: Timestamp) -> Result<(), Error>
         ensures any { HeedsFlags self.old result self.new }
         ensures does { IsTrue F.tells → CallAnswersInTurn (λ f. F.read_faults f || F.write_faults f)
             self.old (create_storage_all (chars path.now) moment) result self.new }
+        ensures foreseen { IsTrue F.tells → IfErr result (λ e. e ≡ Error.Full
+            → LacksRoomOnTheWay self.old (chars path.now) moment self.new) }
     {
         creating::create_storage_all(&mut self.volume, path, moment)
     }

@@ -53,7 +53,7 @@ impl<F: ReadMedium, A: Heap> CompoundFile<F, A> {
     }
 
     /// The medium, with the bytes as they stand. Those of a sound file that has not failed can be opened again; strictly too, if the file
-    /// was made here.
+    /// was made here, and what is opened from them is as made again.
     pub fn into_inner(self) -> F
         ensures bytes { F.bytes result ≡ bytes_of self.base }
         ensures failures { F.failures result ≡ failures_of self }

@@ -2,7 +2,7 @@
 ghost use Rattle.std.specs.Prelude.{◌≤◌, ◌+◌, ◌↔◌, IsTrue};
 ghost use Rattle.cfb_content.specs.Contents.{IsStreamOf, IsTooLongFor};
 ghost use Rattle.cfb_agreement.specs.Files.{IsFullFile, failures_of};
-ghost use Rattle.cfb_compound_file.specs.Stored.{IsTight, KeepsAllButStream, kept_of, stored_of};
+ghost use Rattle.cfb_compound_file.specs.Stored.{IsTight, KeepsAllButStream, kept_of, setting_of, stored_of};
 
 use crate::compound_file::CompoundFile;
 use cfb_format::error::{Detail, Error};
@@ -12,6 +12,7 @@ use std::alloc::Allocator as Heap;
 
 impl<F: ReadMedium, A: Heap + Clone> ReadContents for CompoundFile<F, A> {
     ghost use Rattle.cfb_agreement.specs.Files.{FileState};
+    ghost use Rattle.cfb_compound_file.specs.Stored.{FileSetting};
 
     ghost has = { λ file id. ∥ IsStreamOf file.base id ∥₁ };
 
@@ -22,6 +23,10 @@ impl<F: ReadMedium, A: Heap + Clone> ReadContents for CompoundFile<F, A> {
     ghost Kept = { FileState };
 
     ghost kept = { λ file. kept_of file };
+
+    ghost Setting = { FileSetting };
+
+    ghost setting = { λ file. setting_of file };
 
     ghost failures = { λ file. failures_of file };
 

@@ -8,7 +8,7 @@ ghost use Rattle.cfb_agreement.specs.Files.{Agrees, is_failed};
 ghost use Rattle.cfb_stream_window.specs.Windows.{Suits, window_opened};
 ghost use Rattle.cfb_path_changes.specs.Answers.{Answers, AnswersNot};
 ghost use Rattle.cfb_compound_file.specs.Asking.{IsOfOpeningStream};
-ghost use Rattle.cfb_compound_file.specs.OpenedStreams.{BeginsAt, IsNotFound, IsNowhere, IsOpenedAt, IsStreamAt};
+ghost use Rattle.cfb_compound_file.specs.OpenedStreams.{BeginsAt, IsNotFound, IsNowhere, IsOpenedAt, IsStreamAt, OpensOrNot};
 ghost use Rattle.cfb_compound_file.specs.Stored.{stored_of};
 
 use crate::compound_file::CompoundFile;
@@ -80,6 +80,7 @@ impl<F: ReadMedium, A: Heap + Clone> CompoundFile<F, A> {
         ensures begins { IsTrue F.tells
             → IfOk result (λ s. BeginsAt self.old (chars path.now) (open_of s)) }
         ensures kinds { IfErr result IsOfOpeningStream }
+        ensures any { OpensOrNot self.old (chars path.now) result }
         ensures* refused { sem 𝓛 (file_rests F.row A.row F.ReadMedium A.Allocator (λ old last e.
             (last ≡ old) × (IsTrue F.tells
             → AnswersNot old (open_read_stream (chars path.now)) e)) self.entry result) }
@@ -122,6 +123,7 @@ impl<F: Medium, A: Heap + Clone> CompoundFile<F, A> {
         ensures begins { IsTrue F.tells
             → IfOk result (λ s. BeginsAt self.old (chars path.now) (open_of s)) }
         ensures kinds { IfErr result IsOfOpeningStream }
+        ensures any { OpensOrNot self.old (chars path.now) result }
         ensures* refused { sem 𝓛 (file_rests F.row A.row F.ReadMedium F.Medium.own A.Allocator
             (λ old last e. (last ≡ old) × (IsTrue F.tells
             → AnswersNot old (open_stream (chars path.now)) e)) self.entry result) }

@@ -117,7 +117,7 @@ impl<A: Heap> OpenOptions<A> {
 }
 
 impl<A: Heap + Clone> OpenOptions<A> {
-    /// Opens the compound file on this medium.
+    /// Opens the compound file on this medium. What is opened from the bytes of a file that was made here, by its letters, is as made again.
     ///
     /// `InvalidData` exactly where its bytes are not acceptable in this mode (MS-CFB 2.2 to 2.6), or have a MiniFAT with more entries than
     /// there are numbers; `Medium` where the medium fails, and `Memory` where memory is refused.

@@ -8,7 +8,7 @@ ghost use Rattle.cfb_rules.specs.Runs.{Closes};
 ghost use Rattle.cfb_stream_window.specs.Windows.{Suits, whence_of};
 ghost use Rattle.cfb_compound_file.specs.Buffering.{BuffersRead, BuffersRest, BuffersSeek};
 ghost use Rattle.cfb_compound_file.specs.Stored.{kept_of, stored_of};
-ghost use Rattle.cfb_compound_file.specs.StreamAnswers.{GoesOn, IsStreamRefused, IsStreamRefusedBy, StreamRunsBy, StreamRunsOn, causes_of_reading, closing_of, run_in};
+ghost use Rattle.cfb_compound_file.specs.StreamAnswers.{GoesOn, IsFailed, IsStreamRefused, IsStreamRefusedBy, StreamHeedsReading, StreamRunsBy, StreamRunsOn, causes_of_reading, closing_of, run_in};
 
 use crate::compound_file::CompoundFile;
 use crate::held::Held;
@@ -66,6 +66,7 @@ impl<'a, F: ReadMedium, A: Heap + Clone> ReadStream<'a, F, A> {
     /// position is the end. `InvalidData` where the byte there can't be read; `Medium`, `Memory`.
     pub fn read(&mut self, into: &mut [u8]) -> Result<usize, Error>
         ensures same_file { (file_of self.new).ghost_name ≡ (file_of self.old).ghost_name }
+        ensures any { StreamHeedsReading IsFailed (open_of self.old) result (open_of self.new) }
         ensures most { IfOk result (λ n. n ≤ length into.new) }
         ensures runs { IsTrue F.tells → IfOk result (λ n.
             StreamRunsBy (causes_of_reading (file_of self.old).now (file_of self.new).now) (open_of
@@ -112,6 +113,7 @@ impl<'a, F: ReadMedium, A: Heap + Clone> ReadStream<'a, F, A> {
     /// they can't all be read; `Medium`, `Memory`.
     pub fn read_to_end<B: Heap>(&mut self, into: &mut Vec<u8, B>) -> Result<usize, Error>
         ensures same_file { (file_of self.new).ghost_name ≡ (file_of self.old).ghost_name }
+        ensures any { StreamHeedsReading IsFailed (open_of self.old) result (open_of self.new) }
         ensures appends { IfOk result (λ n. (length into.new.items ≡ length into.old.items + n)
             × (into.new.items ≡ into.old.items ++ drop (length into.old.items) into.new.items)) }
         ensures nothing { OnErr result (into.new.items ≡ into.old.items) }
@@ -134,6 +136,7 @@ impl<'a, F: ReadMedium, A: Heap + Clone> ReadStream<'a, F, A> {
     /// Goes to a place in the stream. `InvalidInput` for a place outside of it.
     pub fn seek(&mut self, to: SeekFrom) -> Result<u64, Error>
         ensures same_file { (file_of self.new).ghost_name ≡ (file_of self.old).ghost_name }
+        ensures any { StreamHeedsReading IsFailed (open_of self.old) result (open_of self.new) }
         ensures file { (file_of self.new).now ≡ (file_of self.old).now }
         ensures entry { entry_of self.new ≡ entry_of self.old }
         ensures runs { IsTrue F.tells → IfOk result (λ at.

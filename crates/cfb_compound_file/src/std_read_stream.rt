@@ -13,7 +13,7 @@ ghost use Rattle.cfb_compound_file.specs.ReadStreams.{entry_of, file_of, open_of
 ghost use Rattle.cfb_compound_file.specs.StdLending.{IsReadLendingRefused, keeps_to_read};
 ghost use Rattle.cfb_compound_file.specs.Stored.{kept_of};
 ghost use Rattle.cfb_compound_file.specs.StdStreams.{bytes_to_read, place_to_read, rest_to_read};
-ghost use Rattle.cfb_compound_file.specs.StreamAnswers.{GoesOn, IsStreamRefused, IsStreamRefusedBy, StreamRunsBy, StreamRunsOn, causes_of_reading};
+ghost use Rattle.cfb_compound_file.specs.StreamAnswers.{GoesOn, IsFailed, IsStreamRefused, IsStreamRefusedBy, StreamHeedsReading, StreamRunsBy, StreamRunsOn, causes_of_reading};
 ghost use Rattle.cfb_rules.specs.StreamCalls.{consume, got, offset, read, ready, seek};
 
 use crate::read_stream::ReadStream;
@@ -34,6 +34,8 @@ impl<'a, F: ReadMedium, A: Heap + Clone> Read for ReadStream<'a, F, A> {
         ensures bytes { ReadConsumes (rest_to_read F.tells (open_of self.old))
             (rest_to_read F.tells (open_of self.new)) result into.new }
         ensures same_file { (file_of self.new).ghost_name ≡ (file_of self.old).ghost_name }
+        ensures any { StreamHeedsReading (StandsFor IsFailed)
+            (open_of self.old) result (open_of self.new) }
         ensures runs { IsTrue F.tells → IfOk result (λ n.
             StreamRunsBy (causes_of_reading (file_of self.old).now (file_of self.new).now) (open_of
             self.old) (read (length into.old)) (got (take n into.new)) (open_of self.new)) }
@@ -109,6 +111,8 @@ impl<'a, F: ReadMedium, A: Heap + Clone> Seek for ReadStream<'a, F, A> {
         ensures bytes { Keeps (bytes_to_read F.tells (open_of self.old))
             (bytes_to_read F.tells (open_of self.new)) }
         ensures same_file { (file_of self.new).ghost_name ≡ (file_of self.old).ghost_name }
+        ensures any { StreamHeedsReading (StandsFor IsFailed)
+            (open_of self.old) result (open_of self.new) }
         ensures file { (file_of self.new).now ≡ (file_of self.old).now }
         ensures entry { entry_of self.new ≡ entry_of self.old }
         ensures runs { IsTrue F.tells → IfOk result (λ at.

@@ -17,7 +17,7 @@ ghost use Rattle.cfb_compound_file.specs.Stored.{ChangesStream, kept_of};
 ghost use Rattle.cfb_compound_file.specs.Streams.{entry_of, file_of, open_of, window_of};
 ghost use Rattle.cfb_compound_file.specs.StdLending.{IsLendingRefused, IsLentFrom, keeps};
 ghost use Rattle.cfb_compound_file.specs.StdStreams.{bytes_in, place_in, rest_in};
-ghost use Rattle.cfb_compound_file.specs.StreamAnswers.{ClosesTree, GoesOn, GoesOnInTurn, IsStreamRefused, StreamRunsOn, stream_in};
+ghost use Rattle.cfb_compound_file.specs.StreamAnswers.{ClosesTree, GoesOn, GoesOnInTurn, IsFailed, IsStreamRefused, StreamHeedsFlags, StreamHeedsWritingOut, StreamRunsOn, stream_in};
 ghost use Rattle.cfb_rules.specs.StreamCalls.{consume, count, flush, got, offset, read, ready, seek, write};
 
 use crate::stream::Stream;
@@ -38,6 +38,8 @@ impl<'a, F: Medium, A: Heap + Clone> Read for Stream<'a, F, A> {
         ensures bytes { ReadConsumes (rest_in F.tells (open_of self.old))
             (rest_in F.tells (open_of self.new)) result into.new }
         ensures same_file { (file_of self.new).ghost_name ≡ (file_of self.old).ghost_name }
+        ensures any { StreamHeedsFlags (StandsFor IsFailed)
+            (open_of self.old) result (open_of self.new) }
         ensures runs { IsTrue F.tells → IfOk result (λ n. StreamRunsOn (open_of self.old)
             (read (length into.old)) (got (take n into.new)) (open_of self.new)) }
         ensures refused { IsTrue F.tells → IfErr result (StandsFor (IsStreamRefused
@@ -113,6 +115,8 @@ impl<'a, F: Medium, A: Heap + Clone> Seek for Stream<'a, F, A> {
         ensures bytes { Keeps (bytes_in F.tells (open_of self.old))
             (bytes_in F.tells (open_of self.new)) }
         ensures same_file { (file_of self.new).ghost_name ≡ (file_of self.old).ghost_name }
+        ensures any { StreamHeedsFlags (StandsFor IsFailed)
+            (open_of self.old) result (open_of self.new) }
         ensures runs { IsTrue F.tells → IfOk result (λ at.
             StreamRunsOn (open_of self.old) (seek (whence_of to)) (offset at) (open_of self.new)) }
         ensures refused { IsTrue F.tells → IfErr result (StandsFor (IsStreamRefused
@@ -138,6 +142,8 @@ impl<'a, F: Medium, A: Heap + Clone> Write for Stream<'a, F, A> {
         ensures bound { WritesAtMost result bytes.now }
         ensures bytes { WriteAppends None None result bytes.now }
         ensures same_file { (file_of self.new).ghost_name ≡ (file_of self.old).ghost_name }
+        ensures any { StreamHeedsFlags (StandsFor IsFailed)
+            (open_of self.old) result (open_of self.new) }
         ensures runs { IsTrue F.tells → IfOk result (λ n.
             StreamRunsOn (open_of self.old) (write bytes.now) (count n) (open_of self.new)) }
         ensures refused { IsTrue F.tells → IfErr result (StandsFor (IsStreamRefused
@@ -165,6 +171,8 @@ impl<'a, F: Medium, A: Heap + Clone> Write for Stream<'a, F, A> {
 
     fn flush(&mut self) -> io::Result<()>
         ensures same_file { (file_of self.new).ghost_name ≡ (file_of self.old).ghost_name }
+        ensures any { StreamHeedsWritingOut (StandsFor IsFailed)
+            (open_of self.old) result (open_of self.new) }
         ensures runs { IsTrue F.tells
             → OnOk result (StreamRunsOn (open_of self.old) flush ready (open_of self.new)) }
         ensures refused { IsTrue F.tells → IfErr result (StandsFor

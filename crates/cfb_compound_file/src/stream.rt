@@ -9,7 +9,7 @@ ghost use Rattle.cfb_stream_window.specs.Windows.{IsLengthened, Suits, whence_of
 ghost use Rattle.cfb_path_changes.specs.Answers.{causes_of};
 ghost use Rattle.cfb_compound_file.specs.Buffering.{BuffersRead, BuffersRest, BuffersSeek, BuffersWrite};
 ghost use Rattle.cfb_compound_file.specs.Stored.{ChangesStream, KeepsRest, kept_of, stored_of};
-ghost use Rattle.cfb_compound_file.specs.StreamAnswers.{ClosesTree, GoesOn, GoesOnInTurn, HasRoomForBoth, IsClosingRefused, IsStreamRefused, LacksRoomToWrite, LacksRoomToWriteOut, LosesRoomBetween, StreamRunsBy, StreamRunsOn, causes_of_len, WritesOutFirst, open_stream_of, run_in, stored_in, stream_in};
+ghost use Rattle.cfb_compound_file.specs.StreamAnswers.{ClosesTree, GoesOn, GoesOnInTurn, HasRoomForBoth, IsClosingRefused, IsFailed, IsStreamRefused, LacksRoomToWrite, LacksRoomToWriteOut, LosesRoomBetween, StreamHeedsFlags, StreamHeedsWritingOut, StreamRunsBy, StreamRunsOn, causes_of_len, WritesOutFirst, open_stream_of, run_in, stored_in, stream_in};
 
 use crate::compound_file::CompoundFile;
 use crate::held::Held;
@@ -76,6 +76,7 @@ impl<'a, F: Medium, A: Heap + Clone> Stream<'a, F, A> {
     /// position is the end. `InvalidData` where the byte there can't be read; `Medium`, `Memory`, and `Full` where bytes were kept back.
     pub fn read(&mut self, into: &mut [u8]) -> Result<usize, Error>
         ensures same_file { (file_of self.new).ghost_name ≡ (file_of self.old).ghost_name }
+        ensures any { StreamHeedsFlags IsFailed (open_of self.old) result (open_of self.new) }
         ensures most { IfOk result (λ n. n ≤ length into.new) }
         ensures runs { IsTrue F.tells → IfOk result (λ n. StreamRunsOn (open_of self.old)
             (read (length into.old)) (got (take n into.new)) (open_of self.new)) }
@@ -124,6 +125,7 @@ impl<'a, F: Medium, A: Heap + Clone> Stream<'a, F, A> {
     /// they can't all be read; `Medium`, `Memory`, and `Full` where bytes were kept back.
     pub fn read_to_end<B: Heap>(&mut self, into: &mut Vec<u8, B>) -> Result<usize, Error>
         ensures same_file { (file_of self.new).ghost_name ≡ (file_of self.old).ghost_name }
+        ensures any { StreamHeedsFlags IsFailed (open_of self.old) result (open_of self.new) }
         ensures appends { IfOk result (λ n. (length into.new.items ≡ length into.old.items + n)
             × (into.new.items ≡ into.old.items ++ drop (length into.old.items) into.new.items)) }
         ensures nothing { OnErr result (into.new.items ≡ into.old.items) }
@@ -149,6 +151,7 @@ impl<'a, F: Medium, A: Heap + Clone> Stream<'a, F, A> {
     /// the greatest length that the version has; `Unsound`; `Medium`, `Memory`, and `Full` where not one byte more can be had.
     pub fn write(&mut self, bytes: &[u8]) -> Result<usize, Error>
         ensures same_file { (file_of self.new).ghost_name ≡ (file_of self.old).ghost_name }
+        ensures any { StreamHeedsFlags IsFailed (open_of self.old) result (open_of self.new) }
         ensures most { IfOk result (λ n. n ≤ length bytes.now) }
         ensures runs { IsTrue F.tells → IfOk result (λ n.
             StreamRunsOn (open_of self.old) (write bytes.now) (count n) (open_of self.new)) }
@@ -178,6 +181,7 @@ impl<'a, F: Medium, A: Heap + Clone> Stream<'a, F, A> {
     /// Goes to a place in the stream. `InvalidInput` for a place outside of it; with bytes kept back also `Medium`, `Memory` and `Full`.
     pub fn seek(&mut self, to: SeekFrom) -> Result<u64, Error>
         ensures same_file { (file_of self.new).ghost_name ≡ (file_of self.old).ghost_name }
+        ensures any { StreamHeedsFlags IsFailed (open_of self.old) result (open_of self.new) }
         ensures runs { IsTrue F.tells → IfOk result (λ at.
             StreamRunsOn (open_of self.old) (seek (whence_of to)) (offset at) (open_of self.new)) }
         ensures refused { IsTrue F.tells → IfErr result (IsStreamRefused
@@ -202,6 +206,7 @@ impl<'a, F: Medium, A: Heap + Clone> Stream<'a, F, A> {
     /// first where there is room for both; a refusal after that leaves the file failed.
     pub fn set_len(&mut self, len: u64) -> Result<(), Error>
         ensures same_file { (file_of self.new).ghost_name ≡ (file_of self.old).ghost_name }
+        ensures any { StreamHeedsFlags IsFailed (open_of self.old) result (open_of self.new) }
         ensures runs { IsTrue F.tells → OnOk result
             (StreamRunsBy (causes_of_len (entry_of self.old) len (file_of self.old).now
             (file_of self.new).now) (open_of self.old) (set_len len) ready (open_of self.new)) }
@@ -236,6 +241,8 @@ impl<'a, F: Medium, A: Heap + Clone> Stream<'a, F, A> {
     /// file has failed then; with bytes kept back also `Memory` and `Full`.
     pub fn flush(&mut self) -> Result<(), Error>
         ensures same_file { (file_of self.new).ghost_name ≡ (file_of self.old).ghost_name }
+        ensures any { StreamHeedsWritingOut IsFailed
+            (open_of self.old) result (open_of self.new) }
         ensures runs { IsTrue F.tells
             → OnOk result (StreamRunsOn (open_of self.old) flush ready (open_of self.new)) }
         ensures refused { IsTrue F.tells → IfErr result
@@ -263,6 +270,8 @@ impl<'a, F: Medium, A: Heap + Clone> Stream<'a, F, A> {
     /// Writes out what is kept back, and ends the work on the stream. With nothing kept back only `Failed` comes; else also `Medium`,
     /// `Memory` and `Full`.
     pub fn close(self) -> Result<(), Error>
+        ensures any { StreamHeedsWritingOut IsFailed (open_of self.entry) result (open_stream_of
+            self.exit.0.now (entry_of self.entry) (window_of self.entry)) }
         ensures closes { IsTrue F.tells
             → OnOk result (Closes (causes_of (file_of self.entry).now self.exit.0.now)
             (run_in (open_of self.entry)) None (is_failed self.exit.0.now)) }
@@ -318,6 +327,8 @@ fn finish<F: Medium, A: Heap + Clone>(
     requires is_open { IsTrue F.tells → Suits (stored_of file.old entry) window }
     ensures still_there { ∥ IsStreamOf file.new.base entry ∥₁ }
     ensures still_open { IsTrue F.tells → Suits (stored_of file.new entry) window }
+    ensures any { StreamHeedsWritingOut IsFailed (open_stream_of file.old entry window) result
+        (open_stream_of file.new entry window) }
     ensures closes { IsTrue F.tells → OnOk result (Closes (causes_of file.old file.new)
         (run_in (open_stream_of file.old entry window)) None (is_failed file.new)) }
     ensures refused { IsTrue F.tells → IfErr result (IsClosingRefused (λ f. F.read_faults f

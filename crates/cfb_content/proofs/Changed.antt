@@ -3,7 +3,7 @@ use Rattle.std.proofs.Common.{◌≡◌, ℕ, true, false, refl, sym, ◌∙◌,
 use Rattle.cfb_format.specs.declared.validate.Validation.{Validation}
 use Rattle.cfb_mini_sectors.specs.State.{IsChangeable, MiniState, table_of}
 use Rattle.cfb_mini_sectors.specs.Steps.{KeepsLimits}
-use Rattle.cfb_content.specs.Changed.{MovesAlone, SparesOthers, WasChanged}
+use Rattle.cfb_content.specs.Changed.{MovesAlone, SparesOthers, StaysTidy, WasChanged}
 use Rattle.cfb_content.specs.Contents.{IsStreamOf, KeepsFixedHeader, KeepsOthers}
 use Rattle.cfb_content.proofs.FixedHeader.{bytes-keep-header, header-then}
 use Rattle.cfb_content.proofs.Kept.{nothing-is-moved, others-kept-then}
@@ -25,12 +25,16 @@ spares-same s i = record { others = λ v change. nothing-is-moved i s; header = 
 pub spares-as : (s new : MiniState) (i : ℕ) → new ≡ s → SparesOthers s new i
 spares-as s new i same = subst (λ (m : MiniState). SparesOthers s m i) (sym same) (spares-same s i)
 
+pub tidy-same : (s : MiniState) → StaysTidy s s
+tidy-same s = record { counted = refl; whole = λ was. was }
+
 pub changed-same : (s : MiniState) (i : ℕ) → IsStreamOf s i → WasChanged s s i
 changed-same s i stream = record {
   holds = λ v change. change;
   owned = λ v change all. all;
   sized = λ v change. same-is-sized v s s i change stream refl refl refl refl;
   snug_mini = λ v change snug. snug;
+  tidy = λ v change. tidy-same s;
 }
 
 -- ---- behind a change that was made

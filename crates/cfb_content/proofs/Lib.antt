@@ -26,4 +26,5 @@ pub mod MinisAlong
 pub mod MinisPut
 pub mod ReadablePlaces
 pub mod FixedHeader
+pub mod DirCount
 pub mod Changed

@@ -3,7 +3,8 @@ use Rattle.std.specs.Prelude.{ℕ, ◌≡◌, false}
 use Rattle.cfb_format.specs.declared.validate.Validation.{Validation}
 use Rattle.cfb_mini_sectors.specs.State.{IsChangeable, MiniState, bytes_of, table_of}
 use Rattle.cfb_mini_sectors.specs.Steps.{IsSnugMini, KeepsLimits}
-use Rattle.cfb_content.specs.Contents.{AreAllUsed, KeepsFixedHeader, KeepsOthers, MovesContent, SizesChain}
+use Rattle.cfb_mini.specs.MiniSectors.{IsWhole}
+use Rattle.cfb_content.specs.Contents.{AreAllUsed, KeepsFixedHeader, KeepsOthers, MovesContent, SizesChain, dir_count_of}
 
 -- ---- of every medium, however the call ends
 
@@ -22,10 +23,16 @@ pub record SparesOthers (old new : MiniState) (i : ℕ) : Type 0 where
   pub header : KeepsFixedHeader old new
   pub unwritten : (table_of new).file.begun ≡ false → bytes_of new ≡ bytes_of old
 
+-- the header counts as many sectors of the directory as before, and the file is a whole number of sectors if it was
+pub record StaysTidy (old new : MiniState) : Type 0 where
+  pub counted : dir_count_of new ≡ dir_count_of old
+  pub whole : IsWhole (table_of old) → IsWhole (table_of new)
+
 -- where the change is made: a file that could be changed can be changed again, and each sector and mini sector is free or in use if it was so;
--- the stream's chain is as long as it is to be, and MiniFAT and mini stream have exactly what they need if they had
+-- the stream's chain is as long as it is to be, MiniFAT and mini stream have exactly what they need if they had, and the file stays tidy
 pub record WasChanged (old new : MiniState) (i : ℕ) : Type 0 where
   pub holds : (v : Validation) → IsChangeable v old → IsChangeable v new
   pub owned : (v : Validation) → IsChangeable v old → AreAllUsed old → AreAllUsed new
   pub sized : (v : Validation) → IsChangeable v old → SizesChain old new i
   pub snug_mini : (v : Validation) → IsChangeable v old → IsSnugMini old → IsSnugMini new
+  pub tidy : (v : Validation) → IsChangeable v old → StaysTidy old new

@@ -2,6 +2,7 @@
 use Rattle.std.specs.Prelude.{ℕ, ◌≡◌, ◌≢◌, ◌+◌, ◌*◌, ◌/◌, ◌%◌, ◌<◌, ◌≤◌, ◌⊎◌, List, [], true, false, length, max, slice_index, unwrap_or, Contains}
 use Rattle.cfb_format.specs.declared.error.Error.{Error}
 use Rattle.cfb_format.specs.declared.validate.Validation.{Validation}
+use Rattle.cfb_format.specs.Bytes.{word_at}
 use Rattle.cfb_format.specs.Content.{content_chain, is_large, mini_chain, mini_sector_len, mini_stream_chain, mini_stream_cutoff, sector_chain}
 use Rattle.cfb_format.specs.DirectoryEntry.{Entry, ButContent}
 use Rattle.cfb_format.specs.Full.{IsTooLong, mini_sectors_for, minifat_len_for, sectors_for}
@@ -34,6 +35,10 @@ len_of s k = (entry_at (entries_of s) k).stream_len
 -- the parts under this outline
 abbrev pub parts_with : MiniState → Outline → Reading
 parts_with s o = record (parts_of s) { outline = o }
+
+-- how many sectors of the directory the header counts: so it does in version 4 alone (MS-CFB 2.2)
+abbrev pub dir_count_of : MiniState → ℕ
+dir_count_of s = word_at (bytes_of s) 40
 
 -- the sectors that the stream of that entry lies in: none where it is short
 abbrev pub sectors_owned : MiniState → ℕ → List ℕ

@@ -14,6 +14,7 @@ ghost use Rattle.cfb_alloc.specs.Alloc.{HoldsTables, IsOtherHeaderByte, IsUsable
 ghost use Rattle.cfb_alloc.specs.Frame.{Spares, table_sectors};
 ghost use Rattle.cfb_alloc.specs.ListedChain.{Lengthens};
 ghost use Rattle.cfb_chains.specs.ChainPlaces.{place_along};
+ghost use Rattle.cfb_mini.specs.MiniSectors.{IsWhole};
 ghost use Rattle.cfb_content.specs.Parts.{AreZerosAlong, ChangesOnlyPlaces, HasFirst, IsThereInSectors, IsWholeChain, StandAlong, StaysAlong};
 
 use cfb_alloc::alloc::Allocator;
@@ -210,6 +211,7 @@ pub fn grow_listed_with<F: Medium, A: Heap>(
         → StaysAlong (place_along allocator.old.tables.version ids.old.items) at (length bytes.now)
         (length ids.old.items * sector_len allocator.old.tables.version) allocator.old.file.bytes allocator.new.file.bytes }
     ensures holds { IsTrue F.tells → (validation : Validation) → HoldsTables validation allocator.old → OnOk result (HoldsTables validation allocator.new) }
+    ensures whole { IsTrue F.tells → (validation : Validation) → HoldsTables validation allocator.old → IsWhole allocator.old → OnOk result (IsWhole allocator.new) }
     ensures sizes { OnOk result (AreSizes allocator.new.tables.version (sizes_of allocator.new.tables)) }
     ensures spares { IsTrue F.tells → Spares ids.old.items allocator.old allocator.new }
     ensures header { IsTrue F.tells → (i : ℕ) → i < length allocator.old.file.bytes → IsOtherHeaderByte allocator.old.tables.version i

@@ -7,7 +7,7 @@ ghost use Rattle.cfb_format.specs.Siblings.{entry_at};
 ghost use Rattle.cfb_sectors.specs.Sectors.{IsRaised};
 ghost use Rattle.cfb_tables.specs.Refused.{ChangeRefused};
 ghost use Rattle.cfb_mini_sectors.specs.State.{IsChangeable, bytes_of, content_of, entries_of, table_of, tables_in};
-ghost use Rattle.cfb_content.specs.Contents.{IsNotChangeable, IsStreamOf, KeepsFixedHeader, KeepsOthers, StopsStillOrBegun, len_of};
+ghost use Rattle.cfb_content.specs.Contents.{IsNotChangeable, IsStreamOf, KeepsFixedHeader, KeepsOthers, StopsStillOrBegun, dir_count_of, len_of};
 
 use crate::in_minis::put_in_minis;
 use crate::in_sectors::put_in_sectors;
@@ -38,6 +38,8 @@ pub fn write_content<F: Medium, A: Heap + Clone>(
         → OnOk result (content_of mini.new (entry_at (entries_of mini.old) entry) ≡ written (content_of mini.old (entry_at (entries_of mini.old) entry)) at bytes.now) }
     ensures others { IsTrue F.tells → (validation : Validation) → IsChangeable validation mini.old → KeepsOthers entry mini.old mini.new }
     ensures header { IsTrue F.tells → KeepsFixedHeader mini.old mini.new }
+    ensures counted { IsTrue F.tells → (validation : Validation) → IsChangeable validation mini.old
+        → OnOk result (dir_count_of mini.new ≡ dir_count_of mini.old) }
     ensures holds { IsTrue F.tells → (validation : Validation) → IsChangeable validation mini.old → OnOk result (IsChangeable validation mini.new) }
     ensures begun { OnOk result (IsRaised (0 < length bytes.now) (table_of mini.old).file (table_of mini.new).file) }
     ensures refused { IfErr result (StopsStillOrBegun mini.old mini.new) }
@@ -69,6 +71,8 @@ pub fn write_listed<F: Medium, A: Heap>(
         → OnOk result (content_of mini.new (entry_at (entries_of mini.old) entry) ≡ written (content_of mini.old (entry_at (entries_of mini.old) entry)) at bytes.now) }
     ensures others { IsTrue F.tells → (validation : Validation) → IsChangeable validation mini.old → KeepsOthers entry mini.old mini.new }
     ensures header { IsTrue F.tells → KeepsFixedHeader mini.old mini.new }
+    ensures counted { IsTrue F.tells → (validation : Validation) → IsChangeable validation mini.old
+        → OnOk result (dir_count_of mini.new ≡ dir_count_of mini.old) }
     ensures holds { IsTrue F.tells → (validation : Validation) → IsChangeable validation mini.old → OnOk result (IsChangeable validation mini.new) }
     ensures begun { OnOk result ((table_of mini.new).file.begun ≡ true) }
     ensures refused { IfErr result (StopsStillOrBegun mini.old mini.new) }

@@ -6,7 +6,7 @@ use Rattle.cfb_format.specs.declared.version.Version.{Version}
 use Rattle.cfb_format.specs.declared.version.Version.TheVariants.{V3, V4}
 use Rattle.cfb_format.specs.declared.validate.Validation.{Validation}
 use Rattle.cfb_format.specs.declared.validate.Validation.TheVariants.{Permissive, Strict}
-use Rattle.cfb_format.specs.Bytes.{entries_per_sector, max_regular_sector, no_stream, stream_len_modulus}
+use Rattle.cfb_format.specs.Bytes.{entries_per_sector, max_regular_sector, no_stream, stream_len_modulus, word_at}
 use Rattle.cfb_format.specs.Created.{created_bytes, created_header, created_reading}
 use Rattle.cfb_format.specs.DirectoryEntry.{Entry, EntryFits, IsValidEntry, empty_root_entry}
 use Rattle.cfb_format.specs.Header.{IfStrict, IsHeader}
@@ -90,6 +90,11 @@ no_minis : (v : Version) (cases : Cases) (failures limit : ℕ) → IsSnugMini (
 no_minis V3 cases failures limit = record { measured = refl; minifat = refl; mini_stream = refl; start = refl }
 no_minis V4 cases failures limit = record { measured = refl; minifat = refl; mini_stream = refl; start = refl }
 
+-- in version 4 the header counts the directory's one sector
+created-counted : (cases : Cases) (v : Version) → v ≡ V4 → word_at (created_bytes v) 40 ≡ 1
+created-counted cases V3 e = cc
+created-counted cases V4 e = sym (reads cases V4).header.num_dir_sectors
+
 -- ---- the whole file
 
 module _ (one_header : AtMostOneHeader) (one_outline : AtMostOneOutline) (v : Version) (cases : Cases) where
@@ -134,6 +139,11 @@ module _ (one_header : AtMostOneHeader) (one_outline : AtMostOneOutline) (v : Ve
     pub made : IsAsMade s
     made = record {
       changeable = changeable Strict;
+      tidy = record {
+        whole = three_sectors v;
+        counted = created-counted cases v;
+        ended = λ k at. absurd (Contains-nil k (subst (λ (p : Outline). Contains (stream_numbers p) k) (sym (the_outline at.outline at.is)) at.reached));
+      };
       used = record {
         sectors = λ o is. subst (λ (p : Outline). AllUsed created_fat (used_sectors (parts_with s p))) (the_outline o is) all_used;
         mini_sectors = λ o is m used. absurd (used refl);
@@ -142,7 +152,6 @@ module _ (one_header : AtMostOneHeader) (one_outline : AtMostOneOutline) (v : Ve
       -- there is no stream
       snug = λ k at. absurd (Contains-nil k (subst (λ (p : Outline). Contains (stream_numbers p) k) (sym (the_outline at.outline at.is)) at.reached));
       snug_mini = no_minis v cases failures limit;
-      ended = λ k at. absurd (Contains-nil k (subst (λ (p : Outline). Contains (stream_numbers p) k) (sym (the_outline at.outline at.is)) at.reached));
       balanced = λ o is. subst (AreBalanced (created_reading v).entries) (the_outline o is) (balanced v);
     }
 

@@ -88,7 +88,7 @@ impl Header {
             return Err(invalid("version 3 counts directory sectors"));
         }
         let Some(initial_difat_entries) = difat_entries(bytes) else {
-            return Err(invalid("no sector has the number of a FAT sector"));
+            return Err(invalid("DIFAT of the header lists what is no sector"));
         };
         Ok(Header {
             version,

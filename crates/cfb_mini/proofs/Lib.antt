@@ -16,3 +16,4 @@ pub mod MiniGiven
 pub mod MiniBehind
 pub mod MiniBegun
 pub mod LeastAbove
+pub mod WholeFiles

@@ -28,7 +28,7 @@ ghost use Rattle.cfb_soundness.specs.Places.{mini_start};
 ghost use Rattle.cfb_mini_sectors.specs.Giving.{CanGiveBack};
 ghost use Rattle.cfb_mini_sectors.specs.Held.{HoldsMiniBut, with_minifat};
 ghost use Rattle.cfb_mini_sectors.specs.Pieces.{HaveMinis, HaveWords};
-ghost use Rattle.cfb_mini.specs.MiniSectors.{HasMiniSector, KeepsMiniBytesBut};
+ghost use Rattle.cfb_mini.specs.MiniSectors.{HasMiniSector, IsWhole, KeepsMiniBytesBut};
 ghost use Rattle.cfb_mini.specs.Changing.{HaveSectors, IsNamedMini, IsStreamApart, KeepsAllButRoom, mini_of};
 
 use cfb_directory::bounds::least_above;
@@ -419,6 +419,9 @@ fn grow_sectors<F: Medium, A: Heap>(
         (mini_of directory.old table.now minifat_sectors.old.items (Some stream.old.items))
         → OnOk result (HoldsMiniBut [] validation
         (mini_of directory.new table.now minifat_sectors.new.items (Some stream.new.items))) }
+    ensures whole { IsTrue F.tells → (validation : Validation) → HoldsMini validation
+        (mini_of directory.old table.now minifat_sectors.old.items (Some stream.old.items))
+        → IsWhole directory.old.table → OnOk result (IsWhole directory.new.table) }
     ensures spares { IsTrue F.tells
         → Spares (system_sectors (mini_of directory.old table.now minifat_sectors.old.items
         (Some stream.old.items))) directory.old.table directory.new.table }
@@ -502,6 +505,9 @@ pub(crate) fn extend_listed<F: Medium, A: Heap>(
         (mini_of directory.new table.new minifat_sectors.new.items (Some stream.new.items)) m) }
     ensures room { OnOk result ((m : ℕ) → m < length table.new.minifat → HasMiniSector
         (mini_of directory.new table.new minifat_sectors.new.items (Some stream.new.items)) m) }
+    ensures whole { IsTrue F.tells → (validation : Validation) → HoldsMini validation
+        (mini_of directory.old table.old minifat_sectors.old.items (Some stream.old.items))
+        → IsWhole directory.old.table → OnOk result (IsWhole directory.new.table) }
     ensures spares { IsTrue F.tells
         → Spares (system_sectors (mini_of directory.old table.old minifat_sectors.old.items
         (Some stream.old.items))) directory.old.table directory.new.table }

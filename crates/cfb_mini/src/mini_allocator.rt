@@ -44,7 +44,7 @@ ghost use Rattle.cfb_mini_sectors.specs.State.{MiniState, HoldsMini, bytes_of, c
 ghost use Rattle.cfb_mini_sectors.specs.Steps.{AreStartsUnnamed, BeginsSystem, CanGiveRoomBack, EndsNoChain, GivesRoomBack, GrowsFor, IsInMiniStream, IsMeasuredMini, IsNotHeld, IsSnugMini, IsTooFewAfterFor, IsTooFewFor, IsZeroMini, KeepsHeader, KeepsLimits, KeepsMini, KeepsSizes, MovesRoot, SparesMini, StopsShort, StopsShortOrFull, mini_stream_lacks, minifat_lacks, system_sectors};
 ghost use Rattle.cfb_mini_sectors.specs.Held.{with_table};
 ghost use Rattle.cfb_mini.specs.Changing.{AreMinifatSectors, root_len_in};
-ghost use Rattle.cfb_mini.specs.MiniSectors.{ChangesFileOnly, HasMiniByte, HasMiniSector, IsStill, KeepsMiniBytesBut};
+ghost use Rattle.cfb_mini.specs.MiniSectors.{ChangesFileOnly, HasMiniByte, HasMiniSector, IsStill, IsWhole, KeepsMiniBytesBut};
 
 mod clearing;
 mod runs;
@@ -560,6 +560,8 @@ impl<F: Medium, A: Heap> MiniAllocator<F, A> {
             → Contains (gained ids.old.items ids.new.items) m → IsZeroMini self.new m) }
         ensures room { 0 < count
             → OnOk result ((m : ℕ) → m < length self.new.minifat → HasMiniSector self.new m) }
+        ensures whole { IsTrue F.tells → (validation : Validation) → HoldsMini validation self.old
+            → IsWhole (table_of self.old) → OnOk result (IsWhole (table_of self.new)) }
         ensures spares { IsTrue F.tells
             → Spares (system_sectors self.old) (table_of self.old) (table_of self.new) }
         ensures mini_spares { IsTrue F.tells → (validation : Validation)

@@ -282,19 +282,6 @@ module _ (old : FileState) (path : List ℕ) (moment : ℕ) (names : List (List 
         (full.1, stays),
       )) e (stops_full (IsFullForEntry new.base.directory) e why stops) (λ memory. stays) (counts_either reads writes (failures_of old) (failures_of new) e counts)
 
-  -- so the call answers
-  pub all_answers : {T : Type 0} (reads writes : MediumFault → Bool) (r : Result T Error) → OnOk r (is_failed new ≡ false) → (IsAsMade old.base → OnOk r (IsAsMade new.base))
-      → OnOk r (GrowsTightly old.base new.base) → OnOk r (AllStayBalanced old.base new.base) → OnOk r (root_len_of new.base ≡ root_len_of old.base)
-      → (0 < length (drop passed names) → OnOk r (IsFullForEntry old.base.directory → ⊥)) → (length (drop passed names) ≡ 0 → OnOk r (new ≡ old))
-      → OnOk r ((before : List (List ℕ)) (o : Outline) → IsOutline (cases_of old.base) (entries_of old.base) o → number_from (cases_of old.base) (entries_of old.base) 0 o before ≡ Some k
-      → BecomesTree (cases_of old.base) (bytes_of old.base) (bytes_of new.base) (all_added_at (cases_of old.base) moment (before ++ drop passed names)))
-      → OnErr r (StaysOrFails old new) → OnErr r (0 < length (drop passed names)) → IfErr r (IsBreak (IsFullForEntry new.base.directory))
-      → (IsFullForEntry old.base.directory → IfErr r (AfterMedium (is_failed new ≡ true) (new ≡ old)))
-      → CountsFailure writes r (failures_of old) (failures_of new) → CallAnswersInTurn (λ f. reads f || writes f) old call r new
-  all_answers reads writes (Ok x) ended made grows balanced root_len enough same becomes stays some why stops counts =
-      all_done ended made grows (added_balanced old new held.outline held.reads.outline balanced) root_len enough same counts becomes
-  all_answers reads writes (Err e) ended made grows balanced root_len enough same becomes stays some why stops counts = all_refused reads writes e stays some why stops counts
-
 -- names that lead on to nothing lead to a storage, where no stream is in the way
 pub way_is : (file : FileState) (path : List ℕ) (names : List (List ℕ)) (passed k : ℕ) → is_failed file ≡ false → file.is_sound ≡ true → names_of_path path ≡ Some names
     → list_all is_valid_name names ≡ true → LeadAsFarAs file names passed k → (entry_at (entries_of file.base) k).obj_type ≢ Stream → AreInOrder (cases_of file.base) (entries_of file.base)

@@ -19,3 +19,5 @@ pub mod Doing
 pub mod SetFields
 pub mod Removed
 pub mod AllStorages
+pub mod InTurn
+pub mod FilledWays

@@ -9,7 +9,7 @@ use Rattle.cfb_format.specs.Medium.{Rises}
 use Rattle.cfb_format.specs.Names.{Cases}
 use Rattle.cfb_format.specs.Path.{names_of_path}
 use Rattle.cfb_format.specs.Reading.{IsOutline, Outline}
-use Rattle.cfb_format.specs.Refused.{AfterMedium, CountsError, HasReason, IsBreak, IsMediumAnd, IsMemory, RefusesInput, at_every_error}
+use Rattle.cfb_format.specs.Refused.{AfterMedium, CountsError, HasReason, IsBreak, IsMediumAnd, IsMemory, RefusesInput, at_every_error, no_error}
 use Rattle.cfb_format.specs.Tree.{Tree}
 use Rattle.cfb_rules.specs.CallRefusals.{refusal_of}
 use Rattle.cfb_rules.specs.Calls.{Call, create_storage_all, refused, remove_storage_all, remove_stream}
@@ -62,6 +62,13 @@ none_for_memory file (create_storage_all path moment) = inl (unchanged file)
 none_for_memory file (remove_storage_all path) = inl (unchanged file)
 none_for_memory file (remove_stream path) = inl (unchanged file)
 none_for_memory file call = refl
+
+-- numbers never lack where a path is refused, nor where names are
+pub input_never_full : (wrong : Bool) (e : Error) → RefusesInput wrong e → e ≡ Full → ⊥
+input_never_full wrong e why full = subst (λ (x : Error). RefusesInput wrong x) full why
+
+pub names_never_full : (wrong : Type 0) (e : Error) → HasReason (record no_error { invalid_input = wrong; memory = ⊤ }) e → e ≡ Full → ⊥
+names_never_full wrong e why full = subst (λ (x : Error). HasReason (record no_error { invalid_input = wrong; memory = ⊤ }) x) full why
 
 -- what holds after any error but the medium's holds where memory lacked
 pub after_memory : (broken kept : Type 0) (e : Error) → AfterMedium broken kept e → IsMemory e → kept

@@ -1,5 +1,5 @@
 -- What calls on a file answer, by the rules of calls.
-use Rattle.std.specs.Prelude.{◌≡◌, ◌⊎◌, [], Bool, true, false, Some}
+use Rattle.std.specs.Prelude.{ℕ, ◌≡◌, ◌<◌, ◌+◌, ◌⊎◌, List, [], Bool, true, false, Some, None, length, take}
 use Rattle.cfb_format.specs.declared.error.Error.{Error}
 use Rattle.cfb_format.specs.declared.medium.MediumFault.{MediumFault}
 use Rattle.cfb_format.specs.Bytes.{max_stream_len}
@@ -11,7 +11,7 @@ use Rattle.cfb_format.specs.Refused.{CountsError, HasReason, at_every_error}
 use Rattle.cfb_format.specs.Tree.{Tree}
 use Rattle.cfb_rules.specs.CallRefusals.{is_a_stream}
 use Rattle.cfb_rules.specs.CallReplies.{has_object}
-use Rattle.cfb_rules.specs.Calls.{Call, Reply, create_storage_all, refused, remove_storage_all, remove_stream, set_created_time, set_modified_time, touch}
+use Rattle.cfb_rules.specs.Calls.{Call, Reply, create_storage_all, done, refused, remove_storage_all, remove_stream, set_created_time, set_modified_time, touch}
 use Rattle.cfb_rules.specs.Refusal.{IsRefusal, Refusal}
 use Rattle.cfb_rules.specs.Runs.{CallRuns, Causes, Setting, TreeState}
 use Rattle.cfb_rules.specs.Steps.{creating, is_changing, is_there, kind_of, kind_on}
@@ -21,6 +21,8 @@ use Rattle.cfb_content.specs.Contents.{KeepsFixedHeader}
 use Rattle.cfb_trees.specs.Balance.{AreAllBalanced}
 use Rattle.cfb_agreement.specs.Changes.{StaysOrFails}
 use Rattle.cfb_agreement.specs.Files.{FileState, IsAsMade, IsFullFile, GrowsTightly, SameSetting, failures_of, is_failed}
+use Rattle.cfb_agreement.specs.Laws.{with_flags}
+use Rattle.cfb_path_changes.specs.Finding.{LeadTo}
 use Rattle.cfb_path_changes.specs.Sparing.{SparesStreams}
 
 -- what stays the same of a file
@@ -137,3 +139,17 @@ StopsInTurn old new = (IsFullForEntry old.base.directory → new ≡ old) × Sta
 -- of a call that is several changes in turn numbers can lack for a later one
 abbrev pub IsRefusedInTurn : (MediumFault → Bool) → FileState → Call → FileState → Error → Type 0
 IsRefusedInTurn can_give old call new = IsRefusedLeaving (StopsInTurn old new) can_give old call new
+
+-- So much room there was: `between` is the file in which the first so many names of this path lead to storages, those that were there and those
+-- that the call would have made for these names alone; the next name leads to nothing there, and no entry can be had for it. With none made it
+-- is the file before the call, and nothing has changed; else it is left so, but that it has failed
+pub record LacksRoomOnTheWay (old : FileState) (path : List ℕ) (moment : ℕ) (new : FileState) : Type 0 where
+  pub names : List (List ℕ)
+  pub named : names_of_path path ≡ Some names
+  pub count : ℕ
+  pub some : count < length names
+  pub between : FileState
+  pub made : (part : List ℕ) → names_of_path part ≡ Some (take count names) → IsDoneBy old (create_storage_all part moment) done between
+  pub missing : LeadTo between (take (count + 1) names) None
+  pub full : IsFullForEntry between.base.directory
+  pub left : ((between ≡ old) × (new ≡ old)) ⊎ (new ≡ with_flags between (failures_of between) true)

@@ -7,4 +7,5 @@ pub mod Place
 pub mod Wanted
 pub mod Marking
 pub mod Ways
+pub mod InTurn
 pub mod Removing

@@ -1,12 +1,16 @@
 //! New storages at paths.
-ghost use Rattle.std.specs.Prelude.{◌≡◌, ◌≤◌, ◌||◌, List, ℕ, true, false, length, map, IsTrue, IfOk, IfErr, IsErrAnd, OnOk, chars, ⊤};
+ghost use Rattle.std.specs.Prelude.{◌≡◌, ◌≤◌, ◌||◌, List, ℕ, true, false, length, map, Contains, IsTrue, IfOk, IfErr, IsErrAnd, OnOk, chars, ⊤};
 ghost use Rattle.std.specs.List.{list_all};
 ghost use Rattle.cfb_format.specs.Names.{is_valid_name};
 ghost use Rattle.cfb_format.specs.Refused.{HasReason, no_error};
 ghost use Rattle.cfb_rules.specs.Calls.{create_storage, create_storage_all};
-ghost use Rattle.cfb_agreement.specs.Files.{Agrees, is_failed};
-ghost use Rattle.cfb_path_changes.specs.Answers.{IsRefusedBy};
+ghost use Rattle.cfb_outline.specs.Outlines.{IsReachedStorage};
+ghost use Rattle.cfb_mini_sectors.specs.State.{cases_of, entries_of};
+ghost use Rattle.cfb_agreement.specs.Files.{Agrees, SameSetting, is_failed};
+ghost use Rattle.cfb_volume.specs.Adding.{IsFirstAbsent};
+ghost use Rattle.cfb_path_changes.specs.Answers.{IsRefusedBy, LacksRoomOnTheWay};
 ghost use Rattle.cfb_path_changes.specs.Calls.{CallAnswers, CallAnswersInTurn, HeedsFlags};
+ghost use Rattle.cfb_path_changes.specs.InTurn.{AddsAll, StopsAdding};
 ghost use Rattle.cfb_path_changes.specs.Ways.{IsWayOf, LeadAsFarAs};
 
 use crate::finding::kind_of;
@@ -84,6 +88,7 @@ fn find_way<'p, F: Medium, A: Heap + Clone>(
     ensures failed { is_failed volume.now ≡ true → IsErrAnd result (λ e. e ≡ Error.Failed) }
     ensures refused { IsTrue F.tells → IfErr result (λ e. IsRefusedBy (λ f. F.read_faults f
         || F.write_faults f) volume.now (create_storage_all (chars path.now) moment) volume.now e) }
+    ensures never_full { IfErr result (λ e. e ≡ Error.Full → ⊥) }
 {
     if volume.is_failed() {
         return Err(Error::Failed);
@@ -100,13 +105,59 @@ fn find_way<'p, F: Medium, A: Heap + Clone>(
     Ok((names, passed, number))
 }
 
+/// Puts a storage of the first of these names into the storage `parent`, where no child has that name, one of the next name into that one,
+/// and so on. Each has `moment` for both of its moments.
+///
+/// `Full` where no entry can be had for one of them, `Memory`, and `Medium` where the medium fails: all but the count of failures is as
+/// before, or the file has failed. Where no entry could be had before, nothing has changed but after `Medium`. Of no names nothing changes.
+fn insert_all<F: Medium, A: Heap + Clone>(
+    volume: &mut Volume<F, A>,
+    parent: u32,
+    names: &[&str],
+    moment: Timestamp,
+) -> Result<(), Error>
+    requires sound { volume.old.is_sound ≡ true }
+    requires unfailed { is_failed volume.old ≡ false }
+    requires parent { IsReachedStorage (cases_of volume.old.base)
+        (entries_of volume.old.base) parent }
+    requires valid { (name : List ℕ) → Contains (map (λ name. chars name.now) names.now) name
+        → IsTrue (is_valid_name name) }
+    requires absent { IsFirstAbsent volume.old parent (map (λ name. chars name.now) names.now) }
+    ensures setting { SameSetting volume.old volume.new }
+    ensures added { OnOk result (AddsAll F.tells moment (map (λ name. chars name.now) names.now)
+        parent volume.old volume.new) }
+    ensures none { length names.now ≡ 0 → OnOk result (volume.new ≡ volume.old) }
+    ensures refused { IfErr result (StopsAdding F.tells F.write_faults moment
+        (map (λ name. chars name.now) names.now) parent volume.old volume.new) }
+{
+    let mut node = parent;
+    let mut begun = false;
+    for name in names {
+        match volume.insert(node, name, ObjType::Storage, moment) {
+            Ok(number) => {
+                // The entries are in order, so that the new one is known to be a storage.
+                let _entries = volume.entries();
+                node = number;
+                begun = true;
+            }
+            Err(e) => {
+                if begun {
+                    volume.fail();
+                }
+                return Err(e);
+            }
+        }
+    }
+    Ok(())
+}
+
 /// Makes a storage at this path and all that are missing on the way to it, each with `moment` for both of its moments. What is there is
 /// passed; where all are there, nothing changes.
 ///
 /// `Failed`; by the rules of calls: `InvalidInput` where the path leaves the root or a name is not valid; `AlreadyExists` where a stream is
 /// on the way or at its end; and then `Unsound`. Nothing has changed then. `Full` where no entry can be had, `Memory`, and `Medium` where
 /// the medium fails: all but the count of failures is as before, or the file has failed. Where not one entry could be had nothing has
-/// changed after `Full`.
+/// changed after `Full`; and else `Full` comes only where the storages before have taken the last entry that could be had.
 pub fn create_storage_all<F: Medium, A: Heap + Clone>(
     volume: &mut Volume<F, A>,
     path: &str,
@@ -117,7 +168,9 @@ pub fn create_storage_all<F: Medium, A: Heap + Clone>(
     ensures any { HeedsFlags volume.old result volume.new }
     ensures does { IsTrue F.tells → CallAnswersInTurn (λ f. F.read_faults f || F.write_faults f)
         volume.old (create_storage_all (chars path.now) moment) result volume.new }
+    ensures foreseen { IsTrue F.tells → IfErr result (λ e. e ≡ Error.Full
+        → LacksRoomOnTheWay volume.old (chars path.now) moment volume.new) }
 {
     let (names, passed, storage) = find_way(volume, path, moment)?;
-    volume.insert_all(storage, &names[passed..], moment)
+    insert_all(volume, storage, &names[passed..], moment)
 }

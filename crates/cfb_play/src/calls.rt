@@ -1,11 +1,13 @@
 //! Lines on a file.
 
 use crate::changes::changed;
-use crate::commands::play_list;
 use crate::contents::{change_content, has_all};
 use crate::streams::{lend_memory, play_stream};
 use crate::told::told;
-use cfb::{CompoundFile, Error, Medium, Stream};
+use cfb_compound_file::compound_file::CompoundFile;
+use cfb_compound_file::stream::Stream;
+use cfb_format::error::Error;
+use cfb_format::medium::Medium;
 use cfb_rows::answers::Answer;
 use cfb_rows::content::Content;
 use cfb_rows::forms::{ON_FILES, fits};
@@ -61,30 +63,8 @@ const FAILED: [&str; 15] = [
     "touch / 0",
 ];
 
-/// Plays the lines on a file up to `end`.
-pub fn play_file<F: Medium, A: Allocator + Clone>(
-    alloc: &A,
-    file: &mut CompoundFile<F, A>,
-    script: &mut Script<'_>,
-    judge: &mut Judge<'_>,
-) {
-    for _turn in 0..script.lines.len() {
-        let Some(line) = script.step() else {
-            break;
-        };
-        judge.text.clear();
-        let is_known = is_known(&line, judge);
-        if line.call() == "end" {
-            ask_failed(file, &line, judge);
-            return;
-        }
-        play_one(alloc, file, &line, is_known, script, judge);
-    }
-    note_unended(script, judge);
-}
-
 /// Whether a line has a form; else it is told as wrong.
-fn is_known(line: &Line<'_>, judge: &mut Judge<'_>) -> bool {
+pub fn is_known(line: &Line<'_>, judge: &mut Judge<'_>) -> bool {
     let is_known = fits(ON_FILES, line);
     if !is_known {
         judge.note_wrong(line, UNKNOWN);
@@ -92,48 +72,8 @@ fn is_known(line: &Line<'_>, judge: &mut Judge<'_>) -> bool {
     is_known
 }
 
-/// Notes that there are no lines left, and none ended the session.
-fn note_unended(script: &Script<'_>, judge: &mut Judge<'_>) {
-    if let Some(line) = script.lines.last() {
-        judge.note_wrong(line, Answer::Wrong("no line ends its session"));
-    }
-}
-
-/// Plays a line on a file, with those that belong to it.
-fn play_one<F: Medium, A: Allocator + Clone>(
-    alloc: &A,
-    file: &mut CompoundFile<F, A>,
-    line: &Line<'_>,
-    is_known: bool,
-    script: &mut Script<'_>,
-    judge: &mut Judge<'_>,
-) {
-    match line.call() {
-        "stream" => play_on_stream(file, line, script, judge),
-        "commands" => play_commands(alloc, file, line, script, judge),
-        _ if is_known => play_line(file, line, judge),
-        _ => {}
-    }
-}
-
-/// Plays a list of commands, where nothing goes wrong.
-fn play_commands<F: Medium, A: Allocator + Clone>(
-    alloc: &A,
-    file: &mut CompoundFile<F, A>,
-    line: &Line<'_>,
-    script: &mut Script<'_>,
-    judge: &mut Judge<'_>,
-) {
-    match play_list(alloc, file, script, &mut judge.text) {
-        Some((run, answer)) if judge.plan.is_calm() => {
-            judge.hears(&run, answer);
-        }
-        Some((run, _)) => judge.note_wrong(&run, Answer::Wrong("lists are not played over faults")),
-        None => judge.note_wrong(line, Answer::Wrong("no line runs the list")),
-    }
-}
-
-fn play_line<F: Medium, A: Allocator + Clone>(
+/// Plays a line on a file, but for one to which further lines belong.
+pub fn play_line<F: Medium, A: Allocator + Clone>(
     file: &mut CompoundFile<F, A>,
     line: &Line<'_>,
     judge: &mut Judge<'_>,
@@ -148,7 +88,7 @@ fn play_line<F: Medium, A: Allocator + Clone>(
 }
 
 /// Gets a stream, and plays the lines on it. Where it is refused at last, these lines are passed over.
-fn play_on_stream<F: Medium, A: Allocator + Clone>(
+pub fn play_on_stream<F: Medium, A: Allocator + Clone>(
     file: &mut CompoundFile<F, A>,
     line: &Line<'_>,
     script: &mut Script<'_>,
@@ -156,7 +96,7 @@ fn play_on_stream<F: Medium, A: Allocator + Clone>(
 ) {
     for _turn in 0..TRIES {
         let got = if line.words[1] == "read" {
-            play_reading(file, line, script, judge)
+            play_read(file, line, script, judge)
         } else {
             play_got(file, line, script, judge)
         };
@@ -196,7 +136,7 @@ fn play_got<F: Medium, A: Allocator + Clone>(
 }
 
 /// The same of a stream that is only read.
-fn play_reading<F: Medium, A: Allocator + Clone>(
+fn play_read<F: Medium, A: Allocator + Clone>(
     file: &mut CompoundFile<F, A>,
     line: &Line<'_>,
     script: &mut Script<'_>,
@@ -296,7 +236,7 @@ fn has<F: Medium, A: Allocator + Clone>(
 }
 
 /// Asks a failed file for streams, and to flush: all is refused so.
-fn ask_failed<F: Medium, A: Allocator + Clone>(
+pub fn ask_failed<F: Medium, A: Allocator + Clone>(
     file: &mut CompoundFile<F, A>,
     line: &Line<'_>,
     judge: &mut Judge<'_>,

@@ -1,6 +1,9 @@
 //! Contents of streams, written and read whole.
 
-use cfb::{Error, Medium, ReadMedium, ReadStream, Stream};
+use cfb_compound_file::read_stream::ReadStream;
+use cfb_compound_file::stream::Stream;
+use cfb_format::error::Error;
+use cfb_format::medium::{Medium, ReadMedium};
 use cfb_rows::answers::Answer;
 use cfb_rows::content::Content;
 use cfb_rows::lines::Line;

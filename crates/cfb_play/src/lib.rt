@@ -1,12 +1,11 @@
 //! Plays the lines of a row on a compound file, and on its streams.
 //!
-//! What plays them stands on traits and types whose calls promise nothing, so that few functions here meet the contracts of the files.
+//! What plays them on a stream stands on a trait whose calls promise nothing, so that few functions here meet the contracts of the files.
 #![tactic(auto)]
 
 pub mod calls;
-pub mod changes;
-pub mod commands;
-pub mod contents;
-pub mod served;
-pub mod streams;
-pub mod told;
+mod changes;
+mod contents;
+mod served;
+mod streams;
+mod told;

@@ -1,7 +1,10 @@
 //! Streams that lines are played on.
 
 use crate::contents::{Rest, write_rest};
-use cfb::{Error, Medium, ReadMedium, ReadStream, Stream};
+use cfb_compound_file::read_stream::ReadStream;
+use cfb_compound_file::stream::Stream;
+use cfb_format::error::Error;
+use cfb_format::medium::{Medium, ReadMedium};
 use cfb_rows::media::Heap;
 use std::alloc::Allocator;
 use std::io::SeekFrom;

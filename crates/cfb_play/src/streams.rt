@@ -2,7 +2,7 @@
 
 use crate::contents::{Rest, compared};
 use crate::served::{Change, Served};
-use cfb::Error;
+use cfb_format::error::Error;
 use cfb_rows::answers::Answer;
 use cfb_rows::content::Content;
 use cfb_rows::forms::{ON_STREAMS, fits};

@@ -1,6 +1,5 @@
 pub mod Named
 pub mod Turned
-pub mod Appended
 pub mod Padded
 pub mod RoomForMove
 pub mod TurnedInSectors
@@ -16,8 +15,6 @@ pub mod MovedToSectors
 pub mod CarriedToMinis
 pub mod MovedToMinis
 pub mod MiniGrowth
-pub mod GrownLengths
-pub mod TakenRest
 pub mod CutShort
 pub mod PutBehind
 pub mod CanGrow

@@ -227,6 +227,7 @@ moved-turns-soundly s new i size start from none t = record {
   turned = λ v change. moved-turns v s new i size start from none (t.holds v change) (t.moved v change);
   holds = t.holds;
   snug_mini = t.snug_mini;
+  tidy = t.tidy;
 }
 
 -- ---- what the calls say of it
@@ -279,6 +280,9 @@ module _ (s mid new : MiniState) (i size count start len l : ℕ) (list : List �
       own-minis-kept v s new i list change at (owned-minis s i short list there)
       (subst (λ (m : MiniState). Spares (system_sectors m) (table_of m) (table_of new)) same spares)
       ((subst (λ (m : MiniState). HoldsMini v m → GoesUnnamed m list → SparesMini list m new) same (mini_spares v)) change.held (unnamed v change))
+
+  pub move-asked : (Q : MiniState → Type 0) → mid ≡ s → (v : Validation) → IsChangeable v s → (HoldsMini v mid → GoesUnnamed mid list → Q mid) → Q s
+  move-asked Q same v change h = (subst (λ (m : MiniState). HoldsMini v m → GoesUnnamed m list → Q m) same h) change.held (unnamed v change)
 
   pub move-held : mid ≡ s → (v : Validation) → (HoldsMini v mid → GoesUnnamed mid list → HoldsMini v new) → IsChangeable v s → HoldsMini v new
   move-held same v holds change = (subst (λ (m : MiniState). HoldsMini v m → GoesUnnamed m list → HoldsMini v new) same holds) change.held (unnamed v change)

@@ -17,6 +17,7 @@ use Rattle.cfb_tables.specs.Tables.{TableState, first_or_end}
 use Rattle.cfb_tables.proofs.ChainLemmas.{members-busy}
 use Rattle.cfb_tables.proofs.Members.{distinct-apart}
 use Rattle.cfb_directory.specs.Growing.{ArePlaced}
+use Rattle.cfb_directory.specs.Steps.{KeepsWholeHeader}
 use Rattle.cfb_alloc.specs.Frame.{IsForeign, Spares}
 use Rattle.cfb_alloc.specs.ListedChain.{Shortens}
 use Rattle.cfb_format.specs.Full.{rounded_up}
@@ -28,9 +29,11 @@ use Rattle.cfb_mini_sectors.specs.State.{HoldsMini, IsChangeable, MiniState, byt
 use Rattle.cfb_mini_sectors.specs.Steps.{KeepsLimits, KeepsMini, KeepsSystem, SettlesRoom, mini_stream_needs, minifat_needs}
 use Rattle.cfb_mini_sectors.proofs.HeldMini.{no-tables}
 use Rattle.cfb_mini_sectors.proofs.MiniStreams.{chain-is-stream, stream-chain}
-use Rattle.cfb_content.specs.Changed.{MovesAlone}
+use Rattle.cfb_mini.proofs.WholeFiles.{same-whole}
+use Rattle.cfb_content.specs.Changed.{MovesAlone, StaysTidy}
 use Rattle.cfb_content.specs.Contents.{IsStreamOf, KeepsContent, KeepsOthers, MovesContent, sectors_owned}
 use Rattle.cfb_content.specs.Uses.{ChangesContent}
+use Rattle.cfb_content.proofs.DirCount.{count-stays, slots-outside}
 use Rattle.cfb_content.proofs.Apart.{maybe-chain, own-is-apart}
 use Rattle.cfb_content.proofs.Kept.{keeps-then, mini-below, stays-inside, stream-room}
 use Rattle.cfb_content.proofs.Outlines.{content-moves-then, moved-root-moved, stream-is-no-root}
@@ -162,6 +165,16 @@ around-moves old new i stream around = record {
 pub moves-then : (old mid new : MiniState) (i : ℕ) → IsStreamOf old i → KeepsAround old mid → MovesContent mid new i → MovesContent old new i
 moves-then old mid new i stream around moves =
     content-moves-then old mid new i (moved-root-moved old mid i (stream-is-no-root old i stream) around.entries) moves
+
+-- slots alone were written: the file stays tidy
+pub named-tidy : (v : Validation) (old mid new : MiniState) → HoldsMini v mid → HoldsMini v new → KeepsSystem mid new → KeepsWholeHeader mid.directory new.directory
+    → Spares mid.directory.sectors (table_of mid) (table_of new) → StaysTidy old mid → StaysTidy old new
+named-tidy v old mid new before after system header spares tidy = record {
+  counted = count-stays v mid new before (slots-outside mid new header) ∙ tidy.counted;
+  whole = λ was.
+      same-whole v (table_of mid) (table_of new) after.directory.tables (ap (λ (t : TableState). t.version) system.tables) (ap (λ (t : TableState). length t.fat) system.tables)
+      spares.no_shorter (tidy.whole was);
+}
 
 -- each entry has its slot still, where the file lost no sector
 pub placed-stays : (old mid : MiniState) → ArePlaced old.directory → KeepsAround old mid → length (tables_in old).fat ≤ length (tables_in mid).fat → ArePlaced mid.directory

@@ -3,6 +3,7 @@ use Rattle.std.proofs.Common.{◌≡◌, ◌≤◌, ◌<◌, ◌+◌, ◌-◌, �
 use Rattle.std.proofs.lemmas.List.{drop_all, length-take, take-append-le, take_all}
 use Rattle.cfb_format.specs.declared.error.Error.{Error}
 use Rattle.cfb_format.specs.declared.error.Error.TheVariants.{AlreadyExists, Failed, Full, InvalidData, InvalidInput, Medium, Memory, NotFound, Unsound}
+use Rattle.cfb_format.specs.declared.validate.Validation.{Validation}
 use Rattle.cfb_format.specs.declared.version.Version.{Version}
 use Rattle.cfb_format.specs.declared.version.Version.TheVariants.{V3, V4}
 use Rattle.cfb_format.specs.Bytes.{max_stream_len}
@@ -11,12 +12,13 @@ use Rattle.cfb_rules.specs.StreamCalls.{resized}
 use Rattle.cfb_tables.specs.Changes.{NoneFree}
 use Rattle.cfb_tables.specs.Refused.{ChangeRefused}
 use Rattle.cfb_tables.specs.Tables.{AreExactTables, TableState}
-use Rattle.cfb_mini_sectors.specs.State.{MiniState, entries_of, table_of, tables_in}
+use Rattle.cfb_mini_sectors.specs.State.{HoldsMini, MiniState, bytes_of, entries_of, table_of, tables_in}
 use Rattle.cfb_mini_sectors.specs.Steps.{KeepsLimits}
 use Rattle.cfb_mini_sectors.specs.Held.{with_table}
 use Rattle.cfb_mini.specs.MiniSectors.{IsStill}
-use Rattle.cfb_content.specs.Changed.{MovesAlone}
-use Rattle.cfb_content.specs.Contents.{AreAllUsed, IsNotChangeable, MovesContent, SizesChain, StopsStillOrBegun}
+use Rattle.cfb_mini.proofs.WholeFiles.{same-whole}
+use Rattle.cfb_content.specs.Changed.{MovesAlone, StaysTidy}
+use Rattle.cfb_content.specs.Contents.{AreAllUsed, IsNotChangeable, MovesContent, SizesChain, StopsStillOrBegun, dir_count_of}
 use Rattle.cfb_content.proofs.Outlines.{same-entries-moved}
 use Rattle.cfb_content.proofs.Rewritten.{resized-len}
 use Rattle.cfb_resizing.specs.Turning.{KeepsTablesTight, StopsOrIsFull}
@@ -63,6 +65,15 @@ module _ (old new : MiniState) (rest : new ≡ with_table old (record (table_of 
 
   pub filed-used : AreAllUsed old → AreAllUsed new
   filed-used used = subst AreAllUsed (sym rest) (record { sectors = used.sectors; mini_sectors = used.mini_sectors })
+
+  pub filed-tidy : (v : Validation) (before : MiniState) → HoldsMini v new → dir_count_of new ≡ dir_count_of old → length (bytes_of old) ≤ length (bytes_of new)
+      → StaysTidy before old → StaysTidy before new
+  filed-tidy v before held count longer tidy = record {
+    counted = count ∙ tidy.counted;
+    whole = λ was.
+        same-whole v (table_of old) (table_of new) held.directory.tables (ap (λ (t : TableState). t.version) filed-tables) (ap (λ (t : TableState). length t.fat) filed-tables)
+        longer (tidy.whole was);
+  }
 
   pub filed-sized : (before : MiniState) (i : ℕ) → SizesChain before old i → SizesChain before new i
   filed-sized before i sized = subst (λ (s : MiniState). SizesChain before s i) (sym rest) (record {

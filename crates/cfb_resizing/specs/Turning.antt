@@ -21,6 +21,7 @@ use Rattle.cfb_mini_table.specs.MiniTable.{MiniGivesBack, TakesMini}
 use Rattle.cfb_mini_sectors.specs.State.{HoldsMini, IsChangeable, MiniState, bytes_of, content_of, entries_of, parts_of, table_of, tables_in, version_of}
 use Rattle.cfb_mini_sectors.specs.Steps.{AreStartsUnnamed, GrowsFor, IsInMiniStream, IsSnugMini, IsZeroMini, KeepsLimits, KeepsMini, KeepsSystem, MovesRoot, SettlesRoom, system_sectors}
 use Rattle.cfb_mini.specs.MiniSectors.{IsStill}
+use Rattle.cfb_content.specs.Changed.{StaysTidy}
 use Rattle.cfb_content.specs.Contents.{WipesMinis, len_of, mini_place_along, mini_sectors_owned, sectors_owned}
 
 -- ---- bytes and zeros
@@ -172,11 +173,13 @@ abbrev pub Turns : MiniState → MiniState → ℕ → ℕ → ℕ → Type 0
 Turns old new i size start = TurnsByGrowth old new i size start ⊎ TurnsByCut old new i size start ⊎ TurnsByMiniGrowth old new i size start
     ⊎ TurnsByMiniCut old new i size start ⊎ TurnsSmall old new i size start ⊎ TurnsLarge old new i size start
 
--- and a file that could be changed holds the directory and the mini sectors again; MiniFAT and mini stream have exactly what they need if they had
+-- and a file that could be changed holds the directory and the mini sectors again; MiniFAT and mini stream have exactly what they need if they had,
+-- and the file stays tidy
 pub record TurnsSoundly (old new : MiniState) (i size start : ℕ) : Type 0 where
   pub turned : (v : Validation) → IsChangeable v old → Turns old new i size start
   pub holds : (v : Validation) → IsChangeable v old → HoldsMini v new
   pub snug_mini : (v : Validation) → IsChangeable v old → IsSnugMini old → IsSnugMini new
+  pub tidy : (v : Validation) → IsChangeable v old → StaysTidy old new
 
 -- in every file the chain from there is as short as can be where the stream got shorter in the table that it lay in, and where nothing is left of
 -- it there is none
@@ -230,11 +233,13 @@ pub record MovesWith (old new : MiniState) (i size : ℕ) (from : List ℕ) (sta
   pub stands : StandBehind old i from (bytes_of new) (place_along (version_of new) ys)
   pub zeros : (k : ℕ) → len_of old i + length from ≤ k → k < size → slice_index (bytes_of new) (place_along (version_of new) ys k) ≡ 0
 
--- and a file that could be changed holds the directory and the mini sectors again; MiniFAT and mini stream have exactly what they need if they had
+-- and a file that could be changed holds the directory and the mini sectors again; MiniFAT and mini stream have exactly what they need if they had,
+-- and the file stays tidy
 pub record MovesSoundly (old new : MiniState) (i size : ℕ) (from : List ℕ) (start : ℕ) : Type 0 where
   pub moved : (v : Validation) → IsChangeable v old → MovesWith old new i size from start
   pub holds : (v : Validation) → IsChangeable v old → HoldsMini v new
   pub snug_mini : (v : Validation) → IsChangeable v old → IsSnugMini old → IsSnugMini new
+  pub tidy : (v : Validation) → IsChangeable v old → StaysTidy old new
 
 -- a stream that lies in sectors now got these bytes behind what it had, where it lay or as it moved there; it starts there
 abbrev pub PutsBehind : MiniState → MiniState → ℕ → List ℕ → ℕ → Type 0

@@ -15,8 +15,8 @@ ghost use Rattle.cfb_alloc.specs.ListedChain.{Lengthens};
 ghost use Rattle.cfb_chains.specs.ChainPlaces.{place_along};
 ghost use Rattle.cfb_mini_table.specs.MiniTable.{TakesMini};
 ghost use Rattle.cfb_mini_sectors.specs.State.{HoldsMini, bytes_of, table_of, tables_in, version_of};
-ghost use Rattle.cfb_mini_sectors.specs.Steps.{GrowsFor, IsNotHeld, IsSnugMini, IsTooFewFor, KeepsMini, KeepsSystem, SparesMini, system_sectors};
-ghost use Rattle.cfb_mini.specs.MiniSectors.{HasMiniSector};
+ghost use Rattle.cfb_mini_sectors.specs.Steps.{GrowsFor, IsNotHeld, IsSnugMini, IsTooFewFor, KeepsHeader, KeepsMini, KeepsSystem, SparesMini, system_sectors};
+ghost use Rattle.cfb_mini.specs.MiniSectors.{HasMiniSector, IsWhole};
 ghost use Rattle.cfb_content.specs.Changed.{SparesOthers};
 ghost use Rattle.cfb_content.specs.Contents.{IsNotChangeable, IsStreamOf, len_of, mini_place_along};
 ghost use Rattle.cfb_content.specs.Laws.{LacksNumbersFor};
@@ -58,6 +58,7 @@ fn lengthen_in_sectors<F: Medium, A: Heap + Clone>(
         → OnOk result (IsPaddedAlong len size (place_along allocator.old.tables.version ids.old.items) (place_along allocator.old.tables.version ids.new.items)
         allocator.old.file.bytes allocator.new.file.bytes) }
     ensures holds { IsTrue F.tells → (validation : Validation) → HoldsTables validation allocator.old → OnOk result (HoldsTables validation allocator.new) }
+    ensures whole { IsTrue F.tells → (validation : Validation) → HoldsTables validation allocator.old → IsWhole allocator.old → OnOk result (IsWhole allocator.new) }
     ensures sizes { OnOk result (AreSizes allocator.new.tables.version (sizes_of allocator.new.tables)) }
     ensures spares { IsTrue F.tells → Spares ids.old.items allocator.old allocator.new }
     ensures header { IsTrue F.tells → (i : ℕ) → i < length allocator.old.file.bytes → IsOtherHeaderByte allocator.old.tables.version i
@@ -182,8 +183,10 @@ fn lengthen_in_minis<F: Medium, A: Heap + Clone>(
         → ((k : ℕ) → k < len → IsThereInMinis mini.old ids.old.items k)
         → OnOk result (IsPaddedAlong len size (mini_place_along mini.old ids.old.items) (mini_place_along mini.new ids.new.items) (bytes_of mini.old) (bytes_of mini.new)) }
     ensures holds { IsTrue F.tells → (validation : Validation) → HoldsMini validation mini.old → OnOk result (HoldsMini validation mini.new) }
+    ensures whole { IsTrue F.tells → (validation : Validation) → HoldsMini validation mini.old → IsWhole (table_of mini.old) → OnOk result (IsWhole (table_of mini.new)) }
     ensures spares { IsTrue F.tells → Spares (system_sectors mini.old) (table_of mini.old) (table_of mini.new) }
     ensures mini_spares { IsTrue F.tells → (validation : Validation) → HoldsMini validation mini.old → SparesMini ids.old.items mini.old mini.new }
+    ensures header { IsTrue F.tells → OnOk result (KeepsHeader mini.old mini.new) }
     ensures around { KeepsAround mini.old mini.new }
     ensures tight { OnOk result (KeepsTablesTight mini.old mini.new) }
     ensures snug_mini { IsTrue F.tells → (validation : Validation) → HoldsMini validation mini.old → IsSnugMini mini.old → OnOk result (IsSnugMini mini.new) }

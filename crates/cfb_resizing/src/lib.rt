@@ -2,10 +2,7 @@
 //! bytes both ways.
 #![tactic(auto)]
 
-mod appending;
-pub mod growing;
 mod in_place;
-mod moving;
-pub mod putting;
+pub mod moving;
 pub mod resizing;
-mod room;
+pub mod room;

@@ -17,8 +17,8 @@ ghost use Rattle.cfb_alloc.specs.Frame.{Spares};
 ghost use Rattle.cfb_alloc.specs.ListedChain.{Lengthens};
 ghost use Rattle.cfb_chains.specs.ChainPlaces.{place_along};
 ghost use Rattle.cfb_mini_sectors.specs.State.{HoldsMini, bytes_of, mini_stream_of, table_of, tables_in, version_of};
-ghost use Rattle.cfb_mini_sectors.specs.Steps.{IsInMiniStream, IsNotHeld, IsSnugMini, IsTooFewAfterFor, IsZeroMini, SparesMini, system_sectors};
-ghost use Rattle.cfb_mini.specs.MiniSectors.{IsStill};
+ghost use Rattle.cfb_mini_sectors.specs.Steps.{IsInMiniStream, IsNotHeld, IsSnugMini, IsTooFewAfterFor, IsZeroMini, KeepsHeader, SparesMini, system_sectors};
+ghost use Rattle.cfb_mini.specs.MiniSectors.{IsStill, IsWhole};
 ghost use Rattle.cfb_content.specs.Changed.{SparesOthers};
 ghost use Rattle.cfb_content.specs.Contents.{IsNotChangeable, IsStreamOf, len_of, mini_place_along};
 ghost use Rattle.cfb_content.specs.Laws.{LacksNumbersFor};
@@ -126,9 +126,12 @@ fn carry_to_minis<F: Medium, A: Heap>(
         → OnOk result (StandAlong (mini_place_along mini.new ids.new.items) 0 bytes.now (bytes_of mini.new)) }
     ensures holds { IsTrue F.tells → (validation : Validation) → HoldsMini validation mini.old → AreDisjoint (system_sectors mini.old) list.now
         → IsUnnamed (tables_in mini.old).fat (first_or_end list.now) → OnOk result (HoldsMini validation mini.new) }
+    ensures whole { IsTrue F.tells → (validation : Validation) → HoldsMini validation mini.old → AreDisjoint (system_sectors mini.old) list.now
+        → IsUnnamed (tables_in mini.old).fat (first_or_end list.now) → IsWhole (table_of mini.old) → OnOk result (IsWhole (table_of mini.new)) }
     ensures spares { IsTrue F.tells → Spares (system_sectors mini.old ++ list.now) (table_of mini.old) (table_of mini.new) }
     ensures mini_spares { IsTrue F.tells → (validation : Validation) → HoldsMini validation mini.old → AreDisjoint (system_sectors mini.old) list.now
         → IsUnnamed (tables_in mini.old).fat (first_or_end list.now) → SparesMini [] mini.old mini.new }
+    ensures header { IsTrue F.tells → OnOk result (KeepsHeader mini.old mini.new) }
     ensures around { KeepsAround mini.old mini.new }
     ensures tight { OnOk result (KeepsTablesTight mini.old mini.new) }
     ensures snug_mini { IsTrue F.tells → (validation : Validation) → HoldsMini validation mini.old → AreDisjoint (system_sectors mini.old) list.now
@@ -225,6 +228,7 @@ fn begin_in_sectors<F: Medium, A: Heap>(
         → OnOk result (IsPaddedAlong (length bytes.now) (count * sector_len allocator.old.tables.version) (λ k. k)
         (place_along allocator.old.tables.version ids.new.items) bytes.now allocator.new.file.bytes) }
     ensures holds { IsTrue F.tells → (validation : Validation) → HoldsTables validation allocator.old → OnOk result (HoldsTables validation allocator.new) }
+    ensures whole { IsTrue F.tells → (validation : Validation) → HoldsTables validation allocator.old → IsWhole allocator.old → OnOk result (IsWhole allocator.new) }
     ensures sizes { OnOk result (AreSizes allocator.new.tables.version (sizes_of allocator.new.tables)) }
     ensures spares { IsTrue F.tells → Spares [] allocator.old allocator.new }
     ensures header { IsTrue F.tells → (i : ℕ) → i < length allocator.old.file.bytes → IsOtherHeaderByte allocator.old.tables.version i
@@ -266,8 +270,11 @@ fn carry_to_sectors<F: Medium, A: Heap>(
     ensures holds { IsTrue F.tells → (validation : Validation) → HoldsMini validation mini.old → GoesUnnamed mini.old list.old.items → OnOk result (HoldsMini validation mini.new) }
     ensures wiped { IsTrue F.tells → (validation : Validation) → HoldsMini validation mini.old → GoesUnnamed mini.old list.old.items
         → OnOk result ((m : ℕ) → Contains list.old.items m → IsInMiniStream mini.new m → IsZeroMini mini.new m) }
+    ensures whole { IsTrue F.tells → (validation : Validation) → HoldsMini validation mini.old → GoesUnnamed mini.old list.old.items → IsWhole (table_of mini.old)
+        → OnOk result (IsWhole (table_of mini.new)) }
     ensures spares { IsTrue F.tells → Spares (system_sectors mini.old) (table_of mini.old) (table_of mini.new) }
     ensures mini_spares { IsTrue F.tells → (validation : Validation) → HoldsMini validation mini.old → GoesUnnamed mini.old list.old.items → SparesMini list.old.items mini.old mini.new }
+    ensures header { IsTrue F.tells → OnOk result (KeepsHeader mini.old mini.new) }
     ensures around { KeepsAround mini.old mini.new }
     ensures tight { OnOk result (KeepsTablesTight mini.old mini.new) }
     ensures snug_mini { (validation : Validation) → HoldsMini validation mini.old → IsSnugMini mini.old → OnOk result (IsSnugMini mini.new) }
@@ -340,7 +347,7 @@ fn joined_or<'a>(joined: &'a [u8], bytes: &'a [u8]) -> &'a [u8]
 /// Moves a stream from mini sectors into sectors, with these bytes behind what it has and zeros behind them up to `size` bytes, and answers
 /// where it starts then: its sectors hold all of that from the first write on. What comes free with its mini sectors serves the sectors that it
 /// takes. Its chain is kept.
-pub(crate) fn move_with<F: Medium, A: Heap + Clone>(
+pub fn move_with<F: Medium, A: Heap + Clone>(
     mini: &mut MiniAllocator<F, A>,
     entry: u32,
     size: u64,

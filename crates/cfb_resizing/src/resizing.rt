@@ -9,6 +9,7 @@ ghost use Rattle.cfb_sectors.specs.Sectors.{IsMediumError, IsRaised};
 ghost use Rattle.cfb_tables.specs.Refused.{ChangeRefused};
 ghost use Rattle.cfb_alloc.specs.Frame.{Spares};
 ghost use Rattle.cfb_directory.specs.Growing.{ArePlaced};
+ghost use Rattle.cfb_directory.specs.Steps.{KeepsWholeHeader};
 ghost use Rattle.cfb_mini_sectors.specs.State.{HoldsMini, entries_of, table_of, tables_in, version_of};
 ghost use Rattle.cfb_mini_sectors.specs.Steps.{KeepsLimits, KeepsMini, KeepsSystem};
 ghost use Rattle.cfb_mini.specs.MiniSectors.{IsStill};
@@ -31,7 +32,7 @@ use cfb_mini::mini_allocator::MiniAllocator;
 use std::alloc::Allocator as Heap;
 
 /// A refusal of an entry that has no slot in the file.
-pub(crate) fn unplaced(entry: u32) -> Error
+pub fn unplaced(entry: u32) -> Error
     ensures { IsInvalidData result }
 {
     Error::InvalidData(Detail::number("directory entry with no slot", entry as u64))
@@ -204,7 +205,7 @@ fn turn<F: Medium, A: Heap + Clone>(
 }
 
 /// Gives the entry of a stream this start and this length, and writes its slot. `Medium` where the medium fails.
-pub(crate) fn name_content<F: Medium, A: Heap>(
+pub fn name_content<F: Medium, A: Heap>(
     mini: &mut MiniAllocator<F, A>,
     entry: u32,
     start: u32,
@@ -220,6 +221,7 @@ pub(crate) fn name_content<F: Medium, A: Heap>(
     ensures limits { KeepsLimits mini.old mini.new }
     ensures holds { IsTrue F.tells → (validation : Validation) → HoldsMini validation mini.old → size ≤ max_stream_len (version_of mini.old) → OnOk result (HoldsMini validation mini.new) }
     ensures spares { IsTrue F.tells → Spares mini.old.directory.sectors (table_of mini.old) (table_of mini.new) }
+    ensures header { IsTrue F.tells → KeepsWholeHeader mini.old.directory mini.new.directory }
     ensures begun { (table_of mini.new).file.begun ≡ true }
     ensures err { IfErr result IsMediumError }
     ensures counts { IsTrue F.tells → CountsFailure F.write_faults result (table_of mini.old).file.failures (table_of mini.new).file.failures }

@@ -103,7 +103,7 @@ fn check_room<F: ReadMedium, A: Heap>(mini: &MiniAllocator<F, A>) -> Result<(), 
 
 /// How many sectors come free first where the stream of that entry leaves its mini sectors for so many sectors. They are counted only where
 /// there are too few numbers without them. `InvalidData` where they cannot come free, and `Memory`.
-pub(crate) fn room_for_move<F: ReadMedium, A: Heap + Clone>(
+pub fn room_for_move<F: ReadMedium, A: Heap + Clone>(
     mini: &MiniAllocator<F, A>,
     entry: u32,
     count: usize,

@@ -2,11 +2,8 @@
 //! prints how many it played, and tells each line that went otherwise on standard error, with status 1 then.
 #![tactic(auto)]
 
-mod copies;
-mod mutations;
-mod random;
+mod files;
 mod sessions;
-mod telling;
 mod world;
 
 use cfb_media::refusing::Refusing;

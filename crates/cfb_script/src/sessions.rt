@@ -1,7 +1,14 @@
 //! A file over a medium, from its opening to its end.
 
-use cfb::{CaseMapper, CompoundFile, Error, Medium, MemoryMedium, OpenOptions, Version};
-use cfb_play::calls::{pass_over, play_file};
+use crate::files::play_file;
+use cfb_codecs::path::CaseMapper;
+use cfb_compound_file::compound_file::CompoundFile;
+use cfb_compound_file::options::OpenOptions;
+use cfb_format::error::Error;
+use cfb_format::medium::Medium;
+use cfb_format::memory::MemoryMedium;
+use cfb_format::version::Version;
+use cfb_play::calls::pass_over;
 use cfb_rows::answers::Answer;
 use cfb_rows::faults::Plan;
 use cfb_rows::judge::Judge;

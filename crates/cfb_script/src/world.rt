@@ -1,10 +1,8 @@
 //! All rows, one behind the other.
 
-use crate::copies::{copied, copy_file};
-use crate::mutations::mutated;
-use crate::random::lists::played_at_random;
 use crate::sessions::{Outcome, Settings, make, play_once};
 use cfb_media::media::Kind;
+use cfb_random::lists::played_at_random;
 use cfb_rows::answers::Answer;
 use cfb_rows::faults::Plan;
 use cfb_rows::forms::{BETWEEN, fits};
@@ -12,6 +10,8 @@ use cfb_rows::images::{asked, place_of, slot_told};
 use cfb_rows::judge::Judge;
 use cfb_rows::lines::{Line, Script};
 use cfb_rows::media::Heap;
+use cfb_telling::copies::{copied, copy_file};
+use cfb_telling::mutations::mutated;
 use std::alloc::Global;
 
 /// The most calls of a medium that go wrong in turn.

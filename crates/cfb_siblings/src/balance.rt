@@ -9,10 +9,12 @@
 ghost use Rattle.std.specs.Prelude.{◌≡◌, ℕ, ◌+◌, ◌*◌, ◌∷◌, ◌<◌, ◌≤◌, length, MatchOption, List, vec_len, vec_capacity, true, false};
 ghost use Rattle.std.specs.Bool.{OnFalse};
 ghost use Rattle.cfb_siblings.specs.Painted.{Painted};
+ghost use Rattle.cfb_format.specs.DirectoryEntry.{Entry};
 ghost use Rattle.cfb_codecs.specs.EntryModel.{entries_of};
 ghost use Rattle.cfb_siblings.specs.Mending.{Edge, EvenedBy, HasEdge, Rose, Settled};
 ghost use Rattle.cfb_siblings.specs.Taking.{HasSpot, Spot};
-ghost use Rattle.cfb_siblings.specs.Touched.{IsNear, Tells};
+ghost use Rattle.cfb_siblings.specs.Altered.{Altered, AltersTo, Evens, Shifts};
+ghost use Rattle.cfb_siblings.specs.Touched.{IsNear, Tells, TouchesChanged};
 ghost use Rattle.cfb_siblings.specs.Way.{Frame, KeptOutside, plug, red_top};
 ghost use Rattle.cfb_siblings.specs.Writes.{far_link, far_turned, link_red, near_turned};
 
@@ -100,6 +102,10 @@ fn even<A: Allocator>(
         → Edge (entries_of entries.old) parent p x above f gs t
         → Tells (IsNear parent (plug (f ∷ gs) t))
         (entries_of entries.old) (entries_of entries.new) touched.old.items touched.new.items }
+    ensures evens { (f : Frame) (gs : List Frame) (t : Painted)
+        → Edge (entries_of entries.old) parent p x above f gs t
+        → Evens result (entries_of entries.old) (entries_of entries.new)
+        parent f gs touched.old.items touched.new.items }
     ensures len { vec_len touched.new ≤ vec_len touched.old + 4 }
     ensures one { OnFalse result (vec_len touched.new ≤ vec_len touched.old + 1) }
     ensures capacity { vec_capacity touched.old ≤ vec_capacity touched.new }
@@ -129,8 +135,10 @@ fn even<A: Allocator>(
         note(touched, link_slot(parent, above));
         return true;
     }
-    paint(entries, s, true);
-    note(touched, s);
+    if !is_red_entry(entries, s) {
+        paint(entries, s, true);
+        note(touched, s);
+    }
     false
 }
 
@@ -158,6 +166,10 @@ fn lower<A: Allocator>(
         → Edge (entries_of entries.old) parent p x above f gs t
         → Tells (IsNear parent (plug (f ∷ gs) t))
         (entries_of entries.old) (entries_of entries.new) touched.old.items touched.new.items }
+    ensures shifts { (f : Frame) (gs : List Frame) (t : Painted)
+        → Edge (entries_of entries.old) parent p x above f gs t
+        → Shifts (entries_of entries.old) (entries_of entries.new)
+        parent f gs touched.old.items touched.new.items }
     ensures len { vec_len touched.new ≤ vec_len touched.old + 7 }
     ensures capacity { vec_capacity touched.old ≤ vec_capacity touched.new }
 {
@@ -195,6 +207,11 @@ fn rise<A: Allocator>(
         → Spot (entries_of entries.old) parent path.old.items x fs t
         → Tells (IsNear parent (plug fs t))
         (entries_of entries.old) (entries_of entries.new) touched.old.items touched.new.items }
+    ensures alters { (first : List Entry) (fs : List Frame) (t : Painted)
+        → Spot (entries_of entries.old) parent path.old.items x fs t
+        → Altered first (entries_of entries.old) parent touched.old.items fs t
+        → AltersTo first (entries_of entries.new)
+        parent path.new.items result touched.new.items }
     ensures few { MatchOption result
         (vec_len touched.new + vec_len path.new ≤ vec_len touched.old + vec_len path.old + 6)
         (λ _. vec_len touched.new + vec_len path.new ≤ vec_len touched.old + vec_len path.old) }
@@ -239,6 +256,10 @@ pub(crate) fn restore<A: Allocator>(
         → Spot (entries_of entries.old) parent path.old.items x fs t
         → Tells (IsNear parent (plug fs t))
         (entries_of entries.old) (entries_of entries.new) touched.old.items touched.new.items }
+    ensures changed { (first : List Entry) (fs : List Frame) (t : Painted)
+        → Spot (entries_of entries.old) parent path.old.items x fs t
+        → Altered first (entries_of entries.old) parent touched.old.items fs t
+        → TouchesChanged first (entries_of entries.new) touched.new.items }
     ensures few { vec_len touched.new ≤ vec_len touched.old + vec_len path.old + 6 }
 {
     let mut node = x;

@@ -1,16 +1,18 @@
 //! An entry out of the children of a storage (MS-CFB 2.6.4): a node with at most one part below it
 //! is replaced by that, and in place of one with two its predecessor goes, whose entry then moves
 //! into the freed slot.
-ghost use Rattle.std.specs.Prelude.{◌≡◌, ℕ, ◌+◌, ◌*◌, ◌<◌, ◌≤◌, ◌++◌, ◌∷◌, length, chars, IfOk, OnErr, OnOk, List, [], vec_len, vec_capacity, true};
+ghost use Rattle.std.specs.Prelude.{◌≡◌, ◌≢◌, ℕ, ◌+◌, ◌*◌, ◌<◌, ◌≤◌, ◌++◌, ◌∷◌, length, chars, IfOk, OnErr, OnOk, List, [], vec_len, vec_capacity, true};
 ghost use Rattle.cfb_siblings.specs.Children.{HasChildren, HasRedApart, IsAbsent, IsChildNamed, IsParent, IsSomeChild, IsThin, KeepsBalance, Removes};
 ghost use Rattle.cfb_siblings.specs.Order.{Dir, HasDir};
 ghost use Rattle.cfb_siblings.specs.Painted.{Painted, bare, tree_numbers, occurs};
 ghost use Rattle.cfb_codecs.specs.EntryModel.{entries_of};
 ghost use Rattle.cfb_format.specs.Names.{Cases};
 ghost use Rattle.cfb_format.specs.Tree.{is_same_name};
-ghost use Rattle.cfb_format.specs.Siblings.{depth};
+ghost use Rattle.cfb_format.specs.DirectoryEntry.{unallocated_entry};
+ghost use Rattle.cfb_format.specs.Siblings.{depth, entry_at};
 ghost use Rattle.cfb_siblings.specs.Taking.{SpareAt, StandsInTree, TakenOut};
-ghost use Rattle.cfb_siblings.specs.Touched.{IsNear, Tells, Touches, TouchesFew, TouchesOnly};
+ghost use Rattle.cfb_siblings.specs.Altered.{AlteredAt};
+ghost use Rattle.cfb_siblings.specs.Touched.{IsNear, Tells, Touches, TouchesChanged, TouchesFew, TouchesOnly};
 ghost use Rattle.cfb_siblings.specs.Way.{name_at};
 
 use crate::balance::restore;
@@ -125,6 +127,11 @@ fn take_out<A: Allocator>(
     ensures told { OnOk result ((t : Painted)
         → Dir cases.now (entries_of entries.old) parent t → Tells
         (IsNear parent t) (entries_of entries.old) (entries_of entries.new) [] touched.new.items) }
+    ensures altered { IfOk result (λ gap. (t : Painted)
+        → Dir cases.now (entries_of entries.old) parent t
+        → entry_at (entries_of entries.old) gap.freed ≢ unallocated_entry
+        → AlteredAt (entries_of entries.old) (entries_of entries.new) parent
+        gap.path.items gap.link touched.new.items) }
     ensures few { IfOk result (λ gap. (t : Painted)
         → Dir cases.now (entries_of entries.old) parent t
         → vec_len touched.new + vec_len gap.path ≤ depth (bare t) + 2) }
@@ -153,8 +160,9 @@ fn take_out<A: Allocator>(
 
 /// Takes the child of that name, which is there, out of the storage `parent` (MS-CFB 2.6.4), and
 /// answers the slot that is free now: the child's own, or that of its predecessor, whose entry then
-/// stands in the child's (`freed_slot` tells which). `touched` becomes the list of the slots whose entries changed, each of
-/// them once: at most eight more than the children's tree has levels.
+/// stands in the child's (`freed_slot` tells which). `touched` becomes the list of the slots whose
+/// entries changed, each of them once, and of no others, unless the entry in the free slot stood as
+/// one that is not used: at most eight more than the children's tree has levels.
 ///
 /// Children in balance stay so; also where they were not, no red child comes to stand under a red
 /// one.
@@ -191,6 +199,9 @@ pub fn remove<A: Allocator>(
         × HasRedApart (entries_of entries.new) parent after) }
     ensures touches { OnOk result
         (Touches (entries_of entries.old) (entries_of entries.new) touched.new.items) }
+    ensures touches_changed { IfOk result (λ freed.
+        entry_at (entries_of entries.old) freed ≢ unallocated_entry → TouchesChanged
+        (entries_of entries.old) (entries_of entries.new) touched.new.items) }
     ensures touches_only { OnOk result ((list : List ℕ)
         → HasChildren cases.now (entries_of entries.old) parent list
         → TouchesOnly parent list touched.new.items) }

@@ -1,5 +1,5 @@
 -- What a stream stands on: a list of bytes in a file.
-use Rattle.std.specs.Prelude.{ℕ, ◌+◌, ◌≡◌, ◌≢◌, ◌≤◌, ◌⊎◌, max, List, ◌++◌, Bool, true, false, length, take, drop}
+use Rattle.std.specs.Prelude.{ℕ, ◌+◌, ◌≡◌, ◌≢◌, ◌≤◌, ◌⊎◌, max, List, ◌++◌, Bool, true, false, length, take, drop, Result, OnOk}
 use Rattle.cfb_format.specs.Refused.{IsInvalidData, IsMediumAnd}
 use Rattle.cfb_format.specs.declared.error.Error.{Error}
 use Rattle.cfb_rules.specs.StreamCalls.{StreamSetting, resized}
@@ -77,6 +77,21 @@ pub record WritesPart (s : Stored) (at : ℕ) (bytes : List ℕ) (s' : Stored) (
 
 abbrev pub stored_after_resize : Stored → ℕ → Stored
 stored_after_resize s size = record s { size = size; content = resized s.content size }
+
+-- ---- whatever is known of what is stored
+
+-- what no call changes stays, and the file has failed exactly if it had before
+pub record SameFlags {S : Type 0} (first now : S) (old new : Stored) : Type 0 where
+  pub setting : now ≡ first
+  pub failed : new.failed ≡ old.failed
+
+-- a call that writes may fail the file, and only where it is refused; one that has failed stays so
+pub record KeepsFlags {S T : Type 0} (first now : S) (old new : Stored) (result : Result T Error) : Type 0 where
+  pub setting : now ≡ first
+  pub stays : old.failed ≡ true → new.failed ≡ true
+  pub done : OnOk result (new.failed ≡ old.failed)
+
+-- ---- what fits
 
 -- what can be read is no more than there is, all of it in a sound file, and the version's greatest length is kept
 pub record IsFitting (s : Stored) : Type 0 where

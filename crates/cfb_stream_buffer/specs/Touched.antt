@@ -3,6 +3,7 @@ use Rattle.std.specs.Prelude.{ℕ, ◌≡◌, ◌<◌, ◌||◌, Bool, false, Re
 use Rattle.cfb_format.specs.Refused.{CountsFailure}
 use Rattle.cfb_format.specs.declared.error.Error.{Error}
 use Rattle.cfb_format.specs.declared.medium.MediumFault.{MediumFault}
+use Rattle.cfb_stream_buffer.specs.Contents.{KeepsFlags, SameFlags}
 use Rattle.cfb_stream_buffer.specs.declared.content.ReadContents as reading
 use Rattle.cfb_stream_buffer.specs.declared.content.Contents as writing
 
@@ -13,6 +14,14 @@ module _ {C : Type 0} (r : reading.Ghosts C) where
     pub kept : r.kept new ≡ r.kept old
     pub same : r.stored new id ≡ r.stored old id
     pub counts : CountsFailure r.read_faults result (r.failures old) (r.failures new)
+
+  -- whatever is known of them, it was at most read from
+  abbrev pub HasSameFlags : (old new : C) → (id : ℕ) → Type 0
+  HasSameFlags old new id = SameFlags (r.setting old) (r.setting new) (r.stored old id) (r.stored new id)
+
+  -- or written to
+  abbrev pub HasKeptFlags : {T : Type 0} → (old new : C) → (id : ℕ) → Result T Error → Type 0
+  HasKeptFlags old new id result = KeepsFlags (r.setting old) (r.setting new) (r.stored old id) (r.stored new id) result
 
 module _ {C : Type 0} (r : reading.Ghosts C) (g : writing.Ghosts C) where
   -- the faults of both

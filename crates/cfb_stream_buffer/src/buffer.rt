@@ -1,7 +1,7 @@
 //! A piece of a stream in memory. Places and lengths are in bytes.
 ghost use Rattle.std.specs.Prelude.{◌≡◌, ◌+◌, ◌*◌, ◌-◌, ◌<◌, ◌≤◌, min, max, [], OnOk, OnErr, IfOk, IfErr, length, take, drop, ◌++◌, replicate, vec_len, vec_capacity};
 ghost use Rattle.cfb_stream_buffer.specs.Contents.{IsRefusedRead, ReadsPart};
-ghost use Rattle.cfb_stream_buffer.specs.Touched.{IsRead};
+ghost use Rattle.cfb_stream_buffer.specs.Touched.{HasSameFlags, IsRead};
 ghost use Rattle.cfb_stream_buffer.specs.Buffers.{bytes_in, room_in, emptied, put_over, RefilledFrom, RefillStays};
 
 use crate::content::ReadContents;
@@ -187,6 +187,7 @@ impl<A: Allocator> StreamBuffer<A> {
         ensures stays { RefillStays self.old self.new }
         ensures emptied { OnErr result (self.new ≡ emptied self.old) }
         ensures there { C.has content.new id }
+        ensures any { HasSameFlags C.ReadContents content.old content.new id }
         ensures around { C.tells content.old → IsRead C.ReadContents content.old content.new id result }
         ensures ok { C.tells content.old → at < (C.stored content.old id).size → OnOk result (RefilledFrom (C.stored content.old id).content at self.new) }
         ensures refused { C.tells content.old → at < (C.stored content.old id).size → IfErr result (IsRefusedRead (C.stored content.old id) at) }
@@ -216,6 +217,7 @@ pub fn read_front<C: ReadContents>(
     ensures bound { IfOk result (λ n. n ≤ length into.new) }
     ensures most { IfOk result (λ n. n ≤ left) }
     ensures there { C.has content.new id }
+    ensures any { HasSameFlags C.ReadContents content.old content.new id }
     ensures around { C.tells content.old → IsRead C.ReadContents content.old content.new id result }
     ensures ok { C.tells content.old → at < (C.stored content.old id).size → IfOk result (ReadsPart (C.stored content.old id).content at into.new) }
     ensures refused { C.tells content.old → at < (C.stored content.old id).size → IfErr result (IsRefusedRead (C.stored content.old id) at) }

@@ -3,7 +3,7 @@
 ghost use Rattle.std.specs.Prelude.{◌≡◌, ◌+◌, ◌<◌, ◌≤◌, ◌||◌, ◌↔◌, ℕ, Bool, IsTrue, true, false, IfOk, IfErr, OnOk, OnErr, length};
 ghost use Rattle.cfb_format.specs.Refused.{CountsFailure, IsMemory, IsBreak};
 ghost use Rattle.cfb_format.specs.declared.medium.MediumFault.{MediumFault as Fault};
-ghost use Rattle.cfb_stream_buffer.specs.Contents.{CanHave, Stored, TakesBytes, TakesLen, ReadsPart, WritesPart, IsMediumFault, IsRefusedRead, KeptOrFailed, Fails, stored_after_resize, stored_after_write};
+ghost use Rattle.cfb_stream_buffer.specs.Contents.{CanHave, Stored, TakesBytes, TakesLen, ReadsPart, WritesPart, IsMediumFault, IsRefusedRead, KeptOrFailed, Fails, KeepsFlags, SameFlags, stored_after_resize, stored_after_write};
 
 use cfb_format::error::Error;
 
@@ -23,6 +23,11 @@ pub trait ReadContents {
     ghost Kept: { Type 0 };
 
     ghost kept: { Self → Kept };
+
+    /// What no call changes, known or not, in a form that the implementor picks: it is that of the whole file.
+    ghost Setting: { Type 0 };
+
+    ghost setting: { Self → Setting };
 
     /// How many calls of the medium have failed, and the faults that it can give by reading.
     ghost failures: { Self → ℕ };
@@ -62,6 +67,7 @@ pub trait ReadContents {
         requires there { has self.old id }
         ensures there { has self.new id }
         ensures bound { IfOk result (λ n. n ≤ length into.new) }
+        ensures any { SameFlags (setting self.old) (setting self.new) (stored self.old id) (stored self.new id) }
         ensures told { tells self.old → tells self.new }
         ensures kept { tells self.old → kept self.new ≡ kept self.old }
         ensures same { tells self.old → stored self.new id ≡ stored self.old id }
@@ -101,6 +107,7 @@ pub trait Contents: ReadContents {
         ensures failures { Self.tells self.old → Self.failures self.new ≡ Self.failures self.old }
         ensures full { is_full self.old → is_full self.new }
         ensures too_long { (len : ℕ) → is_too_long self.old id len → is_too_long self.new id len }
+        ensures setting { Self.setting self.new ≡ Self.setting self.old }
         ensures fails { Fails (Self.stored self.old id) (Self.stored self.new id) };
 
     /// Puts a beginning of the bytes at a place, which may be the end, and answers how many there are: at
@@ -110,6 +117,7 @@ pub trait Contents: ReadContents {
     fn write_at(&mut self, id: u32, at: u64, bytes: &[u8]) -> Result<usize, Error>
         requires there { Self.has self.old id }
         ensures there { Self.has self.new id }
+        ensures any { KeepsFlags (Self.setting self.old) (Self.setting self.new) (Self.stored self.old id) (Self.stored self.new id) result }
         ensures bound { IfOk result (λ n. n ≤ length bytes.now) }
         ensures told { Self.tells self.old → Self.tells self.new }
         ensures others { Self.tells self.old → (first : Self) → keeps id first self.old → keeps id first self.new }
@@ -136,6 +144,7 @@ pub trait Contents: ReadContents {
     fn append(&mut self, id: u32, bytes: &[u8]) -> Result<(), Error>
         requires there { Self.has self.old id }
         ensures there { Self.has self.new id }
+        ensures any { KeepsFlags (Self.setting self.old) (Self.setting self.new) (Self.stored self.old id) (Self.stored self.new id) result }
         ensures told { Self.tells self.old → Self.tells self.new }
         ensures others { Self.tells self.old → (first : Self) → keeps id first self.old → keeps id first self.new }
         ensures tight { Self.tells self.old → tight self.old self.new }
@@ -169,6 +178,7 @@ pub trait Contents: ReadContents {
     fn resize(&mut self, id: u32, len: u64) -> Result<(), Error>
         requires there { Self.has self.old id }
         ensures there { Self.has self.new id }
+        ensures any { KeepsFlags (Self.setting self.old) (Self.setting self.new) (Self.stored self.old id) (Self.stored self.new id) result }
         ensures told { Self.tells self.old → Self.tells self.new }
         ensures others { Self.tells self.old → (first : Self) → keeps id first self.old → keeps id first self.new }
         ensures tight { Self.tells self.old → tight self.old self.new }
@@ -186,6 +196,7 @@ pub trait Contents: ReadContents {
     fn flush(&mut self, id: u32) -> Result<(), Error>
         requires there { Self.has self.old id }
         ensures there { Self.has self.new id }
+        ensures any { KeepsFlags (Self.setting self.old) (Self.setting self.new) (Self.stored self.old id) (Self.stored self.new id) result }
         ensures told { Self.tells self.old → Self.tells self.new }
         ensures others { Self.tells self.old → (first : Self) → keeps id first self.old → keeps id first self.new }
         ensures tight { Self.tells self.old → (first : Self) → tight first self.old → tight first self.new }

@@ -2,7 +2,7 @@
 ghost use Rattle.std.specs.Prelude.{◌≡◌, ◌+◌, ◌-◌, ◌^◌, ◌<◌, ◌≤◌, ◌++◌, ◌||◌, ℕ, true, false, OnOk, OnErr, IfErr, length, take, drop};
 ghost use Rattle.cfb_format.specs.Refused.{CountsFailure, IsBreak};
 ghost use Rattle.cfb_stream_buffer.specs.Contents.{Fails, SameLimits, TakesBytes, stored_after_write};
-ghost use Rattle.cfb_stream_buffer.specs.Touched.{IsRead, LacksRoomUpTo};
+ghost use Rattle.cfb_stream_buffer.specs.Touched.{HasKeptFlags, HasSameFlags, IsRead, LacksRoomUpTo};
 
 use crate::content::{Contents, ReadContents};
 use cfb_format::error::{Detail, Error};
@@ -12,6 +12,7 @@ use std::alloc::Allocator;
 pub fn give_up<C: Contents>(content: &mut C, id: u32, is_lost: bool)
     requires there { C.has content.old id }
     ensures there { C.has content.new id }
+    ensures setting { C.setting content.new ≡ C.setting content.old }
     ensures told { C.tells content.old → C.tells content.new }
     ensures others { C.tells content.old → (first : C) → C.keeps id first content.old → C.keeps id first content.new }
     ensures tight { C.tells content.old → (first : C) → C.tight first content.old → C.tight first content.new }
@@ -38,6 +39,7 @@ pub fn read_into<C: ReadContents, A: Allocator>(
     requires within { start ≤ length into.old.items }
     requires bound { at + (length into.old.items - start) < 2 ^ 64 }
     ensures there { C.has content.new id }
+    ensures any { HasSameFlags C.ReadContents content.old content.new id }
     ensures around { C.tells content.old → IsRead C.ReadContents content.old content.new id result }
     ensures ok { C.tells content.old → at + (length into.old.items - start) ≤ length (C.stored content.old id).content → length (C.stored content.old id).content ≤ (C.stored content.old id).size
         → OnOk result (into.new.items ≡ take start into.old.items ++ take (length into.old.items - start) (drop at (C.stored content.old id).content)) }
@@ -68,6 +70,7 @@ fn read_tail<C: ReadContents>(
     requires within { start ≤ length into.old }
     requires bound { at + (length into.old - start) < 2 ^ 64 }
     ensures there { C.has content.new id }
+    ensures any { HasSameFlags C.ReadContents content.old content.new id }
     ensures around { C.tells content.old → IsRead C.ReadContents content.old content.new id result }
     ensures ok { C.tells content.old → at + (length into.old - start) ≤ length (C.stored content.old id).content → length (C.stored content.old id).content ≤ (C.stored content.old id).size
         → OnOk result (into.new ≡ take start into.old ++ take (length into.old - start) (drop at (C.stored content.old id).content)) }
@@ -88,6 +91,7 @@ fn read_whole<C: ReadContents>(
     requires there { C.has content.old id }
     requires bound { at + length into.old < 2 ^ 64 }
     ensures there { C.has content.new id }
+    ensures any { HasSameFlags C.ReadContents content.old content.new id }
     ensures around { C.tells content.old → IsRead C.ReadContents content.old content.new id result }
     ensures ok { C.tells content.old → at + length into.old ≤ length (C.stored content.old id).content → length (C.stored content.old id).content ≤ (C.stored content.old id).size
         → OnOk result (into.new ≡ take (length into.old) (drop at (C.stored content.old id).content)) }
@@ -111,6 +115,7 @@ pub fn write_all<C: Contents>(content: &mut C, id: u32, at: u64, bytes: &[u8]) -
     requires there { C.has content.old id }
     requires bound { at + length bytes.now < 2 ^ 64 }
     ensures there { C.has content.new id }
+    ensures any { HasKeptFlags C.ReadContents content.old content.new id result }
     ensures told { C.tells content.old → C.tells content.new }
     ensures others { C.tells content.old → (first : C) → C.keeps id first content.old
         → C.keeps id first content.new }
@@ -142,6 +147,7 @@ fn write_inside<C: Contents>(content: &mut C, id: u32, at: u64, bytes: &[u8]) ->
     requires bound { at + length bytes.now < 2 ^ 64 }
     requires inside { 0 < length bytes.now → at + length bytes.now ≤ (C.stored content.old id).size }
     ensures there { C.has content.new id }
+    ensures any { HasKeptFlags C.ReadContents content.old content.new id result }
     ensures told { C.tells content.old → C.tells content.new }
     ensures others { C.tells content.old → (first : C) → C.keeps id first content.old
         → C.keeps id first content.new }

@@ -1,8 +1,9 @@
 -- What a call on a buffered stream answers, and what it leaves.
-use Rattle.std.specs.Prelude.{ℕ, ◌+◌, ◌≡◌, ◌<◌, ◌≤◌, ◌⊎◌, false, true, Option, Some, Result, OnErr}
+use Rattle.std.specs.Prelude.{ℕ, ◌+◌, ◌≡◌, ◌<◌, ◌≤◌, ◌⊎◌, false, true, IsErrAnd, Option, Some, Result, OnErr, OnOk}
 use Rattle.cfb_format.specs.Medium.{Rises}
 use Rattle.cfb_format.specs.Refused.{CountsFailure, HasReason, at_every_error}
 use Rattle.cfb_format.specs.declared.error.Error.{Error}
+use Rattle.cfb_format.specs.declared.error.Error.TheVariants.{Failed}
 use Rattle.cfb_rules.specs.Refusal.{Refusal, IsRefusal}
 use Rattle.cfb_rules.specs.StreamCalls.{StreamCall, StreamReply, set_len, ready}
 use Rattle.cfb_rules.specs.Runs.{Causes, Closes}
@@ -33,6 +34,23 @@ module _ {C : Type 0} (r : reading.Ghosts C) where
     pub is_open : IsOpen new id w'
     pub limit : (r.stored new id).limit ≡ (r.stored old id).limit
     pub sound : (r.stored new id).sound ≡ (r.stored old id).sound
+
+  -- Whatever is known of what is stored: what no call changes stays. A file that has failed stays as it is, and so does the window, and the
+  -- call answers so; and a file in which it was done has not failed.
+  pub record HeedsFlags {T : Type 0} (old : C) (id : ℕ) (w : Window) (result : Result T Error) (new : C) (w' : Window) : Type 0 where
+    pub setting : r.setting new ≡ r.setting old
+    pub failed : (r.stored old id).failed ≡ true → IsErrAnd result (λ e. e ≡ Failed) × (new ≡ old) × (w' ≡ w)
+    pub unfailed : OnOk result ((r.stored new id).failed ≡ false)
+
+  -- of a flush and of closing: where it is refused the file has failed
+  pub record HeedsWritingOut {T : Type 0} (old : C) (id : ℕ) (w : Window) (result : Result T Error) (new : C) (w' : Window) : Type 0 where
+    pub heeds : HeedsFlags old id w result new w'
+    pub lost : OnErr result ((r.stored new id).failed ≡ true)
+
+  -- of a stream that is only read, no call fails the file
+  pub record HeedsReading {T : Type 0} (old : C) (id : ℕ) (w : Window) (result : Result T Error) (new : C) (w' : Window) : Type 0 where
+    pub heeds : HeedsFlags old id w result new w'
+    pub same : (r.stored new id).failed ≡ (r.stored old id).failed
 
   -- it was refused as the rules say, and what is stored is as it was or the file has failed; what the rules themselves refuse
   -- changes nothing

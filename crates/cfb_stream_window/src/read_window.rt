@@ -4,8 +4,8 @@ ghost use Rattle.cfb_format.specs.Refused.{HasReason, IsMemory, no_error};
 ghost use Rattle.cfb_rules.specs.StreamCalls.{StreamStep, read, fill_buf, consume, seek, read_to_end, ask_len, ask_position, ask_is_empty, ready, got, offset, answered, opened};
 ghost use Rattle.cfb_stream_buffer.specs.Contents.{Stored, stream_setting_of, IsFitting};
 ghost use Rattle.cfb_stream_window.specs.Windows.{state_of, LiesOver, Carries, ReadBrokeOff, Unreadable, StandsInside, WentTo, window_opened, target_of, whence_of, ReadPast};
-ghost use Rattle.cfb_stream_window.specs.Answers.{IsOpen, IsReady, RunsReading, IsRefusedReading, GoesOn};
-ghost use Rattle.cfb_stream_buffer.specs.Touched.{IsRead};
+ghost use Rattle.cfb_stream_window.specs.Answers.{IsOpen, IsReady, RunsReading, IsRefusedReading, GoesOn, HeedsReading};
+ghost use Rattle.cfb_stream_buffer.specs.Touched.{HasSameFlags, IsRead};
 
 use crate::window::{STRAIGHT, Window};
 use cfb_format::error::{Detail, Error};
@@ -98,6 +98,7 @@ impl<A: Allocator> ReadWindow<A> {
         requires there { C.has content.old id }
         requires behind { self.old.base + self.old.cursor < self.old.size }
         ensures there { C.has content.new id }
+        ensures any { HasSameFlags C.ReadContents content.old content.new id }
         ensures around { C.tells content.old → IsRead C.ReadContents content.old content.new id result }
         ensures ok { IsReady C.ReadContents content.old id self.old → OnOk result (Carries (C.stored content.old id) self.old (C.stored content.new id) self.new) }
         ensures some { IsReady C.ReadContents content.old id self.old → OnOk result (self.new.cursor < length self.new.filled) }
@@ -129,6 +130,7 @@ impl<A: Allocator> ReadWindow<A> {
         requires unread { self.old.ahead ≡ 0 }
         requires some { 0 < length into.old }
         ensures there { C.has content.new id }
+        ensures any { HasSameFlags C.ReadContents content.old content.new id }
         ensures around { C.tells content.old → IsRead C.ReadContents content.old content.new id result }
         ensures most { IfOk result (λ n. n ≤ length into.new) }
         ensures ok { IsReady C.ReadContents content.old id self.old → IfOk result (ReadPast into.new (C.stored content.old id) self.old (C.stored content.new id) self.new) }
@@ -151,6 +153,7 @@ impl<A: Allocator> ReadWindow<A> {
     ) -> Result<usize, Error>
         requires there { C.has content.old id }
         ensures there { C.has content.new id }
+        ensures any { HeedsReading C.ReadContents content.old id self.old result content.new self.new }
         ensures most { IfOk result (λ n. n ≤ length into.new) }
         ensures runs { IsOpen C.ReadContents content.old id self.old
             → IfOk result (λ n. RunsReading C.ReadContents content.old id self.old (read (length into.old)) (got (take n into.new)) content.new self.new) }
@@ -190,6 +193,7 @@ impl<A: Allocator> ReadWindow<A> {
     pub fn fill<C: ReadContents>(&mut self, content: &mut C, id: u32) -> Result<(), Error>
         requires there { C.has content.old id }
         ensures there { C.has content.new id }
+        ensures any { HeedsReading C.ReadContents content.old id self.old result content.new self.new }
         ensures runs { IsOpen C.ReadContents content.old id self.old
             → OnOk result (RunsReading C.ReadContents content.old id self.old fill_buf (got (drop self.new.cursor self.new.filled)) content.new self.new) }
         ensures refused { IsOpen C.ReadContents content.old id self.old
@@ -222,6 +226,7 @@ impl<A: Allocator> ReadWindow<A> {
         to: SeekFrom,
     ) -> Result<u64, Error>
         requires there { C.has content.now id }
+        ensures any { HeedsReading C.ReadContents content.now id self.old result content.now self.new }
         ensures runs { IsOpen C.ReadContents content.now id self.old
             → IfOk result (λ at. RunsReading C.ReadContents content.now id self.old (seek (whence_of to)) (offset at) content.now self.new) }
         ensures refused { IsOpen C.ReadContents content.now id self.old
@@ -271,6 +276,7 @@ impl<A: Allocator> ReadWindow<A> {
     ) -> Result<usize, Error>
         requires there { C.has content.old id }
         ensures there { C.has content.new id }
+        ensures any { HeedsReading C.ReadContents content.old id self.old result content.new self.new }
         ensures appends { IfOk result (λ n. (length into.new.items ≡ length into.old.items + n)
             × (into.new.items ≡ into.old.items ++ drop (length into.old.items) into.new.items)) }
         ensures nothing { OnErr result (into.new.items ≡ into.old.items) }

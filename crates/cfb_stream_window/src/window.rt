@@ -5,7 +5,7 @@ ghost use Rattle.cfb_rules.specs.StreamCalls.{StreamStep, consume, ask_len, ask_
 ghost use Rattle.cfb_stream_buffer.specs.Contents.{Stored, stream_setting_of, IsRefusedRead, IsFitting};
 ghost use Rattle.cfb_stream_window.specs.Windows.{state_of, LiesOver, Carries, CalmBrokeOff, Unreadable, window_at, window_opened, window_over, IsLoaded, target_of, IsReadable, IsUnreadable, Appended, ReadPast};
 ghost use Rattle.cfb_stream_window.specs.Answers.{IsOpen, IsReady};
-ghost use Rattle.cfb_stream_buffer.specs.Touched.{IsRead};
+ghost use Rattle.cfb_stream_buffer.specs.Touched.{HasSameFlags, IsRead};
 
 mod reading;
 mod writing;
@@ -213,6 +213,7 @@ impl<A: Allocator> Window<A> {
         requires behind { self.old.base + self.old.cursor < self.old.size }
         requires unread { self.old.ahead ≡ 0 }
         ensures there { C.has content.new id }
+        ensures any { HasSameFlags C.ReadContents content.old content.new id }
         ensures around { C.tells content.old → IsRead C.ReadContents content.old content.new id result }
         ensures calm { self.new.pending ≡ false }
         ensures ok { IsReady C.ReadContents content.old id self.old → OnOk result (Carries (C.stored content.old id) self.old (C.stored content.new id) self.new) }
@@ -236,6 +237,7 @@ impl<A: Allocator> Window<A> {
         requires there { C.has content.old id }
         requires behind { self.old.base < self.old.size }
         ensures there { C.has content.new id }
+        ensures any { HasSameFlags C.ReadContents content.old content.new id }
         ensures around { C.tells content.old → IsRead C.ReadContents content.old content.new id result }
         ensures ok { C.tells content.old → self.old.base < (C.stored content.old id).size → OnOk result (IsLoaded (C.stored content.old id).content self.old self.new) }
         ensures refused { C.tells content.old → self.old.base < (C.stored content.old id).size → IfErr result (IsRefusedRead (C.stored content.old id) self.old.base) }
@@ -261,6 +263,7 @@ impl<A: Allocator> Window<A> {
         requires unread { self.old.ahead ≡ 0 }
         requires some { 0 < length into.old }
         ensures there { C.has content.new id }
+        ensures any { HasSameFlags C.ReadContents content.old content.new id }
         ensures around { C.tells content.old → IsRead C.ReadContents content.old content.new id result }
         ensures calm { self.new.pending ≡ false }
         ensures most { IfOk result (λ n. n ≤ length into.new) }
@@ -406,6 +409,7 @@ impl<A: Allocator> Window<A> {
         requires calm { self.old.pending ≡ false }
         requires room { length into.old.items ≡ start + (self.old.size - (self.old.base + self.old.cursor)) }
         ensures there { C.has content.new id }
+        ensures any { HasSameFlags C.ReadContents content.old content.new id }
         ensures around { C.tells content.old → IsRead C.ReadContents content.old content.new id result }
         ensures calm { self.new.pending ≡ false }
         ensures len { OnOk result (length into.new.items ≡ length into.old.items) }
@@ -435,6 +439,7 @@ impl<A: Allocator> Window<A> {
         requires there { C.has content.old id }
         requires calm { self.old.pending ≡ false }
         ensures there { C.has content.new id }
+        ensures any { HasSameFlags C.ReadContents content.old content.new id }
         ensures around { C.tells content.old → IsRead C.ReadContents content.old content.new id result }
         ensures calm { self.new.pending ≡ false }
         ensures count { IfOk result (λ n. length into.new.items ≡ length into.old.items + n) }

@@ -134,6 +134,12 @@ impl ReadContents for MemoryContents {
 
     ghost kept = { λ m. record m { failures = 0 } };
 
+    ghost use Rattle.std.specs.Prelude.{ℕ};
+
+    ghost Setting = { ℕ × ℕ };
+
+    ghost setting = { λ m. (m.limit, m.missing) };
+
     ghost failures = { λ m. m.failures };
 
     ghost read_faults = { λ _. true };

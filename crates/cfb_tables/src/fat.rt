@@ -252,7 +252,7 @@ fn check_values<A: Allocator>(alloc: A, fat: &[u32]) -> Result<(), Error>
     ensures err { IfErr result (TableRefused (HasValidValues fat.now → ⊥) Unit ⊥) }
 {
     if !has_no_invalid_mark(fat) {
-        return Err(invalid("FAT holds the mark of no sector"));
+        return Err(invalid("FAT holds the invalid mark"));
     }
     if !names_once(alloc, fat)? {
         return Err(invalid("FAT points to a sector twice"));

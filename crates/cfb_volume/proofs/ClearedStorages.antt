@@ -14,7 +14,7 @@ use Rattle.cfb_tables.specs.Refused.{ChangeRefused}
 use Rattle.cfb_tables.specs.Tables.{AreExactTables}
 use Rattle.cfb_alloc.specs.Frame.{Spares}
 use Rattle.cfb_entries.specs.Clearing.{HasCleared}
-use Rattle.cfb_directory.specs.Steps.{IsDirectoryNotHeld}
+use Rattle.cfb_directory.specs.Steps.{IsDirectoryNotHeld, KeepsWholeHeader}
 use Rattle.cfb_objects.specs.Laws.{BecomesTree}
 use Rattle.cfb_objects.proofs.Balance.{all-stay-balanced}
 use Rattle.cfb_mini_sectors.specs.State.{HoldsMini, IsChangeable, MiniState, bytes_of, cases_of, entries_of, table_of, tables_in}
@@ -28,6 +28,7 @@ use Rattle.cfb_entry_changes.proofs.Emptied.{cleared-empties-tree, cleared-has-o
 use Rattle.cfb_volume.specs.Clearing.{emptied_at}
 use Rattle.cfb_volume.proofs.EmptyStreams.{cleared-at-end}
 use Rattle.cfb_volume.proofs.InsertedObjects.{ended, file_with}
+use Rattle.cfb_volume.proofs.Tidy.{slots-tidy}
 
 -- what the layers below say of it
 pub clears-storage : (old mid : MiniState) (top : ℕ) (list : List ℕ) → IsReachedStorage (cases_of old) (entries_of old) top
@@ -79,16 +80,16 @@ module _ (old : FileState) (mid : MiniState) (top : ℕ) (t : ClearsStorage old.
       let left = cleared-has-outline old.base mid top t t.storage.outline t.storage.is in
       flags-not-read (file_with old mid) (table_of mid).file.failures false (changeable-is-held (file_with old mid) left.0 sound change left.1)
 
-  pub clear-made : IsAsMade old.base → HoldsMini Strict mid → IsAsMade (ended mid)
-  clear-made made held =
+  pub clear-made : IsAsMade old.base → HoldsMini Strict mid → KeepsWholeHeader old.base.directory mid.directory → IsAsMade (ended mid)
+  clear-made made held header =
       let all = writes Strict made.changeable held in
       made-flagged mid (table_of mid).file.failures false (record {
         changeable = cleared-is-changeable Strict old.base mid top all;
+        tidy = slots-tidy Strict old.base mid made.changeable.held held t.kept header spares (cleared-at-end old.base mid top t made.tidy.ended) made.tidy;
         used = cleared-is-all-used Strict old.base mid top all made.used;
         exact = subst (λ u. AreExactTables u) (sym t.kept.tables) made.exact;
         snug = cleared-is-snug Strict old.base mid top all made.snug;
         snug_mini = cleared-is-snug-mini old.base mid top t made.snug_mini;
-        ended = cleared-at-end old.base mid top t made.ended;
         balanced = all-stay-balanced (cases_of old.base) (cases_of mid) (entries_of old.base) (entries_of mid) t.storage.outline t.storage.is
             (cleared-is-balanced old.base mid top t) made.balanced;
       })

@@ -74,9 +74,10 @@ module _ (old : FileState) (mid : MiniState) (i : ℕ) (sound : Bool) (limit : �
 
     made-then : IsAsMade old.base → IsAsMade mid
     made-then made =
-        content-keeps-made i old.base mid was.moves.limits was.moves.entries was.stream made (was.changed.holds Strict made.changeable) (was.changed.owned Strict made.changeable made.used) (was.tight.exact made.exact)
+        content-keeps-made i old.base mid was.moves was.stream made (was.changed.holds Strict made.changeable) (was.changed.tidy Strict made.changeable)
+        (was.changed.owned Strict made.changeable made.used) (was.tight.exact made.exact)
         (sized-is-snug old.base mid i was.moves.limits was.moves.entries (was.spares.others Strict made.changeable) was.stream (was.changed.sized Strict made.changeable) made.snug)
-        (was.changed.snug_mini Strict made.changeable made.snug_mini) (was.at_end made.ended)
+        (was.changed.snug_mini Strict made.changeable made.snug_mini) (was.at_end made.tidy.ended)
 
     module _ (held : Holds old) (certain : old.is_sound ≡ true) where
       pub ended-holds : Holds (file_on sound limit (ended mid))

@@ -35,10 +35,11 @@ use Rattle.cfb_entry_changes.proofs.Joined.{put-storage-joins-tree, put-stream-j
 use Rattle.cfb_entry_changes.proofs.Sound.{put-is-all-used, put-is-changeable, put-is-snug}
 use Rattle.cfb_entry_changes.proofs.Spared.{put-keeps-streams}
 use Rattle.cfb_agreement.specs.Changes.{KeepsStreams, StaysOrFails, object_added_at}
-use Rattle.cfb_agreement.specs.Files.{Agrees, FileState, Holds, IsAsBefore, IsAsMade, IsFullFile, is_failed}
+use Rattle.cfb_agreement.specs.Files.{Agrees, FileState, Holds, IsAsBefore, IsAsMade, IsCounted, IsFullFile, is_failed}
 use Rattle.cfb_agreement.proofs.Flags.{flags-not-read, made-flagged}
 use Rattle.cfb_agreement.proofs.HeldBytes.{changeable-is-held}
 use Rattle.cfb_volume.proofs.EmptyStreams.{put-at-end}
+use Rattle.cfb_volume.proofs.Tidy.{put-whole}
 
 -- ---- once the change has ended
 
@@ -102,16 +103,20 @@ module _ (old : FileState) (mid : MiniState) (parent n : ℕ) (name : List ℕ) 
       let o = put-has-outline old.base mid parent n name kind moment put in
       flags-not-read (file_with old mid) (table_of mid).file.failures false (changeable-is-held (file_with old mid) o.0 sound change o.1)
 
-  pub insert-made : IsAsMade old.base → HoldsMini Strict mid → IsAsMade (ended mid)
-  insert-made made held =
+  pub insert-made : IsAsMade old.base → HoldsMini Strict mid → IsCounted mid → IsAsMade (ended mid)
+  insert-made made held counted =
       let all = writes Strict made.changeable held in
       made-flagged mid (table_of mid).file.failures false (record {
         changeable = put-is-changeable Strict old.base mid parent n name kind moment all;
+        tidy = record {
+          whole = put-whole Strict old.base mid held put.kept put.lengthened spares.no_shorter made.tidy.whole;
+          counted = counted;
+          ended = put-at-end old.base mid parent n name kind moment put made.tidy.ended;
+        };
         used = put-is-all-used Strict old.base mid parent n name kind moment all made.used;
         exact = put-is-exact old.base mid parent n name kind moment put made.exact;
         snug = put-is-snug Strict old.base mid parent n name kind moment all made.snug;
         snug_mini = put-is-snug-mini old.base mid parent n name kind moment put made.snug_mini;
-        ended = put-at-end old.base mid parent n name kind moment put made.ended;
         balanced = all-stay-balanced (cases_of old.base) (cases_of mid) (entries_of old.base) (entries_of mid) put.storage.outline put.storage.is
             (put-is-balanced old.base mid parent n name kind moment put) made.balanced;
       })

@@ -1,4 +1,5 @@
 pub mod EmptyStreams
+pub mod Tidy
 pub mod InsertedObjects
 pub mod ContentSteps
 pub mod Fullness

@@ -17,6 +17,7 @@ use Rattle.cfb_tables.specs.Refused.{ChangeRefused}
 use Rattle.cfb_tables.specs.Tables.{AreExactTables}
 use Rattle.cfb_alloc.specs.Frame.{Spares}
 use Rattle.cfb_directory.specs.State.{HoldsDirectory}
+use Rattle.cfb_directory.specs.Steps.{KeepsWholeHeader}
 use Rattle.cfb_trees.specs.Reached.{IsReached}
 use Rattle.cfb_trees.proofs.Members.{reached-is-used, reached-is-within}
 use Rattle.cfb_objects.specs.Laws.{BecomesTree}
@@ -32,6 +33,7 @@ use Rattle.cfb_entry_changes.specs.Marking.{GivesFields, MarksEntry, WritesField
 use Rattle.cfb_entry_changes.proofs.Marked.{marked-changes-tree, marked-has-outline, marked-is-all-used, marked-is-balanced, marked-is-changeable, marked-is-found, marked-is-snug, marked-is-snug-mini, marked-keeps-root}
 use Rattle.cfb_volume.proofs.EmptyStreams.{marked-at-end}
 use Rattle.cfb_volume.proofs.InsertedObjects.{ended, file_with}
+use Rattle.cfb_volume.proofs.Tidy.{slots-tidy}
 
 -- the entry of a reached object can be read back
 pub reached-valid : (v : Validation) (s : MiniState) (o : Outline) (i : ℕ) → HoldsDirectory v s.directory → IsOutline (cases_of s) (entries_of s) o → IsReached o i
@@ -46,6 +48,7 @@ pub record WasMarked (tells : Bool) (old : FileState) (mid : MiniState) (i : ℕ
   pub outline : Outline
   pub is : IsOutline (cases_of old.base) (entries_of old.base) outline
   pub spares : IsTrue tells → Spares old.base.directory.sectors (table_of old.base) (table_of mid)
+  pub header : IsTrue tells → KeepsWholeHeader old.base.directory mid.directory
   pub held : IsTrue tells → (v : Validation) → HoldsMini v old.base → HoldsMini v mid
 
 module _ {tells : Bool} {old : FileState} {mid : MiniState} {i : ℕ} {Are : Fields → Type 0} (m : WasMarked tells old mid i Are) where
@@ -73,11 +76,13 @@ module _ {tells : Bool} {old : FileState} {mid : MiniState} {i : ℕ} {Are : Fie
         let all = writes Strict made.changeable in
         made-flagged mid (table_of mid).file.failures false (record {
           changeable = marked-is-changeable Strict old.base mid i m.fields m.outline m.is all;
+          tidy =
+              slots-tidy Strict old.base mid made.changeable.held (m.held told Strict made.changeable.held) m.marks.kept (m.header told) (m.spares told)
+              (marked-at-end old.base mid i m.fields m.marks m.outline m.is made.tidy.ended) made.tidy;
           used = marked-is-all-used Strict old.base mid i m.fields m.outline m.is all made.used;
           exact = subst (λ u. AreExactTables u) (sym m.marks.kept.tables) made.exact;
           snug = marked-is-snug Strict old.base mid i m.fields m.outline m.is all made.snug;
           snug_mini = marked-is-snug-mini old.base mid i m.fields m.marks made.snug_mini;
-          ended = marked-at-end old.base mid i m.fields m.marks m.outline m.is made.ended;
           balanced = all-stay-balanced (cases_of old.base) (cases_of mid) (entries_of old.base) (entries_of mid) m.outline m.is
               (marked-is-balanced old.base mid i m.fields m.marks) made.balanced;
         })

@@ -33,6 +33,7 @@ use Rattle.cfb_trees.specs.Paths.{number_after}
 use Rattle.cfb_trees.proofs.Members.{streams-are-by-kind}
 use Rattle.cfb_trees.proofs.PathDown.{is-stream}
 use Rattle.cfb_entries.specs.EntryList.{RemovesEntry}
+use Rattle.cfb_directory.specs.Steps.{KeepsWholeHeader}
 use Rattle.cfb_objects.specs.Laws.{BecomesTree}
 use Rattle.cfb_mini_sectors.specs.State.{HoldsMini, IsChangeable, MiniState, bytes_of, cases_of, content_of, entries_of, table_of, tables_in}
 use Rattle.cfb_mini_sectors.specs.Steps.{KeepsLimits, KeepsMini, StopsShort}
@@ -57,6 +58,7 @@ use Rattle.cfb_volume.specs.Removing.{WasEmptied}
 use Rattle.cfb_volume.proofs.Balances.{all-but-balanced}
 use Rattle.cfb_volume.proofs.EmptyStreams.{taken-at-end}
 use Rattle.cfb_volume.proofs.InsertedObjects.{ended, file_with, refused-stays}
+use Rattle.cfb_volume.proofs.Tidy.{slots-tidy}
 
 -- ---- emptied
 
@@ -69,7 +71,7 @@ none-emptied s i ne = record {
   holds = λ v change. change;
   owned = λ v change used. used;
   exact = λ exact. exact;
-  at_end = λ ended. ended;
+  tidy = λ v change tidy. tidy;
   snug = λ v change snug. snug;
   snug_mini = λ v change snug. snug;
   empty = λ e. absurd (ne e);
@@ -160,6 +162,7 @@ pub record WasRemoved (old : FileState) (mid new : MiniState) (parent child : �
   pub taken : TakesObject mid new parent name
   pub number : taken.entry.number ≡ child
   pub spares : Spares mid.directory.sectors (table_of mid) (table_of new)
+  pub header : KeepsWholeHeader mid.directory new.directory
   pub held : (v : Validation) → IsChangeable v old.base → HoldsMini v new
 
 -- the child of that name was taken
@@ -179,9 +182,9 @@ pub was-removed : (old : FileState) (mid new : MiniState) (parent child : ℕ) (
     → ((list : List ℕ) → HasChildren (cases_of old.base) (entries_of old.base) parent list → IsChildNamed (cases_of old.base) (entries_of old.base) name list child)
     → RemovesEntry (cases_of mid) (entries_of mid) (entries_of new) parent name → KeepsBalance (entries_of mid) (entries_of new) parent
     → (new.directory.sectors ≡ mid.directory.sectors) × (tables_in new ≡ tables_in mid) → KeepsMini mid new → KeepsLimits mid new
-    → Spares mid.directory.sectors (table_of mid) (table_of new) → ((v : Validation) → HoldsMini v mid → HoldsMini v new)
+    → Spares mid.directory.sectors (table_of mid) (table_of new) → KeepsWholeHeader mid.directory new.directory → ((v : Validation) → HoldsMini v mid → HoldsMini v new)
     → WasRemoved old mid new parent child name
-was-removed old mid new parent child name emptied none storage there removed balanced kept mini limits spares holds =
+was-removed old mid new parent child name emptied none storage there removed balanced kept mini limits spares header holds =
     let same = taken-number old.base mid new parent child name emptied.limits emptied.entries there removed in
     record {
       emptied = emptied;
@@ -196,6 +199,7 @@ was-removed old mid new parent child name emptied none storage there removed bal
       };
       number = same;
       spares = spares;
+      header = header;
       held = λ v change. holds v (emptied.holds v change).held;
     }
 
@@ -252,11 +256,14 @@ module _ {old : FileState} {mid new : MiniState} {parent child : ℕ} {name : Li
       let all = writes Strict made.changeable in
       made-flagged new (table_of new).file.failures false (record {
         changeable = taken-is-changeable Strict mid new parent name all;
+        tidy =
+            let was = r.emptied.tidy Strict made.changeable made.tidy in
+            slots-tidy Strict mid new (r.emptied.holds Strict made.changeable).held (r.held Strict made.changeable) r.taken.kept r.header r.spares
+            (taken-at-end mid new parent name r.taken was.ended) was;
         used = taken-is-all-used Strict mid new parent name all (r.emptied.owned Strict made.changeable made.used);
         exact = subst (λ u. AreExactTables u) (sym r.taken.kept.tables) (r.emptied.exact made.exact);
         snug = taken-is-snug Strict mid new parent name all (r.emptied.snug Strict made.changeable made.snug);
         snug_mini = taken-is-snug-mini mid new parent name r.taken (r.emptied.snug_mini Strict made.changeable made.snug_mini);
-        ended = taken-at-end mid new parent name r.taken (r.emptied.at_end made.ended);
         balanced = all-but-balanced old.base (ended new) child p p_is remove-balanced made.balanced;
       })
 

@@ -7,7 +7,7 @@ use Rattle.cfb_tables.specs.Tables.{AreExactTables}
 use Rattle.cfb_mini_sectors.specs.State.{IsChangeable, MiniState, entries_of, tables_in}
 use Rattle.cfb_mini_sectors.specs.Steps.{IsSnugMini, KeepsLimits}
 use Rattle.cfb_content.specs.Contents.{AreAllUsed, AreSnug, KeepsOthers, MovesContent, len_of}
-use Rattle.cfb_agreement.specs.Files.{EmptyStartAtEnd}
+use Rattle.cfb_agreement.specs.Files.{IsTidy}
 
 -- the object of entry i has no content: a stream's was given back, and all else is as before
 pub record WasEmptied (old new : MiniState) (i : ℕ) : Type 0 where
@@ -19,5 +19,5 @@ pub record WasEmptied (old new : MiniState) (i : ℕ) : Type 0 where
   pub snug : (v : Validation) → IsChangeable v old → AreSnug old → AreSnug new
   pub snug_mini : (v : Validation) → IsChangeable v old → IsSnugMini old → IsSnugMini new
   pub exact : AreExactTables (tables_in old) → AreExactTables (tables_in new)
-  pub at_end : EmptyStartAtEnd old → EmptyStartAtEnd new
+  pub tidy : (v : Validation) → IsChangeable v old → IsTidy old → IsTidy new
   pub empty : (entry_at (entries_of old) i).obj_type ≡ Stream → len_of new i ≡ 0

@@ -5,17 +5,15 @@ use Rattle.cfb_format.specs.declared.error.Error.{Error}
 use Rattle.cfb_format.specs.declared.error.Error.TheVariants.{NotFound, AlreadyExists, InvalidInput, InvalidData, Medium, Memory, Full, Unsound, Failed}
 use Rattle.cfb_format.specs.declared.validate.Validation.TheVariants.{Permissive}
 use Rattle.cfb_format.specs.declared.version.Version.{Version}
-use Rattle.cfb_format.specs.Full.{HasExactTablesFile}
 use Rattle.cfb_format.specs.Meaning.{Means}
 use Rattle.cfb_format.specs.Names.{Cases, default_cases}
-use Rattle.cfb_format.specs.Reading.{IsStrictFile, Reading, Reads}
-use Rattle.cfb_format.specs.Soundness.{IsOwnedFile, IsSoundFile}
+use Rattle.cfb_format.specs.Reading.{Reading, Reads}
+use Rattle.cfb_format.specs.Soundness.{IsSoundFile}
 use Rattle.cfb_format.specs.Tree.{Tree}
 use Rattle.cfb_format.proofs.Unique.{Reads-unique}
-use Rattle.cfb_objects.specs.Balance.{IsLowFile}
 use Rattle.cfb_mini_sectors.specs.State.{bytes_of, cases_of, reading_of}
-use Rattle.cfb_agreement.specs.Files.{Agrees, FileState, Holds}
-use Rattle.cfb_agreement.specs.Laws.{AsMadeIsInOrder, IsInOrder, SoundIsExact}
+use Rattle.cfb_agreement.specs.Files.{Agrees, FileState, Holds, IsAsMade}
+use Rattle.cfb_agreement.specs.Laws.{AsMadeIsInOrder, SoundIsExact}
 use Rattle.cfb_opening.specs.Acceptable.{IsAcceptable}
 use Rattle.cfb_compound_file.specs.Opening.{CanBeReopened, IsOpenedWith, OpeningWithRefused, permissive_options}
 use Rattle.cfb_whole_bench.specs.OneStream.{IsMadeWith, IsReopenedWith, IsWantOfMemory}
@@ -42,26 +40,20 @@ module _ (version : Version) (tree : Tree) (file : FileState) (is : IsMadeWith v
         (subst (λ (b : List ℕ). Reads (cases_of file.base) b (reading_of held_new.header new.base held_new.outline)) bytes_is
         (subst (λ (cases : Cases). Reads cases (bytes_of new.base) (reading_of held_new.header new.base held_new.outline)) cases_is held_new.reads)) held.reads)
 
-    of_new : (P : Cases → List ℕ → Type 0) → P (cases_of file.base) (bytes_of file.base) → P (cases_of new.base) (bytes_of new.base)
-    of_new P h = subst (λ (cases : Cases). P cases (bytes_of new.base)) (sym cases_is) (subst (λ (b : List ℕ). P (cases_of file.base) b) (sym bytes_is) h)
+    made_again : IsAsMade new.base
+    made_again = opened.made.1 (record { file = file; holds = held; made = is.made; same_bytes = sym same; letters = is.letters })
 
     pub is_reopened : IsReopenedWith version tree new
-    is_reopened =
-        let order : IsInOrder file = in_order file held is.made in
-        record {
-          in_version = sym held_new.version ∙ version_is ∙ held.version ∙ is.in_version;
-          sound = opened.sound.1 (subst (λ (b : List ℕ). IsSoundFile default_cases b) (sym same)
-              (subst (λ (cases : Cases). IsSoundFile cases (bytes_of file.base)) is.letters ((exact file held).0 is.sound)));
-          unfailed = opened.opened.unfailed;
-          letters = opened.opened.letters;
-          means = subst (λ (b : List ℕ). Means default_cases b tree) (sym bytes_is) is.means;
-          in_order = record {
-            strict = of_new IsStrictFile order.strict;
-            owned = of_new IsOwnedFile order.owned;
-            exact = of_new HasExactTablesFile order.exact;
-            low = of_new IsLowFile order.low;
-          };
-        }
+    is_reopened = record {
+      in_version = sym held_new.version ∙ version_is ∙ held.version ∙ is.in_version;
+      sound = opened.sound.1 (subst (λ (b : List ℕ). IsSoundFile default_cases b) (sym same)
+          (subst (λ (cases : Cases). IsSoundFile cases (bytes_of file.base)) is.letters ((exact file held).0 is.sound)));
+      unfailed = opened.opened.unfailed;
+      made = made_again;
+      letters = opened.opened.letters;
+      means = subst (λ (b : List ℕ). Means default_cases b tree) (sym bytes_is) is.means;
+      in_order = in_order new held_new made_again;
+    }
 
   -- such bytes are acceptable, so that nothing but memory can be refused
   not_opened : CanBeReopened file → (e : Error) → OpeningWithRefused (λ _. false) permissive_options bytes e → IsWantOfMemory e

@@ -47,11 +47,12 @@ pub record IsMadeWith (version : Version) (tree : Tree) (file : FileState) : Typ
   pub limit : (tables_in file.base).max_sectors ≡ max_regular_sector
   pub means : Means default_cases (bytes_of file.base) tree
 
--- a file that was opened from such bytes
+-- a file that was opened from such bytes: it is as made again
 pub record IsReopenedWith (version : Version) (tree : Tree) (file : FileState) : Type 0 where
   pub in_version : version_of file.base ≡ version
   pub sound : file.is_sound ≡ true
   pub unfailed : is_failed file ≡ false
+  pub made : IsAsMade file.base
   pub letters : cases_of file.base ≡ default_cases
   pub means : Means default_cases (bytes_of file.base) tree
   pub in_order : IsInOrder file

@@ -3,8 +3,8 @@ ghost use Rattle.std.specs.Prelude.{◌≡◌, ◌+◌, ◌-◌, ◌<◌, ◌≤
 ghost use Rattle.cfb_rules.specs.StreamCalls.{read, fill_buf, seek, flush, read_to_end, ready, got, offset};
 ghost use Rattle.cfb_format.specs.Refused.{IsBreak};
 ghost use Rattle.cfb_stream_window.specs.Windows.{Carries, ReadBrokeOff, IsLost, Unreadable, IsSettled, StandsInside, settled, window_settled, window_at, WentTo, target_of, whence_of, IsReadable, Appended, ReadPast};
-ghost use Rattle.cfb_stream_window.specs.Answers.{IsOpen, IsReady, RunsOn, IsRefusedOn, ClosesOn, IsClosingRefused, GoesOn, LacksRoomToWriteOut};
-ghost use Rattle.cfb_stream_buffer.specs.Touched.{IsRead, IsWritten};
+ghost use Rattle.cfb_stream_window.specs.Answers.{IsOpen, IsReady, RunsOn, IsRefusedOn, ClosesOn, IsClosingRefused, GoesOn, HeedsFlags, HeedsWritingOut, LacksRoomToWriteOut};
+ghost use Rattle.cfb_stream_buffer.specs.Touched.{HasKeptFlags, IsRead, IsWritten};
 
 use super::{STRAIGHT, Window};
 use crate::pieces::make_space;
@@ -19,6 +19,7 @@ impl<A: Allocator> Window<A> {
     pub(super) fn write_out<C: Contents>(&mut self, content: &mut C, id: u32) -> Result<(), Error>
         requires there { C.has content.old id }
         ensures there { C.has content.new id }
+        ensures any { HasKeptFlags C.ReadContents content.old content.new id result }
         ensures around { C.tells content.old → IsWritten C.ReadContents C.Contents.own content.old content.new id result }
         ensures ok { IsReady C.ReadContents content.old id self.old → OnOk result ((C.stored content.new id) ≡ settled (C.stored content.old id) self.old) }
         ensures window { OnOk result (self.new ≡ window_settled self.old) }
@@ -50,6 +51,7 @@ impl<A: Allocator> Window<A> {
     pub(super) fn leave<C: Contents>(&mut self, content: &mut C, id: u32) -> Result<(), Error>
         requires there { C.has content.old id }
         ensures there { C.has content.new id }
+        ensures any { HasKeptFlags C.ReadContents content.old content.new id result }
         ensures around { C.tells content.old → IsWritten C.ReadContents C.Contents.own content.old content.new id result }
         ensures ok { IsReady C.ReadContents content.old id self.old → OnOk result (Carries (C.stored content.old id) self.old (C.stored content.new id) self.new) }
         ensures stored { IsReady C.ReadContents content.old id self.old → OnOk result ((C.stored content.new id) ≡ settled (C.stored content.old id) self.old) }
@@ -76,6 +78,7 @@ impl<A: Allocator> Window<A> {
         requires behind { self.old.base + self.old.cursor < self.old.size }
         requires unread { self.old.ahead ≡ 0 }
         ensures there { C.has content.new id }
+        ensures any { HasKeptFlags C.ReadContents content.old content.new id result }
         ensures around { C.tells content.old → IsWritten C.ReadContents C.Contents.own content.old content.new id result }
         ensures calm { C.tells content.old → self.old.pending ≡ false → IsRead C.ReadContents content.old content.new id result }
         ensures ok { IsReady C.ReadContents content.old id self.old → OnOk result (Carries (C.stored content.old id) self.old (C.stored content.new id) self.new) }
@@ -112,6 +115,7 @@ impl<A: Allocator> Window<A> {
         requires unread { self.old.ahead ≡ 0 }
         requires some { 0 < length into.old }
         ensures there { C.has content.new id }
+        ensures any { HasKeptFlags C.ReadContents content.old content.new id result }
         ensures around { C.tells content.old → IsWritten C.ReadContents C.Contents.own content.old content.new id result }
         ensures calm { C.tells content.old → self.old.pending ≡ false → IsRead C.ReadContents content.old content.new id result }
         ensures most { IfOk result (λ n. n ≤ length into.new) }
@@ -141,6 +145,7 @@ impl<A: Allocator> Window<A> {
         requires there { C.has content.old id }
         requires behind { self.old.base + self.old.cursor < self.old.size }
         ensures there { C.has content.new id }
+        ensures any { HasKeptFlags C.ReadContents content.old content.new id result }
         ensures around { C.tells content.old → IsWritten C.ReadContents C.Contents.own content.old content.new id result }
         ensures calm { C.tells content.old → self.old.pending ≡ false → IsRead C.ReadContents content.old content.new id result }
         ensures ok { IsReady C.ReadContents content.old id self.old → OnOk result (Carries (C.stored content.old id) self.old (C.stored content.new id) self.new) }
@@ -174,6 +179,7 @@ impl<A: Allocator> Window<A> {
     ) -> Result<usize, Error>
         requires there { C.has content.old id }
         ensures there { C.has content.new id }
+        ensures any { HeedsFlags C.ReadContents content.old id self.old result content.new self.new }
         ensures most { IfOk result (λ n. n ≤ length into.new) }
         ensures runs { IsOpen C.ReadContents content.old id self.old
             → IfOk result (λ n. RunsOn C.ReadContents C.Contents.own content.old id self.old (read (length into.old)) (got (take n into.new)) content.new self.new) }
@@ -218,6 +224,7 @@ impl<A: Allocator> Window<A> {
     pub fn fill<C: Contents>(&mut self, content: &mut C, id: u32) -> Result<(), Error>
         requires there { C.has content.old id }
         ensures there { C.has content.new id }
+        ensures any { HeedsFlags C.ReadContents content.old id self.old result content.new self.new }
         ensures runs { IsOpen C.ReadContents content.old id self.old
             → OnOk result (RunsOn C.ReadContents C.Contents.own content.old id self.old fill_buf (got (drop self.new.cursor self.new.filled)) content.new self.new) }
         ensures refused { IsOpen C.ReadContents content.old id self.old
@@ -256,6 +263,7 @@ impl<A: Allocator> Window<A> {
     ) -> Result<u64, Error>
         requires there { C.has content.old id }
         ensures there { C.has content.new id }
+        ensures any { HeedsFlags C.ReadContents content.old id self.old result content.new self.new }
         ensures runs { IsOpen C.ReadContents content.old id self.old
             → IfOk result (λ at. RunsOn C.ReadContents C.Contents.own content.old id self.old (seek (whence_of to)) (offset at) content.new self.new) }
         ensures refused { IsOpen C.ReadContents content.old id self.old
@@ -292,6 +300,7 @@ impl<A: Allocator> Window<A> {
         requires there { C.has content.old id }
         requires inside { at ≤ self.old.size }
         ensures there { C.has content.new id }
+        ensures any { HasKeptFlags C.ReadContents content.old content.new id result }
         ensures around { C.tells content.old → IsWritten C.ReadContents C.Contents.own content.old content.new id result }
         ensures ok { IsReady C.ReadContents content.old id self.old → OnOk result (WentTo at (C.stored content.old id) self.old (C.stored content.new id) self.new) }
         ensures calm { self.old.pending ≡ false → content.new ≡ content.old }
@@ -321,6 +330,7 @@ impl<A: Allocator> Window<A> {
     pub fn flush<C: Contents>(&mut self, content: &mut C, id: u32) -> Result<(), Error>
         requires there { C.has content.old id }
         ensures there { C.has content.new id }
+        ensures any { HeedsWritingOut C.ReadContents content.old id self.old result content.new self.new }
         ensures runs { IsOpen C.ReadContents content.old id self.old → OnOk result (RunsOn C.ReadContents C.Contents.own content.old id self.old flush ready content.new self.new) }
         ensures refused { IsOpen C.ReadContents content.old id self.old → IfErr result (IsRefusedOn C.ReadContents C.Contents.own content.old id self.old flush content.new self.new) }
         ensures foreseen { IsOpen C.ReadContents content.old id self.old
@@ -346,6 +356,7 @@ impl<A: Allocator> Window<A> {
     pub(super) fn settle<C: Contents>(&mut self, content: &mut C, id: u32) -> Result<(), Error>
         requires there { C.has content.old id }
         ensures there { C.has content.new id }
+        ensures any { HasKeptFlags C.ReadContents content.old content.new id result }
         ensures around { C.tells content.old → IsWritten C.ReadContents C.Contents.own content.old content.new id result }
         ensures ok { IsReady C.ReadContents content.old id self.old → OnOk result (Carries (C.stored content.old id) self.old (C.stored content.new id) self.new) }
         ensures stored { IsReady C.ReadContents content.old id self.old → OnOk result ((C.stored content.new id) ≡ settled (C.stored content.old id) self.old) }
@@ -373,6 +384,7 @@ impl<A: Allocator> Window<A> {
     pub fn close<C: Contents>(self, content: &mut C, id: u32) -> Result<(), Error>
         requires there { C.has content.old id }
         ensures there { C.has content.new id }
+        ensures any { HeedsWritingOut C.ReadContents content.old id self result content.new self }
         ensures closes { IsOpen C.ReadContents content.old id self → OnOk result (ClosesOn C.ReadContents C.Contents.own content.old id self None content.new) }
         ensures refused { IsOpen C.ReadContents content.old id self → IfErr result (IsClosingRefused C.ReadContents C.Contents.own content.old id self content.new) }
         ensures foreseen { IsOpen C.ReadContents content.old id self
@@ -402,6 +414,7 @@ impl<A: Allocator> Window<A> {
     ) -> Result<usize, Error>
         requires there { C.has content.old id }
         ensures there { C.has content.new id }
+        ensures any { HeedsFlags C.ReadContents content.old id self.old result content.new self.new }
         ensures appends { IfOk result (λ n. (length into.new.items ≡ length into.old.items + n)
             × (into.new.items ≡ into.old.items ++ drop (length into.old.items) into.new.items)) }
         ensures nothing { OnErr result (into.new.items ≡ into.old.items) }
@@ -442,6 +455,7 @@ impl<A: Allocator> Window<A> {
     ) -> Result<usize, Error>
         requires there { C.has content.old id }
         ensures there { C.has content.new id }
+        ensures any { HasKeptFlags C.ReadContents content.old content.new id result }
         ensures around { C.tells content.old → IsWritten C.ReadContents C.Contents.own content.old content.new id result }
         ensures calm { C.tells content.old → self.old.pending ≡ false → IsRead C.ReadContents content.old content.new id result }
         ensures count { IfOk result (λ n. length into.new.items ≡ length into.old.items + n) }

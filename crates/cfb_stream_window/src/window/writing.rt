@@ -3,9 +3,9 @@ ghost use Rattle.std.specs.Prelude.{◌≡◌, ◌+◌, ◌-◌, ◌*◌, ◌^�
 ghost use Rattle.cfb_format.specs.Refused.{IsMemory, IsBreak};
 ghost use Rattle.cfb_rules.specs.StreamCalls.{write, count};
 ghost use Rattle.cfb_stream_window.specs.Windows.{Carries, WriteBrokeOff, LengthBrokeOff, IsLengthened, IsSettled, HasBufferRoom, window_kept, window_past, window_within, WroteStraight, Resized};
-ghost use Rattle.cfb_stream_window.specs.Answers.{HasRoomForBoth, IsOpen, IsReady, IsTouched, InTurn, LacksRoomBehind, LacksRoomToWrite, LacksRoomToWriteOut, LosesRoomBetween, RunsOn, IsRefusedOn, RunsSettingLen, IsLengthRefusedOn, GoesOn, WritesOutFirst};
+ghost use Rattle.cfb_stream_window.specs.Answers.{HasRoomForBoth, HeedsFlags, IsOpen, IsReady, IsTouched, InTurn, LacksRoomBehind, LacksRoomToWrite, LacksRoomToWriteOut, LosesRoomBetween, RunsOn, IsRefusedOn, RunsSettingLen, IsLengthRefusedOn, GoesOn, WritesOutFirst};
 ghost use Rattle.cfb_stream_buffer.specs.Contents.{Fails, TakesLen};
-ghost use Rattle.cfb_stream_buffer.specs.Touched.{IsWritten};
+ghost use Rattle.cfb_stream_buffer.specs.Touched.{HasKeptFlags, IsWritten};
 
 use super::{STRAIGHT, Window};
 use crate::pieces::is_fault;
@@ -31,6 +31,7 @@ impl<A: Allocator> Window<A> {
     ) -> Result<usize, Error>
         requires there { C.has content.old id }
         ensures there { C.has content.new id }
+        ensures any { HeedsFlags C.ReadContents content.old id self.old result content.new self.new }
         ensures most { IfOk result (λ n. n ≤ length bytes.now) }
         ensures runs { IsOpen C.ReadContents content.old id self.old → IfOk result (λ n. RunsOn C.ReadContents C.Contents.own content.old id self.old (write bytes.now) (count n) content.new self.new) }
         ensures refused { IsOpen C.ReadContents content.old id self.old → IfErr result (IsRefusedOn C.ReadContents C.Contents.own content.old id self.old (write bytes.now) content.new self.new) }
@@ -80,6 +81,7 @@ impl<A: Allocator> Window<A> {
     fn have_room<C: Contents>(&mut self, content: &mut C, id: u32) -> Result<(), Error>
         requires there { C.has content.old id }
         ensures there { C.has content.new id }
+        ensures any { HasKeptFlags C.ReadContents content.old content.new id result }
         ensures around { C.tells content.old → IsWritten C.ReadContents C.Contents.own content.old content.new id result }
         ensures ok { IsReady C.ReadContents content.old id self.old → OnOk result (Carries (C.stored content.old id) self.old (C.stored content.new id) self.new) }
         ensures room { OnOk result (self.new.cursor < self.new.room) }
@@ -122,6 +124,7 @@ impl<A: Allocator> Window<A> {
     fn make_room<C: Contents>(&mut self, content: &mut C, id: u32) -> Result<(), Error>
         requires there { C.has content.old id }
         ensures there { C.has content.new id }
+        ensures any { HasKeptFlags C.ReadContents content.old content.new id result }
         ensures around { C.tells content.old → IsWritten C.ReadContents C.Contents.own content.old content.new id result }
         ensures ok { IsReady C.ReadContents content.old id self.old → OnOk result (Carries (C.stored content.old id) self.old (C.stored content.new id) self.new) }
         ensures room { OnOk result (self.new.cursor < self.new.room) }
@@ -168,6 +171,7 @@ impl<A: Allocator> Window<A> {
         requires there { C.has content.old id }
         requires fits { self.old.base + self.old.cursor + length bytes.now < 2 ^ 64 }
         ensures there { C.has content.new id }
+        ensures any { HasKeptFlags C.ReadContents content.old content.new id result }
         ensures around { C.tells content.old → IsTouched C.ReadContents C.Contents.own content.old content.new id result }
         ensures between { C.tells content.old → InTurn C.ReadContents C.Contents.own content.old id self.old content.new }
         ensures most { IfOk result (λ n. n ≤ length bytes.now) }
@@ -217,6 +221,7 @@ impl<A: Allocator> Window<A> {
     pub fn set_len<C: Contents>(&mut self, content: &mut C, id: u32, len: u64) -> Result<(), Error>
         requires there { C.has content.old id }
         ensures there { C.has content.new id }
+        ensures any { HeedsFlags C.ReadContents content.old id self.old result content.new self.new }
         ensures runs { IsOpen C.ReadContents content.old id self.old → OnOk result (RunsSettingLen C.ReadContents C.Contents.own content.old id self.old len content.new self.new) }
         ensures refused { IsOpen C.ReadContents content.old id self.old → IfErr result (IsLengthRefusedOn C.ReadContents C.Contents.own content.old id self.old len content.new self.new) }
         ensures goes_on { IsOpen C.ReadContents content.old id self.old → GoesOn C.ReadContents content.old content.new id self.new }
@@ -272,6 +277,7 @@ impl<A: Allocator> Window<A> {
         requires behind { (C.stored content.old id).size < self.old.size }
         requires longer { self.old.size < len }
         ensures there { C.has content.new id }
+        ensures any { HasKeptFlags C.ReadContents content.old content.new id result }
         ensures around { C.tells content.old → IsTouched C.ReadContents C.Contents.own content.old content.new id result }
         ensures between { C.tells content.old → InTurn C.ReadContents C.Contents.own content.old id self.old content.new }
         ensures ok { IsReady C.ReadContents content.old id self.old → (C.stored content.old id).sound ≡ true → len ≤ (C.stored content.old id).limit
@@ -334,6 +340,7 @@ impl<A: Allocator> Window<A> {
         requires longer { self.old.size < len }
         requires fits { C.tells content.old → TakesLen (C.stored content.old id) self.old.size → C.is_too_long content.old id self.old.size → ⊥ }
         ensures there { C.has content.new id }
+        ensures any { HasKeptFlags C.ReadContents content.old content.new id result }
         ensures around { C.tells content.old → IsTouched C.ReadContents C.Contents.own content.old content.new id result }
         ensures between { C.tells content.old → InTurn C.ReadContents C.Contents.own content.old id self.old content.new }
         ensures ok { IsReady C.ReadContents content.old id self.old → (C.stored content.old id).sound ≡ true → len ≤ (C.stored content.old id).limit
@@ -359,6 +366,7 @@ impl<A: Allocator> Window<A> {
     fn resize_again<C: Contents>(&mut self, content: &mut C, id: u32, len: u64) -> Result<(), Error>
         requires there { C.has content.old id }
         ensures there { C.has content.new id }
+        ensures any { HasKeptFlags C.ReadContents content.old content.new id result }
         ensures around { C.tells content.old → IsWritten C.ReadContents C.Contents.own content.old content.new id result }
         ensures ok { IsReady C.ReadContents content.old id self.old → (C.stored content.old id).sound ≡ true → len ≤ (C.stored content.old id).limit
             → OnOk result (Resized len (C.stored content.old id) self.old (C.stored content.new id) self.new) }
@@ -380,6 +388,7 @@ impl<A: Allocator> Window<A> {
     fn resize<C: Contents>(&mut self, content: &mut C, id: u32, len: u64) -> Result<(), Error>
         requires there { C.has content.old id }
         ensures there { C.has content.new id }
+        ensures any { HasKeptFlags C.ReadContents content.old content.new id result }
         ensures around { C.tells content.old → IsWritten C.ReadContents C.Contents.own content.old content.new id result }
         ensures ok { IsReady C.ReadContents content.old id self.old → (C.stored content.old id).sound ≡ true → len ≤ (C.stored content.old id).limit
             → OnOk result (Resized len (C.stored content.old id) self.old (C.stored content.new id) self.new) }

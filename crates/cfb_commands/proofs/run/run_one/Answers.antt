@@ -1,9 +1,11 @@
 use Rattle.std.proofs.Common.{◌≡◌, Bool, List, ℕ, chars, map, refl, subst}
-use Rattle.std.specs.Prelude.{◌||◌, IfOk, string_bytes}
+use Rattle.std.specs.Prelude.{◌||◌, IfErr, IfOk, string_bytes}
+use Rattle.cfb_format.specs.declared.error.Error.TheVariants.{Full}
 use Rattle.cfb_format.specs.declared.medium.MediumFault.{MediumFault}
 use Rattle.cfb_rules.specs.Calls.{create_storage, create_storage_all, done, entries, entry, exists, flag, flush, is_storage, is_stream, one_entry, read_storage, remove_storage, remove_storage_all, remove_stream, set_created_time, set_modified_time, set_state_bits, set_storage_clsid, touch, walk_storage}
 use Rattle.cfb_rules.specs.Lists.{on_stream}
 use Rattle.cfb_path_changes.specs.Answers as path
+use Rattle.cfb_path_changes.specs.Answers.{LacksRoomOnTheWay}
 use Rattle.cfb_path_changes.specs.Calls.{CallAnswers, CallAnswersInTurn}
 use Rattle.cfb_commands.specs.declared.command.StreamOp.{StreamOp}
 use Rattle.cfb_commands.specs.Commands.{call_answer, opening_of, stream_call_of, streamed_reply}
@@ -113,7 +115,9 @@ returns-in-CreateStorageAll-clause-answers g c =
     let path = chars (string_bytes c.in-CreateStorageAll.path) in
     rw c.in-CreateStorageAll.is (λ told. by_call can_give file new (create_storage_all path c.in-CreateStorageAll.moment) (call_answer (λ _. done) c.create_storage_all.result)
     (changed_in_turn can_give file path c.in-CreateStorageAll.moment new c.create_storage_all.result
-    (subst (λ (text : List ℕ). CallAnswersInTurn can_give file (create_storage_all (chars text) c.in-CreateStorageAll.moment) c.create_storage_all.result new) c.deref-in-CreateStorageAll.ensures (c.create_storage_all.ensures.does told))))
+    (subst (λ (text : List ℕ). CallAnswersInTurn can_give file (create_storage_all (chars text) c.in-CreateStorageAll.moment) c.create_storage_all.result new) c.deref-in-CreateStorageAll.ensures (c.create_storage_all.ensures.does told))
+    (subst (λ (text : List ℕ). IfErr c.create_storage_all.result (λ e. e ≡ Full → LacksRoomOnTheWay file (chars text) c.in-CreateStorageAll.moment new)) c.deref-in-CreateStorageAll.ensures
+    (c.create_storage_all.ensures.foreseen told))))
 
 pub returns-in-Flush-clause-answers : goal.returns-in-Flush-clause-answers
 returns-in-Flush-clause-answers g c =

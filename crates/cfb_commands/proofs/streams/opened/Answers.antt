@@ -36,13 +36,13 @@ returns-in-Create g c =
       (
         refl,
         c.create_stream.follows.holds,
-        on_error c.create_stream.result _ _ c.create_stream.follows.holds-at-none (λ e h told. creates_not can_give old _ at e true (h told)),
+        on_error c.create_stream.result _ _ c.create_stream.follows.holds-at-none (λ e h told. creates_not can_give old _ at e true (h.1 told)),
       ),
       (
         c.create_stream.ensures.lent,
         (
           (λ told. creates_ok can_give old at (λ s. open_of s) _ true c.create_stream.result told c.create_stream.ensures.created),
-          (λ told. makings_given can_give _ old _ _ c.create_stream.result told c.create_stream.follows.holds-at-none),
+          (λ told. makings_given can_give _ _ old _ _ c.create_stream.result told c.create_stream.follows.holds-at-none),
         ),
       ),
     )
@@ -56,13 +56,13 @@ returns-in-CreateNew g c =
       (
         refl,
         c.create_new_stream.follows.holds,
-        on_error c.create_new_stream.result _ _ c.create_new_stream.follows.holds-at-none (λ e h told. creates_not can_give old _ at e false (h told)),
+        on_error c.create_new_stream.result _ _ c.create_new_stream.follows.holds-at-none (λ e h told. creates_not can_give old _ at e false (h.1 told)),
       ),
       (
         c.create_new_stream.ensures.lent,
         (
           (λ told. creates_ok can_give old at (λ s. open_of s) _ false c.create_new_stream.result told c.create_new_stream.ensures.created),
-          (λ told. makings_given can_give _ old _ _ c.create_new_stream.result told c.create_new_stream.follows.holds-at-none),
+          (λ told. makings_given can_give _ _ old _ _ c.create_new_stream.result told c.create_new_stream.follows.holds-at-none),
         ),
       ),
     )

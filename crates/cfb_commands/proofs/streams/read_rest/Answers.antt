@@ -22,7 +22,7 @@ returns-in_err-read_to_end-clause-works g c =
     let p = err_from_is_err_and c.from_residual-in_err-read_to_end.result c.from_residual-in_err-read_to_end.ensures.1 in
     let old = open_of c.args.stream.now in
     let new = open_of c.read_to_end.new.self in
-    rw (p.1, p.2) (λ told nothing. refused_on old read_to_end new (goes_told _ old read_to_end new told c.read_to_end.ensures.goes_on) _ c.in_err-read_to_end.field-0.0 (c.in_err-read_to_end.ensures.refused told))
+    rw (p.1, p.2) (λ told nothing. refused_on old read_to_end new (goes_told _ old read_to_end new told c.read_to_end.ensures.goes_on) _ c.in_err-read_to_end.field-0.0 (c.in_err-read_to_end.ensures.refused told) (c.in_err-read_to_end.ensures.foreseen told))
 
 pub returns-clause-works : goal.returns-clause-works
 returns-clause-works g c =

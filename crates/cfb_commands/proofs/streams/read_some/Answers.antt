@@ -36,7 +36,7 @@ returns-in_err-count-clause-works g c =
     room ∙ (λ j. min c.args.wanted (c.len.ensures.value j - c.position.ensures.value j)) in
     let inside : (stream_in old).position ≤ (stream_in old).len = subst (λ (at : ℕ). at ≤ (stream_in old).len) c.position.ensures.value c.position.ensures.inside in
     rw (p.1, p.2) (λ told nothing. shorter old new _ c.args.wanted less here inside
-    (refused_on old (read less) new (goes_told _ old (read less) new told c.read.ensures.goes_on) _ c.in_err-count.field-0.0 (c.in_err-count.ensures.refused told)))
+    (refused_on old (read less) new (goes_told _ old (read less) new told c.read.ensures.goes_on) _ c.in_err-count.field-0.0 (c.in_err-count.ensures.refused told) (c.in_err-count.ensures.foreseen told)))
 
 pub returns-clause-works : goal.returns-clause-works
 returns-clause-works g c =

@@ -52,7 +52,7 @@ returns-clause-answers g c =
     done_so _ c.args.file.now c.close-closed.new.self.0 (opening_of c.args.how) (chars c.args.path.now) s now (map stream_call_of c.args.ops.now) (map stream_reply_of c.work_all.new.replies.items)
     (closing_of c.close-closed.result) o (λ first tree same. c.work_all.ensures.works told first s.file (chars c.args.path.now) tree same o.since o.lends)
     (closed_of _ s.file now c.close-closed.result c.close-closed.new.self.0 (c.close-closed.ensures.closes told) (c.close-closed.ensures.refused told) (c.close-closed.ensures.tree told s.file)
-    (c.close-closed.ensures.changes told) (c.close-closed.ensures.rest told) c.close-closed.ensures.calm (c.close-closed.ensures.counts told)))
+    (c.close-closed.ensures.changes told) (c.close-closed.ensures.rest told) c.close-closed.ensures.calm (c.close-closed.ensures.foreseen told) (c.close-closed.ensures.counts told)))
 
 pub returns-in_err-clone-clause-given : goal.returns-in_err-clone-clause-given
 returns-in_err-clone-clause-given g c =

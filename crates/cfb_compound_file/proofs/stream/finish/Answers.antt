@@ -3,6 +3,7 @@ use Rattle.cfb_compound_file.specs.Stored.{stored_of}
 use Rattle.cfb_compound_file.proofs.OpenStreams.{closes_tree, rest_then}
 use Rattle.cfb_compound_file.proofs.StoredStreams.{changed_once, nothing_goes}
 use Rattle.cfb_compound_file.proofs.StreamCalls.{closed_content, closed_suits, closing_failed, refused_as, refused_then, refused_with}
+use Rattle.cfb_compound_file.proofs.Heeding.{heeds_by}
 use Rattle.cfb_compound_file.proofs.stream.finish.Goals as goal
 
 pub returns-clause-still_open : goal.returns-clause-still_open
@@ -36,3 +37,7 @@ returns-clause-counts g c = λ told. (c.close-closed.ensures.around told).counts
 
 pub returns-clause-foreseen : goal.returns-clause-foreseen
 returns-clause-foreseen g c = λ told. refused_as _ _ c.close-closed.result (c.close-closed.ensures.foreseen (record { told = told; suits = c.requires.is_open told })) (λ e why full. (let k = why full in record { pending = k.pending; past = k.past; too_long = k.too_long }))
+
+pub returns-clause-any : goal.returns-clause-any
+returns-clause-any g c = let k = c.close-closed.ensures.any in
+    record { heeds = heeds_by _ _ _ _ _ c.close-closed.result k.heeds.setting k.heeds.failed k.heeds.unfailed; lost = k.lost }

@@ -5,9 +5,11 @@ use Rattle.std.proofs.lemmas.Bool.{cases_lt}
 use Rattle.std.proofs.lemmas.List.{length-drop, length-take}
 use Rattle.std.proofs.lemmas.Result.{err_from_is_err_and}
 use Rattle.cfb_format.specs.Bytes.{sector_len}
+use Rattle.cfb_sectors.specs.declared.sector.SectorInit.TheVariants.{Zero}
+use Rattle.cfb_table_words.proofs.FilledSectors.{filled_whole_each}
 use Rattle.cfb_tables.specs.Changes.{AreDisjoint}
 use Rattle.cfb_tables.specs.Listed.{ends_of, gained}
-use Rattle.cfb_tables.specs.Tables.{first_or_end}
+use Rattle.cfb_tables.specs.Tables.{TableState, first_or_end}
 use Rattle.cfb_tables.proofs.ListedLemmas.{chain_ends}
 use Rattle.cfb_alloc.specs.Alloc.{AllocatorState}
 use Rattle.cfb_alloc.specs.Frame.{Spares, table_sectors}
@@ -17,6 +19,7 @@ use Rattle.cfb_chains.proofs.ChainLists.{ends_among}
 use Rattle.cfb_chains.proofs.PlacedBytes.{kept_there}
 use Rattle.cfb_chains.proofs.Sparing.{gained_spared}
 use Rattle.cfb_mini_sectors.proofs.HeldMini.{no-tables}
+use Rattle.cfb_mini.proofs.WholeFiles.{same-whole, taken-whole}
 use Rattle.cfb_content.proofs.GrownWith.{chain-stays, first-is, front-in, front-placed, header-left, rest-all, rest-fits, some-more, with-kept, with-put, with-zeros}
 use Rattle.cfb_content.proofs.Refusals.{refused-as}
 use Rattle.cfb_content.proofs.in_sectors.grow_listed_with.Goals as goal
@@ -140,6 +143,24 @@ returns-clause-holds g c told validation held =
     c.put_in_sectors-put.ensures.holds told validation now
     (subst (λ (l : List ℕ). AreDisjoint l (table_sectors mid.tables)) (sym c.deref.ensures.value)
     (no-tables validation mid (first_or_end ids') ids' now (c.extend_listed_from.ensures.chain c.requires.chain)))
+
+pub returns-clause-whole : goal.returns-clause-whole
+returns-clause-whole g c told validation held was =
+    let old = c.args.allocator.now in
+    let ids = c.args.ids.now.items in
+    let mid = c.extend_listed_from.new.self in
+    let ids' = c.extend_listed_from.new.ids.items in
+    let new = c.put_in_sectors-put.new.allocator in
+    let now = c.in_ok-extend_listed_from.ensures.holds told validation held in
+    let made = c.in_ok-extend_listed_from.ensures.lengthened in
+    let first = taken-whole validation old mid (ends_of ids) (gained ids ids') now made.taken (c.extend_listed_from.ensures.others told).no_shorter
+    (filled_whole_each mid.tables.version Zero _ mid.file.bytes (gained ids ids') (c.in_ok-extend_listed_from.ensures.put told validation held)) was in
+    let tables = c.put_in_sectors-put.ensures.tables in
+    on_ok _ _ c.put_in_sectors-put.result
+    (λ after. same-whole validation mid new after (ap (λ (t : TableState). t.version) tables) (ap (λ (t : TableState). length t.fat) tables) (c.put_in_sectors-put.ensures.spares told).no_shorter first)
+    (c.put_in_sectors-put.ensures.holds told validation now
+    (subst (λ (l : List ℕ). AreDisjoint l (table_sectors mid.tables)) (sym c.deref.ensures.value)
+    (no-tables validation mid (first_or_end ids') ids' now (c.extend_listed_from.ensures.chain c.requires.chain))))
 
 pub returns-clause-spares : goal.returns-clause-spares
 returns-clause-spares g c told =

@@ -9,13 +9,14 @@ use Rattle.cfb_format.specs.Siblings.{entry_at}
 use Rattle.cfb_tables.specs.Changes.{AreDisjoint}
 use Rattle.cfb_alloc.specs.Alloc.{AllocatorState, HoldsTables}
 use Rattle.cfb_alloc.specs.Frame.{table_sectors}
-use Rattle.cfb_alloc.proofs.Answering.{on_both}
+use Rattle.cfb_alloc.proofs.Answering.{all_ok, on_both}
 use Rattle.cfb_chains.specs.ChainPlaces.{place_along}
 use Rattle.cfb_mini_sectors.specs.State.{IsChangeable, bytes_of, entries_of, table_of, tables_in, version_of}
 use Rattle.cfb_mini_sectors.proofs.HeldMini.{no-tables}
 use Rattle.cfb_mini_sectors.proofs.MiniStreams.{begins}
 use Rattle.cfb_content.specs.Contents.{len_of, mini_place_along}
 use Rattle.cfb_content.specs.Parts.{StandAlong}
+use Rattle.cfb_content.proofs.DirCount.{count-stays, minis-outside, placed-count}
 use Rattle.cfb_content.proofs.FixedHeader.{header-stays, spared-keeps-header, table-keeps-header}
 use Rattle.cfb_content.proofs.Kept.{nothing-is-moved}
 use Rattle.cfb_content.proofs.Refusals.{refused-as}
@@ -138,6 +139,11 @@ returns-then-len-clause-header g c told =
     rw c.end_chain.ensures (table-keeps-header c.deref.result.now c.args.mini.now c.open_whole_chain_in.new.allocator c.put_in_sectors-put.new.allocator (c.open_whole_chain_in.ensures.unchanged ∙ c.allocator_mut-allocator.ensures.value)
     (c.put_in_sectors-put.ensures.spares told))
 
+pub returns-then-len-clause-counted : goal.returns-then-len-clause-counted
+returns-then-len-clause-counted g c told validation change =
+    rw c.end_chain.ensures (all_ok c.put_in_sectors-put.result (placed-count validation c.args.mini.now c.open_whole_chain_in.new.allocator c.put_in_sectors-put.new.allocator c.deref.result.now c.args.at
+    (length c.args.bytes.now) (c.open_whole_chain_in.ensures.unchanged ∙ c.allocator_mut-allocator.ensures.value) change.held (c.put_in_sectors-put.ensures.others told)))
+
 pub returns-then-len-clause-holds : goal.returns-then-len-clause-holds
 returns-then-len-clause-holds g c told validation change =
     rw c.end_chain.ensures (on_both _ _ _ c.put_in_sectors-put.result
@@ -184,6 +190,13 @@ returns-clause-others g c told validation change =
 
 pub returns-clause-header : goal.returns-clause-header
 returns-clause-header g c told = spared-keeps-header _ c.args.mini.now c.put_in_minis.new.mini (c.put_in_minis.ensures.spares told)
+
+pub returns-clause-counted : goal.returns-clause-counted
+returns-clause-counted g c told validation change =
+    let s = c.args.mini.now in
+    let new = c.put_in_minis.new.mini in
+    all_ok c.put_in_minis.result (count-stays validation s new change.held
+    (minis-outside s c.deref-2.result.now c.args.at (length c.args.bytes.now) (bytes_of s) (bytes_of new) (c.put_in_minis.ensures.others told)))
 
 pub returns-clause-holds : goal.returns-clause-holds
 returns-clause-holds g c told validation change =

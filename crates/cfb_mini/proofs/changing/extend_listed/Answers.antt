@@ -14,7 +14,7 @@ use Rattle.cfb_tables.specs.Refused.{ChangeRefused}
 use Rattle.cfb_tables.specs.Tables.{TableState, first_or_end}
 use Rattle.cfb_alloc.specs.Frame.{Spares}
 use Rattle.cfb_alloc.proofs.AllocLemmas.{refused-less}
-use Rattle.cfb_alloc.proofs.Answering.{all_ok}
+use Rattle.cfb_alloc.proofs.Answering.{all_ok, on_ok}
 use Rattle.cfb_alloc.proofs.Listed.{not_in_nil}
 use Rattle.cfb_alloc.proofs.Spared.{spares_refl}
 use Rattle.cfb_chains.proofs.ChainLists.{on_err}
@@ -30,9 +30,10 @@ use Rattle.cfb_mini_sectors.proofs.HeldSteps.{held-but}
 use Rattle.cfb_mini_sectors.proofs.MinifatGrown.{medium_changed, same_listed}
 use Rattle.cfb_mini_sectors.proofs.MiniFrames.{nothing-touched, spares-less}
 use Rattle.cfb_mini.specs.Changing.{mini_of}
-use Rattle.cfb_mini.specs.MiniSectors.{HasMiniSector}
+use Rattle.cfb_mini.specs.MiniSectors.{HasMiniSector, IsWhole}
 use Rattle.cfb_mini.proofs.MiniExtended.{after-both, at-parts, grown-then, grows-still, header-then, header-whole, limits-then, medium-stops, mini-there, moves-from, moves-none, refused-among, refused-counts, taken-bytes, taken-spares, unchanged-stops}
 use Rattle.cfb_directory.proofs.LeastAbove.{least-kept}
+use Rattle.cfb_mini.proofs.WholeFiles.{same-whole}
 use Rattle.cfb_mini.proofs.changing.extend_listed.Goals as goal
 
 pub returns-in_err-prepare_extension-clause-listed : goal.returns-in_err-prepare_extension-clause-listed
@@ -416,6 +417,35 @@ returns-clause-holds g c told validation h =
     (c.in_ok-grow_sectors.ensures.held told validation) h in
     at-parts (λ (t : MiniTableState) (m s i : List ℕ). HoldsMiniBut [] validation (mini_of grown t m (Some s)) → OnOk c.take_prepared.result (HoldsMini validation (mini_of now taken m (Some s)))) prepared (record table { room = prepared.room }) shown sectors1 shown_stream stream1 here ids
     same c.deref-3.ensures.value c.deref-4.ensures.value same_ids (of.holds told validation) held
+
+pub returns-clause-whole : goal.returns-clause-whole
+returns-clause-whole g c told validation h was =
+    let directory = c.args.directory.now in
+    let table = c.args.table.now in
+    let sectors = c.args.minifat_sectors.now.items in
+    let stream = c.args.stream.now.items in
+    let ids = c.args.ids.now.items in
+    let prepared = c.prepare_extension.new.table in
+    let same = c.prepare_extension.ensures.table in
+    let here = c.prepare_extension.new.ids.items in
+    let same_ids = c.prepare_extension.ensures.ids in
+    let grown = c.grow_sectors.new.directory in
+    let sectors1 = c.grow_sectors.new.minifat_sectors.items in
+    let stream1 = c.grow_sectors.new.stream.items in
+    let shown = c.deref-3.result.now in
+    let shown_stream = c.deref-4.result.now in
+    let now = c.take_prepared.new.directory in
+    let taken = c.take_prepared.new.table in
+    let of = c.take_prepared.ensures in
+    let held = subst (λ (t : MiniTableState). HoldsMini validation (mini_of directory t sectors (Some stream)) → HoldsMiniBut [] validation (mini_of grown t sectors1 (Some stream1))) same
+    (c.in_ok-grow_sectors.ensures.held told validation) h in
+    let first = subst (λ (t : MiniTableState). HoldsMini validation (mini_of directory t sectors (Some stream)) → IsWhole directory.table → IsWhole grown.table) same
+    (c.in_ok-grow_sectors.ensures.whole told validation) h was in
+    on_ok _ _ c.take_prepared.result
+    (λ after. same-whole validation grown.table now.table after.directory.tables (ap (λ (t : TableState). t.version) of.kept.1) (ap (λ (t : TableState). length t.fat) of.kept.1)
+    (of.spares told).no_shorter first)
+    (at-parts (λ (t : MiniTableState) (m s i : List ℕ). HoldsMiniBut [] validation (mini_of grown t m (Some s)) → OnOk c.take_prepared.result (HoldsMini validation (mini_of now taken m (Some s)))) prepared (record table { room = prepared.room }) shown sectors1 shown_stream stream1 here ids
+    same c.deref-3.ensures.value c.deref-4.ensures.value same_ids (of.holds told validation) held)
 
 pub returns-clause-filled : goal.returns-clause-filled
 returns-clause-filled g c told validation h =

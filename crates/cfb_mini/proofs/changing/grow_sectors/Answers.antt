@@ -2,21 +2,24 @@ use Rattle.std.proofs.Common.{◌≡◌, ◌+◌, ◌-◌, ◌*◌, inr, Some, [
 use Rattle.cfb_format.specs.Bytes.{sector_len, words_per_sector}
 use Rattle.cfb_format.specs.Content.{mini_sector_len}
 use Rattle.cfb_format.specs.Full.{rounded_up}
+use Rattle.cfb_sectors.specs.declared.sector.SectorInit.TheVariants.{Zero}
 use Rattle.cfb_tables.specs.Listed.{ends_of}
 use Rattle.cfb_tables.specs.Refused.{ChangeRefused}
 use Rattle.cfb_tables.specs.Tables.{IsTooFew}
-use Rattle.cfb_alloc.specs.Alloc.{AllocatorState, IsUsable}
+use Rattle.cfb_alloc.specs.Alloc.{AllocatorState, HoldsTables, IsUsable}
 use Rattle.cfb_alloc.specs.Frame.{Spares}
-use Rattle.cfb_alloc.proofs.Answering.{on_ok}
+use Rattle.cfb_alloc.proofs.Answering.{on_both, on_ok, on_three}
 use Rattle.cfb_chains.proofs.ChainLists.{on_err}
-use Rattle.cfb_mini_sectors.specs.Growing.{EndApart, GrowsBoth, KeepsInUse}
+use Rattle.cfb_mini_sectors.specs.Growing.{EndApart, GainsFilled, GrowsBoth, KeepsInUse}
 use Rattle.cfb_mini_sectors.specs.State.{mini_stream_of}
 use Rattle.cfb_mini_sectors.specs.Steps.{IsNotHeld, IsTooFewFor, mini_stream_lacks, minifat_lacks, minifat_len_with}
 use Rattle.cfb_mini_sectors.proofs.HeldSteps.{held-but}
 use Rattle.cfb_mini.specs.Changing.{mini_of}
+use Rattle.cfb_mini.specs.MiniSectors.{IsWhole}
 use Rattle.cfb_mini.proofs.MiniGrown.{both-refused, grown-minis, grown-placed, grown-sectors, grown-stream, grown-words, in-use-spares, system-spares}
 use Rattle.cfb_directory.proofs.LeastAbove.{least-kept}
 use Rattle.cfb_mini.proofs.LeastAbove.{listed-before}
+use Rattle.cfb_mini.proofs.WholeFiles.{both-whole}
 use Rattle.cfb_mini.proofs.changing.grow_sectors.Goals as goal
 
 pub returns-clause-placed : goal.returns-clause-placed
@@ -109,6 +112,22 @@ returns-clause-mini_spares g c told validation h =
     let t = c.grow_both-grown.new.allocator in
     in-use-spares validation s t c.grow_both-grown.new.minifat_sectors.items c.grow_both-grown.new.stream.items h
     (subst (λ (a : AllocatorState). KeepsInUse a t) c.allocator_mut.ensures.value (c.grow_both-grown.ensures.in_use told)) c.grow_both-grown.ensures.listed_stream
+
+pub returns-clause-whole : goal.returns-clause-whole
+returns-clause-whole g c told validation h was =
+    let s = mini_of c.args.directory.now c.args.table.now c.args.minifat_sectors.now.items (Some c.args.stream.now.items) in
+    let lent = c.allocator_mut.result.now in
+    let t = c.grow_both-grown.new.allocator in
+    let more = c.grow_both-grown.new.minifat_sectors.items in
+    let stream = c.grow_both-grown.new.stream.items in
+    let lacks = c.lacks_for-lacks.result in
+    let of = c.grow_both-grown.ensures in
+    let before = subst (λ (a : AllocatorState). HoldsTables validation a) (sym c.allocator_mut.ensures.value) h.directory.tables in
+    let Zeros = GainsFilled Zero (mini_stream_of s) stream t.tables.version t.file.bytes in
+    let with-zeros = on_three _ _ _ (Zeros → IsWhole t) c.grow_both-grown.result
+    (λ both now minifat mini_stream. both-whole validation lent t lacks.minifat lacks.mini_stream s.minifat_sectors more (mini_stream_of s) stream now both (of.in_use told).no_shorter
+    minifat mini_stream (subst IsWhole (sym c.allocator_mut.ensures.value) was)) of.grown (of.holds told validation before) (of.filled told validation before) in
+    on_both (Zeros → IsWhole t) Zeros (IsWhole t) c.grow_both-grown.result (λ whole zeros. whole zeros) with-zeros (of.filled_stream told validation before)
 
 pub returns-clause-err : goal.returns-clause-err
 returns-clause-err g c =

@@ -12,7 +12,7 @@ use Rattle.cfb_rules.specs.Refusal.{already_exists}
 use Rattle.cfb_path_changes.specs.Ways.{LeadAsFarAs}
 use Rattle.cfb_path_changes.proofs.AllStorages.{all_asks, all_rule, names_refused_so, way_allowed, way_blocked, way_is}
 use Rattle.cfb_path_changes.proofs.Numbers.{object-within}
-use Rattle.cfb_path_changes.proofs.Refusing.{refused_as_failed, refused_as_unsound, refused_by_rules, refused_for_memory, refused_for_path}
+use Rattle.cfb_path_changes.proofs.Refusing.{input_never_full, names_never_full, refused_as_failed, refused_as_unsound, refused_by_rules, refused_for_memory, refused_for_path}
 use Rattle.cfb_path_changes.proofs.creating.find_way.Goals as goal
 
 -- names, as the code has them
@@ -105,3 +105,29 @@ returns-then-not-is_sound-clause-failed g c = λ failed. absurd (let w : true �
 
 pub returns-clause-failed : goal.returns-clause-failed
 returns-clause-failed g c = λ failed. absurd (let w : true ≡ false = sym failed ∙ sym c.is_failed.ensures ∙ c.if-is_failed.false in cc)
+
+-- ---- numbers never lack
+
+pub returns-in_err-clone-clause-never_full : goal.returns-in_err-clone-clause-never_full
+returns-in_err-clone-clause-never_full g c =
+    let p = err_from_is_err_and c.from_residual.result c.from_residual.ensures.1 in
+    rw (p.1, p.2) (λ w. cc)
+
+pub returns-in_err-names-clause-never_full : goal.returns-in_err-names-clause-never_full
+returns-in_err-names-clause-never_full g c =
+    let p = err_from_is_err_and c.from_residual-in_err-names.result c.from_residual-in_err-names.ensures.1 in
+    rw (p.1, p.2) (λ full. input_never_full _ c.in_err-names.field-0.0 c.in_err-names.ensures.refused full)
+
+pub returns-in_err-validate_names-clause-never_full : goal.returns-in_err-validate_names-clause-never_full
+returns-in_err-validate_names-clause-never_full g c =
+    let p = err_from_is_err_and c.from_residual-in_err-validate_names.result c.from_residual-in_err-validate_names.ensures.1 in
+    rw (p.1, p.2) (λ full. names_never_full _ c.in_err-validate_names.field-0.0 c.in_err-validate_names.ensures.refused full)
+
+pub returns-then-is_failed-clause-never_full : goal.returns-then-is_failed-clause-never_full
+returns-then-is_failed-clause-never_full g c = λ w. cc
+
+pub returns-then-eq-clause-never_full : goal.returns-then-eq-clause-never_full
+returns-then-eq-clause-never_full g c = λ w. cc
+
+pub returns-then-not-is_sound-clause-never_full : goal.returns-then-not-is_sound-clause-never_full
+returns-then-not-is_sound-clause-never_full g c = λ w. cc

@@ -5,10 +5,12 @@ use Rattle.cfb_format.specs.Chain.{IsChain}
 use Rattle.cfb_format.specs.Full.{rounded_up}
 use Rattle.cfb_tables.specs.Tables.{first_or_end}
 use Rattle.cfb_alloc.proofs.BrokenSpared.{after_any}
+use Rattle.cfb_mini.proofs.WholeFiles.{same-whole}
 use Rattle.cfb_content.proofs.Apart.{starts-unnamed}
 use Rattle.cfb_content.proofs.Refusals.{refused-as}
 use Rattle.cfb_content.proofs.WholeStreams.{not-whole-minis, owned-minis, whole-minis-as}
 use Rattle.cfb_resizing.specs.Turning.{Turns}
+use Rattle.cfb_content.proofs.DirCount.{count-stays}
 use Rattle.cfb_content.proofs.FixedHeader.{spared-keeps-header}
 use Rattle.cfb_resizing.proofs.CutShort.{mini-cut-takes-few}
 use Rattle.cfb_mini_sectors.specs.State.{MiniState, bytes_of, table_of}
@@ -79,6 +81,19 @@ returns-clause-turned g c told = record {
   snug_mini = λ v change snug.
       freed-snug c.args.mini.now c.cut_mini_listed.new.self c.div_ceil-wanted.result (length c.in_ok-ids.ids.items)
       (λ fewer. c.in_ok-cut_mini_listed.ensures.snug fewer v change.held) (λ all. (c.cut_mini_listed.ensures.none all).1) snug;
+  tidy = λ v change. record {
+    counted = count-stays v c.args.mini.now c.cut_mini_listed.new.self change.held (c.cut_mini_listed.ensures.header told);
+    whole = λ was.
+        let s = c.args.mini.now in
+        let i = c.args.entry in
+        let list = c.in_ok-ids.ids.items in
+        let shorter = c.requires.shorter in
+        let whole = whole-minis-as s i c.content_in-start.result.0 c.content_in-start.result.1 list c.content_in-start.ensures.start c.content_in-start.ensures.len c.in_ok-ids.ensures.whole in
+        let first = (whole.there 0 (omega (arith, shorter))).listed in
+        let held = c.in_ok-cut_mini_listed.ensures.holds told v change.held (λ none. starts-unnamed v s i change c.requires.stream) (λ zero. first-unnamed s i c.requires.small v change c.requires.stream list whole (omega (arith, first))) in
+        same-whole v (table_of s) (table_of c.cut_mini_listed.new.self) held.directory.tables c.cut_mini_listed.ensures.limits.version c.cut_mini_listed.ensures.sizes.sectors
+        (c.cut_mini_listed.ensures.spares told).no_shorter was;
+  };
 }
 
 pub returns-clause-spares : goal.returns-clause-spares

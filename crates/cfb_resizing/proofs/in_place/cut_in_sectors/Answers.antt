@@ -10,8 +10,11 @@ use Rattle.cfb_alloc.specs.ListedChain.{Shortens}
 use Rattle.cfb_alloc.proofs.ListedLemmas.{can_shorten}
 use Rattle.cfb_alloc.proofs.BrokenSpared.{after_any}
 use Rattle.cfb_mini_sectors.proofs.MiniStreams.{begins}
+use Rattle.cfb_mini.specs.MiniSectors.{IsWhole}
+use Rattle.cfb_mini.proofs.WholeFiles.{same-whole}
 use Rattle.cfb_content.proofs.Refusals.{refused-as}
 use Rattle.cfb_content.proofs.WholeStreams.{not-whole, whole-as}
+use Rattle.cfb_content.proofs.DirCount.{table-count}
 use Rattle.cfb_content.proofs.FixedHeader.{table-keeps-header}
 use Rattle.cfb_content.proofs.Changed.{spares-same}
 use Rattle.cfb_resizing.proofs.CutShort.{cut-takes-few}
@@ -92,6 +95,20 @@ returns-clause-turned g c told =
           let same = c.open_whole_chain.ensures.unchanged ∙ c.allocator_mut-allocator.ensures.value in
           (table-snug c.args.mini.now c.cut_listed.new.self
           (ap (λ (t : TableState). t.version) c.in_ok-cut_listed.ensures.shortened.given_back.rest ∙ ap (λ (a : AllocatorState). a.tables.version) same) snug);
+      tidy = λ v change. record {
+        counted =
+            let same = c.open_whole_chain.ensures.unchanged ∙ c.allocator_mut-allocator.ensures.value in
+            table-count v c.args.mini.now c.open_whole_chain.new.allocator c.cut_listed.new.self same change.held (c.cut_listed.ensures.changes told).header;
+        whole = λ was.
+            let same = c.open_whole_chain.ensures.unchanged ∙ c.allocator_mut-allocator.ensures.value in
+            let held = cut-keeps-tables c.args.mini.now c.args.entry c.args.size c.div_ceil-wanted.result c.content_in-start.result.0 c.content_in-start.result.1 c.sector_len.result
+            c.allocator_mut-allocator.result.now c.open_whole_chain.new.allocator c.cut_listed.new.self c.in_ok-ids.ids.items c.cut_listed.new.ids.items c.requires.stream c.requires.large c.requires.shorter
+            c.allocator_mut-allocator.ensures.value same c.content_in-start.ensures.start c.content_in-start.ensures.len c.in_ok-ids.ensures.whole c.sector_len.ensures c.div_ceil-wanted.ensures
+            (λ w. c.in_ok-cut_listed.ensures.holds told w) v change in
+            let given = c.in_ok-cut_listed.ensures.shortened.given_back in
+            same-whole v c.open_whole_chain.new.allocator c.cut_listed.new.self held (ap (λ (t : TableState). t.version) given.rest) given.given.same_length
+            (c.cut_listed.ensures.changes told).no_shorter (subst IsWhole (sym same) was);
+      };
     })
 
 pub returns-clause-spares : goal.returns-clause-spares

@@ -3,14 +3,15 @@ use Rattle.std.specs.Prelude.{Contains}
 use Rattle.std.proofs.lemmas.Result.{err_from_is_err_and}
 use Rattle.cfb_format.specs.Full.{rounded_up}
 use Rattle.cfb_tables.specs.Tables.{first_or_end}
-use Rattle.cfb_mini_sectors.specs.State.{HoldsMini, MiniState, bytes_of}
+use Rattle.cfb_mini_sectors.specs.State.{HoldsMini, MiniState, bytes_of, table_of}
 use Rattle.cfb_mini_sectors.specs.Steps.{IsNotHeld, IsSnugMini}
-use Rattle.cfb_mini.specs.MiniSectors.{HasMiniSector}
+use Rattle.cfb_mini.specs.MiniSectors.{HasMiniSector, IsWhole}
 use Rattle.cfb_mini.proofs.MiniExtended.{invalid-refused}
 use Rattle.cfb_content.proofs.Refusals.{refused-as}
 use Rattle.cfb_content.proofs.StreamEntry.{stream-inside}
 use Rattle.cfb_content.proofs.WholeStreams.{not-whole-minis}
 use Rattle.cfb_resizing.specs.Turning.{Turns}
+use Rattle.cfb_content.proofs.DirCount.{count-since}
 use Rattle.cfb_content.proofs.FixedHeader.{spared-since-keeps-header}
 use Rattle.cfb_content.proofs.Changed.{spares-same, spares-as}
 use Rattle.cfb_resizing.proofs.LengthenedMinis.{not-both}
@@ -124,6 +125,13 @@ returns-clause-turned g c told = record {
   snug_mini = λ v change snug.
       c.in_ok-lengthen_in_minis.ensures.snug_mini told v (subst (λ (m : MiniState). HoldsMini v m) (sym c.reserve.ensures.unchanged) change.held)
       (subst IsSnugMini (sym c.reserve.ensures.unchanged) snug);
+  tidy = λ v change. record {
+    counted =
+        count-since v c.args.mini.now c.reserve.new.self c.lengthen_in_minis.new.mini c.reserve.ensures.unchanged change.held (c.in_ok-lengthen_in_minis.ensures.header told);
+    whole = λ was.
+        c.in_ok-lengthen_in_minis.ensures.whole told v (subst (λ (m : MiniState). HoldsMini v m) (sym c.reserve.ensures.unchanged) change.held)
+        (subst (λ (m : MiniState). IsWhole (table_of m)) (sym c.reserve.ensures.unchanged) was);
+  };
 }
 
 pub returns-clause-spares : goal.returns-clause-spares

@@ -7,8 +7,10 @@ use Rattle.cfb_tables.specs.Tables.{first_or_end}
 use Rattle.cfb_alloc.specs.Alloc.{AllocatorState, HoldsTables}
 use Rattle.cfb_alloc.specs.ListedChain.{Lengthens}
 use Rattle.cfb_mini_sectors.proofs.MiniStreams.{begins}
+use Rattle.cfb_mini.specs.MiniSectors.{IsWhole}
 use Rattle.cfb_content.proofs.Refusals.{refused-as}
 use Rattle.cfb_content.proofs.WholeStreams.{not-whole}
+use Rattle.cfb_content.proofs.DirCount.{table-count}
 use Rattle.cfb_content.proofs.FixedHeader.{table-keeps-header}
 use Rattle.cfb_content.proofs.Changed.{spares-same}
 use Rattle.cfb_resizing.proofs.Tightness.{lengthened-tight}
@@ -83,6 +85,14 @@ returns-clause-turned g c told =
           let same = c.open_whole_chain.ensures.unchanged ∙ c.allocator_mut-allocator.ensures.value in
           (table-snug c.args.mini.now c.lengthen_in_sectors.new.allocator
           (c.lengthen_in_sectors.ensures.version ∙ ap (λ (a : AllocatorState). a.tables.version) same) snug);
+      tidy = λ v change. record {
+        counted =
+            let same = c.open_whole_chain.ensures.unchanged ∙ c.allocator_mut-allocator.ensures.value in
+            table-count v c.args.mini.now c.open_whole_chain.new.allocator c.lengthen_in_sectors.new.allocator same change.held (c.lengthen_in_sectors.ensures.header told);
+        whole = λ was.
+            let same = c.open_whole_chain.ensures.unchanged ∙ c.allocator_mut-allocator.ensures.value in
+            c.in_ok-lengthen_in_sectors.ensures.whole told v (subst (λ (a : AllocatorState). HoldsTables v a) (sym same) change.held.directory.tables) (subst IsWhole (sym same) was);
+      };
     })
 
 pub returns-clause-spares : goal.returns-clause-spares

@@ -1,18 +1,20 @@
-use Rattle.std.proofs.Common.{◌≡◌, ℕ, List, length, inl, inr, sym, subst, arith}
+use Rattle.std.proofs.Common.{◌≡◌, ℕ, List, length, inl, inr, sym, ap, subst, arith}
 use Rattle.std.specs.Prelude.{nat_eq}
 use Rattle.std.specs.List.{IsDistinct}
 use Rattle.std.proofs.lemmas.Result.{err_from_is_err_and}
 use Rattle.cfb_format.specs.Chain.{IsChain}
 use Rattle.cfb_format.specs.Refused.{CountsFailure}
 use Rattle.cfb_tables.specs.Listed.{ends_of, gained}
-use Rattle.cfb_tables.specs.Tables.{first_or_end}
+use Rattle.cfb_tables.specs.Tables.{TableState, first_or_end}
 use Rattle.cfb_tables.proofs.ListedLemmas.{chain_ends}
 use Rattle.cfb_alloc.proofs.Answering.{all_ok, on_ok}
 use Rattle.cfb_chains.proofs.ChainLists.{ends_among}
 use Rattle.cfb_mini_table.specs.MiniTable.{TakesMini}
-use Rattle.cfb_mini_sectors.specs.State.{table_of}
+use Rattle.cfb_mini_sectors.specs.State.{bytes_of, table_of}
 use Rattle.cfb_mini_sectors.proofs.MiniFrames.{spares-less}
+use Rattle.cfb_mini.proofs.WholeFiles.{same-whole}
 use Rattle.cfb_content.proofs.Changing.{growth-stays}
+use Rattle.cfb_content.proofs.DirCount.{minis-outside, outside-then}
 use Rattle.cfb_content.proofs.Refusals.{refused-as}
 use Rattle.cfb_resizing.proofs.LengthenedMinis.{minis-lengthened-mini-spare, minis-lengthened-padded, minis-lengthened-spare, minis-lengthened-tight, minis-tail-placed, tail-unwritten}
 use Rattle.cfb_resizing.proofs.Tightness.{file-around, file-mini, file-system}
@@ -84,6 +86,17 @@ returns-clause-padded g c told v held there =
 pub returns-clause-holds : goal.returns-clause-holds
 returns-clause-holds g c told v held = c.zero_in_minis.ensures.holds told v (c.in_ok-extend_mini_listed.ensures.holds told v held)
 
+pub returns-clause-whole : goal.returns-clause-whole
+returns-clause-whole g c told v held was =
+    let mid = c.extend_mini_listed.new.self in
+    let new = c.zero_in_minis.new.mini in
+    let first = c.in_ok-extend_mini_listed.ensures.whole told v held was in
+    let tables = (file-system mid mid new c.zero_in_minis.ensures.kept).tables in
+    on_ok _ _ c.zero_in_minis.result
+    (λ after. same-whole v (table_of mid) (table_of new) after.directory.tables (ap (λ (t : TableState). t.version) tables) (ap (λ (t : TableState). length t.fat) tables)
+    (c.zero_in_minis.ensures.spares told).no_shorter first)
+    (c.zero_in_minis.ensures.holds told v (c.in_ok-extend_mini_listed.ensures.holds told v held))
+
 pub returns-clause-spares : goal.returns-clause-spares
 returns-clause-spares g c told =
     minis-lengthened-spare c.args.mini.now c.extend_mini_listed.new.self c.args.lacking c.args.ids.now.items c.extend_mini_listed.new.ids.items c.extend_mini_listed.ensures.listed
@@ -96,6 +109,14 @@ returns-clause-mini_spares g c told v held =
     (c.extend_mini_listed.ensures.chain c.requires.chain) c.zero_in_minis.new.mini c.zero_in_minis.ensures.kept v c.deref.result.now c.deref.ensures.value held
     c.extend_mini_listed.ensures.limits.version (λ z. (c.extend_mini_listed.ensures.none z).2) c.in_ok-extend_mini_listed.ensures.taken (c.extend_mini_listed.ensures.mini_spares told v held)
     (c.zero_in_minis.ensures.mini_spares told v (c.in_ok-extend_mini_listed.ensures.holds told v held))
+
+pub returns-clause-header : goal.returns-clause-header
+returns-clause-header g c told =
+    let s = c.args.mini.now in
+    let mid = c.extend_mini_listed.new.self in
+    let new = c.zero_in_minis.new.mini in
+    all_ok c.zero_in_minis.result (outside-then (bytes_of s) (bytes_of mid) (bytes_of new) (c.extend_mini_listed.ensures.spares told).no_shorter (c.extend_mini_listed.ensures.header told)
+    (minis-outside mid c.deref.result.now c.args.len _ (bytes_of mid) (bytes_of new) (c.zero_in_minis.ensures.others told)))
 
 pub returns-clause-around : goal.returns-clause-around
 returns-clause-around g c = file-around c.args.mini.now c.extend_mini_listed.new.self c.zero_in_minis.new.mini c.zero_in_minis.ensures.kept (record {

@@ -1,7 +1,7 @@
-use Rattle.std.proofs.Common.{◌≡◌, ◌-◌, ◌∙◌, ℕ, List, length, inl, inr, sym, subst, arith}
+use Rattle.std.proofs.Common.{◌≡◌, ◌-◌, ◌∙◌, ℕ, List, length, inl, inr, sym, ap, subst, arith}
 use Rattle.std.proofs.lemmas.Result.{err_from_is_err_and}
 use Rattle.cfb_tables.specs.Listed.{ends_of, gained}
-use Rattle.cfb_tables.specs.Tables.{IsTooFew, first_or_end}
+use Rattle.cfb_tables.specs.Tables.{IsTooFew, TableState, first_or_end}
 use Rattle.cfb_tables.proofs.ListedLemmas.{chain_ends}
 use Rattle.cfb_alloc.specs.Frame.{Spares, table_sectors}
 use Rattle.cfb_tables.specs.Changes.{AreDisjoint}
@@ -10,6 +10,7 @@ use Rattle.cfb_alloc.proofs.Frames.{spares-less}
 use Rattle.cfb_chains.proofs.ChainLists.{ends_among}
 use Rattle.cfb_chains.proofs.Sparing.{gained_spared}
 use Rattle.cfb_mini_sectors.proofs.HeldMini.{no-tables}
+use Rattle.cfb_mini.proofs.WholeFiles.{same-whole, taken-whole}
 use Rattle.cfb_content.proofs.Refusals.{refused-as}
 use Rattle.cfb_content.proofs.GrownWith.{header-left}
 use Rattle.cfb_resizing.proofs.LengthenedSectors.{lacking-is, lengthened-padded, tail-placed}
@@ -69,6 +70,24 @@ returns-clause-holds g c told validation held =
     c.zero_in_sectors-zeroed.ensures.holds told validation now
     (subst (λ (l : List ℕ). AreDisjoint l (table_sectors mid.tables)) (sym c.deref.ensures.value)
     (no-tables validation mid (first_or_end ids') ids' now (c.extend_listed.ensures.chain c.requires.chain)))
+
+pub returns-clause-whole : goal.returns-clause-whole
+returns-clause-whole g c told validation held was =
+    let old = c.args.allocator.now in
+    let ids = c.args.ids.now.items in
+    let mid = c.extend_listed.new.self in
+    let ids' = c.extend_listed.new.ids.items in
+    let new = c.zero_in_sectors-zeroed.new.allocator in
+    let now = c.in_ok-extend_listed.ensures.holds told validation held in
+    let made = c.in_ok-extend_listed.ensures.lengthened in
+    let first = taken-whole validation old mid (ends_of ids) (gained ids ids') now made.taken (c.extend_listed.ensures.others told).no_shorter
+    (λ i m. (c.in_ok-extend_listed.ensures.filled told validation held i m).whole) was in
+    let tables = c.zero_in_sectors-zeroed.ensures.tables in
+    on_ok _ _ c.zero_in_sectors-zeroed.result
+    (λ after. same-whole validation mid new after (ap (λ (t : TableState). t.version) tables) (ap (λ (t : TableState). length t.fat) tables) (c.zero_in_sectors-zeroed.ensures.spares told).no_shorter first)
+    (c.zero_in_sectors-zeroed.ensures.holds told validation now
+    (subst (λ (l : List ℕ). AreDisjoint l (table_sectors mid.tables)) (sym c.deref.ensures.value)
+    (no-tables validation mid (first_or_end ids') ids' now (c.extend_listed.ensures.chain c.requires.chain))))
 
 pub returns-clause-spares : goal.returns-clause-spares
 returns-clause-spares g c told =

@@ -1,6 +1,9 @@
 use Rattle.std.proofs.Common.{List, ℕ, length, subst}
-use Rattle.cfb_tables.specs.Listed.{ends_of}
+use Rattle.cfb_sectors.specs.declared.sector.SectorInit.TheVariants.{Zero}
+use Rattle.cfb_table_words.proofs.FilledSectors.{filled_whole_each}
+use Rattle.cfb_tables.specs.Listed.{ends_of, gained}
 use Rattle.cfb_alloc.specs.Frame.{Spares}
+use Rattle.cfb_mini.proofs.WholeFiles.{taken-whole}
 use Rattle.cfb_resizing.proofs.BegunInSectors.{begun-fits, begun-padded}
 use Rattle.cfb_resizing.proofs.moving.begin_in_sectors.Goals as goal
 
@@ -12,6 +15,16 @@ returns-clause-padded g c told validation held =
     begun-padded c.args.allocator.now c.extend_listed_from.new.self c.args.count c.args.ids.now.items c.extend_listed_from.new.ids.items c.requires.fresh
     c.in_ok-extend_listed_from.ensures.lengthened c.args.bytes.now c.extend_listed_from.new.self.file.bytes
     (c.in_ok-extend_listed_from.ensures.put told validation held)
+
+pub returns-clause-whole : goal.returns-clause-whole
+returns-clause-whole g c told validation held was =
+    let old = c.args.allocator.now in
+    let ids = c.args.ids.now.items in
+    let new = c.extend_listed_from.new.self in
+    let ids' = c.extend_listed_from.new.ids.items in
+    taken-whole validation old new (ends_of ids) (gained ids ids') (c.in_ok-extend_listed_from.ensures.holds told validation held) c.in_ok-extend_listed_from.ensures.lengthened.taken
+    (c.extend_listed_from.ensures.others told).no_shorter
+    (filled_whole_each new.tables.version Zero _ new.file.bytes (gained ids ids') (c.in_ok-extend_listed_from.ensures.put told validation held)) was
 
 pub returns-clause-spares : goal.returns-clause-spares
 returns-clause-spares g c told =

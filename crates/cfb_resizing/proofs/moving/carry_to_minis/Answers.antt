@@ -1,11 +1,11 @@
-use Rattle.std.proofs.Common.{◌≡◌, ◌<◌, ◌++◌, ℕ, List, [], ap, inl, inr, refl, sym, ◌∙◌, subst, arith, length}
+use Rattle.std.proofs.Common.{◌≡◌, ◌<◌, ◌≤◌, ◌++◌, ℕ, List, [], ap, inl, inr, refl, sym, ◌∙◌, subst, arith, length}
 use Rattle.std.specs.Prelude.{nat_eq}
 use Rattle.std.specs.List.{IsDistinct}
 use Rattle.std.proofs.lemmas.Result.{err_from_is_err_and}
 use Rattle.cfb_format.specs.Chain.{IsChain}
 use Rattle.cfb_tables.specs.Clean.{IsUnnamed}
 use Rattle.cfb_tables.specs.Listed.{ends_of, gained}
-use Rattle.cfb_tables.specs.Tables.{TableState, first_or_end}
+use Rattle.cfb_tables.specs.Tables.{TableState, TablesGiveBack, first_or_end}
 use Rattle.std.proofs.lemmas.List.Elements.{Contains-append_right}
 use Rattle.cfb_alloc.specs.Alloc.{AllocatorState, IsUsable}
 use Rattle.cfb_alloc.proofs.Frames.{spares-less}
@@ -13,9 +13,12 @@ use Rattle.cfb_alloc.proofs.HeldOrder.{held-usable}
 use Rattle.cfb_alloc.specs.Frame.{Spares}
 use Rattle.cfb_alloc.proofs.Answering.{all_ok, on_ok}
 use Rattle.cfb_mini_table.specs.MiniTable.{TakesMini}
-use Rattle.cfb_mini_sectors.specs.State.{MiniState, table_of, tables_in}
+use Rattle.cfb_mini_sectors.specs.State.{MiniState, bytes_of, table_of, tables_in}
 use Rattle.cfb_mini_sectors.specs.Steps.{SparesMini, system_sectors}
+use Rattle.cfb_mini_sectors.specs.Growing.{KeepsOutsideMini}
 use Rattle.cfb_mini_sectors.specs.Held.{with_table}
+use Rattle.cfb_mini.proofs.WholeFiles.{same-whole}
+use Rattle.cfb_content.proofs.DirCount.{minis-outside, outside-other, outside-then}
 use Rattle.cfb_content.proofs.Refusals.{refused-as}
 use Rattle.cfb_resizing.proofs.BegunInSectors.{no-chain}
 use Rattle.cfb_resizing.proofs.CarriedToMinis.{begun-all, broken-as-long, broken-keeps, carried-around-all, carried-minis, carried-minis-all, carried-minis-both, carried-spares-all, carried-spares-both, carried-stops, carried-tight-all, came-free, given-held, given-lent, given-room, medium-after, medium-stops, minis-placed, minis-stand}
@@ -107,6 +110,41 @@ returns-clause-mini_spares g c told v held apart unnamed =
     (came-free c.args.mini.now.max_mini_sectors c.args.count c.args.mini.now.minifat c.extend_mini_listed.new.self.minifat c.args.ids.now.items c.extend_mini_listed.new.ids.items
     c.requires.fresh (λ none. (c.extend_mini_listed.ensures.none none).2) taken)
     (subst (λ (l : List ℕ). SparesMini l c.extend_mini_listed.new.self c.put_in_minis.new.mini) c.deref.ensures.value (c.put_in_minis.ensures.mini_spares told v now))
+
+pub returns-clause-whole : goal.returns-clause-whole
+returns-clause-whole g c told v held apart unnamed was =
+    let s = c.args.mini.now in
+    let freed = c.free_listed.new.self in
+    let mid = c.extend_mini_listed.new.self in
+    let new = c.put_in_minis.new.mini in
+    let lent-held = given-lent c.args.mini.now c.allocator_mut.result.now c.free_listed.new.self c.args.list.now c.allocator_mut.ensures.value c.in_ok-free_listed.ensures.freed v held in
+    let freed-held = given-held c.args.mini.now c.allocator_mut.result.now c.free_listed.new.self c.args.list.now c.allocator_mut.ensures.value c.in_ok-free_listed.ensures.freed v held apart
+    (c.in_ok-free_listed.ensures.holds told v lent-held (subst (λ (b : AllocatorState). IsUnnamed b.tables.fat (first_or_end c.args.list.now)) (sym c.allocator_mut.ensures.value) unnamed))
+    (c.free_listed.ensures.spares told) (c.free_listed.ensures.changes told) in
+    let given = subst (λ (b : AllocatorState). TablesGiveBack [] c.args.list.now b.tables freed.tables × (length b.file.bytes ≤ length freed.file.bytes)) c.allocator_mut.ensures.value
+    (c.in_ok-free_listed.ensures.freed, (c.free_listed.ensures.changes told).no_shorter) in
+    let first = same-whole v (table_of s) freed freed-held.directory.tables (ap (λ (t : TableState). t.version) given.0.rest) given.0.given.same_length given.1 was in
+    let second = c.in_ok-extend_mini_listed.ensures.whole told v freed-held first in
+    let tables = (file-system mid mid new c.put_in_minis.ensures.kept).tables in
+    on_ok _ _ c.put_in_minis.result
+    (λ after. same-whole v (table_of mid) (table_of new) after.directory.tables (ap (λ (t : TableState). t.version) tables) (ap (λ (t : TableState). length t.fat) tables)
+    (c.put_in_minis.ensures.spares told).no_shorter second)
+    (c.put_in_minis.ensures.holds told v (c.in_ok-extend_mini_listed.ensures.holds told v freed-held))
+
+pub returns-clause-header : goal.returns-clause-header
+returns-clause-header g c told =
+    let s = c.args.mini.now in
+    let lent = c.allocator_mut.result.now in
+    let freed = c.free_listed.new.self in
+    let mid = c.extend_mini_listed.new.self in
+    let new = c.put_in_minis.new.mini in
+    let changes = c.free_listed.ensures.changes told in
+    let first = subst (λ (b : AllocatorState). (length b.file.bytes ≤ length freed.file.bytes) × KeepsOutsideMini b.file.bytes freed.file.bytes) c.allocator_mut.ensures.value
+    (changes.no_shorter, outside-other lent.tables.version lent.file.bytes freed.file.bytes changes.header) in
+    let grown = (c.extend_mini_listed.ensures.spares told).no_shorter in
+    let second = outside-then (bytes_of s) freed.file.bytes (bytes_of mid) first.0 first.1 (c.extend_mini_listed.ensures.header told) in
+    all_ok c.put_in_minis.result (outside-then (bytes_of s) (bytes_of mid) (bytes_of new) (omega (arith, first.0, grown)) second
+    (minis-outside mid c.deref.result.now 0 (length c.args.bytes.now) (bytes_of mid) (bytes_of new) (c.put_in_minis.ensures.others told)))
 
 pub returns-clause-around : goal.returns-clause-around
 returns-clause-around g c =

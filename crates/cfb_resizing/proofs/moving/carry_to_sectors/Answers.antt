@@ -3,8 +3,12 @@ use Rattle.cfb_format.specs.Refused.{CountsFailure}
 use Rattle.cfb_tables.specs.Tables.{IsTooFew, TableState}
 use Rattle.cfb_alloc.specs.Alloc.{AllocatorState, IsUsable}
 use Rattle.cfb_alloc.proofs.Answering.{all_ok, on_both, on_ok}
-use Rattle.cfb_mini_sectors.specs.State.{tables_in}
+use Rattle.cfb_mini_sectors.specs.Growing.{KeepsOutsideMini}
+use Rattle.cfb_mini_sectors.specs.State.{bytes_of, table_of, tables_in}
 use Rattle.cfb_mini_sectors.proofs.HeldShortened.{usable-left}
+use Rattle.cfb_mini.specs.MiniSectors.{IsWhole}
+use Rattle.cfb_mini.proofs.WholeFiles.{same-whole}
+use Rattle.cfb_content.proofs.DirCount.{outside-other, outside-then}
 use Rattle.cfb_content.proofs.RoomGiven.{lacking-before}
 use Rattle.cfb_resizing.proofs.CarriedToSectors.{carried-apart, carried-around, carried-err, carried-held, carried-makes, carried-mini-spares, carried-padded, carried-refused, carried-spares, carried-tables, carried-tight, carried-unwritten, carried-zeros, freed-held}
 use Rattle.cfb_resizing.proofs.SnugMinis.{freed-snug, table-snug}
@@ -72,6 +76,29 @@ returns-clause-mini_spares g c told v held unnamed =
     let held' = freed-held s mid list v held unnamed (c.in_ok-cut_mini_listed.ensures.holds told v held) (λ few. (c.cut_mini_listed.ensures.none few).1) in
     carried-mini-spares s mid list c.allocator_mut.result.now c.begin_in_sectors.new.allocator c.allocator_mut.ensures.value c.cut_mini_listed.ensures.limits v held held'
     (c.cut_mini_listed.ensures.mini_spares told v held) (c.begin_in_sectors.ensures.spares told)
+
+pub returns-clause-whole : goal.returns-clause-whole
+returns-clause-whole g c told v held unnamed was =
+    let s = c.args.mini.now in
+    let mid = c.cut_mini_listed.new.self in
+    let list = c.args.list.now.items in
+    let lent = c.allocator_mut.result.now in
+    let held' = freed-held s mid list v held unnamed (c.in_ok-cut_mini_listed.ensures.holds told v held) (λ few. (c.cut_mini_listed.ensures.none few).1) in
+    let first = same-whole v (table_of s) (table_of mid) held'.directory.tables c.cut_mini_listed.ensures.limits.version c.cut_mini_listed.ensures.sizes.sectors
+    (c.cut_mini_listed.ensures.spares told).no_shorter was in
+    c.begin_in_sectors.ensures.whole told v
+    (carried-tables s mid list lent c.begin_in_sectors.new.allocator c.allocator_mut.ensures.value c.cut_mini_listed.ensures.limits v held')
+    (subst IsWhole (sym c.allocator_mut.ensures.value) first)
+
+pub returns-clause-header : goal.returns-clause-header
+returns-clause-header g c told =
+    let s = c.args.mini.now in
+    let mid = c.cut_mini_listed.new.self in
+    let lent = c.allocator_mut.result.now in
+    let begun = c.begin_in_sectors.new.allocator in
+    let second = subst (λ (b : AllocatorState). KeepsOutsideMini b.file.bytes begun.file.bytes) c.allocator_mut.ensures.value
+    (outside-other lent.tables.version lent.file.bytes begun.file.bytes (c.begin_in_sectors.ensures.header told)) in
+    all_ok c.begin_in_sectors.result (outside-then (bytes_of s) (bytes_of mid) begun.file.bytes (c.cut_mini_listed.ensures.spares told).no_shorter (c.cut_mini_listed.ensures.header told) second)
 
 pub returns-clause-around : goal.returns-clause-around
 returns-clause-around g c =

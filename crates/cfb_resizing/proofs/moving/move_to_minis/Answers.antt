@@ -3,15 +3,16 @@ use Rattle.std.proofs.lemmas.Result.{err_from_is_err_and}
 use Rattle.cfb_format.specs.Full.{rounded_up}
 use Rattle.cfb_tables.specs.Changes.{AreDisjoint}
 use Rattle.cfb_tables.specs.Tables.{first_or_end}
-use Rattle.cfb_mini_sectors.specs.State.{HoldsMini, MiniState, bytes_of, tables_in}
+use Rattle.cfb_mini_sectors.specs.State.{HoldsMini, MiniState, bytes_of, table_of, tables_in}
 use Rattle.cfb_mini_sectors.specs.Steps.{IsTooFewAfterFor, system_sectors, IsSnugMini}
-use Rattle.cfb_mini.specs.MiniSectors.{IsStill}
+use Rattle.cfb_mini.specs.MiniSectors.{IsStill, IsWhole}
 use Rattle.cfb_mini.proofs.MiniExtended.{invalid-refused}
 use Rattle.cfb_content.specs.Parts.{IsWholeChain}
 use Rattle.cfb_content.proofs.Refusals.{refused-as}
 use Rattle.cfb_content.proofs.StreamEntry.{stream-inside}
 use Rattle.cfb_content.proofs.WholeStreams.{not-whole}
 use Rattle.cfb_resizing.specs.Turning.{KeepsAround, StopsOrBegun, Turns}
+use Rattle.cfb_content.proofs.DirCount.{count-since}
 use Rattle.cfb_content.proofs.FixedHeader.{bytes-keep-header, spared-since-keeps-header}
 use Rattle.cfb_content.proofs.Changed.{spares-same, spares-as}
 use Rattle.cfb_resizing.proofs.CarriedToMinis.{after-then, kept-after}
@@ -247,6 +248,20 @@ returns-clause-turned g c told = record {
       leave-asked c.args.mini.now c.taken_from_sectors.new.mini c.carry_to_minis.new.mini c.args.entry c.args.size c.div_ceil-count.result c.content_in-start.result.0 c.content_in-start.result.1
       c.allocator.result.now c.deref-3.result.now c.requires.stream c.requires.large c.requires.small c.allocator.ensures c.content_in-start.ensures.start c.content_in-start.ensures.len
       found wanted (λ m. IsSnugMini m → IsSnugMini c.carry_to_minis.new.mini) same v change (c.in_ok-carry_to_minis.ensures.snug_mini told v) snug;
+  tidy = λ v change. record {
+    counted =
+        count-since v c.args.mini.now c.taken_from_sectors.new.mini c.carry_to_minis.new.mini (c.in_ok-content.ensures.same told ∙ c.reserve.ensures.unchanged) change.held
+        (c.in_ok-carry_to_minis.ensures.header told);
+    whole = λ was.
+        let wanted : c.div_ceil-count.result ≡ rounded_up c.args.size 64 = omega (arith, c.div_ceil-count.ensures) in
+        let found = subst (λ (l : List ℕ). IsWholeChain c.allocator.result.now.tables.version c.allocator.result.now.tables.fat c.allocator.result.now.file.len
+        c.content_in-start.result.0 c.content_in-start.result.1 l) (sym c.deref-3.ensures.value) c.in_ok-old.ensures.whole in
+        let first = c.reserve.ensures.unchanged in
+        let same = c.in_ok-content.ensures.same told ∙ first in
+        leave-asked c.args.mini.now c.taken_from_sectors.new.mini c.carry_to_minis.new.mini c.args.entry c.args.size c.div_ceil-count.result c.content_in-start.result.0 c.content_in-start.result.1
+        c.allocator.result.now c.deref-3.result.now c.requires.stream c.requires.large c.requires.small c.allocator.ensures c.content_in-start.ensures.start c.content_in-start.ensures.len
+        found wanted (λ m. IsWhole (table_of m) → IsWhole (table_of c.carry_to_minis.new.mini)) same v change (c.in_ok-carry_to_minis.ensures.whole told v) was;
+  };
 }
 
 pub returns-clause-spares : goal.returns-clause-spares

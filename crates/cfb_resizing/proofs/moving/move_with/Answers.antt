@@ -2,15 +2,16 @@ use Rattle.std.proofs.Common.{◌∙◌, ap, sym, subst, length, arith}
 use Rattle.std.proofs.lemmas.Result.{err_from_is_err_and}
 use Rattle.cfb_tables.specs.Tables.{first_or_end}
 use Rattle.cfb_alloc.specs.Alloc.{AllocatorState}
-use Rattle.cfb_mini_sectors.specs.State.{HoldsMini, MiniState, bytes_of}
+use Rattle.cfb_mini_sectors.specs.State.{HoldsMini, MiniState, bytes_of, table_of}
 use Rattle.cfb_mini_sectors.specs.Held.{with_table}
-use Rattle.cfb_mini.specs.MiniSectors.{IsStill}
+use Rattle.cfb_mini.specs.MiniSectors.{IsStill, IsWhole}
 use Rattle.cfb_content.proofs.Refusals.{refused-as}
 use Rattle.cfb_content.proofs.StreamEntry.{stream-inside}
 use Rattle.cfb_content.proofs.WholeStreams.{not-whole-minis}
 use Rattle.cfb_resizing.specs.Turning.{MovesWith, StopsOrBegun}
+use Rattle.cfb_content.proofs.DirCount.{count-since}
 use Rattle.cfb_content.proofs.FixedHeader.{bytes-keep-header, spared-since-keeps-header}
-use Rattle.cfb_resizing.proofs.MovedToSectors.{move-enough, move-fits, move-held, move-lacks, move-moved, move-others, move-starts, still-around, still-kept, still-stops, still-tight, whole-first, whole-last, whole-long}
+use Rattle.cfb_resizing.proofs.MovedToSectors.{move-asked, move-enough, move-fits, move-held, move-lacks, move-moved, move-others, move-starts, still-around, still-kept, still-stops, still-tight, whole-first, whole-last, whole-long}
 use Rattle.cfb_resizing.proofs.TurnedInSectors.{not-usable}
 use Rattle.cfb_mini_sectors.specs.Steps.{IsSnugMini}
 use Rattle.cfb_content.proofs.Changed.{spares-same, spares-as}
@@ -180,6 +181,16 @@ returns-clause-moved g c told = rw (c.end_chain.ensures, c.allocator_mut-2.ensur
       let first = ap (λ (b : AllocatorState). with_table c.args.mini.now b) (c.reserve.ensures.unchanged ∙ c.allocator_mut.ensures.value) in
       let same = c.in_ok-joined.ensures.same told ∙ first in
       (subst (λ (m : MiniState). HoldsMini v m → IsSnugMini m → IsSnugMini c.carry_to_sectors.new.mini) same (c.in_ok-carry_to_sectors.ensures.snug_mini v)) change.held snug;
+  tidy = λ v change.
+      let first = ap (λ (b : AllocatorState). with_table c.args.mini.now b) (c.reserve.ensures.unchanged ∙ c.allocator_mut.ensures.value) in
+      let same = c.in_ok-joined.ensures.same told ∙ first in
+      record {
+        counted = count-since v c.args.mini.now c.joined_from_minis.new.mini c.carry_to_sectors.new.mini same change.held (c.in_ok-carry_to_sectors.ensures.header told);
+        whole =
+            move-asked c.args.mini.now c.joined_from_minis.new.mini c.carry_to_sectors.new.mini c.args.entry c.args.size c.div_ceil-count.result c.content_in-start.result.0 c.content_in-start.result.1
+            c.sector_len.result c.in_ok-old.old.items c.requires.stream c.requires.small c.requires.large c.content_in-start.ensures.start c.content_in-start.ensures.len c.in_ok-old.ensures.whole
+            c.sector_len.ensures c.div_ceil-count.ensures (λ m. IsWhole (table_of m) → IsWhole (table_of c.carry_to_sectors.new.mini)) same v change (c.in_ok-carry_to_sectors.ensures.whole told v);
+      };
 })
 
 pub returns-clause-spares : goal.returns-clause-spares

@@ -24,7 +24,7 @@ use Rattle.cfb_content.proofs.Sound.{all-used-kept, changed-is-changeable}
 use Rattle.cfb_content.proofs.StreamEntry.{stream-inside}
 use Rattle.cfb_content.proofs.FixedHeader.{header-then, spared-keeps-header}
 use Rattle.cfb_resizing.proofs.CarriedToMinis.{kept-after, medium-after}
-use Rattle.cfb_resizing.proofs.Named.{WasNamed, moves-then, named-changes, named-keeps-others, placed-stays, around-moves, limits-then}
+use Rattle.cfb_resizing.proofs.Named.{WasNamed, moves-then, named-changes, named-keeps-others, named-tidy, placed-stays, around-moves, limits-then}
 use Rattle.cfb_resizing.proofs.Tightness.{turned-stays-full, same-tight}
 use Rattle.cfb_resizing.proofs.Turned.{WasTurned, always-on-ok, turned, turned-whole, all-changed, all-resized}
 use Rattle.cfb_format.specs.DirectoryEntry.{Entry}
@@ -216,6 +216,10 @@ returns-clause-changed g c told =
     (λ v change snug. kept-is-snug-mini c.turn.new.mini new c.name_content.ensures.limits.version c.name_content.ensures.mini
     (ap (λ (e : Entry). e.start_sector) c.name_content.ensures.root) (ap (λ (e : Entry). e.stream_len) c.name_content.ensures.root)
     ((c.in_ok-start.ensures.turned told).snug_mini v change snug))
+    (λ v change. on_ok_weaker c.name_content.result
+    (λ held. named-tidy v s c.turn.new.mini new ((c.in_ok-start.ensures.turned told).holds v change) held c.name_content.ensures.system (c.name_content.ensures.header told)
+    (c.name_content.ensures.spares told) ((c.in_ok-start.ensures.turned told).tidy v change))
+    (held-then g c told v change))
 
 pub returns-clause-tight : goal.returns-clause-tight
 returns-clause-tight g c =

@@ -1,10 +1,12 @@
 use Rattle.std.proofs.Common.{◌≡◌, ◌≤◌, ◌+◌, ◌-◌, length, take, drop}
+use Rattle.cfb_stream_buffer.specs.Touched.{HasSameFlags}
 use Rattle.cfb_stream_buffer.proofs.whole.read_whole.Given as goal
 
 abbrev pub invariant-loop-done : goal.invariant-loop-done
 invariant-loop-done g l = record {
   within : l.done ≤ length l.into;
   there : g.C.ReadContents.has l.content l.id;
+  any : HasSameFlags g.C.ReadContents l.initial.content l.content l.id;
   told : g.C.ReadContents.tells l.initial.content → g.C.ReadContents.tells l.content;
   kept : g.C.ReadContents.tells l.initial.content → g.C.ReadContents.kept l.content ≡ g.C.ReadContents.kept l.initial.content;
   same : g.C.ReadContents.tells l.initial.content → g.C.ReadContents.stored l.content l.id ≡ g.C.ReadContents.stored l.initial.content l.id;

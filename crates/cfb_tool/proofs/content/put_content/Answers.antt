@@ -19,7 +19,7 @@ returns-in_err-stream-clause-put g c =
     let last = c.create_stream.follows.lender-at-none in
     let e = c.in_err-stream.field-0.0 in
     rw (p.1, p.2) (λ told. put_not _ old last (chars c.args.path.now) c.args.bytes.now (refusal_of e)
-    (creates_not _ old last (chars c.args.path.now) e true (at_error _ c.create_stream.result e c.in_err-stream.was c.create_stream.follows.holds-at-none told)))
+    (creates_not _ old last (chars c.args.path.now) e true ((at_error _ c.create_stream.result e c.in_err-stream.was c.create_stream.follows.holds-at-none).1 told)))
 
 pub returns-in_err-written-clause-put : goal.returns-in_err-written-clause-put
 returns-in_err-written-clause-put g c =
@@ -36,7 +36,7 @@ returns-in_err-written-clause-put g c =
     (λ told.
     put_so _ old new at c.args.bytes.now s now (closing_of c.write_all-written.result) (closing_of c.close-closed.result) (Some (refusal_of c.in_err-written.field-0.0))
     (creates_ok _ old at (λ z. open_of z) _ true (Ok c.in_ok-stream.stream) told c.in_ok-stream.ensures.created) (c.write_all-written.ensures.works told)
-    (closed_of _ s.file now c.close-closed.result new (closed.closes told) (closed.refused told) (closed.tree told s.file) (closed.changes told) (closed.rest told) closed.calm (closed.counts told))
+    (closed_of _ s.file now c.close-closed.result new (closed.closes told) (closed.refused told) (closed.tree told s.file) (closed.changes told) (closed.rest told) closed.calm (closed.foreseen told) (closed.counts told))
     (ap (λ r. first_of (closing_of r) (closing_of c.close-closed.result)) (sym c.in_err-written.was))))
 
 pub returns-clause-put : goal.returns-clause-put
@@ -53,7 +53,7 @@ returns-clause-put g c =
     (λ told.
     put_so _ old new at c.args.bytes.now s now (closing_of c.write_all-written.result) (closing_of c.close-closed.result) (closing_of c.close-closed.result)
     (creates_ok _ old at (λ z. open_of z) _ true (Ok c.in_ok-stream.stream) told c.in_ok-stream.ensures.created) (c.write_all-written.ensures.works told)
-    (closed_of _ s.file now c.close-closed.result new (closed.closes told) (closed.refused told) (closed.tree told s.file) (closed.changes told) (closed.rest told) closed.calm (closed.counts told))
+    (closed_of _ s.file now c.close-closed.result new (closed.closes told) (closed.refused told) (closed.tree told s.file) (closed.changes told) (closed.rest told) closed.calm (closed.foreseen told) (closed.counts told))
     (ap (λ r. first_of (closing_of r) (closing_of c.close-closed.result)) (sym c.in_ok-written.was)))
 
 -- what is put is stored: `put` is proved once more here, since one answer does not see another
@@ -72,5 +72,5 @@ returns-clause-holds g c =
     put_holds (λ f. g.F.ReadMedium.read_faults f || g.F.Medium.write_faults f) old new at c.args.bytes.now c.close-closed.result (c.is_failed-is_failed.ensures.agrees told)
     (put_so _ old new at c.args.bytes.now s now (closing_of c.write_all-written.result) (closing_of c.close-closed.result) (closing_of c.close-closed.result)
     (creates_ok _ old at (λ z. open_of z) _ true (Ok c.in_ok-stream.stream) told c.in_ok-stream.ensures.created) (c.write_all-written.ensures.works told)
-    (closed_of _ s.file now c.close-closed.result new (closed.closes told) (closed.refused told) (closed.tree told s.file) (closed.changes told) (closed.rest told) closed.calm (closed.counts told))
+    (closed_of _ s.file now c.close-closed.result new (closed.closes told) (closed.refused told) (closed.tree told s.file) (closed.changes told) (closed.rest told) closed.calm (closed.foreseen told) (closed.counts told))
     (ap (λ r. first_of (closing_of r) (closing_of c.close-closed.result)) (sym c.in_ok-written.was))))

@@ -28,7 +28,7 @@ loop-rest-preserved g c =
           (begun_more _ (open_of c.args.stream.now) c.args.bytes.now rest now next (i.begun told) c.in_ok-count.count
           (subst (λ (r : Result ℕ Error). IsWorkedOn now (write rest) (stream_answer count r) next) c.in_ok-count.was
           (worked_on now (write rest) next (comes_told _ now (write rest) next told c.write.ensures.goes_on (λ short. c.write.ensures.once told (short_write _ short))) count (λ n. refl) _ c.write.result
-          (c.write.ensures.runs told) (c.write.ensures.refused told) (c.write.ensures.counts told)
+          (c.write.ensures.runs told) (c.write.ensures.refused told) (c.write.ensures.foreseen told) (c.write.ensures.counts told)
           (λ quiet. same_before now.file next.file (c.write.ensures.none (writes_none (stream_in now) rest quiet))))));
     }
 
@@ -41,7 +41,7 @@ returns-in_err-count-clause-works g c =
     rw (p.1, p.2) (λ told. begun_refused _ (open_of c.args.stream.now) c.args.bytes.now rest now next (c.loop-rest.invariant.begun told) (refusal_of c.in_err-count.field-0.0)
     (subst (λ (r : Result ℕ Error). IsWorkedOn now (write rest) (stream_answer count r) next) c.in_err-count.was
     (worked_on now (write rest) next (comes_told _ now (write rest) next told c.write.ensures.goes_on (λ short. c.write.ensures.once told (short_write _ short))) count (λ n. refl) _ c.write.result
-    (c.write.ensures.runs told) (c.write.ensures.refused told) (c.write.ensures.counts told)
+    (c.write.ensures.runs told) (c.write.ensures.refused told) (c.write.ensures.foreseen told) (c.write.ensures.counts told)
     (λ quiet. same_before now.file next.file (c.write.ensures.none (writes_none (stream_in now) rest quiet))))))
 
 -- a write of bytes takes some

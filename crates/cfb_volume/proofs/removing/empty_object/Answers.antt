@@ -10,7 +10,7 @@ use Rattle.cfb_mini_sectors.specs.State.{HoldsMini, cases_of, entries_of}
 use Rattle.cfb_content.specs.Contents.{IsNotChangeable, IsStreamOf, IsTooLongFor}
 use Rattle.cfb_content.proofs.Changed.{moves-same, spares-same}
 use Rattle.cfb_content.proofs.Snug.{sized-is-snug}
-use Rattle.cfb_agreement.proofs.ContentChanges.{moved-starts-at-end}
+use Rattle.cfb_agreement.proofs.ContentChanges.{moved-starts-at-end, stays-tidy}
 use Rattle.cfb_volume.proofs.Emptying.{emptying-fits}
 use Rattle.cfb_volume.proofs.EmptyStreams.{sized-at-end}
 use Rattle.cfb_volume.proofs.RemovedObjects.{below-stream, empty-break, none-emptied}
@@ -52,13 +52,14 @@ returns-in_ok-resize_content-in-Stream-clause-emptied g c told =
       holds = (ok.changed told).holds;
       owned = (ok.changed told).owned;
       exact = ok.tight.exact;
-      at_end = λ all.
+      tidy = λ v change was.
           let s = c.args.mini.now in
           let new = c.resize_content.new.mini in
           let i = c.args.entry in
           let at = stream g (goal.at.returns-in_ok-resize_content-in-Stream-clause-emptied g c).In-Stream in
-          moved-starts-at-end s new i e.moves.limits e.moves.entries at
-          (sized-at-end s new i 0 ok.len (λ same. ap entries_of (ok.none same).1) ok.trimmed (all i at)) all;
+          stays-tidy s new e.moves.limits e.moves.directory ((ok.changed told).tidy v change)
+          (moved-starts-at-end s new i e.moves.limits e.moves.entries at
+          (sized-at-end s new i 0 ok.len (λ same. ap entries_of (ok.none same).1) ok.trimmed (was.ended i at)) was.ended) was;
       snug = λ v change snug. sized-is-snug c.args.mini.now c.resize_content.new.mini c.args.entry e.moves.limits e.moves.entries ((e.spares told).others v change)
           (stream g (goal.at.returns-in_ok-resize_content-in-Stream-clause-emptied g c).In-Stream) ((ok.changed told).sized v change) snug;
       snug_mini = (ok.changed told).snug_mini;

@@ -20,7 +20,7 @@ returns-in_err-stream-clause-refused g c version is =
     let last = c.create_new_stream.follows.lender-at-none in
     rw (p.1, p.2) (stream_refused version c.args.file.now is last c.args.changes.now c.in_err-stream.field-0.0
     (by_text (λ (path : List ℕ). IsRefusedBy is_refused_growth c.args.file.now (create_new_stream path) last c.in_err-stream.field-0.0)
-    (at_error _ c.create_new_stream.result c.in_err-stream.field-0.0 c.in_err-stream.was c.create_new_stream.follows.holds-at-none refl)))
+    ((at_error _ c.create_new_stream.result c.in_err-stream.field-0.0 c.in_err-stream.was c.create_new_stream.follows.holds-at-none).1 refl)))
 
 -- the file ends as closing leaves it: the stream held it all the while
 pub returns-in_err-made-clause-refused : goal.returns-in_err-made-clause-refused

@@ -1,4 +1,4 @@
-use Rattle.std.proofs.Common.{◌∙◌, ◌||◌, chars, ap, subst, ℕ, [], max}
+use Rattle.std.proofs.Common.{◌≡◌, ◌∙◌, ◌||◌, chars, ap, subst, sym, ℕ, [], max, true, false}
 use Rattle.std.proofs.lemmas.Result.{err_from_is_err_and}
 use Rattle.cfb_content.specs.Contents.{len_of}
 use Rattle.cfb_rules.specs.Calls.{done}
@@ -6,6 +6,7 @@ use Rattle.cfb_stream_buffer.specs.Buffers.{Buffered}
 use Rattle.cfb_stream_window.specs.Windows.{window_over}
 use Rattle.cfb_path_changes.specs.Adding.{creation}
 use Rattle.cfb_path_changes.specs.Answers.{IsDoneBy, IsRefusedBy}
+use Rattle.cfb_path_changes.proofs.Heeding.{heeds_change, heeds_refused}
 use Rattle.cfb_path_changes.proofs.NewObjects.{creation_asks, creation_rule}
 use Rattle.cfb_path_changes.proofs.Refusing.{refused_for_memory}
 use Rattle.cfb_compound_file.proofs.Beginning.{begins_at, stream_kind}
@@ -45,6 +46,9 @@ returns-clause-created g c =
     record {
       does = λ told. rw c.self.view_is at (subst (λ (m : ℕ). IsDoneBy c.self.inside.volume (creation c.args.what m path) done new) c.zero.ensures (c.in_ok-entry.ensures.runs told path place));
       agrees = agrees;
+      was_sound = rw c.self.view_is at place.sound;
+      was_unfailed = rw c.self.view_is at place.unfailed;
+      setting = rw c.self.view_is at c.fill_place.ensures.setting;
       unfailed = filled.unfailed;
       window = window ∙ ap (λ (n : ℕ). window_over n (record { filled = []; cursor = 0; room = 1024; bound = max 1024 c.args.self.now.buffer_limit })) filled.empty;
       suits = λ told. (c.over-window.ensures.is_open told (fitting new entry filled.unfailed (agrees told filled.unfailed) filled.stream)).suits;
@@ -52,3 +56,27 @@ returns-clause-created g c =
       begins = λ told. begins_at new path entry c.args.self.now.buffer_limit _ window filled.unfailed (agrees told) stands (stream_kind new entry filled.stream);
       rest = rest_at_once entry new filled.stream;
     }
+
+-- ---- over any medium
+
+pub returns-in_err-place-clause-any : goal.returns-in_err-place-clause-any
+returns-in_err-place-clause-any g c =
+    let p = err_from_is_err_and c.from_residual.result c.from_residual.ensures.1 in
+    rw (← c.self.view_is, p.1, p.2) (heeds_refused c.self.inside.volume _ tt (λ failed. c.in_err-place.ensures.failed failed))
+
+pub returns-in_err-buffer-clause-any : goal.returns-in_err-buffer-clause-any
+returns-in_err-buffer-clause-any g c =
+    let p = err_from_is_err_and c.from_residual-in_err-buffer.result c.from_residual-in_err-buffer.ensures.1 in
+    let at = c.in_ok-place.ensures.ok in
+    rw (← c.self.view_is, p.1, p.2) (heeds_refused c.self.inside.volume _ tt (λ failed. absurd (let w : false ≡ true = sym at.unfailed ∙ failed in cc)))
+
+pub returns-in_err-entry-clause-any : goal.returns-in_err-entry-clause-any
+returns-in_err-entry-clause-any g c =
+    let p = err_from_is_err_and c.from_residual-in_err-entry.result c.from_residual-in_err-entry.ensures.1 in
+    let at = c.in_ok-place.ensures.ok in
+    rw (← c.self.view_is, p.1, p.2) (heeds_change c.self.inside.volume _ c.fill_place.new.volume at.unfailed at.sound c.fill_place.ensures.setting tt)
+
+pub returns-clause-any : goal.returns-clause-any
+returns-clause-any g c =
+    let at = c.in_ok-place.ensures.ok in
+    rw (← c.self.view_is) (heeds_change c.self.inside.volume _ c.fill_place.new.volume at.unfailed at.sound c.fill_place.ensures.setting c.in_ok-entry.ensures.ended)

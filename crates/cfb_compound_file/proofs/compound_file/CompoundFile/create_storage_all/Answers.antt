@@ -5,3 +5,6 @@ returns-clause-does g c = rw (← c.self.view_is) (λ told. c.create_storage_all
 
 pub returns-clause-any : goal.returns-clause-any
 returns-clause-any g c = rw (← c.self.view_is) c.create_storage_all.ensures.any
+
+pub returns-clause-foreseen : goal.returns-clause-foreseen
+returns-clause-foreseen g c = rw (← c.self.view_is) (λ told. c.create_storage_all.ensures.foreseen told)

@@ -2,7 +2,7 @@ use Rattle.std.proofs.Common.{refl, chars, rules, true}
 use Rattle.std.specs.Prelude.{IsTrue}
 use Rattle.std.proofs.lemmas.Result.{err_from_is_err_and}
 use Rattle.cfb_rules.specs.Calls.{open_read_stream}
-use Rattle.cfb_compound_file.proofs.RefusedKinds.{memory_opens, not_found_opens}
+use Rattle.cfb_compound_file.proofs.RefusedKinds.{memory_not_opened, memory_opens, not_found_not_opened, not_found_opens}
 use Rattle.cfb_compound_file.proofs.OpenStreams.{rest_at_once}
 use Rattle.cfb_compound_file.proofs.Beginning.{begins_at}
 use Rattle.cfb_compound_file.proofs.OpenedStreams.{found_answers, memory_answers, not_found_answers}
@@ -19,7 +19,7 @@ returns-in_err-entry g c = let p = err_from_is_err_and c.from_residual.result c.
           (λ cases sound root_len tree reply step. step) (λ causes s failed. (refl, failed)) c.in_err-entry.field-0.0 c.in_err-entry.ensures.refused,
     ),
   ),
-  (tt, (tt, ((λ told. tt), ((λ told. tt), not_found_opens c.args.self.now (chars c.args.path.now) c.in_err-entry.field-0.0 c.in_err-entry.ensures.refused)))),
+  (tt, (tt, ((λ told. tt), ((λ told. tt), (not_found_opens c.args.self.now (chars c.args.path.now) c.in_err-entry.field-0.0 c.in_err-entry.ensures.refused, not_found_not_opened c.args.self.now (chars c.args.path.now) c.in_err-entry.field-0.0 c.in_err-entry.ensures.refused))))),
 )
 
 pub returns-in_err-window : goal.returns-in_err-window
@@ -34,7 +34,7 @@ returns-in_err-window g c = let p = err_from_is_err_and c.from_residual-in_err-w
           c.in_ok-entry.ensures.found.unfailed (λ tree. tt) (let stays : IsTrue true = search rules in stays),
     ),
   ),
-  (tt, (tt, ((λ told. tt), ((λ told. tt), memory_opens c.in_err-window.field-0.0 c.in_err-window.ensures.refused)))),
+  (tt, (tt, ((λ told. tt), ((λ told. tt), (memory_opens c.in_err-window.field-0.0 c.in_err-window.ensures.refused, memory_not_opened c.args.self.now (chars c.args.path.now) c.in_err-window.field-0.0 c.in_ok-entry.ensures.found.unfailed c.in_err-window.ensures.refused))))),
 )
 
 pub returns : goal.returns
@@ -50,7 +50,7 @@ returns g c =
                 (λ cases sound root_len tree reply step. step) (λ causes s failed. (refl, failed)) c.in_ok-entry.entry found),
             (
               (λ told. begins_at c.args.self.now (chars c.args.path.now) c.in_ok-entry.entry _ _ c.in_ok-window.ensures.value found.unfailed (c.in_ok-entry.ensures.agrees told) found.stands found.kind),
-              tt,
+              (tt, found.unfailed),
             ),
           ),
         ),

@@ -4,6 +4,7 @@ use Rattle.cfb_agreement.specs.Files.{IsFullFile}
 use Rattle.cfb_compound_file.specs.Flags.{still_is_tight}
 use Rattle.cfb_compound_file.proofs.Fitting.{fitting}
 use Rattle.cfb_compound_file.proofs.StoredStreams.{append_done, broken_kept, change_refused, changes_in_turn, stream_inside, stream_there}
+use Rattle.cfb_compound_file.proofs.Heeding.{change_keeps_flags}
 use Rattle.cfb_compound_file.proofs.contents.CompoundFileContents.append.Goals as goal
 
 pub len-len-requires : goal.len-len-requires
@@ -92,3 +93,8 @@ returns-then-not-is_inside-clause-sure g c =
     let short = (fitting c.self.inside.volume c.args.id unfailed (c.self.invariant told unfailed) stream).within in
     let inside = c.is_inside.ensures.1 (omega (arith, c.len-len.ensures), omega (arith, none, short, c.len-len.ensures, c.stream_len_mask-limit.ensures, ap max_stream_len c.version.ensures)) in
     absurd (let w : false ≡ true = sym c.if-not-is_inside.true ∙ inside in cc)
+
+pub returns-clause-any : goal.returns-clause-any
+returns-clause-any g c =
+    let unfailed = sym c.is_failed.ensures ∙ c.if-is_failed.false in
+    rw (← c.self.view_is) (change_keeps_flags _ _ _ c.append.result c.append.ensures.setting unfailed c.append.ensures.ended)

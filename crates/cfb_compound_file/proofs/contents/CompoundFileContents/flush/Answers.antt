@@ -1,5 +1,6 @@
 use Rattle.std.proofs.Common.{◌∙◌, sym}
 use Rattle.cfb_compound_file.proofs.StoredStreams.{agrees_with_flags, flushed_kept, flushes_then, flushes_tight, stream_stays}
+use Rattle.cfb_compound_file.proofs.Heeding.{change_keeps_flags}
 use Rattle.cfb_compound_file.proofs.contents.CompoundFileContents.flush.Goals as goal
 
 pub invariant_of-self : goal.invariant_of-self
@@ -16,3 +17,8 @@ returns-clause-there g c = stream_stays _ _ _ c.flush.ensures.entries c.flush.en
 
 pub returns-clause-kept : goal.returns-clause-kept
 returns-clause-kept g c = rw (← c.self.view_is) (λ told. flushed_kept _ _ c.flush.result (c.flush.ensures.ok told) c.flush.ensures.failed)
+
+pub returns-clause-any : goal.returns-clause-any
+returns-clause-any g c =
+    let unfailed = sym c.is_failed.ensures ∙ c.if-is_failed.false in
+    rw (← c.self.view_is) (change_keeps_flags _ _ _ c.flush.result c.flush.ensures.setting unfailed c.flush.ensures.ended)

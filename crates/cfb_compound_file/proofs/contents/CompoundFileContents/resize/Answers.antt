@@ -3,6 +3,7 @@ use Rattle.cfb_content.specs.Contents.{IsTooLongFor}
 use Rattle.cfb_agreement.specs.Files.{FileState}
 use Rattle.cfb_compound_file.specs.Flags.{still_is_tight}
 use Rattle.cfb_compound_file.proofs.StoredStreams.{broken_kept, change_refused, changes_in_turn, full_then, resized_done, stream_there}
+use Rattle.cfb_compound_file.proofs.Heeding.{change_keeps_flags}
 use Rattle.cfb_compound_file.proofs.contents.CompoundFileContents.resize.Goals as goal
 
 pub returns-then-is_failed-clause-tight : goal.returns-then-is_failed-clause-tight
@@ -62,3 +63,8 @@ returns-clause-foreseen g c =
     let new = c.resize.new.self in
     rw (← c.self.view_is) (λ told takes. full_then (IsTooLongFor old.base c.args.id c.args.len × (new ≡ old)) (new ≡ old) c.resize.result (λ why. why.1)
     (c.resize.ensures.err told (c.self.invariant told unfailed)))
+
+pub returns-clause-any : goal.returns-clause-any
+returns-clause-any g c =
+    let unfailed = sym c.is_failed.ensures ∙ c.if-is_failed.false in
+    rw (← c.self.view_is) (change_keeps_flags _ _ _ c.resize.result c.resize.ensures.setting unfailed c.resize.ensures.ended)

@@ -5,6 +5,7 @@ use Rattle.cfb_agreement.specs.Files.{IsFullFile}
 use Rattle.cfb_content.specs.Contents.{len_of}
 use Rattle.cfb_compound_file.specs.Flags.{still_is_tight}
 use Rattle.cfb_compound_file.proofs.StoredStreams.{broken_kept, change_refused, changes_in_turn, stream_inside, stream_there, tables_tight, write_done, write_inside, write_same_len}
+use Rattle.cfb_compound_file.proofs.Heeding.{change_keeps_flags}
 use Rattle.cfb_compound_file.proofs.contents.CompoundFileContents.write_at.Goals as goal
 
 pub len-requires : goal.len-requires
@@ -85,3 +86,8 @@ pub returns-clause-foreseen : goal.returns-clause-foreseen
 returns-clause-foreseen g c =
     let unfailed = sym c.is_failed.ensures ∙ c.if-is_failed.false in
     rw (← c.self.view_is) (λ told takes some. c.write.ensures.foreseen told (c.self.invariant told unfailed))
+
+pub returns-clause-any : goal.returns-clause-any
+returns-clause-any g c =
+    let unfailed = sym c.is_failed.ensures ∙ c.if-is_failed.false in
+    rw (← c.self.view_is) (change_keeps_flags _ _ _ c.write.result c.write.ensures.setting unfailed c.write.ensures.ended)

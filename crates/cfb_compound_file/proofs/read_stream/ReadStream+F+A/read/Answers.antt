@@ -1,6 +1,7 @@
 use Rattle.std.proofs.Common.{refl}
 use Rattle.cfb_compound_file.proofs.StoredStreams.{reads_change}
 use Rattle.cfb_compound_file.proofs.StreamCalls.{goes_on_by, refused_or_not, refused_with, settles_none}
+use Rattle.cfb_compound_file.proofs.Heeding.{heeds_by}
 use Rattle.cfb_compound_file.proofs.read_stream.ReadStream+F+A.read.Goals as goal
 
 pub invariant_of-self : goal.invariant_of-self
@@ -24,3 +25,7 @@ returns-clause-counts g c = λ told. (c.read.ensures.around told).counts
 
 pub returns-clause-buffers : goal.returns-clause-buffers
 returns-clause-buffers g c = record { held = c.read.ensures.held; grown = c.read.ensures.grown; straight = c.read.ensures.straight; lean = c.read.ensures.lean; settles = λ told. settles_none _ _ c.args.self.now.window c.read.result (c.read.ensures.around told).same }
+
+pub returns-clause-any : goal.returns-clause-any
+returns-clause-any g c = let k = c.read.ensures.any in
+    record { heeds = heeds_by _ _ _ _ _ c.read.result k.heeds.setting k.heeds.failed k.heeds.unfailed; same = k.same }

@@ -1,5 +1,6 @@
 use Rattle.std.proofs.Common.{refl}
 use Rattle.cfb_compound_file.proofs.StreamCalls.{never_counted, refused_as, settles_none}
+use Rattle.cfb_compound_file.proofs.Heeding.{heeds_by}
 use Rattle.cfb_compound_file.proofs.read_stream.ReadStream+F+A.seek.Goals as goal
 
 pub invariant_of-self : goal.invariant_of-self
@@ -22,3 +23,7 @@ returns-clause-buffers g c = record {
   room = c.seek.ensures.room;
   settles = λ _. settles_none _ _ c.args.self.now.window c.seek.result refl;
 }
+
+pub returns-clause-any : goal.returns-clause-any
+returns-clause-any g c = let k = c.seek.ensures.any in
+    record { heeds = heeds_by _ _ _ _ _ c.seek.result k.heeds.setting k.heeds.failed k.heeds.unfailed; same = k.same }

@@ -1,4 +1,5 @@
 use Rattle.std.proofs.Common.{◌≤◌, false, inl, refl, arith}
+use Rattle.std.specs.Prelude.{Err, Ok}
 use Rattle.cfb_std_streams.proofs.Knowing.{lent_ahead, lent_end, lent_front, lent_keeps, lent_unfailed, nothing_said, rest_stays}
 use Rattle.cfb_compound_file.specs.Stored.{stored_of}
 use Rattle.cfb_compound_file.specs.StdStreams.{rest_to_read}
@@ -7,6 +8,7 @@ use Rattle.cfb_compound_file.proofs.StdStreams.{same_failed}
 use Rattle.cfb_compound_file.proofs.StoredStreams.{reads_change}
 use Rattle.cfb_compound_file.proofs.StreamCalls.{goes_on_by, stays_or_fails}
 use Rattle.cfb_rules.specs.StreamCalls.{fill_buf}
+use Rattle.cfb_compound_file.proofs.Heeding.{heeds_by, std_done, std_refused}
 use Rattle.cfb_compound_file.proofs.std_read_stream.ReadStreamBufRead.fill_buf.Goals as goal
 
 pub returns-in-Ok : goal.returns-in-Ok
@@ -23,6 +25,7 @@ returns-in-Ok g c =
           (keeps, ahead),
           record {
             same_file = refl;
+            any = (let k = c.in-Ok.ensures.any in record { heeds = std_done _ _ c.rest.result (heeds_by old.file.now c.fill.new.content old.entry old.window c.fill.new.self (Ok c.rest.result) k.heeds.setting k.heeds.failed k.heeds.unfailed); same = k.same });
             runs = λ told. rw c.rest.ensures (c.in-Ok.ensures.runs (record { told = told; suits = old.is_open told }));
             goes_on = goes_on_by _ _ _ refl c.fill.ensures.bound (λ told. reads_change _ _ _ (c.fill.ensures.around told).kept);
             counts = λ told. (c.in-Ok.ensures.around told).counts;
@@ -58,6 +61,7 @@ returns-in-Err g c =
           (keeps, nothing_said known),
           record {
             same_file = refl;
+            any = (let k = c.in-Err.ensures.any in record { heeds = std_refused _ _ c.in-Err.error _ c.std_error.ensures (heeds_by old.file.now c.fill.new.content old.entry old.window c.fill.new.self (Err c.in-Err.error) k.heeds.setting k.heeds.failed k.heeds.unfailed); same = k.same });
             runs = λ told. (let why = c.in-Err.ensures.refused (record { told = told; suits = old.is_open told }) in (
               c.in-Err.error,
               c.std_error.ensures,

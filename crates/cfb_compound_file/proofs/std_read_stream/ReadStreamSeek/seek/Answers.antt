@@ -3,6 +3,7 @@ use Rattle.cfb_agreement.specs.Files.{FileState, is_failed}
 use Rattle.cfb_std_streams.proofs.Knowing.{content_stays, position_stays, seek_content, seek_moves}
 use Rattle.cfb_compound_file.specs.Stored.{stored_of}
 use Rattle.cfb_compound_file.specs.StreamAnswers.{causes_of_reading}
+use Rattle.cfb_compound_file.proofs.Heeding.{std_done, std_refused}
 use Rattle.cfb_compound_file.proofs.std_read_stream.ReadStreamSeek.seek.Goals as goal
 
 pub returns-in-Ok-clause-moves : goal.returns-in-Ok-clause-moves
@@ -43,3 +44,9 @@ returns-in-Ok-clause-buffers g c = let b = c.in-Ok.ensures.buffers in record { h
 
 pub returns-in-Err-clause-buffers : goal.returns-in-Err-clause-buffers
 returns-in-Err-clause-buffers g c = let b = c.in-Err.ensures.buffers in record { held = b.held; stays = b.stays; sure = b.sure; room = b.room; settles = b.settles }
+
+pub returns-in-Ok-clause-any : goal.returns-in-Ok-clause-any
+returns-in-Ok-clause-any g c = let k = c.in-Ok.ensures.any in record { heeds = std_done _ _ c.in-Ok.at k.heeds; same = k.same }
+
+pub returns-in-Err-clause-any : goal.returns-in-Err-clause-any
+returns-in-Err-clause-any g c = let k = c.in-Err.ensures.any in record { heeds = std_refused _ _ c.in-Err.error _ c.std_error.ensures k.heeds; same = k.same }

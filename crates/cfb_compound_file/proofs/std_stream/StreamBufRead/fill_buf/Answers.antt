@@ -1,4 +1,5 @@
 use Rattle.std.proofs.Common.{◌≤◌, refl, arith}
+use Rattle.std.specs.Prelude.{Err, Ok}
 use Rattle.cfb_std_streams.proofs.Knowing.{calm_then, lent_ahead, lent_end, lent_from, lent_front, lent_keeps, lent_unfailed, nothing_said, rest_stays}
 use Rattle.cfb_compound_file.specs.Stored.{stored_of}
 use Rattle.cfb_compound_file.specs.StdStreams.{rest_in}
@@ -8,6 +9,7 @@ use Rattle.cfb_compound_file.proofs.StoredStreams.{changed_once}
 use Rattle.cfb_compound_file.proofs.StreamCalls.{goes_on_by, stays_or_fails}
 use Rattle.cfb_rules.specs.StreamCalls.{fill_buf}
 use Rattle.cfb_path_changes.specs.Answers.{causes_of}
+use Rattle.cfb_compound_file.proofs.Heeding.{heeds_by, std_done, std_refused}
 use Rattle.cfb_compound_file.proofs.std_stream.StreamBufRead.fill_buf.Goals as goal
 
 pub returns-in-Ok : goal.returns-in-Ok
@@ -24,6 +26,7 @@ returns-in-Ok g c =
           (keeps, ahead),
           record {
             same_file = refl;
+            any = (let k = c.in-Ok.ensures.any in std_done _ _ c.rest.result (heeds_by old.file.now c.fill.new.content old.entry old.window c.fill.new.self (Ok c.rest.result) k.setting k.failed k.unfailed));
             runs = λ told. rw c.rest.ensures (c.in-Ok.ensures.runs (record { told = told; suits = old.is_open told }));
             goes_on = goes_on_by _ _ _ refl c.fill.ensures.bound (λ told. changed_once _ _ _ (c.fill.ensures.around told).others (c.fill.ensures.around told).tight);
             counts = λ told. (c.in-Ok.ensures.around told).counts;
@@ -61,6 +64,7 @@ returns-in-Err g c =
           (keeps, nothing_said known),
           record {
             same_file = refl;
+            any = (let k = c.in-Err.ensures.any in std_refused _ _ c.in-Err.error _ c.std_error.ensures (heeds_by old.file.now c.fill.new.content old.entry old.window c.fill.new.self (Err c.in-Err.error) k.setting k.failed k.unfailed));
             runs = λ told. (let why = c.in-Err.ensures.refused (record { told = told; suits = old.is_open told }) in (
               c.in-Err.error,
               c.std_error.ensures,

@@ -2,6 +2,7 @@ use Rattle.cfb_std_streams.proofs.Knowing.{calm_then, read_known, rest_stays}
 use Rattle.cfb_compound_file.specs.Stored.{stored_of}
 use Rattle.cfb_compound_file.proofs.StdStreams.{same_failed}
 use Rattle.cfb_path_changes.specs.Answers.{causes_of}
+use Rattle.cfb_compound_file.proofs.Heeding.{std_done, std_refused}
 use Rattle.cfb_compound_file.proofs.std_stream.StreamRead.read.Goals as goal
 
 pub returns-in-Ok-clause-bytes : goal.returns-in-Ok-clause-bytes
@@ -27,3 +28,9 @@ returns-in-Ok-clause-buffers g c = let b = c.in-Ok.ensures.buffers in record { h
 
 pub returns-in-Err-clause-buffers : goal.returns-in-Err-clause-buffers
 returns-in-Err-clause-buffers g c = let b = c.in-Err.ensures.buffers in record { held = b.held; grown = b.grown; straight = b.straight; lean = b.lean; settles = b.settles }
+
+pub returns-in-Ok-clause-any : goal.returns-in-Ok-clause-any
+returns-in-Ok-clause-any g c = std_done _ _ c.in-Ok.count c.in-Ok.ensures.any
+
+pub returns-in-Err-clause-any : goal.returns-in-Err-clause-any
+returns-in-Err-clause-any g c = std_refused _ _ c.in-Err.error _ c.std_error.ensures c.in-Err.ensures.any

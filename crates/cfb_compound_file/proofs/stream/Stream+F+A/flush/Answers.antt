@@ -4,6 +4,7 @@ use Rattle.cfb_compound_file.specs.Stored.{stored_of}
 use Rattle.cfb_compound_file.proofs.OpenStreams.{closes_tree}
 use Rattle.cfb_compound_file.proofs.StoredStreams.{changed_once}
 use Rattle.cfb_compound_file.proofs.StreamCalls.{closed_content, flushing_failed, goes_on_by, refused_as, refused_then, refused_with}
+use Rattle.cfb_compound_file.proofs.Heeding.{heeds_by}
 use Rattle.cfb_compound_file.proofs.stream.Stream+F+A.flush.Goals as goal
 
 pub invariant_of-self : goal.invariant_of-self
@@ -34,3 +35,7 @@ returns-clause-tree g c = λ told first.
 
 pub returns-clause-foreseen : goal.returns-clause-foreseen
 returns-clause-foreseen g c = λ told. refused_as _ _ c.flush-flushed.result (c.flush-flushed.ensures.foreseen (record { told = told; suits = c.args.self.now.is_open told })) (λ e why full. (let k = why full in record { pending = k.pending; past = k.past; too_long = k.too_long }))
+
+pub returns-clause-any : goal.returns-clause-any
+returns-clause-any g c = let k = c.flush-flushed.ensures.any in
+    record { heeds = heeds_by _ _ _ _ _ c.flush-flushed.result k.heeds.setting k.heeds.failed k.heeds.unfailed; lost = k.lost }

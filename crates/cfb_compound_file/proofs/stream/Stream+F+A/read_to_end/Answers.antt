@@ -1,6 +1,7 @@
 use Rattle.std.proofs.Common.{refl}
 use Rattle.cfb_compound_file.proofs.StoredStreams.{changed_once}
 use Rattle.cfb_compound_file.proofs.StreamCalls.{goes_on_by, refused_as, refused_with}
+use Rattle.cfb_compound_file.proofs.Heeding.{heeds_by}
 use Rattle.cfb_compound_file.proofs.stream.Stream+F+A.read_to_end.Goals as goal
 
 pub invariant_of-self : goal.invariant_of-self
@@ -27,3 +28,6 @@ returns-clause-buffers g c = record { held = c.read_to_end.ensures.held; room = 
 
 pub returns-clause-foreseen : goal.returns-clause-foreseen
 returns-clause-foreseen g c = λ told. refused_as _ _ c.read_to_end.result (c.read_to_end.ensures.foreseen (record { told = told; suits = c.args.self.now.is_open told })) (λ e why full. (let k = why full in record { pending = k.pending; past = k.past; too_long = k.too_long }))
+
+pub returns-clause-any : goal.returns-clause-any
+returns-clause-any g c = let k = c.read_to_end.ensures.any in heeds_by _ _ _ _ _ c.read_to_end.result k.setting k.failed k.unfailed

@@ -1,6 +1,7 @@
 use Rattle.std.proofs.Common.{inl, inr, refl}
 use Rattle.cfb_compound_file.proofs.StoredStreams.{changed_once}
 use Rattle.cfb_compound_file.proofs.StreamCalls.{between_by, done_as, goes_in_turn_by, refused_as, refused_with}
+use Rattle.cfb_compound_file.proofs.Heeding.{heeds_by}
 use Rattle.cfb_compound_file.proofs.stream.Stream+F+A.set_len.Goals as goal
 
 pub invariant_of-self : goal.invariant_of-self
@@ -35,3 +36,6 @@ pub returns-clause-writes_out : goal.returns-clause-writes_out
 returns-clause-writes_out g c = λ told longer room. done_as _ _ c.set_len.result
     (c.set_len.ensures.writes_out (record { told = told; suits = c.args.self.now.is_open told }) longer (record { before = room.before; longer = room.longer; beside = room.beside }))
     (λ out. (let b = out.between in record { changes = between_by _ _ out.mid _ b.before b.after b.first b.second; calm = b.calm; settles = out.settles }))
+
+pub returns-clause-any : goal.returns-clause-any
+returns-clause-any g c = let k = c.set_len.ensures.any in heeds_by _ _ _ _ _ c.set_len.result k.setting k.failed k.unfailed

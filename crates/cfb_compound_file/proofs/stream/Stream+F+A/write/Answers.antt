@@ -1,6 +1,7 @@
 use Rattle.std.proofs.Common.{◌≡◌, ◌∙◌, arith, false, inl, inr, refl, sym, true}
 use Rattle.cfb_compound_file.proofs.StoredStreams.{changed_once}
 use Rattle.cfb_compound_file.proofs.StreamCalls.{between_by, goes_in_turn_by, refused_as, refused_with}
+use Rattle.cfb_compound_file.proofs.Heeding.{heeds_by}
 use Rattle.cfb_compound_file.proofs.stream.Stream+F+A.write.Goals as goal
 
 pub invariant_of-self : goal.invariant_of-self
@@ -49,3 +50,6 @@ returns-clause-inside g c = λ told calm inside. refused_as _ _ c.write.result (
   | inl k ↦ (let w : true ≡ false = sym k.pending ∙ calm in cc)
   | inr k ↦ absurd (omega (arith, k.0, k.1.at_end, inside))
 ])
+
+pub returns-clause-any : goal.returns-clause-any
+returns-clause-any g c = let k = c.write.ensures.any in heeds_by _ _ _ _ _ c.write.result k.setting k.failed k.unfailed

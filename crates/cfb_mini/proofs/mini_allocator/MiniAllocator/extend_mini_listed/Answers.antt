@@ -7,7 +7,7 @@ use Rattle.cfb_mini_sectors.specs.Steps.{SparesMini, system_sectors}
 use Rattle.cfb_mini_sectors.proofs.MinifatGrown.{same_listed}
 use Rattle.cfb_mini_sectors.proofs.MiniFrames.{nothing-touched}
 use Rattle.cfb_mini.specs.Changing.{mini_of}
-use Rattle.cfb_mini.specs.MiniSectors.{KeepsMiniBytesBut}
+use Rattle.cfb_mini.specs.MiniSectors.{IsWhole, KeepsMiniBytesBut}
 use Rattle.cfb_mini.proofs.MiniExtended.{some-items}
 use Rattle.cfb_mini.proofs.LeastAbove.{of-some}
 use Rattle.cfb_mini.proofs.mini_allocator.MiniAllocator.extend_mini_listed.Goals as goal
@@ -38,6 +38,14 @@ returns-clause-filled g c told validation h =
     let kept = sym (some-items inside.mini_stream c.in-Some.stream c.in-Some.is (λ v. v.items)) in
     let old : s ≡ c.args.self.now = (λ j. mini_of inside.directory inside.table inside.minifat_sectors.items (kept j)) ∙ c.self.view_is in
     c.extend_listed.ensures.filled told validation (subst (HoldsMini validation) (sym old) h)
+
+pub returns-clause-whole : goal.returns-clause-whole
+returns-clause-whole g c told validation h was =
+    let inside = c.self.inside in
+    let s = mini_of inside.directory inside.table inside.minifat_sectors.items (Some c.in-Some.stream.items) in
+    let kept = sym (some-items inside.mini_stream c.in-Some.stream c.in-Some.is (λ v. v.items)) in
+    let old : s ≡ c.args.self.now = (λ j. mini_of inside.directory inside.table inside.minifat_sectors.items (kept j)) ∙ c.self.view_is in
+    c.extend_listed.ensures.whole told validation (subst (HoldsMini validation) (sym old) h) (subst (λ (x : MiniState). IsWhole (table_of x)) (sym old) was)
 
 pub returns-clause-mini_spares : goal.returns-clause-mini_spares
 returns-clause-mini_spares g c told validation h =

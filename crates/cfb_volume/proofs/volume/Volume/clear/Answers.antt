@@ -8,7 +8,7 @@ use Rattle.cfb_outline.specs.Outlines.{HasInside, IsReachedStorage}
 use Rattle.cfb_siblings.specs.Paths.{number_from}
 use Rattle.cfb_tables.specs.Refused.{ChangeRefused}
 use Rattle.cfb_alloc.specs.Frame.{Spares}
-use Rattle.cfb_directory.specs.Steps.{IsDirectoryNotHeld}
+use Rattle.cfb_directory.specs.Steps.{IsDirectoryNotHeld, KeepsWholeHeader}
 use Rattle.cfb_objects.specs.Laws.{BecomesTree}
 use Rattle.cfb_mini_sectors.specs.State.{HoldsMini, MiniState, bytes_of, cases_of, entries_of, table_of}
 use Rattle.cfb_mini_sectors.specs.Steps.{KeepsMini, StopsShort}
@@ -109,7 +109,8 @@ returns-clause-made g c told holds made =
     let e = ap (λ (f : FileState). f.base) c.self.view_is in
     subst (λ (s : MiniState). IsAsMade s) (sym c.end_change.ensures)
     (clear-made old mid c.args.top (clears g c) (subst (λ (s : MiniState). Spares s.directory.sectors (table_of s) (table_of mid)) e (w.spares told)) made
-    (w.holds told Strict (subst (λ (s : MiniState). HoldsMini Strict s) (sym e) made.changeable.held)))
+    (w.holds told Strict (subst (λ (s : MiniState). HoldsMini Strict s) (sym e) made.changeable.held))
+    (subst (λ (s : MiniState). KeepsWholeHeader s.directory mid.directory) e (w.header told)))
 
 pub returns-clause-agrees : goal.returns-clause-agrees
 returns-clause-agrees g c told holds unfailed =

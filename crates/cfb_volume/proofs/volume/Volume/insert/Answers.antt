@@ -20,10 +20,11 @@ use Rattle.cfb_content.specs.Contents.{KeepsFixedHeader, len_of}
 use Rattle.cfb_content.proofs.FixedHeader.{spared-keeps-header}
 use Rattle.cfb_entry_changes.proofs.Entries.{put-is-balanced, put-is-found, put-is-new, put-keeps-root, put-grows-tightly}
 use Rattle.cfb_agreement.specs.Changes.{KeepsStreams, object_added_at}
-use Rattle.cfb_agreement.specs.Files.{Agrees, FileState, Holds, IsAsMade, IsFullFile, GrowsTightly}
+use Rattle.cfb_agreement.specs.Files.{Agrees, FileState, Holds, IsAsMade, IsCounted, IsFullFile, GrowsTightly}
 use Rattle.cfb_format.specs.Refused.{IsBreak}
 use Rattle.cfb_entry_changes.specs.Kept.{AllStayBalanced, KeepsFound}
 use Rattle.cfb_entry_changes.specs.Standing.{StandStill}
+use Rattle.cfb_volume.proofs.Tidy.{put-counted}
 use Rattle.cfb_volume.proofs.PutObjects.{put-is-childless, put-keeps-found, put-no-shorter, put-stands-still, put-stays-full}
 use Rattle.cfb_volume.proofs.InsertedObjects.{ended, header-ended, insert-holds, insert-keeps-streams, insert-made, insert-tree, puts-object, refused-agrees, refused-full, refused-reason, same-file, streams-ended}
 use Rattle.cfb_volume.proofs.volume.Volume.insert.Goals as goal
@@ -132,10 +133,11 @@ returns-clause-made g c told holds made =
     let e = ap (λ (f : FileState). f.base) c.self.view_is in
     let put = puts-object c.self.inside.mini c.args.self.now.base mid c.args.parent c.in_ok-number.number (chars c.args.name.now) c.args.kind c.args.moment
     e c.requires.parent c.requires.kind w.inserted w.balanced w.kept w.lengthened w.mini w.limits in
+    let before = subst (λ (s : MiniState). HoldsMini Strict s) (sym e) made.changeable.held in
+    let counted = put-counted Strict c.self.inside.mini mid before w.limits w.kept (w.header_kept told) (w.count told) (subst IsCounted (sym e) made.tidy.counted) in
     subst (λ (s : MiniState). IsAsMade s) (sym c.end_change.ensures)
     (insert-made old mid c.args.parent c.in_ok-number.number (chars c.args.name.now) c.args.kind c.args.moment put
-    (subst (λ (s : MiniState). Spares s.directory.sectors (table_of s) (table_of mid)) e (w.spares told)) made
-    (w.holds told Strict (subst (λ (s : MiniState). HoldsMini Strict s) (sym e) made.changeable.held)))
+    (subst (λ (s : MiniState). Spares s.directory.sectors (table_of s) (table_of mid)) e (w.spares told)) made (w.holds told Strict before) counted)
 
 pub returns-clause-grows : goal.returns-clause-grows
 returns-clause-grows g c =

@@ -172,7 +172,7 @@ removed g c told =
     was-removed c.args.self.now mid c.remove_dir_entry.new.self c.args.parent c.args.child (chars c.args.name.now)
     (subst (λ (m : MiniState). WasEmptied m mid c.args.child) e (c.in_ok-empty_object.ensures.emptied told))
     (subst (λ (m : MiniState). (entry_at (entries_of m) c.args.child).obj_type ≢ Stream → mid ≡ m) e c.empty_object.ensures.none)
-    c.requires.parent c.requires.named w.removed w.balanced w.kept w.mini w.limits (w.spares told) (λ v held. w.holds told v held)
+    c.requires.parent c.requires.named w.removed w.balanced w.kept w.mini w.limits (w.spares told) (w.header told) (λ v held. w.holds told v held)
 
 pub returns-clause-tree : goal.returns-clause-tree
 returns-clause-tree g c told holds first names o is above at last =

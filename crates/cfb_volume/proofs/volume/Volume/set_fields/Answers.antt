@@ -10,7 +10,7 @@ use Rattle.cfb_entries.specs.Fields.{entries_with_fields, entry_with_fields, fie
 use Rattle.cfb_trees.specs.Reached.{IsReached}
 use Rattle.cfb_trees.proofs.Members.{reached-is-within}
 use Rattle.cfb_alloc.specs.Frame.{Spares}
-use Rattle.cfb_directory.specs.Steps.{IsDirectoryNotHeld}
+use Rattle.cfb_directory.specs.Steps.{IsDirectoryNotHeld, KeepsWholeHeader}
 use Rattle.cfb_objects.specs.Laws.{BecomesTree}
 use Rattle.cfb_rules.specs.CallChanges.{fields_changed_at}
 use Rattle.cfb_mini_sectors.specs.State.{HoldsMini, MiniState, bytes_of, cases_of, entries_of, table_of, tables_in, version_of}
@@ -123,6 +123,7 @@ marked g c =
       outline = order.outline;
       is = is;
       spares = λ told. subst (λ (m : MiniState). Spares m.directory.sectors (table_of m) (table_of mid)) e (w.spares told);
+      header = λ told. subst (λ (m : MiniState). KeepsWholeHeader m.directory mid.directory) e (w.header told);
       held = λ told v h.
           let here = subst (λ (m : MiniState). HoldsMini v m) (sym e) h in
           w.holds told v here (λ f p. valid f p (reached-valid v s order.outline n here.directory order.is (reached order.outline order.is)))

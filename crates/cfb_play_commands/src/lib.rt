@@ -1,0 +1,4 @@
+//! Plays lists of commands, each a line, on a compound file.
+#![tactic(auto)]
+
+pub mod lists;
