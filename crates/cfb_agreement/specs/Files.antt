@@ -14,7 +14,7 @@ use Rattle.cfb_tables.specs.Tables.{AreExactTables}
 use Rattle.cfb_trees.specs.Balance.{AreAllBalanced}
 use Rattle.cfb_mini_sectors.specs.State.{IsChangeable, MiniState, bytes_of, cases_of, entries_of, parts_of, reading_of, table_of, tables_in, version_of}
 use Rattle.cfb_mini_sectors.specs.Steps.{IsSnugMini, KeepsLimits}
-use Rattle.cfb_mini.specs.MiniSectors.{IsStill, IsWhole}
+use Rattle.cfb_mini_changes.specs.MiniSectors.{IsStill, IsWhole}
 use Rattle.cfb_content.specs.Contents.{AreAllUsed, AreSnug, IsStreamOf, TellsPlaces, dir_count_of, len_of}
 
 -- what the layers below keep, whether the file is sound, and for how many bytes the buffer of a stream may have room

@@ -1,26 +1,24 @@
 //! Directory entries: what is written of new ones, what is read of slots, and which slots each mode
 //! takes.
 use crate::bytes::{Parts, with};
+use crate::checked::check;
 use cfb_codecs::direntry::DirEntry;
 use cfb_codecs::path;
 use cfb_codecs::timestamp::Timestamp;
-use cfb_format::color::Color::{self, Black, Red};
-use cfb_format::consts::{DIR_ENTRY_LEN, END_OF_CHAIN, NO_STREAM as NONE};
+use cfb_format::consts::DIR_ENTRY_LEN;
 use cfb_format::error::Error;
-use cfb_format::objtype::ObjType::{self, Root, Storage, Stream, Unallocated};
+use cfb_format::objtype::ObjType::{self, Storage, Stream};
 use cfb_format::validate::Validation::{self, Permissive, Strict};
 use cfb_format::version::Version::{self, V3, V4};
 use cfb_media::refusing::Refusing;
 use std::alloc::{Allocator, Global};
-use std::process::Abort;
-use std::test::Fail;
 use uuid::Uuid;
 
 type Slot = [u8; DIR_ENTRY_LEN];
 
 #[rattlefmt::skip]
 const ROOT: Parts = &[
-    (0, b"R\0o\0o\0t\0 \0E\0n\0t\0r\0y\0"), (64, &[22, 0, 5, 1]), (68, &[0xff; 12]), (116, &[0xfe, 0xff, 0xff, 0xff]),
+    (0, b"R\0o\0o\0t\0 \0E\0n\0t\0r\0y\0"), (64, b"\x16\0\x05\x01"), (68, &[0xff; 12]), (116, &[0xfe, 0xff, 0xff, 0xff]),
 ];
 
 /// A name of 31 units, two of which are a surrogate pair.
@@ -81,18 +79,12 @@ fn is_unallocated_written<A: Allocator>(alloc: A) -> bool {
     slot == with([0; DIR_ENTRY_LEN], UNALLOCATED)
 }
 
-fn are_written(rt: &impl Abort, alloc: Global, rows: &[New]) -> Result<(), Error> {
-    for new in rows {
-        assert!(rt; is_written(alloc, new)?, "{}", new.0);
-    }
-    Ok(())
-}
-
 #[test]
-fn new_entries_are_written(rt: HostRuntime) -> Result<(), Fail> {
-    are_written(&rt, rt.alloc(), &NEW)?;
-    assert!(rt; is_root_written(rt.alloc())?);
-    Ok(())
+fn new_entries_are_written(rt: HostRuntime) {
+    for (row, new) in NEW.iter().enumerate() {
+        check(&rt, &is_written(rt.alloc(), new), row);
+    }
+    check(&rt, &is_root_written(rt.alloc()), 3);
 }
 
 /// An empty name takes no memory.
@@ -100,7 +92,11 @@ fn new_entries_are_written(rt: HostRuntime) -> Result<(), Fail> {
 fn unallocated_entries_are_written(rt: HostRuntime) {
     let heap = Refusing::new(rt.alloc());
     heap.refuse_all();
-    assert!(rt; is_unallocated_written(&heap) && heap.asked() == 0);
+    check(
+        &rt,
+        &Ok(is_unallocated_written(&heap) && heap.asked() == 0),
+        0,
+    );
 }
 
 const FOOBAR_PARTS: Parts = &[
@@ -116,105 +112,111 @@ fn foobar(kind: u8) -> Slot {
     slot
 }
 
-type What = (&'static str, ObjType, Color);
-
-/// Name, type and colour; links; class and bits; moments; start and length.
-type Fields = (What, [u32; 3], (u128, u32), [u64; 2], (u32, u64));
-
-/// Type and bytes that are put into `foobar`'s slot, version and mode; what is read then, and what is
+/// Type and bytes that are put into `foobar`'s slot, version and mode; how what is read then is printed, and what is
 /// written in other bytes again.
-type Row = (u8, Parts, Version, Validation, Fields, Parts);
+type Row = (u8, Parts, Version, Validation, &'static str, Parts);
 
 #[rattlefmt::skip]
 const READ: [Row; 9] = [
     (
         1,
         &[
-            (76, &[56, 0, 0, 0]), (80, b"\xe0\x85\x9f\xf2\xf9\x4f\x68\x10\xab\x91\x08\x00\x2b\x27\xb3\xd9"),
-            (96, &[239, 190, 173, 222]), (108, &[0, 128, 62, 213, 222, 177, 157, 1]),
+            (76, b"\x38\0\0\0"), (80, b"\xe0\x85\x9f\xf2\xf9\x4f\x68\x10\xab\x91\x08\x00\x2b\x27\xb3\xd9"),
+            (96, b"\xef\xbe\xad\xde"), (108, b"\0\x80\x3e\xd5\xde\xb1\x9d\x01"),
         ],
         V4, Strict,
-        (
-            ("Foobar", Storage, Black), [12, 34, 56], (0xf29f85e0_4ff9_1068_ab91_08002b27b3d9, 0xdead_beef),
-            [0, 116444736000000000], (0, 0),
-        ),
+        "DirEntry { name: \"Foobar\", obj_type: Storage, color: Black, left_sibling: 12, right_sibling: 34, child: 56, \
+         clsid: f29f85e0-4ff9-1068-ab91-08002b27b3d9, state_bits: 3735928559, creation_time: Timestamp(0), \
+         modified_time: Timestamp(116444736000000000), start_sector: 0, stream_len: 0 }",
         &[],
     ),
     (
         1, &[(80, &[7; 36])], V4, Strict,
-        (
-            ("Foobar", Storage, Black), [12, 34, NONE], (0x07070707_0707_0707_0707_070707070707, 0x0707_0707),
-            [0x0707_0707_0707_0707, 0x0707_0707_0707_0707], (0, 0),
-        ),
+        "DirEntry { name: \"Foobar\", obj_type: Storage, color: Black, left_sibling: 12, right_sibling: 34, child: 4294967295, \
+         clsid: 07070707-0707-0707-0707-070707070707, state_bits: 117901063, creation_time: Timestamp(506381209866536711), \
+         modified_time: Timestamp(506381209866536711), start_sector: 0, stream_len: 0 }",
         &[],
     ),
-    (5, ROOT, V3, Strict, (("Root Entry", Root, Black), [NONE; 3], (0, 0), [0, 0], (END_OF_CHAIN, 0)), &[]),
-    (2, LONGEST, V4, Strict, ((LONGEST_NAME, Stream, Black), [NONE; 3], (0, 0), [0, 0], (END_OF_CHAIN, 0)), &[]),
-    (0, UNALLOCATED, V3, Permissive, (("", Unallocated, Red), [NONE; 3], (0, 0), [0, 0], (0, 0)), &[]),
-    // What a kind may not have is not there.
     (
+        5, ROOT, V3, Strict,
+        "DirEntry { name: \"Root Entry\", obj_type: Root, color: Black, left_sibling: 4294967295, right_sibling: 4294967295, child: 4294967295, \
+         clsid: 00000000-0000-0000-0000-000000000000, state_bits: 0, creation_time: Timestamp(0), \
+         modified_time: Timestamp(0), start_sector: 4294967294, stream_len: 0 }",
+        &[],
+    ),
+    (
+        2, LONGEST, V4, Strict,
+        "DirEntry { name: \"Ünïcödé-name-of-31-units-😀????\", obj_type: Stream, color: Black, left_sibling: 4294967295, right_sibling: 4294967295, child: 4294967295, \
+         clsid: 00000000-0000-0000-0000-000000000000, state_bits: 0, creation_time: Timestamp(0), \
+         modified_time: Timestamp(0), start_sector: 4294967294, stream_len: 0 }",
+        &[],
+    ),
+    (
+        0, UNALLOCATED, V3, Permissive,
+        "DirEntry { name: \"\", obj_type: Unallocated, color: Red, left_sibling: 4294967295, right_sibling: 4294967295, child: 4294967295, \
+         clsid: 00000000-0000-0000-0000-000000000000, state_bits: 0, creation_time: Timestamp(0), \
+         modified_time: Timestamp(0), start_sector: 0, stream_len: 0 }",
+        &[],
+    ),
+    (
+        // What a kind may not have is not there.
         2, &[(80, &[1; 36])], V4, Permissive,
-        (("Foobar", Stream, Black), [12, 34, NONE], (0, 0x0101_0101), [0, 0], (0, 0)),
+        "DirEntry { name: \"Foobar\", obj_type: Stream, color: Black, left_sibling: 12, right_sibling: 34, child: 4294967295, \
+         clsid: 00000000-0000-0000-0000-000000000000, state_bits: 16843009, creation_time: Timestamp(0), \
+         modified_time: Timestamp(0), start_sector: 0, stream_len: 0 }",
         &[(80, &[0; 16]), (100, &[0; 16])],
     ),
     (
         1, &[(116, &[1; 12])], V4, Permissive,
-        (("Foobar", Storage, Black), [12, 34, NONE], (0, 0), [0, 0], (0, 0)), &[(116, &[0; 12])],
+        "DirEntry { name: \"Foobar\", obj_type: Storage, color: Black, left_sibling: 12, right_sibling: 34, child: 4294967295, \
+         clsid: 00000000-0000-0000-0000-000000000000, state_bits: 0, creation_time: Timestamp(0), \
+         modified_time: Timestamp(0), start_sector: 0, stream_len: 0 }",
+        &[(116, &[0; 12])],
     ),
     (
-        5, &[], V4, Permissive, (("Root Entry", Root, Black), [12, 34, NONE], (0, 0), [0, 0], (0, 0)),
-        &[(0, b"R\0o\0o\0t\0 \0E\0n\0t\0r\0y\0"), (64, &[22])],
+        5, &[], V4, Permissive,
+        "DirEntry { name: \"Root Entry\", obj_type: Root, color: Black, left_sibling: 12, right_sibling: 34, child: 4294967295, \
+         clsid: 00000000-0000-0000-0000-000000000000, state_bits: 0, creation_time: Timestamp(0), \
+         modified_time: Timestamp(0), start_sector: 0, stream_len: 0 }",
+        &[(0, b"R\0o\0o\0t\0 \0E\0n\0t\0r\0y\0"), (64, b"\x16")],
     ),
-    // In version 3 a length is its lower half.
     (
+        // In version 3 a length is its lower half.
         2, &[(120, &[1; 8])], V3, Strict,
-        (("Foobar", Stream, Black), [12, 34, NONE], (0, 0), [0, 0], (0, 0x0101_0101)), &[(124, &[0; 4])],
+        "DirEntry { name: \"Foobar\", obj_type: Stream, color: Black, left_sibling: 12, right_sibling: 34, child: 4294967295, \
+         clsid: 00000000-0000-0000-0000-000000000000, state_bits: 0, creation_time: Timestamp(0), \
+         modified_time: Timestamp(0), start_sector: 0, stream_len: 16843009 }",
+        &[(124, &[0; 4])],
     ),
 ];
 
-fn has_fields(entry: &DirEntry, (what, links, class, moments, content): &Fields) -> bool {
-    (entry.name.as_str(), entry.obj_type, entry.color) == *what
-        && [entry.left_sibling, entry.right_sibling, entry.child] == *links
-        && (entry.clsid.as_u128(), entry.state_bits) == *class
-        && [entry.creation_time.value(), entry.modified_time.value()] == *moments
-        && (entry.start_sector, entry.stream_len) == *content
+/// Whether the entry is printed so.
+fn is_printed(alloc: Global, entry: &DirEntry, text: &str) -> Result<bool, Error> {
+    Ok(format!(in alloc; "{entry:?}")?.as_str() == text)
 }
 
 fn is_read(alloc: Global, row: &Row) -> Result<bool, Error> {
-    let (kind, parts, version, mode, fields, others) = row;
-    let slot = with(foobar(*kind), parts);
-    let entry = DirEntry::read_from(alloc, &slot, *version, *mode)?;
+    let (kind, parts, version, mode, text, others) = *row;
+    let slot = with(foobar(kind), parts);
+    let entry = DirEntry::read_from(alloc, &slot, version, mode)?;
     let mut written = [0xaa; DIR_ENTRY_LEN];
     entry.write_to(&mut written);
-    Ok(has_fields(&entry, fields) && written == with(slot, others))
+    Ok(is_printed(alloc, &entry, text)? && written == with(slot, others))
 }
 
-fn are_read(rt: &impl Abort, alloc: Global, rows: &[Row]) -> Result<(), Error> {
-    for (i, row) in rows.iter().enumerate() {
-        assert!(rt; is_read(alloc, row)?, "row {i}");
+#[test]
+fn slots_are_read_and_written_again(rt: HostRuntime) {
+    for (number, row) in READ.iter().enumerate() {
+        check(&rt, &is_read(rt.alloc(), row), number);
     }
-    Ok(())
-}
-
-#[test]
-fn slots_are_read_and_written_again(rt: HostRuntime) -> Result<(), Fail> {
-    are_read(&rt, rt.alloc(), &READ)?;
-    Ok(())
-}
-
-#[test]
-fn entries_are_printed(rt: HostRuntime) -> Result<(), Fail> {
-    let start =
-        "DirEntry { name: \"\", obj_type: Unallocated, color: Red, left_sibling: 4294967295";
-    let text = format!(in rt.alloc(); "{:?}", DirEntry::unallocated(rt.alloc()))?;
-    assert!(rt; text.starts_with(start));
-    Ok(())
 }
 
 /// Version, type and bytes that are put into `foobar`'s slot, and the numbers of the errors of both modes,
 /// or 0.
+type Mode = (u8, u8, usize, &'static [u8], u8, u8);
+
 #[rattlefmt::skip]
-const MODES: [(u8, u8, usize, &[u8], u8, u8); 37] = [
+const MODES: [Mode; 37] = [
     (3, 0, 0, b"", 0, 0), (3, 1, 0, b"", 0, 0), // unallocated; storage
     (3, 2, 0, b"", 0, 0), (3, 3, 0, b"", 4, 4), // stream; type 3
     (3, 5, 0, b"", 0, 4), (3, 1, 67, b"\x02", 4, 4), // root's name; colour 2
@@ -244,14 +246,17 @@ fn refusal(alloc: Global, slot: &Slot, version: Version, mode: Validation) -> u8
     }
 }
 
+fn are_modes_right(alloc: Global, row: &Mode) -> bool {
+    let (version, kind, at, bytes, permissive, strict) = *row;
+    let slot = with(foobar(kind), &[(at, bytes)]);
+    let version = if version == 3 { V3 } else { V4 };
+    refusal(alloc, &slot, version, Permissive) == permissive
+        && refusal(alloc, &slot, version, Strict) == strict
+}
+
 #[test]
 fn each_mode_takes_its_slots(rt: HostRuntime) {
-    for (version, kind, at, bytes, permissive, strict) in &MODES {
-        let slot = with(foobar(*kind), &[(*at, *bytes)]);
-        let version = if *version == 3 { V3 } else { V4 };
-        let found = refusal(rt.alloc(), &slot, version, Permissive);
-        assert!(rt; found == *permissive, "{kind} with {bytes:?} at {at}");
-        let found = refusal(rt.alloc(), &slot, version, Strict);
-        assert!(rt; found == *strict, "{kind} with {bytes:?} at {at}, strictly");
+    for (number, row) in MODES.iter().enumerate() {
+        check(&rt, &Ok(are_modes_right(rt.alloc(), row)), number);
     }
 }

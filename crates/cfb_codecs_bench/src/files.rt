@@ -1,4 +1,5 @@
 //! Files of the system as media: what is written at places, what is served, and what is refused.
+use crate::checked::check;
 use crate::media::{Call, right_calls};
 use cfb_files::file::{FileMedium, FileReadMedium};
 use cfb_format::error::Error;
@@ -57,8 +58,8 @@ fn is_right(rt: &HostRuntime, row: &Row) -> Result<bool, Fail> {
 
 #[test]
 fn bytes_are_written_at_places(rt: HostRuntime) -> Result<(), Fail> {
-    for (i, row) in ROWS.iter().enumerate() {
-        assert!(rt; is_right(&rt, row)?, "row {i}");
+    for (number, row) in ROWS.iter().enumerate() {
+        check(&rt, &Ok(is_right(&rt, row)?), number);
     }
     fs::remove_file(&rt, "row.bin")?;
     Ok(())

@@ -5,6 +5,8 @@
 #[cfg(test)]
 mod bytes;
 #[cfg(test)]
+mod checked;
+#[cfg(test)]
 mod entries;
 #[cfg(test)]
 mod files;
@@ -18,4 +20,5 @@ mod names;
 mod refusals;
 #[cfg(test)]
 mod texts;
-pub mod whole;
+#[cfg(test)]
+mod whole;

@@ -1,23 +1,12 @@
-//! The media of tests, and a medium in memory whose growth is refused.
-ghost use Rattle.std.specs.Prelude.{◌≡◌, IfOk, IsTrue, length};
-
-use cfb_format::medium::MediumFault::{self, Flush, Length, Memory, Read, Stuck as Sticks, Write};
+//! The media of tests.
+use crate::checked::check;
+use cfb_format::error::Error;
+use cfb_format::medium::MediumFault::{self, Flush, Length, Read, Stuck as Sticks, Write};
 use cfb_format::medium::{Medium, ReadMedium};
 use cfb_format::memory::MemoryMedium;
-use cfb_format::transfer::{read_exact_at, write_all_at};
+use cfb_format::transfer::write_all_at;
 use cfb_media::media::{Counting, Failing, Kind, Sip, Stuck};
-use cfb_media::refusing::Refusing;
-use std::alloc::{AllocError, Global};
-use std::process::Abort;
-use std::test::Fail;
-
-/// Eight dots.
-fn dots(alloc: Global) -> Result<MemoryMedium, AllocError>
-    ensures { IfOk result (λ medium. length medium.bytes ≡ 8) }
-{
-    let bytes = vec![in alloc; b'.'; 8]?;
-    Ok(MemoryMedium::from_bytes(bytes))
-}
+use std::alloc::Global;
 
 /// A call at a medium, and what it answers: `w` writes these bytes here, `W` all of them, `r` reads as
 /// many and finds a beginning of them, `f` flushes, and `l` asks for the length.
@@ -84,7 +73,7 @@ const FLUSH_FAILS: Call = (b'f', 0, b"", Err(Flush));
 type Row = (bool, Plan, Plan, &'static [Call], &'static [u8], [u64; 5]);
 
 #[rattlefmt::skip]
-const MEDIA: [Row; 13] = [
+const MEDIA: [Row; 16] = [
     (
         true, NEVER, NEVER,
         &[
@@ -122,6 +111,25 @@ const MEDIA: [Row; 13] = [
         false, NEVER, (Kind::Read, 1, false), &[(b'r', 2, b"....", Ok(0)), (b'r', 2, b"....", Ok(4))],
         b"........", [0, 1, 0, 0, 0],
     ),
+    // of reads one byte each the third fails; a question for the length is a read, too
+    (
+        true, (Kind::Read, 3, false), NEVER,
+        &[
+            (b'r', 2, b".", Ok(1)), (b'r', 3, b".", Ok(1)), (b'r', 4, b".", Err(Read)), (b'l', 0, b"", Ok(8)),
+            (b'r', 4, b".", Ok(1)),
+        ],
+        b"........", [1, 0, 0, 0, 0],
+    ),
+    (
+        true, (Kind::Read, 2, false), NEVER,
+        &[(b'r', 2, b"....", Ok(1)), (b'l', 0, b"", Err(Length)), (b'l', 0, b"", Ok(8)), (b'r', 3, b"...", Ok(1))],
+        b"........", [1, 0, 0, 0, 0],
+    ),
+    (
+        false, (Kind::Read, 2, true), NEVER,
+        &[(b'r', 2, b"....", Ok(4)), (b'r', 2, b"....", Err(Read)), (b'l', 0, b"", Err(Length)), PUT],
+        b"......abcd", [2, 0, 0, 1, 0],
+    ),
     (
         true, NEVER, (Kind::Write, 2, true),
         &[(b'W', 6, b"abcd", Err(Sticks)), (b'W', 6, b"abcd", Err(Sticks)), FLUSH, (b'l', 0, b"", Ok(8))],
@@ -150,150 +158,50 @@ fn planned<F: ReadMedium>(inner: F, row: &Row) -> Planned<F> {
     failing(sticking(Counting::within(inner, 7, 9), &row.2), &row.1)
 }
 
-/// How many of the calls are right, and the medium then.
-fn called<F: Medium>(inner: F, calls: &[Call]) -> (usize, F) {
-    let mut medium = inner;
-    let right = right_calls(&mut medium, calls);
-    (right, medium)
+/// The counts below a medium that fails, and the medium below all.
+fn counted<F: ReadMedium>(stuck: Stuck<Counting<F>>, counts: &mut [u64; 5]) -> F {
+    counts[1] = stuck.failures();
+    let counting = stuck.into_inner();
+    counts[2] = counting.reads();
+    counts[3] = counting.writes();
+    counts[4] = counting.flushes();
+    counting.into_inner()
+}
+
+/// All counts, and the medium below.
+fn all_counted<F: ReadMedium>(medium: Planned<F>, counts: &mut [u64; 5]) -> F {
+    counts[0] = medium.failures();
+    counted(medium.into_inner(), counts)
+}
+
+/// How many of the calls are right, the counts then, and the medium below.
+fn called<F: Medium>(inner: F, row: &Row, counts: &mut [u64; 5]) -> (usize, F) {
+    let mut medium = planned(inner, row);
+    let right = right_calls(&mut medium, row.3);
+    (right, all_counted(medium, counts))
 }
 
 /// The same, a byte a call.
-fn sipped<F: Medium>(inner: F, calls: &[Call]) -> (usize, F) {
-    let (right, sip) = called(Sip::new(inner), calls);
-    (right, sip.into_inner())
+fn sipped<F: Medium>(inner: F, row: &Row, counts: &mut [u64; 5]) -> (usize, F) {
+    let mut sip = Sip::new(planned(inner, row));
+    let right = right_calls(&mut sip, row.3);
+    (right, all_counted(sip.into_inner(), counts))
 }
 
-fn called_as_planned<F: Medium>(inner: F, row: &Row) -> (usize, Planned<F>) {
-    let medium = planned(inner, row);
-    if row.0 {
-        return sipped(medium, row.3);
-    }
-    called(medium, row.3)
-}
-
-/// The counts of a counter, and the medium below it.
-fn counted<F: ReadMedium>(counting: Counting<F>) -> ([u64; 3], F) {
-    let counts = [counting.reads(), counting.writes(), counting.flushes()];
-    (counts, counting.into_inner())
-}
-
-/// All counts, and the medium below them.
-fn all_counted<F: ReadMedium>(medium: Planned<F>) -> ([u64; 5], F) {
-    let failures = medium.failures();
-    let stuck = medium.into_inner();
-    let sticking = stuck.failures();
-    let ([reads, writes, flushes], inner) = counted(stuck.into_inner());
-    ([failures, sticking, reads, writes, flushes], inner)
-}
-
-/// Whether the calls are right and so counted, and the medium then.
-fn goes_as_planned<F: Medium>(inner: F, row: &Row) -> (bool, F) {
-    let (right, medium) = called_as_planned(inner, row);
-    let (counts, inner) = all_counted(medium);
-    (right == row.3.len() && counts == row.5, inner)
-}
-
-fn is_as_planned(alloc: Global, row: &Row) -> Result<bool, AllocError> {
-    let (is_right, medium) = goes_as_planned(dots(alloc)?, row);
-    Ok(medium.bytes() == row.4 && is_right)
-}
-
-fn are_as_planned(rt: &impl Abort, alloc: Global, rows: &[Row]) -> Result<(), AllocError> {
-    for (i, row) in rows.iter().enumerate() {
-        assert!(rt; is_as_planned(alloc, row)?, "row {i}");
-    }
-    Ok(())
+fn is_as_planned(alloc: Global, row: &Row) -> Result<bool, Error> {
+    let dots = MemoryMedium::from_bytes(vec![in alloc; b'.'; 8]?);
+    let mut counts = [0; 5];
+    let (right, medium) = if row.0 {
+        sipped(dots, row, &mut counts)
+    } else {
+        called(dots, row, &mut counts)
+    };
+    Ok(medium.bytes() == row.4 && right == row.3.len() && counts == row.5)
 }
 
 #[test]
-fn media_answer_as_planned(rt: HostRuntime) -> Result<(), Fail> {
-    are_as_planned(&rt, rt.alloc(), &MEDIA)?;
-    Ok(())
-}
-
-/// Which read fails or sticks, and what a read in full and a length behind it answer.
-type ReadRow = (u64, u64, Result<(), MediumFault>, Result<u64, MediumFault>);
-
-#[rattlefmt::skip]
-const READS: [ReadRow; 6] = [
-    (1, 0, Err(Read), Ok(8)), (2, 0, Err(Read), Ok(8)), (3, 0, Err(Read), Ok(8)), (4, 0, Err(Read), Ok(8)),
-    (5, 0, Ok(()), Err(Length)), (0, 1, Err(Sticks), Ok(8)),
-];
-
-/// Four bytes from 2 on, and the length behind that.
-fn read_four<F: ReadMedium>(
-    medium: &mut F,
-    into: &mut [u8; 4],
-) -> (Result<(), MediumFault>, Result<u64, MediumFault>)
-    requires { IsTrue F.tells → length (F.bytes medium.old) ≡ 8 }
-    ensures { IsTrue F.tells → F.bytes medium.new ≡ F.bytes medium.old }
-{
-    let read = read_exact_at(medium, 2, into);
-    (read, medium.length())
-}
-
-/// Whether the same calls again pass.
-fn goes_wrong_once<F: ReadMedium>(medium: &mut F, row: &ReadRow) -> bool
-    requires { IsTrue F.tells → length (F.bytes medium.old) ≡ 8 }
-{
-    let mut into = [0u8; 4];
-    let first = read_four(medium, &mut into);
-    let again = read_four(medium, &mut into);
-    first == (row.2, row.3) && again == (Ok(()), Ok(8)) && into == *b"...."
-}
-
-/// The same of a medium under faults, and that medium then.
-fn goes_wrong_below<F: ReadMedium>(inner: F, row: &ReadRow) -> (bool, F)
-    requires { IsTrue F.tells → length (F.bytes inner) ≡ 8 }
-{
-    let stuck = Stuck::once(inner, Kind::Read, row.1);
-    let mut medium = Sip::new(Failing::once(stuck, Kind::Read, row.0));
-    let is_right = goes_wrong_once(&mut medium, row);
-    (is_right, medium.into_inner().into_inner().into_inner())
-}
-
-fn keeps_its_dots(alloc: Global, row: &ReadRow) -> Result<bool, AllocError> {
-    let (is_right, medium) = goes_wrong_below(dots(alloc)?, row);
-    Ok(medium.bytes() == b"........".as_slice() && is_right)
-}
-
-#[test]
-fn reads_go_wrong_once(rt: HostRuntime) -> Result<(), Fail> {
-    for row in &READS {
-        assert!(rt; keeps_its_dots(rt.alloc(), row)?, "{}, {}", row.0, row.1);
+fn media_answer_as_planned(rt: HostRuntime) {
+    for (number, row) in MEDIA.iter().enumerate() {
+        check(&rt, &is_as_planned(rt.alloc(), row), number);
     }
-    Ok(())
-}
-
-/// The first growth is refused.
-const ONE_REFUSED: [Call; 3] = [(b'W', 6, b"abcd", Err(Memory)), (b'l', 0, b"", Ok(0)), PUT];
-
-/// Each growth is refused.
-const ALL_REFUSED: [Call; 3] = [
-    (b'w', 1000, b"e", Err(Memory)),
-    (b'w', 1000, b"e", Err(Memory)),
-    (b'l', 0, b"", Ok(10)),
-];
-
-const NONE_REFUSED: [Call; 2] = [(b'w', 1000, b"e", Ok(1)), (b'l', 0, b"", Ok(1001))];
-
-fn grows_as_heap_lets_it(
-    heap: &Refusing<Global>,
-    medium: &mut MemoryMedium<&Refusing<Global>>,
-) -> bool {
-    heap.refuse_after(0);
-    let once = right_calls(medium, &ONE_REFUSED);
-    let kept = medium.bytes() == b"\0\0\0\0\0\0abcd".as_slice();
-    heap.refuse_all();
-    let never = right_calls(medium, &ALL_REFUSED);
-    heap.refuse_none();
-    let then = right_calls(medium, &NONE_REFUSED);
-    kept && once == 3 && never == 3 && then == 2
-}
-
-#[test]
-fn a_refused_growth_changes_nothing(rt: HostRuntime) {
-    let heap = Refusing::new(rt.alloc());
-    let mut medium = MemoryMedium::new(&heap);
-    assert!(rt; grows_as_heap_lets_it(&heap, &mut medium));
 }

@@ -1,6 +1,6 @@
 //! Moments and Unix times.
+use crate::checked::check;
 use cfb_codecs::timestamp::Timestamp;
-use std::process::Abort;
 
 /// Seconds and nanoseconds since 1970, and the moment.
 type FromUnix = (i64, u32, u64);
@@ -23,26 +23,22 @@ const TO_UNIX: [ToUnix; 6] = [
     (116444736000000000, (0, 0)), (131343363960000000, (1489862796, 0)), (u64::MAX, (1833029933770, 955161500)),
 ];
 
-fn come_from_unix(rt: &impl Abort, rows: &[FromUnix]) {
-    for (seconds, nanoseconds, want) in rows {
-        assert!(rt; *nanoseconds < 1_000_000_000);
-        let moment = Timestamp::from_unix(*seconds, *nanoseconds);
-        assert!(rt; moment.value() == *want, "{seconds} and {nanoseconds}");
-    }
+fn comes_from_unix((seconds, nanoseconds, want): &FromUnix) -> bool {
+    *nanoseconds < 1_000_000_000 && Timestamp::from_unix(*seconds, *nanoseconds).value() == *want
 }
 
-fn go_to_unix(rt: &impl Abort, rows: &[ToUnix]) {
-    for (units, want) in rows {
-        let moment = Timestamp::read_from(&units.to_le_bytes());
-        assert!(rt; moment.to_unix() == *want, "{units}");
-    }
+fn goes_to_unix((units, want): &ToUnix) -> bool {
+    Timestamp::read_from(&units.to_le_bytes()).to_unix() == *want
 }
 
 #[test]
 fn moments_and_unix_times(rt: HostRuntime) {
-    come_from_unix(&rt, &FROM_UNIX);
-    go_to_unix(&rt, &TO_UNIX);
-    assert!(rt; Timestamp::zero().to_unix() == (-11644473600, 0));
+    for (row, want) in FROM_UNIX.iter().enumerate() {
+        check(&rt, &Ok(comes_from_unix(want)), row);
+    }
+    for (row, want) in TO_UNIX.iter().enumerate() {
+        check(&rt, &Ok(goes_to_unix(want)), row);
+    }
 }
 
 #[test]
@@ -50,6 +46,10 @@ fn moments_and_bytes(rt: HostRuntime) {
     let moment = Timestamp::from_unix(-1, 999999950);
     let mut bytes = [0u8; 8];
     moment.write_to(&mut bytes);
-    assert!(rt; bytes == [0x00, 0x80, 0x3E, 0xD5, 0xDE, 0xB1, 0x9D, 0x01]);
-    assert!(rt; Timestamp::read_from(&bytes) == moment);
+    let is_written = bytes == [0x00, 0x80, 0x3E, 0xD5, 0xDE, 0xB1, 0x9D, 0x01];
+    check(
+        &rt,
+        &Ok(is_written && Timestamp::read_from(&bytes) == moment),
+        0,
+    );
 }

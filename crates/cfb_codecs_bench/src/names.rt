@@ -1,10 +1,9 @@
 //! Names, their letters and their order, and paths.
+use crate::checked::check;
 use cfb_codecs::path::{self, CaseMapper, NameKey};
 use cfb_format::error::Error;
 use std::alloc::Global;
 use std::cmp::Ordering::{self, Equal, Greater, Less};
-use std::process::Abort;
-use std::test::Fail;
 
 /// Two names and their order.
 type Row = (&'static str, &'static str, Ordering);
@@ -42,41 +41,40 @@ fn are_one(alloc: Global, cases: &CaseMapper, a: &str, b: &str) -> Result<bool, 
 }
 
 /// Names that are equal, and they alone, have one key.
-fn are_in_order(
-    rt: &impl Abort,
-    alloc: Global,
-    cases: &CaseMapper,
-    rows: &[Row],
-) -> Result<(), Fail> {
-    for (a, b, want) in rows {
-        assert!(rt; path::compare_names(cases, a, b) == *want, "{a} and {b}");
-        assert!(rt;
-            path::compare_names(cases, b, a) == want.reverse(),
-            "{b} and {a}"
-        );
-        let is_one = are_one(alloc, cases, a, b)?;
-        assert!(rt; is_one == (*want == Equal), "{a} and {b}");
+fn are_in_order(alloc: Global, cases: &CaseMapper, (a, b, want): &Row) -> Result<bool, Error> {
+    let order = path::compare_names(cases, a, b) == *want;
+    let back = path::compare_names(cases, b, a) == want.reverse();
+    Ok(order && back && are_one(alloc, cases, a, b)? == (*want == Equal))
+}
+
+/// Whether the default letters order a row's names, or those of a table.
+fn are_ordered(alloc: Global, by_table: bool, row: &Row) -> Result<bool, Error> {
+    let cases = if by_table {
+        CaseMapper::from_pairs(alloc, &[('\u{e9}', 'X'), ('\u{e9}', '\u{c9}')])?
+    } else {
+        CaseMapper::new(alloc)?
+    };
+    are_in_order(alloc, &cases, row)
+}
+
+#[test]
+fn order_of_names(rt: HostRuntime) {
+    for (number, row) in ORDER.iter().enumerate() {
+        check(&rt, &are_ordered(rt.alloc(), false, row), number);
     }
-    Ok(())
 }
 
 #[test]
-fn order_of_names(rt: HostRuntime) -> Result<(), Fail> {
-    let cases = CaseMapper::new(rt.alloc())?;
-    are_in_order(&rt, rt.alloc(), &cases, &ORDER)
-}
-
-#[test]
-fn order_by_a_table(rt: HostRuntime) -> Result<(), Fail> {
-    let pairs = [('\u{e9}', 'X'), ('\u{e9}', '\u{c9}')];
-    let cases = CaseMapper::from_pairs(rt.alloc(), &pairs)?;
-    are_in_order(&rt, rt.alloc(), &cases, &ORDER_OF_A_TABLE)
+fn order_by_a_table(rt: HostRuntime) {
+    for (number, row) in ORDER_OF_A_TABLE.iter().enumerate() {
+        check(&rt, &are_ordered(rt.alloc(), true, row), number);
+    }
 }
 
 #[test]
 fn letters_of_ascii_are_refused(rt: HostRuntime) {
     let refused = CaseMapper::from_pairs(rt.alloc(), &[('\u{e9}', 'X'), ('a', 'b')]);
-    assert!(rt; matches!(&refused, Err(e) if e.number() == 3));
+    check(&rt, &Ok(matches!(&refused, Err(e) if e.number() == 3)), 0);
 }
 
 /// A name with how many units it has, or the number of the error.
@@ -145,21 +143,13 @@ fn is_split(alloc: Global, given: &str, want: Option<&str>) -> bool {
     }
 }
 
-fn are_names_right(rt: &impl Abort, alloc: Global, rows: &[NameRow]) {
-    for (name, want) in rows {
-        assert!(rt; units_of(alloc, name) == *want, "{name}");
-    }
-}
-
-fn are_paths_right(rt: &impl Abort, alloc: Global, rows: &[PathRow]) {
-    for (given, want) in rows {
-        assert!(rt; path::stays_below_root(given) == want.is_some(), "{given}");
-        assert!(rt; is_split(alloc, given, *want), "{given}");
-    }
-}
-
 #[test]
 fn names_and_paths(rt: HostRuntime) {
-    are_names_right(&rt, rt.alloc(), &NAMES);
-    are_paths_right(&rt, rt.alloc(), &PATHS);
+    for (row, (name, want)) in NAMES.iter().enumerate() {
+        check(&rt, &Ok(units_of(rt.alloc(), name) == *want), row);
+    }
+    for (row, (given, want)) in PATHS.iter().enumerate() {
+        let stays = path::stays_below_root(given) == want.is_some();
+        check(&rt, &Ok(stays && is_split(rt.alloc(), given, *want)), row);
+    }
 }

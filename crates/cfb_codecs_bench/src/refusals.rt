@@ -1,5 +1,6 @@
 //! Each request for memory of a call refused in turn: names, letters, paths, entries and runs.
 use crate::bytes::{Parts, with};
+use crate::checked::check;
 use cfb_codecs::direntry::DirEntry;
 use cfb_codecs::path::{self, CaseMapper};
 use cfb_format::consts::{DIR_ENTRY_LEN, END_OF_CHAIN, Run, prettify};
@@ -9,15 +10,14 @@ use cfb_format::version::Version;
 use cfb_media::refusing::Refusing;
 use std::alloc::{Allocator, Global};
 use std::cmp::Ordering;
-use std::collections::HashMap;
-use std::process::Abort;
-use std::test::Fail;
 
-/// The calls that take memory, each with how many requests it makes at least.
+/// A call that takes memory, with how many requests it makes at least.
+type Call = (&'static str, u64);
+
 #[rattlefmt::skip]
-const CALLS: [(&str, u64); 12] = [
+const CALLS: [Call; 11] = [
     ("default letters", 1), ("given letters", 1), ("cloned letters", 1), ("key", 1), ("units", 1), ("names", 2),
-    ("path", 2), ("empty root", 1), ("entry", 2), ("root of other name", 3), ("runs", 2), ("list and map", 6),
+    ("path", 2), ("empty root", 1), ("entry", 2), ("root of other name", 3), ("runs", 2),
 ];
 
 /// Makes a call, and says whether its value is right.
@@ -37,8 +37,7 @@ fn is_right<A: Allocator + Clone>(
         "empty root" => is_empty_root(alloc),
         "entry" => is_entry(alloc),
         "root of other name" => is_root_of_other_name(alloc),
-        "runs" => are_runs(alloc),
-        _ => Ok(is_list(alloc.clone()?)? && is_map(alloc)?),
+        _ => are_runs(alloc),
     }
 }
 
@@ -116,54 +115,48 @@ fn are_runs<A: Allocator>(alloc: A) -> Result<bool, Error> {
     Ok(prettify(alloc, &[END_OF_CHAIN, 1, 2, 7, 9, 11])?.as_slice() == RUNS)
 }
 
-/// A list that grows.
-fn is_list<A: Allocator>(alloc: A) -> Result<bool, Error> {
-    let mut list = Vec::new(alloc);
-    for i in 0..40u32 {
-        list.push(i)?;
-    }
-    Ok(list.len() == 40)
-}
-
-/// A map that grows.
-fn is_map<A: Allocator + Clone>(alloc: A) -> Result<bool, Error> {
-    let mut map = HashMap::new(alloc);
-    for i in 0..40u32 {
-        map.insert(i, i)?;
-    }
-    Ok(map.len() == 40)
-}
-
-/// Where each request of a call is refused in turn, it is refused itself, and passes again.
-fn is_refused_in_turn<'a>(
-    rt: &impl Abort,
+/// Whether a call is refused where the request behind so many others is, and passes again.
+fn is_refused<'a>(
     heap: &'a Refusing<Global>,
     cases: &CaseMapper<&'a Refusing<Global>>,
-    (call, least): &(&str, u64),
-) {
+    call: &str,
+    before: u64,
+) -> bool {
+    heap.refuse_after(before);
+    let refused = is_right(heap, cases, call) == Err(Error::Memory);
+    refused && is_right(heap, cases, call) == Ok(true)
+}
+
+/// Whether each request of a call is refused in turn, and no other.
+fn is_refused_in_turn<'a>(
+    heap: &'a Refusing<Global>,
+    cases: &CaseMapper<&'a Refusing<Global>>,
+    (call, least): &Call,
+) -> Result<bool, Error> {
     heap.refuse_none();
     let start = heap.asked();
-    assert!(rt; is_right(heap, cases, call) == Ok(true), "{call}");
+    let mut right = is_right(heap, cases, call)?;
     let all = heap.asked().saturating_sub(start);
-    assert!(rt; all >= *least, "{call}");
     for before in 0..all {
-        heap.refuse_after(before);
-        let refused = is_right(heap, cases, call) == Err(Error::Memory);
-        let then = is_right(heap, cases, call) == Ok(true);
-        assert!(rt; refused && then, "{call} at {before}");
+        right = is_refused(heap, cases, call, before) && right;
     }
     heap.refuse_after(all);
-    assert!(rt; is_right(heap, cases, call) == Ok(true), "{call}");
+    right = is_right(heap, cases, call)? && right;
     heap.refuse_all();
-    assert!(rt; is_right(heap, cases, call) == Err(Error::Memory), "{call}");
+    Ok(right && all >= *least && is_right(heap, cases, call) == Err(Error::Memory))
+}
+
+/// The same, with letters made for it.
+fn is_refused_with_letters(heap: &Refusing<Global>, call: &Call) -> Result<bool, Error> {
+    heap.refuse_none();
+    let cases = CaseMapper::new(heap)?;
+    is_refused_in_turn(heap, &cases, call)
 }
 
 #[test]
-fn requests_are_refused_in_turn(rt: HostRuntime) -> Result<(), Fail> {
+fn requests_are_refused_in_turn(rt: HostRuntime) {
     let heap = Refusing::new(rt.alloc());
-    let cases = CaseMapper::new(&heap)?;
-    for call in &CALLS {
-        is_refused_in_turn(&rt, &heap, &cases, call);
+    for (row, call) in CALLS.iter().enumerate() {
+        check(&rt, &is_refused_with_letters(&heap, call), row);
     }
-    Ok(())
 }

@@ -1,5 +1,6 @@
 //! What is printed: words of tables, errors and headers.
 use crate::bytes::with;
+use crate::checked::check;
 use cfb_format::consts::{
     DIFAT_SECTOR, END_OF_CHAIN, FAT_SECTOR, FREE_SECTOR, HEADER_LEN, Runs, prettify,
 };
@@ -7,10 +8,8 @@ use cfb_format::error::{Detail, Error};
 use cfb_format::header::Header;
 use cfb_format::medium::MediumFault;
 use cfb_format::validate::Validation;
-use std::alloc::{AllocError, Global};
+use std::alloc::Global;
 use std::fmt::Debug;
-use std::process::Abort;
-use std::test::Fail;
 
 const END: u32 = END_OF_CHAIN;
 
@@ -40,9 +39,11 @@ const WORDS: [Words; 4] = [
     (&[], "[]"),
 ];
 
-/// Errors with their numbers and texts.
+/// An error, its number and its text.
+type Told = (Error, u8, &'static str);
+
 #[rattlefmt::skip]
-fn errors() -> [(Error, u8, &'static str); 14] {
+fn errors() -> [Told; 14] {
     let missing = Detail::text("no such object");
     [
         (Error::NotFound(missing), 1, "no such object"),
@@ -80,44 +81,39 @@ fn is_printed<T: Debug>(alloc: Global, value: &T, text: &str) -> bool {
     found.as_str() == text
 }
 
-fn are_words_printed(alloc: Global, words: &[u32], text: &str) -> Result<bool, Error> {
+fn are_words_printed(alloc: Global, (words, text): &Words) -> Result<bool, Error> {
     let runs = prettify(alloc, words)?;
     Ok(is_printed(alloc, &runs, text) && is_printed(alloc, &Runs(words), text))
 }
 
-/// Whether the error is told so.
-fn is_told(alloc: Global, error: &Error, text: &str) -> Result<bool, AllocError> {
-    Ok(format!(in alloc; "{error}")?.as_str() == text)
-}
-
-fn are_all_printed(rt: &impl Abort, alloc: Global, rows: &[Words]) -> Result<(), Error> {
-    for (words, text) in rows {
-        assert!(rt; are_words_printed(alloc, words, text)?, "{text}");
+#[test]
+fn words_are_printed(rt: HostRuntime) {
+    for (row, words) in WORDS.iter().enumerate() {
+        check(&rt, &are_words_printed(rt.alloc(), words), row);
     }
-    Ok(())
+}
+
+/// Whether the error has this number and is told so.
+fn is_told(alloc: Global, (error, number, text): &Told) -> Result<bool, Error> {
+    Ok(format!(in alloc; "{error}")?.as_str() == *text && error.number() == *number)
 }
 
 #[test]
-fn words_are_printed(rt: HostRuntime) -> Result<(), Fail> {
-    are_all_printed(&rt, rt.alloc(), &WORDS)?;
-    Ok(())
-}
-
-#[test]
-fn errors_are_told(rt: HostRuntime) -> Result<(), Fail> {
-    for (error, number, text) in &errors() {
-        assert!(rt; error.number() == *number, "{text}");
-        assert!(rt; is_told(rt.alloc(), error, text)?, "{text}");
+fn errors_are_told(rt: HostRuntime) {
+    for (row, error) in errors().iter().enumerate() {
+        check(&rt, &is_told(rt.alloc(), error), row);
     }
     let fault = Error::Medium(MediumFault::Open);
-    assert!(rt; is_printed(rt.alloc(), &fault, "Medium(Open)"));
-    Ok(())
+    check(&rt, &Ok(is_printed(rt.alloc(), &fault, "Medium(Open)")), 14);
+}
+
+fn is_header_printed(alloc: Global) -> Result<bool, Error> {
+    let bytes = with([0xff; HEADER_LEN], &[(0, HEADER)]);
+    let header = Header::read_from(&bytes, Validation::Strict)?;
+    Ok(is_printed(alloc, &header, HEADER_TEXT))
 }
 
 #[test]
-fn headers_are_printed(rt: HostRuntime) -> Result<(), Fail> {
-    let bytes = with([0xff; HEADER_LEN], &[(0, HEADER)]);
-    let header = Header::read_from(&bytes, Validation::Strict)?;
-    assert!(rt; is_printed(rt.alloc(), &header, HEADER_TEXT));
-    Ok(())
+fn headers_are_printed(rt: HostRuntime) {
+    check(&rt, &is_header_printed(rt.alloc()), 0);
 }

@@ -84,7 +84,7 @@ module _ (causes : Causes) (setting : Setting) (old new : TreeState) where
       go true h = still (kind_of call) reply h
       go false (inl f) =
           absurd (followed_never_says reply says (Step-rules setting.cases setting.stream.sound old.root_len old.tree new.tree call reply f.step))
-      go false (inr ((r, may, is), off)) = absurd (broken_never_says causes (kind_on setting.cases old.tree call) r (subst (λ (x : Reply). IsTrue (says_failed x)) is says) may)
+      go false (inr ((r, may, is, rules), off)) = absurd (broken_never_says causes (kind_on setting.cases old.tree call) r (subst (λ (x : Reply). IsTrue (says_failed x)) is says) may)
 
   -- a refused flush leaves it failed
   flush_told : (reply : Reply) → IsTrue (is_refusal reply) → CallRuns causes setting old flush reply new → new.failed ≡ true

@@ -1,8 +1,8 @@
 -- Calls on a stream that lend nothing, and reads for which memory was refused, by the rules.
 use Rattle.std.proofs.Common.{◌≡◌, ◌∙◌, ◌+◌, ◌-◌, ◌≤◌, ℕ, Bool, true, false, List, [], refl, sym, ap, subst, inl, inr, length, drop, min}
-use Rattle.std.specs.Prelude.{◌||◌, ◌&&◌, ◌==◌, ◌⊎◌, Option, Some, None, MatchBool, MatchOption, nat_le, nat_lt}
+use Rattle.std.specs.Prelude.{◌||◌, ◌&&◌, ◌==◌, ◌⊎◌, Option, Some, None, MatchBool, MatchOption, nat_le, nat_lt, if◌then◌else◌}
 use Rattle.cfb_rules.specs.Refusal.{failed_earlier, invalid_data, invalid_input, not_sound, out_of_memory}
-use Rattle.cfb_rules.specs.Runs.{Causes, IsStreamBroken, StaysUnfailed, StreamCallRuns, StreamOnFailed, StreamRun, Work, WorkMayBreak, is_never_refused, is_served, reading, work_of}
+use Rattle.cfb_rules.specs.Runs.{Causes, IsAllowed, IsStreamBroken, StaysUnfailed, StreamCallRuns, StreamOnFailed, StreamRun, Work, WorkMayBreak, appending, is_never_refused, is_served, moving, no_work, overwriting, reading, resizing, work_of}
 use Rattle.cfb_sequences.proofs.Lists.{short-read}
 use Rattle.cfb_rules.specs.StreamCalls.{Becomes, Moves, Read, ReadToEnd, ReadsOn, Wrote, resized, Seek, Serves, SetLen, StreamCall, StreamReply, StreamSetting, StreamState, StreamStep, Whence, Write, ask_is_empty, ask_len, ask_position, consume, count, fill_buf, flush, got, not_done, offset, read, read_to_end, ready, seek, set_len, sought, write}
 
@@ -90,11 +90,11 @@ pub runs_lend : (causes : Causes) (setting : StreamSetting) (old new : StreamRun
 runs_lend causes setting old new call reply none before runs calm = go old.failed refl runs
   where
     go : (b : Bool) → old.failed ≡ b → MatchBool b (StreamOnFailed call reply new)
-        ((StreamStep setting old.stream call reply new.stream × (new.failed ≡ false)) ⊎ IsStreamBroken causes old.stream call reply new) → new.stream.ahead ≡ 0
+        ((StreamStep setting old.stream call reply new.stream × (new.failed ≡ false)) ⊎ IsStreamBroken causes setting old.stream call reply new) → new.stream.ahead ≡ 0
     go true was h = absurd (let w : true ≡ false = sym h.0 ∙ calm in cc)
     go false was (inl h) = step_lends setting old.stream new.stream reply (before was) call none h.0
-    go false was (inr (refusal, may, is, inl stays)) = ap (λ (r : StreamRun). r.stream.ahead) stays.1
-    go false was (inr (refusal, may, is, inr fails)) = absurd (let w : true ≡ false = sym fails.1 ∙ calm in cc)
+    go false was (inr (refusal, may, is, inl stays, allowed)) = ap (λ (r : StreamRun). r.stream.ahead) stays.1
+    go false was (inr (refusal, may, is, inr fails, allowed)) = absurd (let w : true ≡ false = sym fails.1 ∙ calm in cc)
 
 -- ---- a read that is refused before it begins
 
@@ -103,7 +103,7 @@ module _ (causes : Causes) (setting : StreamSetting) (run : StreamRun) (call : S
   pub failed_runs : run.failed ≡ true → is_never_refused call ≡ false → StreamCallRuns causes setting run call (not_done failed_earlier) run
   failed_runs failed never =
       subst (λ (b : Bool). MatchBool b (StreamOnFailed call (not_done failed_earlier) run)
-      ((StreamStep setting run.stream call (not_done failed_earlier) run.stream × (run.failed ≡ false)) ⊎ IsStreamBroken causes run.stream call (not_done failed_earlier) run))
+      ((StreamStep setting run.stream call (not_done failed_earlier) run.stream × (run.failed ≡ false)) ⊎ IsStreamBroken causes setting run.stream call (not_done failed_earlier) run))
       (sym failed) (failed, subst (λ (b : Bool). MatchBool b (is_served (not_done failed_earlier) ≡ true) (not_done failed_earlier ≡ not_done failed_earlier)) (sym never) refl)
 
   may_break : (pending : Bool) → WorkMayBreak causes pending reading out_of_memory
@@ -114,10 +114,26 @@ module _ (causes : Causes) (setting : StreamSetting) (run : StreamRun) (call : S
   may_stay true = refl
   may_stay false = tt
 
+  writes_not : (none before : Bool) → (if none then no_work else if before then overwriting else appending) ≡ reading → ⊥
+  writes_not true before e = cc
+  writes_not false true e = cc
+  writes_not false false e = cc
+
+  sets_not : (same : Bool) → (if same then no_work else resizing) ≡ reading → ⊥
+  sets_not true e = cc
+  sets_not false e = cc
+
+  -- the rules refuse no read before it begins
+  reads_allowed : (c : StreamCall) → work_of run.stream c ≡ reading → IsAllowed setting run.stream c
+  reads_allowed (write bytes) reads = absurd (writes_not (length bytes == 0) (nat_lt run.stream.position run.stream.len) reads)
+  reads_allowed (seek whence) reads = absurd (let w : moving ≡ reading = reads in cc)
+  reads_allowed (set_len len) reads = absurd (sets_not (len == run.stream.len) reads)
+  reads_allowed c reads = tt
+
   -- memory was refused, where nothing is lent
   pub memory_runs : run.failed ≡ false → run.stream.ahead ≡ 0 → work_of run.stream call ≡ reading → StreamCallRuns causes setting run call (not_done out_of_memory) run
   memory_runs calm nothing reads =
-      let broken : IsStreamBroken causes run.stream call (not_done out_of_memory) run = (
+      let broken : IsStreamBroken causes setting run.stream call (not_done out_of_memory) run = (
         out_of_memory,
         subst (λ (w : Work). WorkMayBreak causes run.stream.pending w out_of_memory) (sym reads) (may_break run.stream.pending),
         refl,
@@ -125,9 +141,10 @@ module _ (causes : Causes) (setting : StreamSetting) (run : StreamRun) (call : S
           subst (λ (w : Work). StaysUnfailed run.stream.pending w out_of_memory) (sym reads) (may_stay run.stream.pending),
           λ j. record { stream = record run.stream { ahead = nothing j }; failed = calm j },
         ),
+        reads_allowed call reads,
       ) in
       subst (λ (b : Bool). MatchBool b (StreamOnFailed call (not_done out_of_memory) run)
-      ((StreamStep setting run.stream call (not_done out_of_memory) run.stream × (run.failed ≡ false)) ⊎ IsStreamBroken causes run.stream call (not_done out_of_memory) run))
+      ((StreamStep setting run.stream call (not_done out_of_memory) run.stream × (run.failed ≡ false)) ⊎ IsStreamBroken causes setting run.stream call (not_done out_of_memory) run))
       (sym calm) (inr broken)
 
 -- ---- a read of no more than is left
@@ -136,8 +153,8 @@ pub short_runs : (causes : Causes) (setting : StreamSetting) (old new : StreamRu
     → old.stream.position ≤ old.stream.len → StreamCallRuns causes setting old (read less) reply new → StreamCallRuns causes setting old (read wanted) reply new
 short_runs causes setting old new reply wanted less is inside = go old.failed
   where
-    go : (b : Bool) → MatchBool b (StreamOnFailed (read less) reply new) ((StreamStep setting old.stream (read less) reply new.stream × (new.failed ≡ false)) ⊎ IsStreamBroken causes old.stream (read less) reply new)
-        → MatchBool b (StreamOnFailed (read wanted) reply new) ((StreamStep setting old.stream (read wanted) reply new.stream × (new.failed ≡ false)) ⊎ IsStreamBroken causes old.stream (read wanted) reply new)
+    go : (b : Bool) → MatchBool b (StreamOnFailed (read less) reply new) ((StreamStep setting old.stream (read less) reply new.stream × (new.failed ≡ false)) ⊎ IsStreamBroken causes setting old.stream (read less) reply new)
+        → MatchBool b (StreamOnFailed (read wanted) reply new) ((StreamStep setting old.stream (read wanted) reply new.stream × (new.failed ≡ false)) ⊎ IsStreamBroken causes setting old.stream (read wanted) reply new)
     go true h = h
     go false (inl h) = inl (short-read old.stream new.stream reply wanted inside (subst (λ (n : ℕ). Read n old.stream reply new.stream) is h.0), h.1)
     go false (inr h) = inr h

@@ -135,6 +135,7 @@ refused-for-memory file call e kind is = (out_of_memory, ap number_of is, λ tre
         out_of_memory,
         subst (λ (k : CallKind). MayBreak (causes_of_call file file) k out_of_memory) (sym (kind_same (cases_of file.base) tree call asking kind (λ w. cc))) tt,
         refl,
+        inl (refl, refl),
       ),
       subst (λ (k : CallKind). CallBreaksOff k (state_with file tree) (state_with file tree)) (sym kind) (inl (refl, refl)),
     )

@@ -30,13 +30,13 @@ module _ (file : FileState) (call : Call) where
         (inl (record { step = step tree (means calm); root_len = inr refl; unfailed = calm })),
   )
 
-  breaks : (refusal : Refusal) → is_failed file ≡ false → ((tree : Tree) → MayBreak (causes_of_call file file) (kind_on (cases_of file.base) tree call) refusal) → IsTrue (may_stay (kind_of call)) → Answers file call (refused refusal)
+  breaks : is_failed file ≡ false → ((tree : Tree) → MayBreak (causes_of_call file file) (kind_on (cases_of file.base) tree call) out_of_memory) → IsTrue (may_stay (kind_of call)) → Answers file call (refused out_of_memory)
   unfolding RunsOn
-  breaks refusal calm may stays = λ (tree : Tree) (means : MeansTree file tree). (
+  breaks calm may stays = λ (tree : Tree) (means : MeansTree file tree). (
     tree,
     means,
-    runs_unfailed (causes_of_call file file) (setting_of file) (state_with file tree) call (refused refusal) (state_with file tree) calm
-        (inr ((refusal, may tree, refl), inl (stays, refl))),
+    runs_unfailed (causes_of_call file file) (setting_of file) (state_with file tree) call (refused out_of_memory) (state_with file tree) calm
+        (inr ((out_of_memory, may tree, refl, inl (refl, refl)), inl (stays, refl))),
   )
 
   failed_before : is_failed file ≡ true → ((s : TreeState) → s.failed ≡ true → OnFailed (causes_of_call file file) (kind_of call) (refused failed_earlier) s) → Answers file call (refused failed_earlier)
@@ -82,4 +82,4 @@ module _ (file : FileState) (path : List ℕ) (call : Call) (agrees : Agrees fil
   not_found_answers Unsound why = absurd why
 
   pub memory_answers : (e : Error) → e ≡ Memory → is_failed file ≡ false → ((tree : Tree) → MayBreak (causes_of_call file file) (kind_on (cases_of file.base) tree call) out_of_memory) → IsTrue (may_stay (kind_of call)) → AnswersNot file call e
-  memory_answers e is calm may stays = subst (λ (x : Error). AnswersNot file call x) (sym is) (out_of_memory, refl, breaks file call out_of_memory calm may stays)
+  memory_answers e is calm may stays = subst (λ (x : Error). AnswersNot file call x) (sym is) (out_of_memory, refl, breaks file call calm may stays)

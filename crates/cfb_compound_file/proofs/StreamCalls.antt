@@ -145,14 +145,14 @@ pub flushing_failed : (causes : Causes) (s t : Stored) (w x : Window) (refusal :
 unfolding Runs
 flushing_failed causes s t w x refusal = go s.failed
   where
-    broken : IsStreamBroken causes (state_of s w) flush (not_done refusal) (run_of t x) → t.failed ≡ true
+    broken : IsStreamBroken causes (stream_setting_of s) (state_of s w) flush (not_done refusal) (run_of t x) → t.failed ≡ true
     broken why = elim why.3 [
       | inl stays ↦ absurd (never_unfailed w.pending why.0 stays.0)
       | inr failed ↦ failed.1
     ]
 
     go : (b : Bool) → MatchBool b (StreamOnFailed flush (not_done refusal) (run_of t x))
-        ((StreamStep (stream_setting_of s) (state_of s w) flush (not_done refusal) (state_of t x) × (t.failed ≡ false)) ⊎ IsStreamBroken causes (state_of s w) flush (not_done refusal) (run_of t x))
+        ((StreamStep (stream_setting_of s) (state_of s w) flush (not_done refusal) (state_of t x) × (t.failed ≡ false)) ⊎ IsStreamBroken causes (stream_setting_of s) (state_of s w) flush (not_done refusal) (run_of t x))
         → t.failed ≡ true
     go true why = why.0
     go false why = elim why [

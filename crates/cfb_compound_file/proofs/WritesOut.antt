@@ -38,7 +38,7 @@ runs-broken old new unfailed failed rises tree means = (
   tree,
   (λ calm. absurd (let w : true ≡ false = sym failed ∙ calm in cc)),
   runs_unfailed (causes_of_call old new) (setting_of old) (state_with old tree) flush (refused medium_failed) (state_with new tree) unfailed
-      (inr ((medium_failed, rises, refl), inr (refl, failed))),
+      (inr ((medium_failed, rises, refl, inr refl), inr (refl, failed))),
 )
 
 -- the file as it was is in order

@@ -1,5 +1,6 @@
 //! Directories in memory that other writers left out of balance, looked up in and changed.
 use crate::changed::{opened, put, reached, take};
+use crate::checked::check;
 use crate::directories::chain;
 use crate::texts::directory_said;
 use cfb_codecs::direntry::DirEntry;
@@ -7,8 +8,6 @@ use cfb_entries::entries::Entries;
 use cfb_format::error::Error;
 use cfb_format::validate::Validation::Permissive;
 use std::alloc::Global;
-use std::process::Abort;
-use std::test::Fail;
 
 /// What is done with a name, or asked, and the number that answers it. `+`: it is put in, and gets the number. `-`: it is taken out, and so many
 /// slots change, where it is said. `?`: it is found in the root. `/`: it is found in the root's `a`. `#`: so many entries are reached.
@@ -34,29 +33,24 @@ fn is_answered(
     Ok(answer == *wanted)
 }
 
-/// Takes these steps in the storage at these names.
-fn change(
-    rt: &impl Abort,
+/// Whether these steps in the storage at these names are answered so.
+fn are_answered(
     alloc: Global,
     entries: &mut Entries,
     names: &[&str],
     steps: &[Step],
-) -> Result<(), Error> {
-    for (i, step) in steps.iter().enumerate() {
-        assert!(rt; is_answered(alloc, entries, names, step)?, "step {i}");
+) -> Result<bool, Error> {
+    let mut right = true;
+    for step in steps {
+        right = is_answered(alloc, entries, names, step)? && right;
     }
-    Ok(())
+    Ok(right)
 }
 
-/// Takes these steps in the root of a directory.
-fn change_list(
-    rt: &impl Abort,
-    alloc: Global,
-    list: Vec<DirEntry>,
-    steps: &[Step],
-) -> Result<(), Error> {
+/// The same in the root of a directory.
+fn is_changed(alloc: Global, list: Vec<DirEntry>, steps: &[Step]) -> Result<bool, Error> {
     let mut entries = opened(alloc, list, Permissive)?;
-    change(rt, alloc, &mut entries, &[], steps)
+    are_answered(alloc, &mut entries, &[], steps)
 }
 
 #[rattlefmt::skip]
@@ -65,11 +59,13 @@ const MANY: &[Step] = &[
     (b'?', "20001", Some(20_001)), (b'+', "x", Some(10_000)), (b'?', "X", Some(10_000)), (b'#', "", Some(20_001)),
 ];
 
+fn are_many_changed(alloc: Global) -> Result<bool, Error> {
+    is_changed(alloc, chain(alloc, 20_000, false)?, MANY)
+}
+
 #[test]
-fn twenty_thousand_side_by_side_are_changed(rt: HostRuntime) -> Result<(), Fail> {
-    let list = chain(rt.alloc(), 20_000, false)?;
-    change_list(&rt, rt.alloc(), list, MANY)?;
-    Ok(())
+fn twenty_thousand_side_by_side_are_changed(rt: HostRuntime) {
+    check(&rt, &are_many_changed(rt.alloc()), 0);
 }
 
 #[rattlefmt::skip]
@@ -77,33 +73,29 @@ const DEEP: &[Step] = &[(b'+', "b", Some(2_001)), (b'+', "c", Some(2_002)), (b'-
 
 const LAST: &[Step] = &[(b'-', "a", None), (b'#', "", Some(1_999))];
 
-/// The last of 2000 storages is filled, emptied and taken out of the one above.
-fn change_last(
-    rt: &impl Abort,
+/// Whether the last of 2000 storages is filled, emptied and taken out of the one above.
+fn is_last_changed(
     alloc: Global,
     entries: &mut Entries,
     names: &[&str],
     above: &[&str],
-) -> Result<(), Error> {
-    assert!(rt; entries.find(names) == Some(2_000));
-    change(rt, alloc, entries, names, DEEP)?;
-    change(rt, alloc, entries, above, LAST)?;
-    assert!(rt; entries.find(names).is_none());
-    assert!(rt; entries.find(above) == Some(1_999));
-    Ok(())
+) -> Result<bool, Error> {
+    let found = entries.find(names) == Some(2_000);
+    let filled = are_answered(alloc, entries, names, DEEP)?;
+    let taken = are_answered(alloc, entries, above, LAST)?;
+    let gone = entries.find(names).is_none() && entries.find(above) == Some(1_999);
+    Ok(found && filled && taken && gone)
 }
 
-fn change_deep(rt: &impl Abort, alloc: Global, entries: &mut Entries) -> Result<(), Error> {
+fn is_deep_changed(alloc: Global) -> Result<bool, Error> {
     let names = ["a"; 2_000];
-    change_last(rt, alloc, entries, &names, &names[1..])
+    let mut entries = opened(alloc, chain(alloc, 2_000, true)?, Permissive)?;
+    is_last_changed(alloc, &mut entries, &names, &names[1..])
 }
 
 #[test]
-fn two_thousand_in_each_other_are_changed(rt: HostRuntime) -> Result<(), Fail> {
-    let list = chain(rt.alloc(), 2_000, true)?;
-    let mut entries = opened(rt.alloc(), list, Permissive)?;
-    change_deep(&rt, rt.alloc(), &mut entries)?;
-    Ok(())
+fn two_thousand_in_each_other_are_changed(rt: HostRuntime) {
+    check(&rt, &is_deep_changed(rt.alloc()), 0);
 }
 
 /// The entries, and the steps.
@@ -129,15 +121,13 @@ const ROWS: [Row; 3] = [
     ),
 ];
 
-fn are_changed(rt: &impl Abort, alloc: Global, rows: &[Row]) -> Result<(), Error> {
-    for (text, steps) in rows {
-        change_list(rt, alloc, directory_said(alloc, text)?, steps)?;
-    }
-    Ok(())
+fn is_small_changed(alloc: Global, (text, steps): &Row) -> Result<bool, Error> {
+    is_changed(alloc, directory_said(alloc, text)?, steps)
 }
 
 #[test]
-fn small_directories_are_changed(rt: HostRuntime) -> Result<(), Fail> {
-    are_changed(&rt, rt.alloc(), &ROWS)?;
-    Ok(())
+fn small_directories_are_changed(rt: HostRuntime) {
+    for (number, row) in ROWS.iter().enumerate() {
+        check(&rt, &is_small_changed(rt.alloc(), row), number);
+    }
 }

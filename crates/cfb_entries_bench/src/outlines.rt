@@ -1,16 +1,13 @@
-//! Which directories have an outline, in which mode, and what is listed of them.
-use crate::directories::{chain, is_stream, reached_at};
+//! Which directories have an outline, and in which mode.
+use crate::checked::check;
 use crate::texts::directory_said;
 use cfb_codecs::direntry::DirEntry;
 use cfb_codecs::path::CaseMapper;
 use cfb_format::consts::NO_STREAM as NONE;
 use cfb_format::error::Error;
 use cfb_format::validate::Validation::{self, Permissive, Strict};
-use cfb_outline::listing::contents;
 use cfb_outline::outline::reached_entries;
-use std::alloc::{Allocator, Global};
-use std::process::Abort;
-use std::test::Fail;
+use std::alloc::Global;
 
 /// What stands for a directory that is refused.
 const REFUSED: &[u32] = &[NONE];
@@ -61,16 +58,6 @@ fn reaches(alloc: Global, entries: &[DirEntry], mode: Validation, wanted: &[u32]
     }
 }
 
-fn is_found_or_refused(rt: &impl Abort, alloc: Global, entries: &[DirEntry], row: &Row) {
-    let (about, _, _, wanted, strict) = row;
-    assert!(rt; reaches(alloc, entries, Permissive, wanted), "{about}");
-    let wanted = if *strict { *wanted } else { REFUSED };
-    assert!(rt;
-        reaches(alloc, entries, Strict, wanted),
-        "{about}, strictly"
-    );
-}
-
 /// The entries of a row.
 fn given(alloc: Global, row: &Row) -> Result<Vec<DirEntry>, Error> {
     let mut entries = directory_said(alloc, row.1)?;
@@ -80,91 +67,17 @@ fn given(alloc: Global, row: &Row) -> Result<Vec<DirEntry>, Error> {
     Ok(entries)
 }
 
-fn are_found_or_refused(rt: &impl Abort, alloc: Global, rows: &[Row]) -> Result<(), Error> {
-    for row in rows {
-        let entries = given(alloc, row)?;
-        is_found_or_refused(rt, alloc, &entries, row);
-    }
-    Ok(())
+fn is_found_or_refused(alloc: Global, row: &Row) -> Result<bool, Error> {
+    let (_, _, _, wanted, strict) = *row;
+    let entries = given(alloc, row)?;
+    let is_found = reaches(alloc, &entries, Permissive, wanted);
+    let wanted = if strict { wanted } else { REFUSED };
+    Ok(is_found && reaches(alloc, &entries, Strict, wanted))
 }
 
 #[test]
-fn outlines_are_found_or_refused(rt: HostRuntime) -> Result<(), Fail> {
-    are_found_or_refused(&rt, rt.alloc(), &ROWS)?;
-    Ok(())
-}
-
-/// All that is in the root, or in the entry at this place in the order of what is reached, which for a stream is
-/// nothing.
-pub fn listed<A: Allocator + Clone>(
-    alloc: A,
-    entries: &[DirEntry<A>],
-    place: Option<usize>,
-) -> Result<Vec<u32, A>, Error> {
-    let number = reached_at(alloc.clone()?, entries, place)?;
-    if is_stream(entries, number) {
-        return Ok(Vec::new(alloc));
+fn outlines_are_found_or_refused(rt: HostRuntime) {
+    for (number, row) in ROWS.iter().enumerate() {
+        check(&rt, &is_found_or_refused(rt.alloc(), row), number);
     }
-    contents(alloc, entries, number)
-}
-
-/// A place in the order of what is reached in `NESTED`, and what is listed.
-const LISTINGS: [(Option<usize>, &[u32]); 3] = [
-    (None, &[1, 5, 4, 2, 3]),
-    (Some(0), &[5, 4]),
-    (Some(3), &[]),
-];
-
-fn is_listed(
-    alloc: Global,
-    entries: &[DirEntry],
-    place: Option<usize>,
-    wanted: &[u32],
-) -> Result<bool, Error> {
-    Ok(listed(alloc, entries, place)?.as_slice() == wanted)
-}
-
-fn are_listed(rt: &impl Abort, alloc: Global, entries: &[DirEntry]) -> Result<(), Error> {
-    for (place, wanted) in &LISTINGS {
-        assert!(rt; is_listed(alloc, entries, *place, wanted)?, "at {place:?}");
-    }
-    Ok(())
-}
-
-#[test]
-fn contents_are_listed(rt: HostRuntime) -> Result<(), Fail> {
-    let entries = directory_said(rt.alloc(), NESTED)?;
-    are_listed(&rt, rt.alloc(), &entries)?;
-    Ok(())
-}
-
-/// How many entries there are, whether one is in the other, a place, and how many are below it.
-type Chain = (u32, bool, Option<usize>, usize);
-
-const CHAINS: [Chain; 3] = [
-    (20_000, false, None, 20_000),
-    (2_000, true, None, 2_000),
-    (2_000, true, Some(999), 1_000),
-];
-
-/// How many entries are reached, and the last of them.
-fn end_of(alloc: Global, entries: &[DirEntry]) -> Result<(usize, Option<u32>), Error> {
-    let cases = CaseMapper::new(alloc)?;
-    let order = reached_entries(alloc, &cases, entries, Strict)?;
-    Ok((order.len(), order.last().copied()))
-}
-
-fn is_walked(alloc: Global, entries: &[DirEntry], row: &Chain) -> Result<bool, Error> {
-    let (count, _, place, below) = row;
-    let is_whole = end_of(alloc, entries)? == (*count as usize, Some(*count));
-    Ok(is_whole && listed(alloc, entries, *place)?.len() == *below)
-}
-
-#[test]
-fn long_chains_are_walked(rt: HostRuntime) -> Result<(), Fail> {
-    for row in &CHAINS {
-        let entries = chain(rt.alloc(), row.0, row.1)?;
-        assert!(rt; is_walked(rt.alloc(), &entries, row)?, "{}", row.0);
-    }
-    Ok(())
 }

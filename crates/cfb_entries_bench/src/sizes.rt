@@ -1,4 +1,5 @@
 //! How many sectors objects need.
+use crate::checked::check;
 use crate::directories::{Given, directory};
 use cfb_codecs::direntry::DirEntry;
 use cfb_copy_sizes::needs::is_too_large;
@@ -7,9 +8,7 @@ use cfb_format::consts::NO_STREAM as NONE;
 use cfb_format::error::Error;
 use cfb_format::objtype::ObjType::{Root, Storage, Stream, Unallocated};
 use cfb_format::version::Version::{self, V3, V4};
-use std::alloc::{Allocator, Global};
-use std::process::Abort;
-use std::test::Fail;
+use std::alloc::Global;
 
 /// The length of a stream, a version, and how many sectors it needs alone.
 type StreamRow = (u64, Version, u32);
@@ -48,12 +47,7 @@ const ROWS: [Row; 8] = [
 ];
 
 /// Whether the objects of these numbers need just so many sectors.
-fn needs<A: Allocator>(
-    entries: &[DirEntry<A>],
-    order: &[u32],
-    version: Version,
-    sectors: u32,
-) -> bool {
+fn needs(entries: &[DirEntry], order: &[u32], version: Version, sectors: u32) -> bool {
     if sectors == 0 {
         return is_too_large(entries, order, version, u32::MAX);
     }
@@ -67,28 +61,21 @@ fn stream_needs(alloc: Global, (len, version, sectors): &StreamRow) -> Result<bo
     Ok(needs(&entries, &[1], *version, *sectors))
 }
 
-fn streams_need(rt: &impl Abort, alloc: Global, rows: &[StreamRow]) -> Result<(), Error> {
-    for row in rows {
-        assert!(rt; stream_needs(alloc, row)?, "{} bytes", row.0);
-    }
-    Ok(())
-}
-
 #[test]
-fn one_stream(rt: HostRuntime) -> Result<(), Fail> {
-    streams_need(&rt, rt.alloc(), &STREAMS)?;
-    Ok(())
-}
-
-fn objects_need(rt: &impl Abort, entries: &[DirEntry], rows: &[Row]) {
-    for (order, version, sectors) in rows {
-        assert!(rt; needs(entries, order, *version, *sectors), "{order:?}");
+fn one_stream(rt: HostRuntime) {
+    for (number, row) in STREAMS.iter().enumerate() {
+        check(&rt, &stream_needs(rt.alloc(), row), number);
     }
 }
 
+fn objects_need(alloc: Global, (order, version, sectors): &Row) -> Result<bool, Error> {
+    let entries = directory(alloc, ENTRIES)?;
+    Ok(needs(&entries, order, *version, *sectors))
+}
+
 #[test]
-fn several_objects(rt: HostRuntime) -> Result<(), Fail> {
-    let entries = directory(rt.alloc(), ENTRIES)?;
-    objects_need(&rt, &entries, &ROWS);
-    Ok(())
+fn several_objects(rt: HostRuntime) {
+    for (number, row) in ROWS.iter().enumerate() {
+        check(&rt, &objects_need(rt.alloc(), row), number);
+    }
 }

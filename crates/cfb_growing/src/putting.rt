@@ -81,8 +81,8 @@ fn append_content<F: Medium, A: Heap + Clone>(
 }
 
 /// Puts a beginning of `bytes` into the stream of that entry at byte `at`, and answers how many bytes that is: none exactly where there is
-/// none. Inside the length it goes as far as the end, and changes the file alone; at the end the stream grows first, as far as there are
-/// numbers.
+/// none, and nothing changes then. Inside the length it goes as far as the end, and changes the file alone; at the end the stream grows first,
+/// as far as there are numbers.
 ///
 /// `Full` only at the end, where not one byte more could be had before, and then with full tables, or with all mini sectors that there may
 /// be in use; `InvalidData` where the stream's chain is none or the file ends before it; `Memory`. After `Medium`, where the medium fails,
@@ -99,6 +99,7 @@ pub fn put_content<F: Medium, A: Heap + Clone>(
     requires limit { at + length bytes.now ≤ max_stream_len (version_of mini.old) }
     ensures count { IfOk result (λ n. n ≤ length bytes.now) }
     ensures some { 0 < length bytes.now → IfOk result (λ n. 0 < n) }
+    ensures none { length bytes.now ≡ 0 → OnErr result ⊥ × (mini.new ≡ mini.old) }
     ensures len { IfOk result (λ n. len_of mini.new entry ≡ max (len_of mini.old entry) (at + n)) }
     ensures content { IsTrue F.tells → (validation : Validation) → IsChangeable validation mini.old
         → IfOk result (λ n. content_of mini.new (entry_at (entries_of mini.new) entry)

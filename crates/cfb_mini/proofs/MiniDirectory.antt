@@ -41,7 +41,7 @@ use Rattle.cfb_mini_sectors.proofs.HeldMini.{if-strict, mini-stays-held, no-tabl
 use Rattle.cfb_mini_sectors.proofs.HeldSteps.{directory-minifat, front-stream}
 use Rattle.cfb_mini_sectors.proofs.MiniStreams.{chain-is-stream, stream-chain, stream-is-chain, begins}
 use Rattle.cfb_mini_sectors.proofs.MiniWords.{held-words-kept, minifat-kept}
-use Rattle.cfb_mini.proofs.MiniKnown.{held-stream}
+use Rattle.cfb_mini_changes.proofs.MiniKnown.{held-stream}
 use Rattle.cfb_mini.proofs.RootStays.{SameContent, cleared-root, inserted-root, removed-root, same-entry}
 use Rattle.std.proofs.lemmas.Bool.{cases_eq}
 use Rattle.std.proofs.lemmas.List.Elements.{Contains-append_cases, Contains-append_left, Contains-append_right}

@@ -21,7 +21,7 @@ use Rattle.cfb_alloc.specs.Alloc.{AllocatorState, HoldsTables}
 use Rattle.cfb_alloc.specs.Frame.{Spares}
 use Rattle.cfb_alloc.specs.InSector.{IsNoTableSector}
 use Rattle.cfb_alloc.proofs.HeldOrder.{members-no_table}
-use Rattle.cfb_chains.proofs.ChainWrites.{after_medium}
+use Rattle.cfb_directory.proofs.InsertGrow.{medium-broke}
 use Rattle.cfb_directory.proofs.Placed.{header_there}
 use Rattle.cfb_mini_sectors.specs.State.{MiniState, HoldsMini, bytes_of, entries_of, mini_place, mini_stream_of, table_of, tables_in, version_of}
 use Rattle.cfb_mini_sectors.specs.Steps.{SparesMini, StopsShort}
@@ -29,8 +29,8 @@ use Rattle.cfb_mini_sectors.specs.Held.{with_table}
 use Rattle.cfb_mini_sectors.specs.Pieces.{HasMini}
 use Rattle.cfb_mini_sectors.proofs.HeldSteps.{front-stream}
 use Rattle.cfb_mini_sectors.proofs.MiniStreams.{chain-is-stream, stream-chain}
-use Rattle.cfb_mini.specs.MiniSectors.{HasMiniByte}
-use Rattle.cfb_mini.proofs.MiniKnown.{has-mini, held-stream, mini-has, mini-or-not}
+use Rattle.cfb_mini_changes.specs.MiniSectors.{HasMiniByte}
+use Rattle.cfb_mini_changes.proofs.MiniKnown.{has-mini, held-stream, mini-has, mini-or-not}
 use Rattle.cfb_mini.proofs.MiniWritten.{held-bytes, spares-mini-refl, written-spares-mini}
 
 -- what holds of the parts holds of the state
@@ -156,6 +156,6 @@ write-stops (Err e) s a b stream mini ea es missing there =
     let missing_here = at-parts s (λ c l. (HasMini c.tables.version l (length c.tables.fat) mini → ⊥) → IsInvalidData e × (b ≡ c)) a stream ea es missing in
     let there_here = at-parts s (λ c l. HasMini c.tables.version l (length c.tables.fat) mini → IsMediumError e × (b.file.begun ≡ true)) a stream ea es there in
     elim (has-no-mini s mini) [
-      | inr here ↦ let t = there_here here in after_medium (b.file.begun ≡ true) (with_table s b ≡ s) e t.0 t.1
+      | inr here ↦ let t = there_here here in medium-broke (b.file.begun ≡ true) (with_table s b ≡ s) t.1 e t.0
       | inl out ↦ let m = missing_here out in after-invalid (b.file.begun ≡ true) (with_table s b ≡ s) e m.0 (ap (λ (c : AllocatorState). with_table s c) m.1)
     ]

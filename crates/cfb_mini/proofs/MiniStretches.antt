@@ -20,8 +20,8 @@ use Rattle.cfb_mini_sectors.specs.Steps.{SparesMini}
 use Rattle.cfb_mini_sectors.specs.Held.{with_table}
 use Rattle.cfb_mini_sectors.proofs.PiecePlaces.{minis_apart}
 use Rattle.cfb_mini.specs.MiniRuns.{ChangesMiniStretch, HasTheMinis, IsMiniRun, IsMiniStretch}
-use Rattle.cfb_mini.specs.MiniSectors.{HasMiniSector}
-use Rattle.cfb_mini.proofs.MiniKnown.{mini_below, mini_index}
+use Rattle.cfb_mini_changes.specs.MiniSectors.{HasMiniSector}
+use Rattle.cfb_mini_changes.proofs.MiniKnown.{mini_below, mini_index}
 use Rattle.cfb_mini.proofs.MiniWritten.{busy-mini}
 
 -- ---- where a byte of the mini stream lies

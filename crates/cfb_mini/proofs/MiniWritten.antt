@@ -20,12 +20,12 @@ use Rattle.std.proofs.lemmas.List.Elements.{Contains-append_right}
 use Rattle.cfb_mini_sectors.specs.State.{MiniState, HoldsMini, IsStrictMini, bytes_of, entries_of, mini_place, mini_stream_of, root_len_of, table_of, tables_in, version_of}
 use Rattle.cfb_mini_sectors.specs.Steps.{SparesMini}
 use Rattle.cfb_mini_sectors.specs.Held.{with_table}
-use Rattle.cfb_mini.specs.MiniSectors.{HasMiniSector}
+use Rattle.cfb_mini_changes.specs.MiniSectors.{HasMiniSector}
 use Rattle.cfb_mini_sectors.proofs.HeldMini.{if-strict, no-tables}
 use Rattle.cfb_mini_sectors.proofs.HeldSteps.{but-written, held-but}
 use Rattle.cfb_mini_sectors.proofs.MiniStreams.{stream_chain}
 use Rattle.cfb_mini_sectors.proofs.MiniWords.{minifat-kept}
-use Rattle.cfb_mini.proofs.MiniKnown.{held-sectors, known-mini, mini_index}
+use Rattle.cfb_mini_changes.proofs.MiniKnown.{held-sectors, known-mini, mini_index}
 use Rattle.cfb_mini_sectors.proofs.PiecePlaces.{minis_apart}
 
 pub spares-mini-refl : (own : List ℕ) (s : MiniState) → SparesMini own s s

@@ -13,7 +13,7 @@ ghost use Rattle.cfb_format.specs.Header.{IfStrict};
 ghost use Rattle.cfb_format.specs.Medium.{ChangesOnlyBytes, part, written};
 ghost use Rattle.cfb_format.specs.Names.{is_valid_name};
 ghost use Rattle.cfb_format.specs.Reading.{IsOutline, Outline, numbers};
-ghost use Rattle.cfb_format.specs.Refused.{AfterMedium, CountsFailure, IsInvalidData, IsInvalidOrMemory};
+ghost use Rattle.cfb_format.specs.Refused.{AfterMedium, CountsFailure, IsInvalidData, IsInvalidOrMemory, IsMemory};
 ghost use Rattle.cfb_format.specs.Siblings.{entry_at};
 ghost use Rattle.cfb_codecs.specs.EntryModel.{entry_of, new_entry};
 ghost use Rattle.cfb_codecs.specs.EntryModel.{entries_of as entries_in};
@@ -24,7 +24,7 @@ ghost use Rattle.cfb_sectors.specs.Sectors.{IsMediumError, IsRaised};
 ghost use Rattle.cfb_tables.specs.Changes.{AreDisjoint, IsNextOf, NoChain};
 ghost use Rattle.cfb_tables.specs.Clean.{IsUnnamed};
 ghost use Rattle.cfb_tables.specs.Listed.{ends_of, gained};
-ghost use Rattle.cfb_tables.specs.Refused.{ChangeRefused, NextRefused, NoLast, WalkRefused};
+ghost use Rattle.cfb_tables.specs.Refused.{ChangeRefused, NextRefused, NoLast, TableRefused, WalkRefused};
 ghost use Rattle.cfb_tables.specs.Tables.{Extended, ExtendsFrom, GivesBackChain, HasTaken, IsTooFew, TakesFor, ending, first_or_end};
 ghost use Rattle.cfb_alloc.specs.Alloc.{ChangesSectors, HoldsTables, IsFilled, IsUsable, OthersStay};
 ghost use Rattle.cfb_alloc.specs.Broken.{BreaksOff};
@@ -43,14 +43,13 @@ ghost use Rattle.cfb_mini_table.specs.MiniTable.{AcceptsMini, IsTooFewMini, Mini
 ghost use Rattle.cfb_mini_sectors.specs.State.{MiniState, HoldsMini, bytes_of, cases_of, entries_of, mini_place, mini_stream_of, parts_of, root_len_of, table_of, tables_in, version_of};
 ghost use Rattle.cfb_mini_sectors.specs.Steps.{AreStartsUnnamed, BeginsSystem, CanGiveRoomBack, EndsNoChain, GivesRoomBack, GrowsFor, IsInMiniStream, IsMeasuredMini, IsNotHeld, IsSnugMini, IsTooFewAfterFor, IsTooFewFor, IsZeroMini, KeepsHeader, KeepsLimits, KeepsMini, KeepsSizes, MovesRoot, SparesMini, StopsShort, StopsShortOrFull, mini_stream_lacks, minifat_lacks, system_sectors};
 ghost use Rattle.cfb_mini_sectors.specs.Held.{with_table};
-ghost use Rattle.cfb_mini.specs.Changing.{AreMinifatSectors, root_len_in};
-ghost use Rattle.cfb_mini.specs.MiniSectors.{ChangesFileOnly, HasMiniByte, HasMiniSector, IsStill, IsWhole, KeepsMiniBytesBut};
+ghost use Rattle.cfb_mini_changes.specs.Changing.{AreMinifatSectors, root_len_in};
+ghost use Rattle.cfb_mini_changes.specs.MiniSectors.{ChangesFileOnly, HasMiniByte, HasMiniSector, IsStill, IsWhole, KeepsMiniBytesBut};
 
 mod clearing;
 mod runs;
 
-use crate::changing::{cut_listed, extend_listed};
-use crate::opening::{above_all, mini_stream_sectors, minifat_sectors_from};
+use crate::opening::{Parts, open_parts};
 use cfb_alloc::alloc::Allocator;
 use cfb_codecs::direntry::DirEntry;
 use cfb_codecs::path::CaseMapper;
@@ -63,6 +62,7 @@ use cfb_format::medium::{Medium, ReadMedium};
 use cfb_format::objtype::ObjType;
 use cfb_format::validate::Validation;
 use cfb_format::version::Version;
+use cfb_mini_changes::changing::{cut_listed, extend_listed};
 use cfb_mini_sectors::growing::{Lacks, lacks_for};
 use cfb_mini_sectors::pieces::{read_piece, write_piece};
 use cfb_mini_table::mini_table::MiniTable;
@@ -132,17 +132,12 @@ impl<F: ReadMedium, A: Heap + Clone> MiniAllocator<F, A> {
             (root_len_in directory / mini_sector_len) words.items
             → IfStrict validation (counted ≡ length list) → ⊥)) }
     {
-        let minifat_sectors = minifat_sectors_from(
-            &directory,
-            words.len(),
-            start,
-            counted,
-            validation,
-        )?;
-        let mini_stream = mini_stream_sectors(&heap, &directory)?;
-        let most = (directory.root_dir_entry().stream_len / MINI_SECTOR_LEN as u64) as usize;
-        let table = MiniTable::new(heap.clone()?, directory.version(), words, most, validation)?;
-        let above = above_all(&minifat_sectors, &mini_stream);
+        let Parts {
+            table,
+            minifat_sectors,
+            mini_stream,
+            above,
+        } = open_parts(&heap, &directory, words, start, counted, validation)?;
         Ok(MiniAllocator {
             directory,
             table,
@@ -440,9 +435,13 @@ impl<F: ReadMedium, A: Heap> MiniAllocator<F, A> {
         };
         let taken = (lacks.minifat + lacks.mini_stream).saturating_sub(given_back);
         self.directory.allocator_mut().reserve(taken)?;
-        self.minifat_sectors.reserve(lacks.minifat)?;
-        stream.reserve(lacks.mini_stream)?;
-        self.table.prepare(count)
+        reserve_lists(
+            &mut self.table,
+            &mut self.minifat_sectors,
+            stream,
+            lacks,
+            count,
+        )
     }
 
     /// Reads what is there of a mini sector from this byte of it on, as far as `into` and the file go, and answers how many bytes that
@@ -711,15 +710,10 @@ impl<F: Medium, A: Heap + Clone> MiniAllocator<F, A> {
         ensures counts { IsTrue F.tells → CountsFailure F.write_faults result
             (table_of self.old).file.failures (table_of self.new).file.failures }
     {
-        let mut ids = Vec::new(self.heap.clone()?);
-        if last == END_OF_CHAIN {
-            self.extend_mini_listed(&mut ids, count)?;
-            return Ok(ids);
-        }
-        ids.push(last)?;
+        let mut ids = listed_end(&self.heap, last)?;
+        let had = ids.len();
         self.extend_mini_listed(&mut ids, count)?;
-        ids.remove(0);
-        Ok(ids)
+        Ok(behind(ids, had))
     }
 
     /// Frees the mini chain from `start`, and the sectors that are not needed then, as `cut_mini_listed`. The empty one, from END, changes
@@ -1105,6 +1099,53 @@ impl<F: Medium, A: Heap> MiniAllocator<F, A> {
     {
         self.directory.flush()
     }
+}
+
+/// Asks for the memory of the lists that taking so many mini sectors makes longer. No value changes. `Full` where there are too few numbers,
+/// and `Memory`.
+fn reserve_lists<A: Heap>(
+    table: &mut MiniTable<A>,
+    minifat_sectors: &mut Vec<u32, A>,
+    stream: &mut Vec<u32, A>,
+    lacks: Lacks,
+    count: usize,
+) -> Result<(), Error>
+    ensures table { table.new ≡ record table.old { room = table.new.room } }
+    ensures minifat { minifat_sectors.new.items ≡ minifat_sectors.old.items }
+    ensures mini_stream { stream.new.items ≡ stream.old.items }
+    ensures err { IfErr result
+        (TableRefused ⊥ Unit (IsTooFewMini table.old.limit table.old.minifat count)) }
+{
+    minifat_sectors.reserve(lacks.minifat)?;
+    stream.reserve(lacks.mini_stream)?;
+    table.prepare(count)
+}
+
+/// The mini sector that a chain ends at, in a list: none where it is END. `Memory`.
+fn listed_end<A: Heap + Clone>(heap: &A, last: u32) -> Result<Vec<u32, A>, Error>
+    ensures none { IfOk result (λ list. last ≡ end_of_chain → list.items ≡ []) }
+    ensures one { IfOk result (λ list. last ≢ end_of_chain → list.items ≡ last ∷ []) }
+    ensures few { IfOk result (λ list. vec_len list ≤ 1) }
+    ensures err { IfErr result IsMemory }
+{
+    let mut ids = Vec::new(heap.clone()?);
+    if last == END_OF_CHAIN {
+        return Ok(ids);
+    }
+    ids.push(last)?;
+    Ok(ids)
+}
+
+/// What a list has behind its first one, or all of it where it began with none.
+fn behind<A: Heap>(mut ids: Vec<u32, A>, had: usize) -> Vec<u32, A>
+    requires few { had ≤ 1 }
+    requires there { had ≤ vec_len ids }
+    ensures { result.items ≡ drop had ids.items }
+{
+    if had > 0 {
+        ids.remove(0);
+    }
+    ids
 }
 
 /// A refusal of a mini stream that has no chain.

@@ -39,7 +39,7 @@ use Rattle.cfb_agreement.specs.Files.{FileState, Holds, IsAsMade, GrowsTightly, 
 use Rattle.cfb_entry_changes.specs.Kept.{AllStayBalanced}
 use Rattle.cfb_sequences.specs.Laws.{all_added_at}
 use Rattle.cfb_sequences.proofs.Ways.{stream-is-in-the-way, way-is-free, way-is-there}
-use Rattle.cfb_volume.specs.Adding.{IsFirstAbsent}
+use Rattle.cfb_path_changes.specs.AddedStorages.{IsFirstAbsent}
 use Rattle.cfb_path_changes.specs.Answers.{ForMemory, IsBalancedFile, IsDoneBy, IsRefusedBy, IsRefusedInTurn, MeansTree, StopsInTurn, causes_of_call}
 use Rattle.cfb_path_changes.specs.Calls.{CallAnswersInTurn}
 use Rattle.cfb_path_changes.specs.declared.placing.Creation.TheVariants.{NewStream}
@@ -52,7 +52,7 @@ use Rattle.cfb_path_changes.proofs.Counting.{counts_either}
 use Rattle.cfb_path_changes.proofs.Creation.{object_is}
 use Rattle.cfb_path_changes.proofs.Doing.{runs_done}
 use Rattle.cfb_path_changes.proofs.Places.{end_with, missing}
-use Rattle.cfb_path_changes.proofs.Refusing.{RuleSays, refused_by_break, refused_by_rules, refused_for_memory, unchanged}
+use Rattle.cfb_path_changes.proofs.Refusing.{RuleSays, refused_by_break, refused_by_rules, refused_for_memory, rules_allow, unchanged}
 use Rattle.cfb_path_changes.proofs.Sparing.{none_changed}
 use Rattle.cfb_path_changes.proofs.Wanting.{both}
 
@@ -274,7 +274,8 @@ module _ (old : FileState) (path : List ℕ) (moment : ℕ) (names : List (List 
       → CountsError writes (failures_of old) (failures_of new) e → IsRefusedInTurn (λ f. reads f || writes f) old call new e
   all_refused reads writes e stays some why stops counts =
       refused_by_break (λ f. reads f || writes f) call refl old new way.unfailed setting way.sound stays (none_changed old new call keeps) header
-      (λ tree means there. absurd (omega (arith, some, no_name_left tree means there))) (StopsInTurn old new)
+      (λ tree means there. absurd (omega (arith, some, no_name_left tree means there)))
+      (rules_allow all_rule path call (all_asks path moment) (λ f. true) old way.unfailed held names way.named allowed way.sound) (StopsInTurn old new)
       (IsFullForEntry new.base.directory × (IsFullForEntry old.base.directory → new ≡ old))
       (λ full. (
         λ tree means. creating_lacks (causes_of_call old new) (kind_on (cases_of old.base) tree call)

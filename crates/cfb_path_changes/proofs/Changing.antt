@@ -11,7 +11,7 @@ use Rattle.cfb_rules.specs.Calls.{Call, Reply, done, refused}
 use Rattle.cfb_rules.specs.CallChanges.{tree_after}
 use Rattle.cfb_rules.specs.CallRefusals.{refusal_of, unless}
 use Rattle.cfb_rules.specs.CallReplies.{reply_of}
-use Rattle.cfb_rules.specs.Refusal.{Refusal, failed_earlier, not_sound}
+use Rattle.cfb_rules.specs.Refusal.{Refusal, failed_earlier, not_sound, out_of_memory}
 use Rattle.cfb_rules.specs.Runs.{CallRuns, Causes, FollowsRules, IsBroken, MayBreak, OnFailed, Setting, TreeState}
 use Rattle.cfb_rules.specs.Steps.{Step, emptying, is_changing, kind_of, kind_on, outcome, unsound_refusal}
 use Rattle.cfb_objects.specs.Objects.{tree_from}
@@ -60,14 +60,23 @@ module _ (call : Call) (kind : is_changing (kind_of call) ≡ true) where
   )
 
   module _ (old : FileState) (calm : is_failed old ≡ false) where
+    -- memory lacked before the rules were asked, or they refuse nothing
+    abbrev ComesFirst : FileState → Refusal → Type 0
+    ComesFirst new refusal = ((refusal ≡ out_of_memory) × (new ≡ old)) ⊎ ((tree : Tree) → MeansTree old tree → outcome (cases_of old.base) old.is_sound tree call ≡ None)
+
     -- it broke off, and all is as before or the file has failed
     pub broken_off : (causes : Causes) (new : FileState) (refusal : Refusal)
-        → ((tree : Tree) → MeansTree old tree → MayBreak causes (kind_on (cases_of old.base) tree call) refusal) → StaysOrFails old new
+        → ((tree : Tree) → MeansTree old tree → MayBreak causes (kind_on (cases_of old.base) tree call) refusal) → ComesFirst new refusal → StaysOrFails old new
         → RunsOn causes old call (refused refusal) new
     unfolding RunsOn
-    broken_off causes new refusal blames stays tree means =
+    broken_off causes new refusal blames first stays tree means =
         let broken : (state_with new tree ≡ state_with old tree) ⊎ (is_failed new ≡ true) → IsBroken causes (setting_of old) (state_with old tree) call (refused refusal) (state_with new tree) = λ so. (
-          (refusal, blames tree means, refl),
+          (
+            refusal,
+            blames tree means,
+            refl,
+            elim first [ inl memory ↦ inl (memory.0, ap (λ (z : FileState). state_with z tree) memory.1) | inr none ↦ inr (none tree means) ],
+          ),
           changing_off (kind_of call) (state_with old tree) (state_with new tree) kind so,
         ) in
         elim stays [
@@ -109,6 +118,11 @@ module _ (call : Call) (kind : is_changing (kind_of call) ≡ true) where
           unfailed = calm;
         })),
       )
+
+      -- the rules refuse nothing of it in a sound file
+      pub let_pass : refusal_of (cases_of old.base) tree_in call ≡ None → old.is_sound ≡ true → (tree : Tree) → MeansTree old tree → outcome (cases_of old.base) old.is_sound tree call ≡ None
+      let_pass none sound tree means = subst (λ (t : Tree). outcome (cases_of old.base) old.is_sound t call ≡ None) (tree_is tree means)
+          (allowed (cases_of old.base) old.is_sound tree_in call kind none ∙ ap (λ (b : Bool). unless b not_sound) sound)
 
       -- the rules refuse it for what it asks
       pub ruled_out : (refusal : Refusal) → refusal_of (cases_of old.base) tree_in call ≡ Some refusal → RunsOn (causes_of_call old old) old call (refused refusal) old

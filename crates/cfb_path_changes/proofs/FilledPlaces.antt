@@ -1,17 +1,19 @@
 -- A new object in its place.
 use Rattle.std.proofs.Common.{◌≡◌, ◌⊎◌, inl, inr, ℕ, List, ◌∷◌, Bool, Bor, true, false, sym, ◌∙◌, ap, subst}
-use Rattle.std.specs.Prelude.{◌||◌, Some, chars}
+use Rattle.std.specs.Prelude.{◌||◌, Some, None, chars}
 use Rattle.cfb_format.specs.declared.error.Error.{Error}
 use Rattle.cfb_format.specs.declared.error.Error.TheVariants.{Full}
 use Rattle.cfb_format.specs.declared.medium.MediumFault.{MediumFault}
 use Rattle.cfb_format.specs.declared.objtype.ObjType.{ObjType}
 use Rattle.cfb_format.specs.declared.objtype.ObjType.TheVariants.{Storage, Stream}
+use Rattle.cfb_format.specs.Path.{names_of_path}
 use Rattle.cfb_format.specs.Reading.{IsOutline, Outline}
 use Rattle.cfb_format.specs.Refused.{AfterMedium, CountsError, IsBreak}
 use Rattle.cfb_format.specs.Siblings.{entry_at}
+use Rattle.cfb_format.specs.Tree.{Tree}
 use Rattle.cfb_rules.specs.Calls.{done}
 use Rattle.cfb_rules.specs.Finding.{last_name, parent_names}
-use Rattle.cfb_rules.specs.Steps.{kind_on}
+use Rattle.cfb_rules.specs.Steps.{kind_on, outcome}
 use Rattle.cfb_rules.specs.StreamCalls.{resized}
 use Rattle.cfb_tables.specs.Refused.{ChangeRefused}
 use Rattle.cfb_directory.specs.State.{IsFullForEntry}
@@ -25,16 +27,17 @@ use Rattle.cfb_entry_changes.specs.Kept.{AllStayBalanced}
 use Rattle.cfb_agreement.specs.Changes.{ChangesOneContent, KeepsStreams, StaysOrFails, object_added_at}
 use Rattle.cfb_agreement.specs.Files.{FileState, Holds, IsAsMade, IsFullFile, GrowsTightly, SameSetting, failures_of, is_failed}
 use Rattle.cfb_volume.specs.Answers.{content_at}
-use Rattle.cfb_path_changes.specs.Adding.{IsMissing, IsThere, creation, kind_made}
+use Rattle.cfb_path_changes.specs.Adding.{IsMissing, IsThere, RulesSay, creation, kind_made}
 use Rattle.cfb_path_changes.specs.declared.placing.Creation.{Creation}
 use Rattle.cfb_path_changes.specs.declared.placing.Creation.TheVariants.{EmptyStream, NewStorage, NewStream}
-use Rattle.cfb_path_changes.specs.Answers.{IsDoneBy, IsRefusedBy, causes_of_call}
+use Rattle.cfb_path_changes.specs.Answers.{IsDoneBy, IsRefusedBy, MeansTree, causes_of_call}
 use Rattle.cfb_path_changes.specs.Place.{HasNewStream, IsPlace, IsPlaceOf, IsSomePlace}
 use Rattle.cfb_path_changes.specs.declared.placing.Place.{Place}
 use Rattle.cfb_path_changes.specs.declared.placing.Place.TheVariants.{Missing, There}
 use Rattle.cfb_path_changes.proofs.ReachedStreams.{reached_stream}
-use Rattle.cfb_path_changes.proofs.NewObjects.{added_done, creation_asks, creation_does, creation_for_memory, emptied_done, moved_leads, nothing_there, path_leads, there_may_be_lost}
-use Rattle.cfb_path_changes.proofs.Refusing.{after_memory, refused_by_break, unchanged_setting}
+use Rattle.cfb_path_changes.proofs.NewObjects.{added_done, creation_asks, creation_does, creation_for_memory, creation_rule, emptied_done, moved_leads, nothing_there, path_leads, there_may_be_lost}
+use Rattle.cfb_path_changes.proofs.Places.{missing_is_allowed, there_is_allowed}
+use Rattle.cfb_path_changes.proofs.Refusing.{after_memory, refused_by_break, rules_allow, unchanged_setting}
 use Rattle.cfb_path_changes.proofs.CallKinds.{creating_lacks, kind_missing}
 use Rattle.cfb_path_changes.proofs.Counting.{counts_either}
 use Rattle.cfb_path_changes.proofs.Balanced.{added_balanced}
@@ -57,6 +60,12 @@ pub missing_at : (what : Creation) (old : FileState) (place : Place) (parent : �
     → IsMissing old some.1.names parent (chars name.now)
 missing_at what old place parent name is some = subst (λ (p : Place). IsPlace old what some.1.names p) is some.1.at
 
+-- the rules refuse nothing of a creation
+creation_passes : (what : Creation) (moment : ℕ) (file : FileState) (path : List ℕ) → is_failed file ≡ false → Holds file → (names : List (List ℕ)) → names_of_path path ≡ Some names → RulesSay file what names None
+    → file.is_sound ≡ true → (tree : Tree) → MeansTree file tree → outcome (cases_of file.base) file.is_sound tree (creation what moment path) ≡ None
+creation_passes what moment file path calm held names named says =
+    rules_allow (creation_rule what) path (creation what moment path) (creation_asks what moment path) (λ f. true) file calm held names named says
+
 -- ---- a stream that is there
 
 module _ (what : Creation) (moment : ℕ) (old new : FileState) (place : Place) (k : ℕ) (is : place ≡ There k) where
@@ -78,13 +87,14 @@ module _ (what : Creation) (moment : ℕ) (old new : FileState) (place : Place) 
   there_done held now setting changes ended bytes same_count path at =
       emptied_done old new what moment path at.unfailed at.sound held setting ended at.names at.named k (there_of path at) now changes bytes same_count
 
-  pub there_refused : (can_give : MediumFault → Bool) (e : Error) → SameSetting old new → StaysOrFails old new → ChangesOneContent k old new → (IsTooLongFor old.base k 0 → ⊥)
+  pub there_refused : (can_give : MediumFault → Bool) (e : Error) → Holds old → SameSetting old new → StaysOrFails old new → ChangesOneContent k old new → (IsTooLongFor old.base k 0 → ⊥)
       → IsBreak (IsTooLongFor old.base k 0 × (new ≡ old)) e → AfterMedium (Unit {0}) (new ≡ old) e → CountsError can_give (failures_of old) (failures_of new) e
       → (path : List ℕ) → IsPlaceOf old what path place → IsRefusedBy can_give old (creation what moment path) new e
-  there_refused can_give e setting stays changes never why first counts path at =
+  there_refused can_give e held setting stays changes never why first counts path at =
       refused_by_break can_give (creation what moment path) (creation_asks what moment path).changes old new at.unfailed setting at.sound stays
       (one_spared_not old new (creation what moment path) k changes (there_may_be_lost old what moment path at.names k at.named (there_of path at))) changes.header
       (λ tree means none. absurd (creation_does (cases_of old.base) tree what moment path none))
+      (creation_passes what moment old path at.unfailed held at.names at.named (there_is_allowed old what at.names k (there_of path at)) at.sound)
       (new ≡ old) (IsTooLongFor old.base k 0 × (new ≡ old)) (λ full. absurd (never full.0)) e why
       (λ memory. creation_for_memory old new what moment path (after_memory (Unit {0}) (new ≡ old) e first memory)) counts
 
@@ -146,7 +156,8 @@ module _ (what : Creation) (moment : ℕ) (old new : FileState) (place : Place) 
   missing_refused reads writes e held setting stays keeps header why reason stops counts path at =
       refused_by_break (λ f. reads f || writes f) (creation what moment path) (creation_asks what moment path).changes old new at.unfailed setting at.sound stays
       (none_changed old new (creation what moment path) keeps) header
-      (λ tree means none. absurd (creation_does (cases_of old.base) tree what moment path none)) (new ≡ old) (IsFullForEntry old.base.directory × (new ≡ old))
+      (λ tree means none. absurd (creation_does (cases_of old.base) tree what moment path none))
+      (creation_passes what moment old path at.unfailed held at.names at.named (missing_is_allowed old what at.names parent (chars name.now) (missing_of path at)) at.sound) (new ≡ old) (IsFullForEntry old.base.directory × (new ≡ old))
       (λ full. (
         λ tree means. creating_lacks (causes_of_call old new) (kind_on (cases_of old.base) tree (creation what moment path))
             (kind_missing (cases_of old.base) tree path what moment

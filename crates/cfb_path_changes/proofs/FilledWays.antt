@@ -15,8 +15,8 @@ use Rattle.cfb_rules.specs.Calls.{create_storage_all, done}
 use Rattle.cfb_siblings.specs.Paths.{number_from}
 use Rattle.cfb_mini_sectors.specs.State.{cases_of, entries_of}
 use Rattle.cfb_agreement.specs.Files.{Agrees, FileState, Holds, SameSetting, is_failed}
-use Rattle.cfb_volume.specs.Adding.{AddsStorages, IsFirstAbsent}
-use Rattle.cfb_volume.proofs.AddedStorages.{absent-is-none, adds-all, adds-room}
+use Rattle.cfb_path_changes.specs.AddedStorages.{AddsStorages, IsFirstAbsent}
+use Rattle.cfb_path_changes.proofs.AddedStorages.{absent-is-none, adds-all, adds-room}
 use Rattle.cfb_path_changes.specs.Answers.{IsDoneBy, LacksRoomOnTheWay}
 use Rattle.cfb_path_changes.specs.Calls.{CallAnswersInTurn}
 use Rattle.cfb_path_changes.specs.Finding.{LeadTo}

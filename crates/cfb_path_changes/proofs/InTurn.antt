@@ -5,8 +5,8 @@ use Rattle.cfb_outline.specs.Outlines.{IsReachedStorage}
 use Rattle.cfb_siblings.specs.Children.{HasChildren, IsAbsent}
 use Rattle.cfb_mini_sectors.specs.State.{cases_of, entries_of}
 use Rattle.cfb_agreement.specs.Files.{FileState, is_failed}
-use Rattle.cfb_volume.specs.Adding.{AddsStorages, IsFirstAbsent}
-use Rattle.cfb_volume.proofs.AddedStorages.{adds-none}
+use Rattle.cfb_path_changes.specs.AddedStorages.{AddsStorages, IsFirstAbsent}
+use Rattle.cfb_path_changes.proofs.AddedStorages.{adds-none}
 use Rattle.cfb_path_changes.specs.InTurn.{AddsSoFar}
 
 -- names, as the code has them

@@ -18,6 +18,7 @@ pub mod Wanting
 pub mod Doing
 pub mod SetFields
 pub mod Removed
+pub mod AddedStorages
 pub mod AllStorages
 pub mod InTurn
 pub mod FilledWays

@@ -15,7 +15,7 @@ use Rattle.cfb_rules.specs.CallRefusals.{refusal_of}
 use Rattle.cfb_rules.specs.Calls.{Call, create_storage_all, refused, remove_storage_all, remove_stream}
 use Rattle.cfb_rules.specs.Refusal.{IsRefusal, Refusal, already_exists, failed_earlier, file_full, invalid_data, invalid_input, is_of_rules, medium_failed, not_found, not_sound, out_of_memory}
 use Rattle.cfb_rules.specs.Runs.{BlamesOneOf, MayBreak}
-use Rattle.cfb_rules.specs.Steps.{is_changing, kind_of, kind_on}
+use Rattle.cfb_rules.specs.Steps.{is_changing, kind_of, kind_on, outcome}
 use Rattle.cfb_objects.specs.Objects.{tree_from}
 use Rattle.cfb_mini_sectors.specs.State.{cases_of, content_of, entries_of}
 use Rattle.cfb_content.specs.Contents.{KeepsFixedHeader}
@@ -27,7 +27,7 @@ use Rattle.cfb_path_changes.specs.Answers.{ForMemory, IsBalancedFile, IsQuiet, I
 use Rattle.cfb_path_changes.specs.Sparing.{SparesStreams}
 use Rattle.cfb_path_changes.specs.Wanted.{AsksAt}
 use Rattle.cfb_path_changes.proofs.CallKinds.{change_breaks}
-use Rattle.cfb_path_changes.proofs.Changing.{broken_off, failed_before, ruled_out, unsound}
+use Rattle.cfb_path_changes.proofs.Changing.{broken_off, failed_before, let_pass, ruled_out, unsound}
 use Rattle.cfb_path_changes.proofs.Sparing.{spares_all}
 use Rattle.cfb_path_changes.proofs.Stopping.{stops_no_shorter}
 
@@ -115,7 +115,7 @@ module _ (rule : Cases → Tree → List (List ℕ) → Option Refusal) (path : 
     pub refused_for_memory : (e : Error) → IsMemory e → IsRefused e
     refused_for_memory e is = subst IsRefused (sym is) (untouched can_give file call Memory out_of_memory refl (λ w. cc)
         (broken_off call asks.changes file calm (causes_of_call file file) file out_of_memory
-        (λ tree means. change_breaks (cases_of file.base) tree call asks.changes (causes_of_call file file) out_of_memory tt) (inl (unchanged file))))
+        (λ tree means. change_breaks (cases_of file.base) tree call asks.changes (causes_of_call file file) out_of_memory tt) (inl (refl, refl)) (inl (unchanged file))))
 
     module _ (held : Holds file) where
       abbrev tree_in : Tree
@@ -153,6 +153,10 @@ module _ (rule : Cases → Tree → List (List ℕ) → Option Refusal) (path : 
             ∙ ap (λ (found : Option (List (List ℕ))). option_map_or (rule (cases_of file.base) tree_in) found (Some invalid_input)) named
             ∙ says held.outline held.reads.outline
 
+        -- the rules refuse nothing of it
+        pub rules_allow : RuleSays file rule names None → file.is_sound ≡ true → (tree : Tree) → MeansTree file tree → outcome (cases_of file.base) file.is_sound tree call ≡ None
+        rules_allow says = let_pass call asks.changes file calm held held.outline held.reads.outline (by_rules None says)
+
         -- the rules refuse it for what its names say
         pub refused_by_rules : (e : Error) (refusal : Refusal) → IsRefusal refusal e → is_of_rules refusal ≡ true → RuleSays file rule names (Some refusal) → IsRefused e
         refused_by_rules e refusal is of_rules says = ruled e refusal is (by_rules (Some refusal) says)
@@ -166,7 +170,8 @@ module _ (rule : Cases → Tree → List (List ℕ) → Option Refusal) (path : 
 -- ---- refusals by the medium, for memory or fullness
 
 module _ (can_give : MediumFault → Bool) (call : Call) (kind : is_changing (kind_of call) ≡ true) (old new : FileState) (calm : is_failed old ≡ false) (setting : SameSetting old new)
-    (sound : old.is_sound ≡ true) (stays : StaysOrFails old new) (spares : SparesStreams old call new) (header : KeepsFixedHeader old.base new.base) (quiet : IsQuiet old call new) where
+    (sound : old.is_sound ≡ true) (stays : StaysOrFails old new) (spares : SparesStreams old call new) (header : KeepsFixedHeader old.base new.base) (quiet : IsQuiet old call new)
+    (allowed : (tree : Tree) → MeansTree old tree → outcome (cases_of old.base) old.is_sound tree call ≡ None) where
   broken_order : StaysInOrder old new
   broken_order = record {
     setting = setting;
@@ -201,11 +206,11 @@ module _ (can_give : MediumFault → Bool) (call : Call) (kind : is_changing (ki
     pub refused_by_break : (full : Type 0) → (full → ((tree : Tree) → MeansTree old tree → MayBreak (causes_of_call old new) (kind_on (cases_of old.base) tree call) file_full) × left)
         → (e : Error) → IsBreak full e → (IsMemory e → ForMemory call old new) → CountsError can_give (failures_of old) (failures_of new) e → IsRefusedLeaving left can_give old call new e
     refused_by_break full why (Medium f) is memory counts = broke (Medium f) medium_failed refl
-        (broken_off call kind old calm (causes_of_call old new) new medium_failed (breaks_so medium_failed counts.rises) stays) stays counts
+        (broken_off call kind old calm (causes_of_call old new) new medium_failed (breaks_so medium_failed counts.rises) (inr allowed) stays) stays counts
     refused_by_break full why Memory is memory counts = broke Memory out_of_memory refl
-        (broken_off call kind old calm (causes_of_call old new) new out_of_memory (breaks_so out_of_memory tt) stays) (memory refl) counts
+        (broken_off call kind old calm (causes_of_call old new) new out_of_memory (breaks_so out_of_memory tt) (inr allowed) stays) (memory refl) counts
     refused_by_break full why Full is memory counts = broke Full file_full refl
-        (broken_off call kind old calm (causes_of_call old new) new file_full (why is).0 stays) (why is).1 counts
+        (broken_off call kind old calm (causes_of_call old new) new file_full (why is).0 (inr allowed) stays) (why is).1 counts
     refused_by_break full why (NotFound d) is memory counts = absurd is
     refused_by_break full why (AlreadyExists d) is memory counts = absurd is
     refused_by_break full why (InvalidInput d) is memory counts = absurd is

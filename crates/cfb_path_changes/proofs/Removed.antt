@@ -42,7 +42,7 @@ use Rattle.cfb_path_changes.specs.Sparing.{MayLose, SparesStreams}
 use Rattle.cfb_path_changes.specs.Wanted.{AsksFor, IsThereFor, is_wanted, wanted_refusal}
 use Rattle.cfb_path_changes.proofs.Doing.{means_was, runs_done, tree_was}
 use Rattle.cfb_path_changes.proofs.NewObjects.{path_leads}
-use Rattle.cfb_path_changes.proofs.Refusing.{RuleSays, after_memory, refused_by_break}
+use Rattle.cfb_path_changes.proofs.Refusing.{RuleSays, after_memory, refused_by_break, rules_allow}
 use Rattle.cfb_path_changes.proofs.Wanting.{both, inner_is, root_at_none, wanted_allowed}
 
 -- ---- the calls
@@ -194,7 +194,8 @@ module _ (old : FileState) (wanted : Wanted) (path : List ℕ) (names : List (Li
   pub removed_not : (can_give : MediumFault → Bool) (e : Error) → StaysOrFails old new → ((entry_at (entries_of old.base) k).obj_type ≢ Stream → AfterMedium (Unit {0}) (new ≡ old) e)
       → IsBreak ⊥ e → CountsError can_give (failures_of old) (failures_of new) e → IsRefusedBy can_give old call new e
   removed_not can_give e stays first why counts = refused_by_break can_give call asks.changes old new there.unfailed setting there.sound stays spared header
-      (λ tree means none. absurd (removal_does (cases_of old.base) tree wanted path none)) (new ≡ old) ⊥ absurd e why
+      (λ tree means none. absurd (removal_does (cases_of old.base) tree wanted path none))
+      (rules_allow (wanted_refusal wanted) path call asks can_give old there.unfailed held names there.named allowed there.sound) (new ≡ old) ⊥ absurd e why
       (λ memory. none_taken wanted one there.suits stays (λ kind. after_memory (Unit {0}) (new ≡ old) e (first kind) memory)) counts
 
   -- so the call answers
@@ -272,4 +273,6 @@ module _ (old : FileState) (path : List ℕ) (names : List (List ℕ)) (k : ℕ)
     all_removed_answers can_give (Ok x) parent some none ended balanced made grows tree root stays why counts = all_removed ended balanced made grows counts (becomes_without parent some none tree root)
     all_removed_answers can_give (Err e) parent some none ended balanced made grows tree root stays why counts =
         refused_by_break can_give call_all (all_asks path).changes old new there.unfailed setting there.sound stays spared_beside header
-        (λ tree means none. absurd (removal_does (cases_of old.base) tree AnyObject path none)) (new ≡ old) ⊥ absurd e why (λ memory. stays) counts
+        (λ tree means none. absurd (removal_does (cases_of old.base) tree AnyObject path none))
+        (rules_allow (wanted_refusal AnyObject) path call_all (all_asks path) can_give old there.unfailed held names there.named allowed_all there.sound)
+        (new ≡ old) ⊥ absurd e why (λ memory. stays) counts

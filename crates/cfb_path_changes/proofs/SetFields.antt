@@ -58,7 +58,7 @@ use Rattle.cfb_path_changes.specs.Wanted.{IsThereFor, wanted_refusal}
 use Rattle.cfb_path_changes.proofs.Creation.{object_is, storage_is}
 use Rattle.cfb_path_changes.proofs.Counting.{counts_either}
 use Rattle.cfb_path_changes.proofs.Doing.{means_was, runs_done, tree_was}
-use Rattle.cfb_path_changes.proofs.Refusing.{RuleSays, never_for_memory, refused_by_break, stays_in_order, unchanged_setting}
+use Rattle.cfb_path_changes.proofs.Refusing.{RuleSays, never_for_memory, refused_by_break, rules_allow, stays_in_order, unchanged_setting}
 use Rattle.cfb_path_changes.proofs.Sparing.{none_changed, spares_all}
 use Rattle.cfb_path_changes.proofs.Wanting.{inner_kind, root_at_none, split, wanted_allowed}
 
@@ -354,7 +354,8 @@ module _ (old : FileState) (field : NewField) (path : List ℕ) (names : List (L
       → IsMediumAnd (λ fault. is_failed new ≡ true) e → CountsError writes (failures_of old) (failures_of new) e → IsRefusedBy (λ f. reads f || writes f) old call new e
   set_refused reads writes new e takes setting stays keeps header why counts =
       refused_by_break (λ f. reads f || writes f) call (setting_asks field path).changes old new there.unfailed setting there.sound stays (none_changed old new call keeps) header
-      (λ tree means none. absurd (sets_something takes tree means none)) (new ≡ old) ⊥ absurd e
+      (λ tree means none. absurd (sets_something takes tree means none))
+      (rules_allow (wanted_refusal (wanted_by field)) path call (setting_asks field path) (λ f. true) old there.unfailed held names there.named allowed there.sound) (new ≡ old) ⊥ absurd e
       (medium_breaks e why) (never_for_memory (λ fault. is_failed new ≡ true) (ForMemory call old new) e why) (counts_either reads writes (failures_of old) (failures_of new) e counts)
     where
       medium_breaks : (e : Error) → IsMediumAnd (λ fault. is_failed new ≡ true) e → IsBreak ⊥ e

@@ -9,7 +9,7 @@ use Rattle.cfb_content.specs.Contents.{KeepsFixedHeader}
 use Rattle.cfb_agreement.specs.Changes.{KeepsStreams, StaysOrFails}
 use Rattle.cfb_agreement.specs.Files.{Agrees, FileState, Holds, failures_of, is_failed}
 use Rattle.cfb_agreement.specs.Laws.{with_flags}
-use Rattle.cfb_volume.specs.Adding.{AddsStorages}
+use Rattle.cfb_path_changes.specs.AddedStorages.{AddsStorages}
 
 -- storages of the first so many names were put below `top`, each into the one before, and the last of them is `node`: so it would be, too, if
 -- fewer names came behind them, or none

@@ -7,5 +7,6 @@ pub mod Place
 pub mod Wanted
 pub mod Marking
 pub mod Ways
+pub mod AddedStorages
 pub mod InTurn
 pub mod Removing

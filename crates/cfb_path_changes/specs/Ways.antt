@@ -6,7 +6,7 @@ use Rattle.cfb_format.specs.Path.{names_of_path}
 use Rattle.cfb_outline.specs.Outlines.{IsReachedStorage}
 use Rattle.cfb_mini_sectors.specs.State.{cases_of, entries_of}
 use Rattle.cfb_agreement.specs.Files.{FileState, is_failed}
-use Rattle.cfb_volume.specs.Adding.{IsFirstAbsent}
+use Rattle.cfb_path_changes.specs.AddedStorages.{IsFirstAbsent}
 use Rattle.cfb_path_changes.specs.Finding.{IsObjectOf, LeadTo}
 
 -- the first so many of the names lead to this entry, and no more of them lead to anything

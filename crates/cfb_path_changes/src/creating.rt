@@ -7,7 +7,7 @@ ghost use Rattle.cfb_rules.specs.Calls.{create_storage, create_storage_all};
 ghost use Rattle.cfb_outline.specs.Outlines.{IsReachedStorage};
 ghost use Rattle.cfb_mini_sectors.specs.State.{cases_of, entries_of};
 ghost use Rattle.cfb_agreement.specs.Files.{Agrees, SameSetting, is_failed};
-ghost use Rattle.cfb_volume.specs.Adding.{IsFirstAbsent};
+ghost use Rattle.cfb_path_changes.specs.AddedStorages.{IsFirstAbsent};
 ghost use Rattle.cfb_path_changes.specs.Answers.{IsRefusedBy, LacksRoomOnTheWay};
 ghost use Rattle.cfb_path_changes.specs.Calls.{CallAnswers, CallAnswersInTurn, HeedsFlags};
 ghost use Rattle.cfb_path_changes.specs.InTurn.{AddsAll, StopsAdding};

@@ -166,13 +166,13 @@ module _ (b : Bool) (causes : Causes) where
       on_failed true h = served_reply reply h
       on_failed false h = not_done_reply reply failed_earlier h (caused_blame b causes failed_earlier tt)
 
-      unfailed : (StreamStep setting old.stream call reply new.stream × (new.failed ≡ false)) ⊎ IsStreamBroken causes old.stream call reply new
+      unfailed : (StreamStep setting old.stream call reply new.stream × (new.failed ≡ false)) ⊎ IsStreamBroken causes setting old.stream call reply new
           → Blames b causes (stream_reply_blame (blamed_by b) reply)
       unfailed (inl f) = rules_stream_reply reply (StreamStep-rules setting old.stream new.stream call reply f.0)
       unfailed (inr x) = not_done_reply reply x.0 x.2 (work_blame old.stream.pending (work_of old.stream call) x.0 x.1)
 
       go : (failed : Bool)
-          → MatchBool failed (StreamOnFailed call reply new) ((StreamStep setting old.stream call reply new.stream × (new.failed ≡ false)) ⊎ IsStreamBroken causes old.stream call reply new)
+          → MatchBool failed (StreamOnFailed call reply new) ((StreamStep setting old.stream call reply new.stream × (new.failed ≡ false)) ⊎ IsStreamBroken causes setting old.stream call reply new)
           → Blames b causes (stream_reply_blame (blamed_by b) reply)
       go true h = on_failed (is_never_refused call) h.1
       go false h = unfailed h

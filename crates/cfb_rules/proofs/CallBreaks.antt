@@ -37,13 +37,13 @@ stream_flush_fails setting old new refusal = go old.failed
     broken r (inl x) = absurd (stays old.stream.pending r x.0)
     broken r (inr x) = x.1
 
-    unfailed : (StreamStep setting old.stream flush (not_done refusal) new.stream × (new.failed ≡ false)) ⊎ IsStreamBroken any_cause old.stream flush (not_done refusal) new
+    unfailed : (StreamStep setting old.stream flush (not_done refusal) new.stream × (new.failed ≡ false)) ⊎ IsStreamBroken any_cause setting old.stream flush (not_done refusal) new
         → new.failed ≡ true
     unfailed (inl f) = let e : not_done refusal ≡ ready = f.0.0 in cc
     unfailed (inr x) = broken x.0 x.3
 
     go : (failed : Bool) → MatchBool failed (StreamOnFailed flush (not_done refusal) new)
-        ((StreamStep setting old.stream flush (not_done refusal) new.stream × (new.failed ≡ false)) ⊎ IsStreamBroken any_cause old.stream flush (not_done refusal) new)
+        ((StreamStep setting old.stream flush (not_done refusal) new.stream × (new.failed ≡ false)) ⊎ IsStreamBroken any_cause setting old.stream flush (not_done refusal) new)
         → new.failed ≡ true
     go true h = h.0
     go false h = unfailed h
@@ -177,7 +177,7 @@ calm_work_full setting old new call runs calm nothing = go old.failed calm runs
 
     go : (failed : Bool) → failed ≡ false
         → MatchBool failed (StreamOnFailed call (not_done file_full) new)
-        ((StreamStep setting old.stream call (not_done file_full) new.stream × (new.failed ≡ false)) ⊎ IsStreamBroken any_cause old.stream call (not_done file_full) new)
+        ((StreamStep setting old.stream call (not_done file_full) new.stream × (new.failed ≡ false)) ⊎ IsStreamBroken any_cause setting old.stream call (not_done file_full) new)
         → (work_of old.stream call ≡ appending) ⊎ (work_of old.stream call ≡ resizing)
     go true e h = absurd (cc)
     go false e (inl f) = absurd (not_full file_full (StreamStep-rules setting old.stream new.stream call (not_done file_full) f.0) refl)

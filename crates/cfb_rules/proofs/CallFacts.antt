@@ -298,7 +298,7 @@ pub a_broken_run : IsLegalRun seen_as anything_at_all setting calm
 unfolding names_of_path
 a_broken_run = (
   calm,
-  record { runs = inr ((out_of_memory, tt, refl), inl (refl, refl)); stays = λ leaves unfailed. unchanged; counted = λ none. refl; kept = tt },
+  record { runs = inr ((out_of_memory, tt, refl, inl (refl, refl)), inl (refl, refl)); stays = λ leaves unfailed. unchanged; counted = λ none. refl; kept = tt },
   (
     broken,
     record {
@@ -309,7 +309,7 @@ a_broken_run = (
       works = (
         at [] 0 false,
         broken,
-        record { runs = inr (medium_failed, record { no_less = lit≤ tt; more = lit≤ tt }, refl, inr (refl, refl)); stays = λ leaves unfailed. absurd (cc); counted = λ none. absurd (cc); kept = tt },
+        record { runs = inr (medium_failed, record { no_less = lit≤ tt; more = lit≤ tt }, refl, inr (refl, refl), (lit≤ tt, refl)); stays = λ leaves unfailed. absurd (cc); counted = λ none. absurd (cc); kept = tt },
         (
           at [] 0 false,
           broken,

@@ -225,7 +225,7 @@ module _ (c d : Causes) (medium : c.medium → d.medium) (full : c.full → d.fu
     where
       unfailed : FollowsRules setting old call reply new ⊎ IsBroken c setting old call reply new → FollowsRules setting old call reply new ⊎ IsBroken d setting old call reply new
       unfailed (inl f) = inl f
-      unfailed (inr x) = inr ((x.0.0, kind_weaker (kind_on setting.cases old.tree call) x.0.0 x.0.1, x.0.2), x.1)
+      unfailed (inr x) = inr ((x.0.0, kind_weaker (kind_on setting.cases old.tree call) x.0.0 x.0.1, x.0.2, x.0.3), x.1)
 
       go : (failed : Bool) → MatchBool failed (OnFailed c (kind_of call) reply new) (FollowsRules setting old call reply new ⊎ IsBroken c setting old call reply new)
           → MatchBool failed (OnFailed d (kind_of call) reply new) (FollowsRules setting old call reply new ⊎ IsBroken d setting old call reply new)
@@ -258,14 +258,14 @@ module _ (c d : Causes) (medium : c.medium → d.medium) (full : c.full → d.fu
       → StreamCallRuns c setting old call reply new → StreamCallRuns d setting old call reply new
   stream_call_weaker setting old new call reply = go old.failed
     where
-      unfailed : (StreamStep setting old.stream call reply new.stream × (new.failed ≡ false)) ⊎ IsStreamBroken c old.stream call reply new
-          → (StreamStep setting old.stream call reply new.stream × (new.failed ≡ false)) ⊎ IsStreamBroken d old.stream call reply new
+      unfailed : (StreamStep setting old.stream call reply new.stream × (new.failed ≡ false)) ⊎ IsStreamBroken c setting old.stream call reply new
+          → (StreamStep setting old.stream call reply new.stream × (new.failed ≡ false)) ⊎ IsStreamBroken d setting old.stream call reply new
       unfailed (inl f) = inl f
-      unfailed (inr x) = inr (x.0, work_weaker old.stream.pending (work_of old.stream call) x.0 x.1, x.2, x.3)
+      unfailed (inr x) = inr (x.0, work_weaker old.stream.pending (work_of old.stream call) x.0 x.1, x.2, x.3, x.4)
 
       go : (failed : Bool)
-          → MatchBool failed (StreamOnFailed call reply new) ((StreamStep setting old.stream call reply new.stream × (new.failed ≡ false)) ⊎ IsStreamBroken c old.stream call reply new)
-          → MatchBool failed (StreamOnFailed call reply new) ((StreamStep setting old.stream call reply new.stream × (new.failed ≡ false)) ⊎ IsStreamBroken d old.stream call reply new)
+          → MatchBool failed (StreamOnFailed call reply new) ((StreamStep setting old.stream call reply new.stream × (new.failed ≡ false)) ⊎ IsStreamBroken c setting old.stream call reply new)
+          → MatchBool failed (StreamOnFailed call reply new) ((StreamStep setting old.stream call reply new.stream × (new.failed ≡ false)) ⊎ IsStreamBroken d setting old.stream call reply new)
       go true h = h
       go false h = unfailed h
 

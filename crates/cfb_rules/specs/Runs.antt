@@ -1,14 +1,14 @@
 -- Calls with refusals by the medium, by memory and by fullness, and with the failed state.
-use Rattle.std.specs.Prelude.{ℕ, ◌≡◌, ◌⊎◌, List, [], Bool, true, false, MatchBool, MatchOption, IsTrue, Option, Some, length, nat_lt, option_and_then, unwrap_or, if◌then◌else◌, ◌==◌, ⊤}
+use Rattle.std.specs.Prelude.{ℕ, ◌≡◌, ◌<◌, ◌≤◌, ◌⊎◌, List, [], Bool, true, false, MatchBool, MatchOption, IsTrue, Option, Some, None, is_some, length, nat_lt, option_and_then, unwrap_or, if◌then◌else◌, ◌==◌, ⊤}
 use Rattle.cfb_format.specs.Names.{Cases}
 use Rattle.cfb_format.specs.Path.{names_of_path}
 use Rattle.cfb_format.specs.Tree.{StreamInfo, Tree, Object, a_storage, a_stream}
 use Rattle.cfb_rules.specs.Refusal.{Refusal, not_found, already_exists, invalid_input, invalid_data, medium_failed, out_of_memory, file_full, not_sound, failed_earlier}
 use Rattle.cfb_rules.specs.Calls.{Call, Reply, done, flag, one_entry, entries, refused}
-use Rattle.cfb_rules.specs.Steps.{CallKind, creating, emptying, changing, flushing, opening, opening_to_read, asking, asking_freely, kind_of, kind_on, Step}
+use Rattle.cfb_rules.specs.Steps.{CallKind, creating, emptying, changing, flushing, opening, opening_to_read, asking, asking_freely, kind_of, kind_on, outcome, Step}
 use Rattle.cfb_rules.specs.Finding.{object_at}
 use Rattle.cfb_rules.specs.CallChanges.{new_stream, content_changed_at}
-use Rattle.cfb_rules.specs.StreamCalls.{StreamSetting, StreamState, StreamCall, read, fill_buf, consume, read_to_end, write, seek, set_len, flush, ask_len, ask_position, ask_is_empty, StreamReply, ready, got, count, offset, answered, not_done, StreamStep, opened}
+use Rattle.cfb_rules.specs.StreamCalls.{StreamSetting, StreamState, StreamCall, read, fill_buf, consume, read_to_end, write, seek, set_len, flush, ask_len, ask_position, ask_is_empty, StreamReply, ready, got, count, offset, answered, not_done, StreamStep, opened, sought}
 
 -- what stays the same in a run: the letters, and what stays the same for its streams
 pub record Setting : Type 0 where
@@ -124,10 +124,12 @@ pub record FollowsRules (setting : Setting) (old : TreeState) (call : Call) (rep
   pub root_len : KeepsRootLen (kind_on setting.cases old.tree call) old reply new
   pub unfailed : new.failed ≡ false
 
--- it broke off
+-- It broke off where the rules have no refusal of their own; or memory lacked before they were asked, and all is as before.
 abbrev pub IsBroken : Causes → Setting → TreeState → Call → Reply → TreeState → Type 0
 IsBroken causes setting old call reply new =
-    ((refusal : Refusal) × MayBreak causes (kind_on setting.cases old.tree call) refusal × (reply ≡ refused refusal)) × CallBreaksOff (kind_of call) old new
+    ((refusal : Refusal) × MayBreak causes (kind_on setting.cases old.tree call) refusal × (reply ≡ refused refusal)
+    × (((refusal ≡ out_of_memory) × (new ≡ old)) ⊎ (outcome setting.cases setting.stream.sound old.tree call ≡ None)))
+    × CallBreaksOff (kind_of call) old new
 
 -- one call by path
 abbrev pub CallRuns : Causes → Setting → TreeState → Call → Reply → TreeState → Type 0
@@ -254,16 +256,23 @@ is_served (not_done refusal) = false
 abbrev pub StreamOnFailed : StreamCall → StreamReply → StreamRun → Type 0
 StreamOnFailed call reply new = (new.failed ≡ true) × MatchBool (is_never_refused call) (is_served reply ≡ true) (reply ≡ not_done failed_earlier)
 
--- it broke off
-abbrev pub IsStreamBroken : Causes → StreamState → StreamCall → StreamReply → StreamRun → Type 0
-IsStreamBroken causes old call reply new = (refusal : Refusal) × WorkMayBreak causes old.pending (work_of old call) refusal
-    × (reply ≡ not_done refusal) × StreamBreaksOff old (work_of old call) refusal new
+-- the rules have no refusal of their own for a write of bytes, a seek, and another length; what a read can't give is found as it reads
+abbrev pub IsAllowed : StreamSetting → StreamState → StreamCall → Type 0
+IsAllowed setting old (write bytes) = (old.position < setting.limit) × (setting.sound ≡ true)
+IsAllowed setting old (seek whence) = is_some (sought old whence) ≡ true
+IsAllowed setting old (set_len len) = (len ≤ setting.limit) × (setting.sound ≡ true)
+IsAllowed setting old call = ⊤
+
+-- it broke off, and the rules have no refusal of their own
+abbrev pub IsStreamBroken : Causes → StreamSetting → StreamState → StreamCall → StreamReply → StreamRun → Type 0
+IsStreamBroken causes setting old call reply new = (refusal : Refusal) × WorkMayBreak causes old.pending (work_of old call) refusal
+    × (reply ≡ not_done refusal) × StreamBreaksOff old (work_of old call) refusal new × IsAllowed setting old call
 
 -- one call on a stream
 abbrev pub StreamCallRuns : Causes → StreamSetting → StreamRun → StreamCall → StreamReply → StreamRun → Type 0
 StreamCallRuns causes setting old call reply new = MatchBool old.failed
     (StreamOnFailed call reply new)
-    ((StreamStep setting old.stream call reply new.stream × (new.failed ≡ false)) ⊎ IsStreamBroken causes old.stream call reply new)
+    ((StreamStep setting old.stream call reply new.stream × (new.failed ≡ false)) ⊎ IsStreamBroken causes setting old.stream call reply new)
 
 -- Closing writes out what is pending; only that can be refused, and the file is failed then. Whether it is failed comes last.
 abbrev pub Closes : Causes → StreamRun → Option Refusal → Bool → Type 0

@@ -87,8 +87,8 @@ module _ {S : Type 0} (seen : S → FileView) (promised : S → Deed → S → T
       now = stream_in seen promised setting new last
 
       go : (b : Bool) → (seen file).state.failed ≡ b
-          → MatchBool b (StreamOnFailed (read less) reply now) ((StreamStep setting.stream old (read less) reply new × (now.failed ≡ false)) ⊎ IsStreamBroken causes old (read less) reply now)
-          → MatchBool b (StreamOnFailed (read wanted) reply now) ((StreamStep setting.stream old (read wanted) reply new × (now.failed ≡ false)) ⊎ IsStreamBroken causes old (read wanted) reply now)
+          → MatchBool b (StreamOnFailed (read less) reply now) ((StreamStep setting.stream old (read less) reply new × (now.failed ≡ false)) ⊎ IsStreamBroken causes setting.stream old (read less) reply now)
+          → MatchBool b (StreamOnFailed (read wanted) reply now) ((StreamStep setting.stream old (read wanted) reply new × (now.failed ≡ false)) ⊎ IsStreamBroken causes setting.stream old (read wanted) reply now)
       go true failed h = h
       go false calm (inl h) = inl (short-read old new reply wanted (inside calm) h.0, h.1)
       go false calm (inr h) = inr h

@@ -170,9 +170,9 @@ goes_to whence old new at h = go (sought old whence) refl h
 
 module _ (causes : Causes) (setting : StreamSetting) (old new : StreamRun) where
   by_cases : (call : StreamCall) (reply : StreamReply) → old.failed ≡ false → StreamCallRuns causes setting old call reply new
-      → (StreamStep setting old.stream call reply new.stream × (new.failed ≡ false)) ⊎ IsStreamBroken causes old.stream call reply new
+      → (StreamStep setting old.stream call reply new.stream × (new.failed ≡ false)) ⊎ IsStreamBroken causes setting old.stream call reply new
   by_cases call reply unfailed h =
-      subst (λ (b : Bool). MatchBool b (StreamOnFailed call reply new) ((StreamStep setting old.stream call reply new.stream × (new.failed ≡ false)) ⊎ IsStreamBroken causes old.stream call reply new))
+      subst (λ (b : Bool). MatchBool b (StreamOnFailed call reply new) ((StreamStep setting old.stream call reply new.stream × (new.failed ≡ false)) ⊎ IsStreamBroken causes setting old.stream call reply new))
       unfailed h
 
   -- what was served is a step of the rules
@@ -199,7 +199,7 @@ module _ (causes : Causes) (setting : StreamSetting) (old new : StreamRun) where
   -- on a failed file only what is never refused is served
   pub failed_stays : (call : StreamCall) (reply : StreamReply) → old.failed ≡ true → StreamCallRuns causes setting old call reply new → new.failed ≡ true
   failed_stays call reply failed h =
-      (subst (λ (b : Bool). MatchBool b (StreamOnFailed call reply new) ((StreamStep setting old.stream call reply new.stream × (new.failed ≡ false)) ⊎ IsStreamBroken causes old.stream call reply new))
+      (subst (λ (b : Bool). MatchBool b (StreamOnFailed call reply new) ((StreamStep setting old.stream call reply new.stream × (new.failed ≡ false)) ⊎ IsStreamBroken causes setting old.stream call reply new))
       failed h).0
 
   -- and so what can be refused was served on one that has not failed
@@ -209,7 +209,7 @@ module _ (causes : Causes) (setting : StreamSetting) (old new : StreamRun) where
       refused : old.failed ≡ true → reply ≡ not_done failed_earlier
       refused failed =
           subst (λ (b : Bool). MatchBool b (is_served reply ≡ true) (reply ≡ not_done failed_earlier)) may
-          (subst (λ (b : Bool). MatchBool b (StreamOnFailed call reply new) ((StreamStep setting old.stream call reply new.stream × (new.failed ≡ false)) ⊎ IsStreamBroken causes old.stream call reply new))
+          (subst (λ (b : Bool). MatchBool b (StreamOnFailed call reply new) ((StreamStep setting old.stream call reply new.stream × (new.failed ≡ false)) ⊎ IsStreamBroken causes setting old.stream call reply new))
           failed h).1
 
       go : (b : Bool) → old.failed ≡ b → old.failed ≡ false

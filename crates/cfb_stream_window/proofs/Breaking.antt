@@ -9,8 +9,8 @@ use Rattle.cfb_format.specs.declared.error.Error.{Error}
 use Rattle.cfb_format.specs.declared.error.Error.TheVariants.{NotFound, AlreadyExists, InvalidInput, InvalidData, Medium, Memory, Full, Unsound, Failed}
 use Rattle.cfb_rules.specs.Refusal.{Refusal, IsRefusal, not_found, already_exists, invalid_input, invalid_data, medium_failed, out_of_memory, file_full, not_sound, failed_earlier}
 use Rattle.cfb_rules.specs.StreamCalls.{StreamCall}
-use Rattle.cfb_rules.specs.Runs.{Causes, Work, reading, moving, writing_out, overwriting, appending, resizing, work_of, WorkMayBreak, BlamesOneOf, StaysUnfailed, may_leave_failed, StreamBreaksOff, Closes}
-use Rattle.cfb_stream_buffer.specs.Contents.{Stored, IsMediumFault, KeptOrFailed}
+use Rattle.cfb_rules.specs.Runs.{Causes, Work, reading, moving, writing_out, overwriting, appending, resizing, work_of, WorkMayBreak, BlamesOneOf, StaysUnfailed, may_leave_failed, StreamBreaksOff, IsAllowed, Closes}
+use Rattle.cfb_stream_buffer.specs.Contents.{Stored, IsMediumFault, KeptOrFailed, stream_setting_of}
 use Rattle.cfb_stream_window.specs.Windows.{Window, Stays, BrokeOff, CalmBrokeOff, ReadBrokeOff, WriteBrokeOff, LengthBrokeOff, IsMemoryOrFull, IsLost, Runs, IsCallRefused, state_of, run_of}
 use Rattle.cfb_stream_window.specs.Answers.{AtRefusal}
 
@@ -163,11 +163,15 @@ module _ (full : Type 0) (can : MediumFault → Bool) (m n : ℕ) (s : Stored) (
   abbrev causes : Causes
   causes = record { medium = Rises m n; full = full }
 
+  -- the rules have no refusal of their own
+  abbrev Allowed : Type 0
+  Allowed = IsAllowed (stream_setting_of s) (state_of s w) call
+
   -- what the rules ask of a refusal of this work
-  broken : (work : Work) (P : Type 0) → work_of (state_of s w) call ≡ work → s.failed ≡ false → IsBreak P e
+  broken : (work : Work) (P : Type 0) → work_of (state_of s w) call ≡ work → s.failed ≡ false → Allowed → IsBreak P e
       → WorkMayBreak causes w.pending work (kind e) × StreamBreaksOff (state_of s w) work (kind e) (run_of s' w') → IsCallRefused causes s w call s' w' e
   unfolding Runs
-  broken work P is f b h = (kind e, kind_is P e b, match_false s.failed _ _ f (inr (kind e, there.0, refl, there.1)))
+  broken work P is f ok b h = (kind e, kind_is P e b, match_false s.failed _ _ f (inr (kind e, there.0, refl, there.1, ok)))
     where
       there : WorkMayBreak causes w.pending (work_of (state_of s w) call) (kind e) × StreamBreaksOff (state_of s w) (work_of (state_of s w) call) (kind e) (run_of s' w')
       there = subst (λ (k : Work). WorkMayBreak causes w.pending k (kind e) × StreamBreaksOff (state_of s w) k (kind e) (run_of s' w')) (sym is) h
@@ -182,8 +186,8 @@ module _ (full : Type 0) (can : MediumFault → Bool) (m n : ℕ) (s : Stored) (
       let calm = k.carries.agrees.unfailed in
       cc
 
-  pub read_broken : work_of (state_of s w) call ≡ reading → s.failed ≡ false → CountsError can m n e → ReadBrokeOff full s w s' w' e → IsCallRefused causes s w call s' w' e
-  read_broken is f counts b = broken reading _ is f b.0 (go w.pending refl)
+  pub read_broken : work_of (state_of s w) call ≡ reading → s.failed ≡ false → Allowed → CountsError can m n e → ReadBrokeOff full s w s' w' e → IsCallRefused causes s w call s' w' e
+  read_broken is f ok counts b = broken reading _ is f ok b.0 (go w.pending refl)
     where
       go : (p : Bool) → w.pending ≡ p → WorkMayBreak causes p reading (kind e)
           × ((StaysUnfailed p reading (kind e) × (run_of s' w' ≡ record { stream = record (state_of s w) { ahead = 0 }; failed = false }))
@@ -198,8 +202,8 @@ module _ (full : Type 0) (can : MediumFault → Bool) (m n : ℕ) (s : Stored) (
       )
 
   -- bytes that are taken over others, and bytes at the end
-  pub overwritten_broken : work_of (state_of s w) call ≡ overwriting → w.base + w.cursor < w.size → s.failed ≡ false → CountsError can m n e → WriteBrokeOff full s w s' w' e → IsCallRefused causes s w call s' w' e
-  overwritten_broken is before f counts b = broken overwriting _ is f b.0 (go w.pending refl)
+  pub overwritten_broken : work_of (state_of s w) call ≡ overwriting → w.base + w.cursor < w.size → s.failed ≡ false → Allowed → CountsError can m n e → WriteBrokeOff full s w s' w' e → IsCallRefused causes s w call s' w' e
+  overwritten_broken is before f ok counts b = broken overwriting _ is f ok b.0 (go w.pending refl)
     where
       go : (p : Bool) → w.pending ≡ p → WorkMayBreak causes p overwriting (kind e)
           × ((StaysUnfailed p overwriting (kind e) × (run_of s' w' ≡ record { stream = record (state_of s w) { ahead = 0 }; failed = false }))
@@ -213,8 +217,8 @@ module _ (full : Type 0) (can : MediumFault → Bool) (m n : ℕ) (s : Stored) (
         elim b.1 [ inl k ↦ inl (tt, stays_new k.0) | inr k ↦ inr (refl, k.0.is_failed) ],
       )
 
-  pub appended_broken : work_of (state_of s w) call ≡ appending → s.failed ≡ false → CountsError can m n e → WriteBrokeOff full s w s' w' e → IsCallRefused causes s w call s' w' e
-  appended_broken is f counts b = broken appending _ is f b.0 (go w.pending refl)
+  pub appended_broken : work_of (state_of s w) call ≡ appending → s.failed ≡ false → Allowed → CountsError can m n e → WriteBrokeOff full s w s' w' e → IsCallRefused causes s w call s' w' e
+  appended_broken is f ok counts b = broken appending _ is f ok b.0 (go w.pending refl)
     where
       all : BlamesOneOf (Rises m n) ⊤ full (kind e)
       all = blames_more _ _ full (kind e) (λ (h : (w.pending ≡ false → w.size ≤ w.base + w.cursor) × full). h.1) (blames _ can m n e b.0 counts)
@@ -225,8 +229,8 @@ module _ (full : Type 0) (can : MediumFault → Bool) (m n : ℕ) (s : Stored) (
       go true eq = (all, elim b.1 [ inl k ↦ inl (ap kind (k.1 eq), stays_new k.0) | inr k ↦ inr (refl, k.0.is_failed) ])
       go false eq = (all, elim b.1 [ inl k ↦ inl (tt, stays_new k.0) | inr k ↦ inr (refl, k.0.is_failed) ])
 
-  pub length_broken : work_of (state_of s w) call ≡ resizing → s.failed ≡ false → CountsError can m n e → LengthBrokeOff full s w s' w' e → IsCallRefused causes s w call s' w' e
-  length_broken is f counts b = broken resizing _ is f b.0 (go w.pending refl)
+  pub length_broken : work_of (state_of s w) call ≡ resizing → s.failed ≡ false → Allowed → CountsError can m n e → LengthBrokeOff full s w s' w' e → IsCallRefused causes s w call s' w' e
+  length_broken is f ok counts b = broken resizing _ is f ok b.0 (go w.pending refl)
     where
       go : (p : Bool) → w.pending ≡ p → WorkMayBreak causes p resizing (kind e)
           × ((StaysUnfailed p resizing (kind e) × (run_of s' w' ≡ record { stream = record (state_of s w) { ahead = 0 }; failed = false }))
@@ -234,8 +238,8 @@ module _ (full : Type 0) (can : MediumFault → Bool) (m n : ℕ) (s : Stored) (
       go true eq = (blames _ can m n e b.0 counts, elim b.1 [ inl k ↦ inl (spared_kind e (k.1 eq), stays_new k.0) | inr k ↦ inr (refl, k.0.is_failed) ])
       go false eq = (blames _ can m n e b.0 counts, elim b.1 [ inl k ↦ inl (tt, stays_new k.0) | inr k ↦ inr (refl, k.0.is_failed) ])
 
-  pub lost_moving : work_of (state_of s w) call ≡ moving → s.failed ≡ false → CountsError can m n e → IsLost full s w s' e → IsCallRefused causes s w call s' w' e
-  lost_moving is f counts b = broken moving full is f b.0 (go w.pending refl)
+  pub lost_moving : work_of (state_of s w) call ≡ moving → s.failed ≡ false → Allowed → CountsError can m n e → IsLost full s w s' e → IsCallRefused causes s w call s' w' e
+  lost_moving is f ok counts b = broken moving full is f ok b.0 (go w.pending refl)
     where
       go : (p : Bool) → w.pending ≡ p → WorkMayBreak causes p moving (kind e)
           × ((StaysUnfailed p moving (kind e) × (run_of s' w' ≡ record { stream = record (state_of s w) { ahead = 0 }; failed = false }))
@@ -243,8 +247,8 @@ module _ (full : Type 0) (can : MediumFault → Bool) (m n : ℕ) (s : Stored) (
       go true eq = (blames _ can m n e b.0 counts, inr (refl, b.2.is_failed))
       go false eq = absurd (let t = b.1 in cc)
 
-  pub lost_flushing : work_of (state_of s w) call ≡ writing_out → s.failed ≡ false → CountsError can m n e → IsLost full s w s' e → IsCallRefused causes s w call s' w' e
-  lost_flushing is f counts b = broken writing_out full is f b.0 (go w.pending refl)
+  pub lost_flushing : work_of (state_of s w) call ≡ writing_out → s.failed ≡ false → Allowed → CountsError can m n e → IsLost full s w s' e → IsCallRefused causes s w call s' w' e
+  lost_flushing is f ok counts b = broken writing_out full is f ok b.0 (go w.pending refl)
     where
       go : (p : Bool) → w.pending ≡ p → WorkMayBreak causes p writing_out (kind e)
           × ((StaysUnfailed p writing_out (kind e) × (run_of s' w' ≡ record { stream = record (state_of s w) { ahead = 0 }; failed = false }))
@@ -252,8 +256,8 @@ module _ (full : Type 0) (can : MediumFault → Bool) (m n : ℕ) (s : Stored) (
       go true eq = (blames _ can m n e b.0 counts, inr (refl, b.2.is_failed))
       go false eq = absurd (let t = b.1 in cc)
 
-  pub flush_broken : work_of (state_of s w) call ≡ writing_out → s.failed ≡ false → CountsError can m n e → IsMediumFault e → s'.failed ≡ true → IsCallRefused causes s w call s' w' e
-  flush_broken is f counts b failed = broken writing_out ⊥ is f (fault_is e b) (go w.pending refl)
+  pub flush_broken : work_of (state_of s w) call ≡ writing_out → s.failed ≡ false → Allowed → CountsError can m n e → IsMediumFault e → s'.failed ≡ true → IsCallRefused causes s w call s' w' e
+  flush_broken is f ok counts b failed = broken writing_out ⊥ is f ok (fault_is e b) (go w.pending refl)
     where
       go : (p : Bool) → w.pending ≡ p → WorkMayBreak causes p writing_out (kind e)
           × ((StaysUnfailed p writing_out (kind e) × (run_of s' w' ≡ record { stream = record (state_of s w) { ahead = 0 }; failed = false }))

@@ -1,6 +1,6 @@
 -- What the rules say of a read, of bytes lent and of a seek, from what the windows say.
 use Rattle.std.proofs.Common.{refl, ℕ, ◌+◌, ◌-◌, ◌≡◌, ◌<◌, ◌≤◌, ◌⊎◌, Bool, true, false, ◌||◌, ◌==◌, IsTrue, List, [], length, take, drop, sym, ◌∙◌, ap, subst, arith, inl, inr, length-drop, nat_lt, Option, Some, None}
-use Rattle.std.specs.Prelude.{MatchOption}
+use Rattle.std.specs.Prelude.{MatchOption, is_some}
 use Rattle.std.proofs.lemmas.Bool.Decides.{nat_tests}
 use Rattle.std.proofs.lemmas.List.{take_all}
 use Rattle.std.specs.declared.io.traits.SeekFrom.{SeekFrom}
@@ -178,10 +178,10 @@ module _ (causes : Causes) (s t : Stored) (w x : Window) (e : Error) (a : LiesOv
 module _ (full : Type 0) (can : MediumFault → Bool) (m n : ℕ) (s : Stored) (w : Window) (t : Stored) (x : Window) (e : Error) (a : LiesOver s w) (before : w.base + w.cursor < w.size)
     (counts : CountsError can m n e) (h : ReadBrokeOff full s w t x e ⊎ Unreadable s w t x e) where
   pub refused_read : (wanted : ℕ) → 0 < wanted → IsCallRefused (record { medium = Rises m n; full = full }) s w (read wanted) t x e
-  refused_read wanted some = elim h [ inl b ↦ read_broken full can m n s w t x (read wanted) e refl a.unfailed counts b | inr u ↦ unreadable_read _ s t w x e a u before wanted some ]
+  refused_read wanted some = elim h [ inl b ↦ read_broken full can m n s w t x (read wanted) e refl a.unfailed tt counts b | inr u ↦ unreadable_read _ s t w x e a u before wanted some ]
 
   pub refused_fill : IsCallRefused (record { medium = Rises m n; full = full }) s w fill_buf t x e
-  refused_fill = elim h [ inl b ↦ read_broken full can m n s w t x fill_buf e refl a.unfailed counts b | inr u ↦ unreadable_lent _ s t w x e a u before ]
+  refused_fill = elim h [ inl b ↦ read_broken full can m n s w t x fill_buf e refl a.unfailed tt counts b | inr u ↦ unreadable_lent _ s t w x e a u before ]
 
 -- ---- seeking
 
@@ -189,6 +189,10 @@ sought_is : (s : Stored) (w : Window) (to : SeekFrom) → sought (state_of s w) 
 sought_is s w (Start to) = refl
 sought_is s w (End to) = refl
 sought_is s w (Current to) = refl
+
+-- it leads to a place
+pub leads_within : (s : Stored) (w : Window) (to : SeekFrom) (at : ℕ) → Some at ≡ target_of w.size (w.base + w.cursor) to → is_some (sought (state_of s w) (whence_of to)) ≡ true
+leads_within s w to at is = ap is_some (sought_is s w to ∙ sym is)
 
 some_matches : (o : Option ℕ) (n : ℕ) (P : Type 0) (Q : ℕ → Type 0) → Some n ≡ o → Q n → MatchOption o P Q
 some_matches o n P Q is q = subst (λ (z : Option ℕ). MatchOption z P Q) is q

@@ -131,10 +131,10 @@ some_work s w bytes some =
 
 -- they were not
 pub written_broken : (full : Type 0) (can : MediumFault → Bool) (m n : ℕ) (s : Stored) (w : Window) (s' : Stored) (w' : Window) (bytes : List ℕ) (e : Error) → 0 < length bytes → s.failed ≡ false
-    → CountsError can m n e → WriteBrokeOff full s w s' w' e → IsCallRefused (record { medium = Rises m n; full = full }) s w (write bytes) s' w' e
-written_broken full can m n s w s' w' bytes e some f counts b = elim (some_work s w bytes some) [
-  | inl k ↦ overwritten_broken full can m n s w s' w' (write bytes) e k.0 k.1 f counts b
-  | inr k ↦ appended_broken full can m n s w s' w' (write bytes) e k f counts b
+    → (w.base + w.cursor < s.limit) × (s.sound ≡ true) → CountsError can m n e → WriteBrokeOff full s w s' w' e → IsCallRefused (record { medium = Rises m n; full = full }) s w (write bytes) s' w' e
+written_broken full can m n s w s' w' bytes e some f ok counts b = elim (some_work s w bytes some) [
+  | inl k ↦ overwritten_broken full can m n s w s' w' (write bytes) e k.0 k.1 f ok counts b
+  | inr k ↦ appended_broken full can m n s w s' w' (write bytes) e k f ok counts b
 ]
 
 -- bytes written past the empty window

@@ -1,11 +1,12 @@
 //! Calls on a buffered stream over a list of bytes in memory, made until they have done all that was asked.
 use crate::memory::MemoryContents;
-use cfb_format::error::{Detail, Error};
+use cfb_format::error::Error;
 use cfb_media::refusing::Refusing;
 use cfb_stream_buffer::content::ReadContents;
 use cfb_stream_window::window::Window;
 use std::alloc::{Allocator, Global};
 use std::io::SeekFrom;
+use std::process::Abort;
 
 /// What a stream is asked for.
 #[derive(Clone, Copy)]
@@ -87,12 +88,9 @@ pub fn are_pieces(bytes: &[u8], source: &[u8], pieces: &[(usize, usize)]) -> boo
     at == bytes.len()
 }
 
-/// Tells of a row that is wrong which it is.
-pub fn check(is_right: bool, row: usize) -> Result<(), Error> {
-    if is_right {
-        return Ok(());
-    }
-    Err(Error::InvalidData(Detail::number("a row is wrong", row as u64)))
+/// Ends the test, and tells the row, where it is wrong or was refused.
+pub fn check(rt: &impl Abort, answer: &Result<bool, Error>, row: usize) {
+    assert!(rt; *answer == Ok(true), "row {row}");
 }
 
 /// Opens the stream, with this limit of its buffer.

@@ -5,7 +5,7 @@ use crate::play::{Ground, Script, Step, play_all};
 use cfb_format::error::Error;
 use cfb_media::refusing::Refusing;
 use cfb_stream_window::window::Window;
-use std::alloc::Allocator;
+use std::alloc::{Allocator, Global};
 
 /// A call behind ten bytes that were lent, the number of its refusal or 0, and where consuming seven bytes leads then.
 const AFTER_LENDING: &[(Call, u8, u64)] = &[
@@ -56,27 +56,25 @@ fn is_right(
     Ok(closed(window, content) == 0 && right)
 }
 
-/// Whether each row is right.
-fn check_rows(means: Means<'_>) -> Result<(), Error> {
-    let first = means.source.get(..10).unwrap_or(&[]);
-    let mut number = 0usize;
-    for row in AFTER_LENDING {
-        let mut content = content_of(means.alloc, first, 0, 100_000)?;
-        check(is_right(means, &mut content, row)?, number)?;
-        number = number.saturating_add(1);
-    }
-    Ok(())
+/// The same, with the stream made.
+fn is_taken_back(alloc: Global, row: &(Call, u8, u64)) -> Result<bool, Error> {
+    let source = source(alloc)?;
+    let heap = Refusing::new(alloc);
+    let first = source.get(..10).unwrap_or(&[]);
+    let mut content = content_of(alloc, first, 0, 100_000)?;
+    let means = Means {
+        alloc,
+        heap: &heap,
+        source: &source,
+    };
+    is_right(means, &mut content, row)
 }
 
 #[test]
-fn calls_take_back_what_was_lent(rt: HostRuntime) -> Result<(), Error> {
-    let source = source(rt.alloc())?;
-    let heap = Refusing::new(rt.alloc());
-    check_rows(Means {
-        alloc: rt.alloc(),
-        heap: &heap,
-        source: &source,
-    })
+fn calls_take_back_what_was_lent(rt: HostRuntime) {
+    for (number, row) in AFTER_LENDING.iter().enumerate() {
+        check(&rt, &is_taken_back(rt.alloc(), row), number);
+    }
 }
 
 /// The greatest length of version 3, and no byte is there.
@@ -127,8 +125,8 @@ const GREATEST: &[Script] = &[
 
 /// At the greatest length nothing can be written; that comes before what is said of a file that is not sound.
 #[test]
-fn greatest_lengths_are_kept(rt: HostRuntime) -> Result<(), Error> {
-    play_all(rt.alloc(), GREATEST)
+fn greatest_lengths_are_kept(rt: HostRuntime) {
+    play_all(&rt, rt.alloc(), GREATEST);
 }
 
 /// No call that writes succeeds; the write of what was kept back, and not the flush; both.
@@ -177,6 +175,6 @@ const FLUSHES: &[Script] = &[
 ];
 
 #[test]
-fn flushes_are_handed_on(rt: HostRuntime) -> Result<(), Error> {
-    play_all(rt.alloc(), FLUSHES)
+fn flushes_are_handed_on(rt: HostRuntime) {
+    play_all(&rt, rt.alloc(), FLUSHES);
 }

@@ -34,8 +34,8 @@ const FILLING: &[Script] = &[
 ];
 
 #[test]
-fn writes_fill_the_room(rt: HostRuntime) -> Result<(), Error> {
-    play_all(rt.alloc(), FILLING)
+fn writes_fill_the_room(rt: HostRuntime) {
+    play_all(&rt, rt.alloc(), FILLING);
 }
 
 /// A length that there is no room for is refused before bytes that are kept back are written out.
@@ -53,8 +53,8 @@ const LENGTHS: &[Script] = &[
 ];
 
 #[test]
-fn refused_length_loses_nothing(rt: HostRuntime) -> Result<(), Error> {
-    play_all(rt.alloc(), LENGTHS)
+fn refused_length_loses_nothing(rt: HostRuntime) {
+    play_all(&rt, rt.alloc(), LENGTHS);
 }
 
 /// The last 500 of 1500 bytes are missing.
@@ -92,8 +92,8 @@ const UNSOUND_SCRIPTS: &[Script] = &[
 ];
 
 #[test]
-fn unsound_streams_are_read(rt: HostRuntime) -> Result<(), Error> {
-    play_all(rt.alloc(), UNSOUND_SCRIPTS)
+fn unsound_streams_are_read(rt: HostRuntime) {
+    play_all(&rt, rt.alloc(), UNSOUND_SCRIPTS);
 }
 
 /// Reads at most 100 bytes, and says whether that was refused.
@@ -155,21 +155,20 @@ fn read_again(
 }
 
 /// Whether one read is refused, that behind so many others, and the right bytes are served all the same.
-fn loses_nothing(alloc: Global, reads: u64, source: &[u8]) -> Result<bool, Error> {
+fn loses_nothing(alloc: Global, reads: u64) -> Result<bool, Error> {
+    let source = source(alloc)?;
     let mut content = content_of(alloc, source.get(..3000).unwrap_or(&[]), 0, 100_000)?;
     content.set_reads(reads);
     let mut read = Vec::new(alloc);
     let refused = read_again(alloc, &mut content, &mut read)?;
-    let is_right = are_pieces(&read, source, &[(3000, 0), (2993, 7)]);
+    let is_right = are_pieces(&read, &source, &[(3000, 0), (2993, 7)]);
     Ok(is_right && refused == usize::from(reads < 4) && !content.is_failed(0))
 }
 
 /// A refused read of a stream that is only read loses nothing, and the same call again serves the right bytes.
 #[test]
-fn refused_reads_lose_nothing(rt: HostRuntime) -> Result<(), Error> {
-    let source = source(rt.alloc())?;
+fn refused_reads_lose_nothing(rt: HostRuntime) {
     for reads in 0..6 {
-        check(loses_nothing(rt.alloc(), reads, &source)?, reads as usize)?;
+        check(&rt, &loses_nothing(rt.alloc(), reads), reads as usize);
     }
-    Ok(())
 }

@@ -1,11 +1,12 @@
 //! Scripts of calls on a stream, and what is played of them.
 use crate::calls::{Call, Means, are_pieces, closed, content_of, make, number_of, opened, source};
 use crate::memory::MemoryContents;
-use cfb_format::error::{Detail, Error};
+use cfb_format::error::Error;
 use cfb_media::refusing::Refusing;
 use cfb_stream_buffer::content::ReadContents;
 use cfb_stream_window::window::Window;
 use std::alloc::{Allocator, Global};
+use std::process::Abort;
 
 /// A call, the number of its refusal or 0, the position and the length then, and the pieces that it read: so many of
 /// the source's bytes from there on.
@@ -118,23 +119,25 @@ fn right_of(alloc: Global, limit: usize, script: &Script, source: &[u8]) -> Resu
     right_calls(means, &mut content, limit, script)
 }
 
-/// Plays a script with each limit.
-fn play(alloc: Global, script: &Script, source: &[u8]) -> Result<(), Error> {
+/// The least of these numbers, of each limit.
+fn least_right(alloc: Global, script: &Script, source: &[u8]) -> Result<usize, Error> {
+    let mut least = usize::MAX;
     for limit in script.limits {
-        let right = right_of(alloc, *limit, script, source)?;
-        if right <= script.steps.len() {
-            let (limit, step) = (*limit as u64, right as u64);
-            return Err(Error::InvalidData(Detail::numbers("wrong limit and step", limit, step)));
-        }
+        least = right_of(alloc, *limit, script, source)?.min(least);
     }
-    Ok(())
+    Ok(least)
 }
 
-/// Plays these scripts, and tells of a step that is wrong.
-pub fn play_all(alloc: Global, scripts: &[Script]) -> Result<(), Error> {
+/// The same, with the source made.
+fn right_in(alloc: Global, script: &Script) -> Result<usize, Error> {
     let source = source(alloc)?;
-    for script in scripts {
-        play(alloc, script, &source)?;
+    least_right(alloc, script, &source)
+}
+
+/// Plays these scripts, and ends the test, and tells the step, where one is wrong.
+pub fn play_all(rt: &impl Abort, alloc: Global, scripts: &[Script]) {
+    for (number, script) in scripts.iter().enumerate() {
+        let right = right_in(alloc, script).unwrap_or(0);
+        assert!(rt; right > script.steps.len(), "script {number}, step {right}");
     }
-    Ok(())
 }

@@ -5,7 +5,7 @@ use crate::play::{EMPTY, Ground, Script, Step, play_all};
 use cfb_format::error::Error;
 use cfb_media::refusing::Refusing;
 use cfb_stream_window::window::Window;
-use std::alloc::Allocator;
+use std::alloc::{Allocator, Global};
 
 /// Each of these but the last reads finds bytes kept back where the buffer has room for 1024.
 const KEPT: &[Call] = &[
@@ -73,16 +73,20 @@ fn refused_cases(means: Means<'_>) -> Result<usize, Error> {
     Ok(refused)
 }
 
-#[test]
-fn lost_bytes_fail_the_file(rt: HostRuntime) -> Result<(), Error> {
-    let source = source(rt.alloc())?;
-    let heap = Refusing::new(rt.alloc());
+fn are_some_refused(alloc: Global) -> Result<bool, Error> {
+    let source = source(alloc)?;
+    let heap = Refusing::new(alloc);
     let refused = refused_cases(Means {
-        alloc: rt.alloc(),
+        alloc,
         heap: &heap,
         source: &source,
     })?;
-    check(4 < refused && refused < 40, refused)
+    Ok(4 < refused && refused < 40)
+}
+
+#[test]
+fn lost_bytes_fail_the_file(rt: HostRuntime) {
+    check(&rt, &are_some_refused(rt.alloc()), 0);
 }
 
 /// Nine bytes are stored, and each call that writes is refused.
@@ -117,8 +121,8 @@ const CHANGES: &[Script] = &[
 ];
 
 #[test]
-fn refused_changes_leave_the_stream(rt: HostRuntime) -> Result<(), Error> {
-    play_all(rt.alloc(), CHANGES)
+fn refused_changes_leave_the_stream(rt: HostRuntime) {
+    play_all(&rt, rt.alloc(), CHANGES);
 }
 
 /// A buffer that gets no memory to grow loses nothing: the call is made again once there is some.
@@ -159,15 +163,19 @@ const GROWTHS: &[Script] = &[
 ];
 
 #[test]
-fn refused_growth_loses_nothing(rt: HostRuntime) -> Result<(), Error> {
-    play_all(rt.alloc(), GROWTHS)
+fn refused_growth_loses_nothing(rt: HostRuntime) {
+    play_all(&rt, rt.alloc(), GROWTHS);
 }
 
 /// The first buffer is a request too.
-#[test]
-fn refused_memory_opens_nothing(rt: HostRuntime) -> Result<(), Error> {
-    let heap = Refusing::new(rt.alloc());
-    let content = content_of(rt.alloc(), &[], 0, 100_000)?;
+fn is_opening_refused(alloc: Global) -> Result<bool, Error> {
+    let heap = Refusing::new(alloc);
+    let content = content_of(alloc, &[], 0, 100_000)?;
     heap.refuse_all();
-    check(number_of(&opened(&heap, &content, 8192)) == 6, 0)
+    Ok(number_of(&opened(&heap, &content, 8192)) == 6)
+}
+
+#[test]
+fn refused_memory_opens_nothing(rt: HostRuntime) {
+    check(&rt, &is_opening_refused(rt.alloc()), 0);
 }

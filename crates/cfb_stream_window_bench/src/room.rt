@@ -85,8 +85,8 @@ const GROWN: &[Script] = &[
 ];
 
 #[test]
-fn buffers_grow_by_four(rt: HostRuntime) -> Result<(), Error> {
-    play_all(rt.alloc(), GROWN)
+fn buffers_grow_by_four(rt: HostRuntime) {
+    play_all(&rt, rt.alloc(), GROWN);
 }
 
 /// A limit of the buffer, and how many of 5000 bytes are lent at once.
@@ -127,23 +127,20 @@ fn are_lent_to_read(
 }
 
 /// Both, of 5000 bytes.
-fn lends(alloc: Global, row: &(usize, usize), source: &[u8]) -> Result<bool, Error> {
+fn lends(alloc: Global, row: &(usize, usize)) -> Result<bool, Error> {
     let (limit, lent) = *row;
+    let source = source(alloc)?;
     let first = source.get(..5000).unwrap_or(&[]);
     let mut content = content_of(alloc, first, 0, 100_000)?;
-    let right = are_lent(alloc, &mut content, limit, lent, source)?;
-    Ok(right && are_lent_to_read(alloc, &mut content, limit, lent, source)?)
+    let right = are_lent(alloc, &mut content, limit, lent, &source)?;
+    Ok(right && are_lent_to_read(alloc, &mut content, limit, lent, &source)?)
 }
 
 #[test]
-fn buffers_grow_for_what_is_left(rt: HostRuntime) -> Result<(), Error> {
-    let source = source(rt.alloc())?;
-    let mut number = 0usize;
-    for row in LENT {
-        check(lends(rt.alloc(), row, &source)?, number)?;
-        number = number.saturating_add(1);
+fn buffers_grow_for_what_is_left(rt: HostRuntime) {
+    for (number, row) in LENT.iter().enumerate() {
+        check(&rt, &lends(rt.alloc(), row), number);
     }
-    Ok(())
 }
 
 /// 3000 bytes are stored.
@@ -183,6 +180,6 @@ const REFUSED: &[Script] = &[
 ];
 
 #[test]
-fn refused_room_loses_nothing(rt: HostRuntime) -> Result<(), Error> {
-    play_all(rt.alloc(), REFUSED)
+fn refused_room_loses_nothing(rt: HostRuntime) {
+    play_all(&rt, rt.alloc(), REFUSED);
 }

@@ -1,7 +1,6 @@
 //! Scripts of calls over buffers of several limits: what a stream holds, reads and answers is the same for each.
 use crate::calls::{Call, ZEROS};
 use crate::play::{EMPTY, Script, Step, play_all};
-use cfb_format::error::Error;
 
 /// Written, overwritten at a place, and read in each way.
 const WRITTEN: &[Step] = &[
@@ -93,6 +92,6 @@ const SCRIPTS: &[Script] = &[
 
 /// For every limit.
 #[test]
-fn steps_are_taken(rt: HostRuntime) -> Result<(), Error> {
-    play_all(rt.alloc(), SCRIPTS)
+fn steps_are_taken(rt: HostRuntime) {
+    play_all(&rt, rt.alloc(), SCRIPTS);
 }

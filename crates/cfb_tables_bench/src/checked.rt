@@ -1,10 +1,8 @@
 //! How a wrong row is told.
-use cfb_format::error::{Detail, Error};
+use cfb_format::error::Error;
+use std::process::Abort;
 
-/// Tells of a row that is wrong which it is.
-pub fn check(is_right: bool, row: usize) -> Result<(), Error> {
-    if is_right {
-        return Ok(());
-    }
-    Err(Error::InvalidData(Detail::number("a row is wrong", row as u64)))
+/// Ends the test, and tells the row, where it is wrong or was refused.
+pub fn check(rt: &impl Abort, answer: &Result<bool, Error>, row: usize) {
+    assert!(rt; *answer == Ok(true), "row {row}");
 }

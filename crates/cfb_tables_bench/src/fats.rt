@@ -95,11 +95,8 @@ fn is_read(alloc: Global, row: &Row) -> Result<bool, Error> {
 }
 
 #[test]
-fn words_are_read_in_both_modes(rt: HostRuntime) -> Result<(), Error> {
-    let mut number = 0usize;
-    for row in ROWS {
-        check(is_read(rt.alloc(), row)?, number)?;
-        number = number.saturating_add(1);
+fn words_are_read_in_both_modes(rt: HostRuntime) {
+    for (number, row) in ROWS.iter().enumerate() {
+        check(&rt, &is_read(rt.alloc(), row), number);
     }
-    Ok(())
 }

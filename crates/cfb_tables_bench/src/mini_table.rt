@@ -1,8 +1,9 @@
 //! Mini sectors that are taken and freed, over no medium.
-use cfb_format::consts::{END_OF_CHAIN as END, FREE_SECTOR as FREE, MAX_REGULAR_SECTOR};
-use cfb_format::error::{Detail, Error};
+use crate::checked::check;
+use cfb_format::consts::{END_OF_CHAIN as END, FREE_SECTOR as FREE};
+use cfb_format::error::Error;
 use cfb_format::validate::Validation::{self, Permissive, Strict};
-use cfb_format::version::Version::{self, V3, V4};
+use cfb_format::version::Version::V3;
 use cfb_media::refusing::Refusing;
 use cfb_mini_table::mini_table::MiniTable;
 use std::alloc::{Allocator, Global};
@@ -94,8 +95,10 @@ const NONE: &[Step] = &[
 ];
 
 /// The words, how many mini sectors the mini stream has, and what is then asked for.
+type Row = (&'static [u32], usize, &'static [Step]);
+
 #[rattlefmt::skip]
-const ROWS: &[(&[u32], usize, &[Step])] = &[
+const ROWS: &[Row] = &[
     (&[END, FREE, FREE], 1, GROWN),
     (&[END], 1, FREED),
     (&[END, FREE, 5, FREE, FREE, 6, END], 7, READ),
@@ -103,14 +106,6 @@ const ROWS: &[(&[u32], usize, &[Step])] = &[
     (&[1, END, FREE, FREE, FREE, END], 5, CUT_FREED),
     (&[1, 0, END], 3, NONE),
 ];
-
-/// Tells of a row that is wrong which it is.
-fn check(is_right: bool, row: usize) -> Result<(), Error> {
-    if is_right {
-        return Ok(());
-    }
-    Err(Error::InvalidData(Detail::number("a row is wrong", row as u64)))
-}
 
 /// The table of these words.
 fn read<A: Allocator + Clone>(
@@ -227,23 +222,27 @@ fn is_right(alloc: Global, table: &mut MiniTable, step: &Step) -> bool {
     is_answer && [table.len(), table.free_len()] == *sizes
 }
 
-/// Asks for each step in turn.
-fn ask(alloc: Global, table: &mut MiniTable, steps: &[Step]) -> Result<(), Error> {
-    let mut number = 0usize;
+/// Whether each step in turn is right.
+fn are_right(alloc: Global, table: &mut MiniTable, steps: &[Step]) -> bool {
+    let mut right = true;
     for step in steps {
-        check(is_right(alloc, table, step), number)?;
-        number = number.saturating_add(1);
+        right = is_right(alloc, table, step) && right;
     }
-    Ok(())
+    right
+}
+
+/// The same of the table of these words.
+fn is_asked(alloc: Global, row: &Row) -> Result<bool, Error> {
+    let (words, most, steps) = *row;
+    let mut table = read(alloc, words, most, Permissive)?;
+    Ok(are_right(alloc, &mut table, steps))
 }
 
 #[test]
-fn mini_sectors_are_taken_and_freed(rt: HostRuntime) -> Result<(), Error> {
-    for (words, most, steps) in ROWS {
-        let mut table = read(rt.alloc(), words, *most, Permissive)?;
-        ask(rt.alloc(), &mut table, steps)?;
+fn mini_sectors_are_taken_and_freed(rt: HostRuntime) {
+    for (number, row) in ROWS.iter().enumerate() {
+        check(&rt, &is_asked(rt.alloc(), row), number);
     }
-    Ok(())
 }
 
 /// The words, how many mini sectors the mini stream has, the mode, and the table that is read: none where it is refused.
@@ -276,28 +275,10 @@ fn is_read(alloc: Global, row: &Opening) -> bool {
 }
 
 #[test]
-fn words_are_read(rt: HostRuntime) -> Result<(), Error> {
-    let mut number = 0usize;
-    for row in OPENINGS {
-        check(is_read(rt.alloc(), row), number)?;
-        number = number.saturating_add(1);
+fn words_are_read(rt: HostRuntime) {
+    for (number, row) in OPENINGS.iter().enumerate() {
+        check(&rt, &Ok(is_read(rt.alloc(), row)), number);
     }
-    Ok(())
-}
-
-/// Whether a table of one entry has this limit, and takes as many as that leaves and no more.
-fn is_limited(alloc: Global, version: Version, limit: u32) -> Result<bool, Error> {
-    let words = Vec::from_array(alloc, [END])?;
-    let table = MiniTable::new(alloc, version, words, 1, Strict)?;
-    let left = (limit as usize).saturating_sub(1);
-    let takes = table.can_take(left) && !table.can_take(left.saturating_add(1));
-    Ok(takes && table.limit() == limit && !table.is_empty())
-}
-
-#[test]
-fn versions_have_limits(rt: HostRuntime) -> Result<(), Error> {
-    check(is_limited(rt.alloc(), V3, 67108863)?, 0)?;
-    check(is_limited(rt.alloc(), V4, MAX_REGULAR_SECTOR)?, 1)
 }
 
 /// What is asked of a table whose chains are 0 to 3 and 5 to 6, and where 4 is free.
@@ -327,99 +308,43 @@ fn tried(heap: &Refusing<Global>, call: Call, served: u64) -> Result<(u8, bool, 
     Ok((first, same, second))
 }
 
-/// How many requests of a call are refused in turn, as each is refused rightly; none where one was wrong.
-fn refused_in_turn(heap: &Refusing<Global>, call: Call) -> Result<u64, Error> {
+/// Whether some requests of a call are refused in turn, and each rightly.
+fn is_refused_in_turn(heap: &Refusing<Global>, call: Call) -> Result<bool, Error> {
     for served in 0..20 {
         let (first, same, second) = tried(heap, call, served)?;
         if first == 0 {
-            return Ok(served);
+            return Ok(0 < served);
         }
         if first != 6 || !same || second != 0 {
             break;
         }
     }
-    Ok(0)
+    Ok(false)
 }
 
 #[test]
-fn memory_is_refused_in_turn(rt: HostRuntime) -> Result<(), Error> {
+fn memory_is_refused_in_turn(rt: HostRuntime) {
     let heap = Refusing::new(rt.alloc());
-    let mut number = 0usize;
-    for call in CHANGES {
-        check(0 < refused_in_turn(&heap, *call)?, number)?;
-        number = number.saturating_add(1);
+    for (number, call) in CHANGES.iter().enumerate() {
+        check(&rt, &is_refused_in_turn(&heap, *call), number);
     }
-    Ok(())
 }
 
-/// The number of the refusal to open where the request after so many others is refused, or 0.
-fn opened(heap: &Refusing<Global>, served: u64) -> u8 {
-    heap.refuse_after(served);
-    number_of(&read(heap, &CHAINS, 7, Strict))
-}
-
-#[test]
-fn memory_to_open_is_refused_in_turn(rt: HostRuntime) -> Result<(), Error> {
-    let heap = Refusing::new(rt.alloc());
-    let mut refused = 0usize;
+/// Whether some requests to open are refused in turn.
+fn is_opening_refused_in_turn(heap: &Refusing<Global>) -> bool {
     for served in 0..20 {
-        let number = opened(&heap, served);
-        if number == 0 {
-            break;
+        heap.refuse_after(served);
+        match read(heap, &CHAINS, 7, Strict) {
+            Ok(_) => return 0 < served,
+            Err(error) if error.number() == 6 => {}
+            Err(_) => break,
         }
-        check(number == 6, refused)?;
-        refused = refused.saturating_add(1);
     }
-    check(0 < refused && refused < 20, refused)
+    false
 }
 
-/// Whether a chain takes what was prepared in two parts. The lists have memory of their own.
-fn takes<'x>(
-    table: &mut MiniTable<&'x Refusing<Global>>,
-    lists: &'x Refusing<Global>,
-    first: usize,
-    second: usize,
-) -> Result<bool, Error> {
-    extend_listed(table, lists, END, first)?;
-    let list = extend_listed(table, lists, 4, second)?;
-    Ok(are_ranges(&list, &[(4, 4), (7, 305)]) && table.len() == 306)
-}
-
-/// Whether that chain is cut behind two and freed, and the table is then as it was.
-fn gives_back<'x>(
-    table: &mut MiniTable<&'x Refusing<Global>>,
-    lists: &'x Refusing<Global>,
-) -> Result<bool, Error> {
-    cut_listed(table, lists, 4, 2)?;
-    let is_cut = table.len() == 8 && table.free_len() == 0;
-    free_listed(table, lists, 4)?;
-    Ok(is_cut && table.values() == CHAINS.as_slice())
-}
-
-/// Both, once 300 were prepared and the table's heap refuses all else.
-fn turned<'x>(
-    table: &mut MiniTable<&'x Refusing<Global>>,
-    heap: &Refusing<Global>,
-    lists: &'x Refusing<Global>,
-    parts: (usize, usize),
-) -> Result<bool, Error> {
-    table.prepare(300)?;
-    heap.refuse_all();
-    Ok(takes(table, lists, parts.0, parts.1)? && gives_back(table, lists)?)
-}
-
-/// The same of a table of its own.
-fn is_turned(alloc: Global, parts: (usize, usize)) -> Result<bool, Error> {
-    let heap = Refusing::new(alloc);
-    let lists = Refusing::new(alloc);
-    let mut table = read(&heap, &CHAINS, 7, Strict)?;
-    turned(&mut table, &heap, &lists, parts)
-}
-
-/// What was prepared is taken at once or in parts, cut and freed without another request for memory.
 #[test]
-fn what_was_prepared_asks_for_no_memory(rt: HostRuntime) -> Result<(), Error> {
-    check(is_turned(rt.alloc(), (300, 0))?, 0)?;
-    check(is_turned(rt.alloc(), (1, 299))?, 1)?;
-    check(is_turned(rt.alloc(), (100, 200))?, 2)
+fn memory_to_open_is_refused_in_turn(rt: HostRuntime) {
+    let heap = Refusing::new(rt.alloc());
+    check(&rt, &Ok(is_opening_refused_in_turn(&heap)), 0);
 }

@@ -39,7 +39,7 @@ created_rules causes setting old new path = go old.failed
         → FollowsRules setting old (create_stream path) done new
     go true h = absurd (refused_not_done failed_earlier h.0)
     go false (inl follows) = follows
-    go false (inr ((r, may, is), off)) = absurd (refused_not_done r is)
+    go false (inr ((r, may, is, rules), off)) = absurd (refused_not_done r is)
 
 named_path : (rule : List (List ℕ) → Option Refusal) (path : List ℕ) → path_refusal rule path ≡ None → (names : List (List ℕ)) × (names_of_path path ≡ Some names)
 named_path rule path = go (names_of_path path) refl
@@ -77,7 +77,7 @@ found_rules causes setting old new path = go old.failed
         (FollowsRules setting old (open_stream path) done new ⊎ IsBroken causes setting old (open_stream path) done new) → new.tree ≡ old.tree
     go true h = absurd (refused_not_done failed_earlier h.0)
     go false (inl follows) = (done_step setting.cases setting.stream.sound old.root_len old.tree new.tree (open_stream path) follows.step).1
-    go false (inr ((r, may, is), off)) = absurd (refused_not_done r is)
+    go false (inr ((r, may, is, rules), off)) = absurd (refused_not_done r is)
 
 -- as it is opened
 opened_with : (cases : Cases) (tree : Tree) (path bytes : List ℕ) → HasStream cases tree path bytes → opened_by_path cases tree path ≡ opened (length bytes) bytes
@@ -128,11 +128,11 @@ module _ (causes : Causes) (setting : StreamSetting) (old new : StreamRun) (repl
           same_some a b f = ap (λ (o : Option ℕ). unwrap_or o 0) f
 
       go : (b : Bool) → MatchBool b (StreamOnFailed (seek (from_end (pos 0))) reply new)
-          ((StreamStep setting old.stream (seek (from_end (pos 0))) reply new.stream × (new.failed ≡ false)) ⊎ IsStreamBroken causes old.stream (seek (from_end (pos 0))) reply new)
+          ((StreamStep setting old.stream (seek (from_end (pos 0))) reply new.stream × (new.failed ≡ false)) ⊎ IsStreamBroken causes setting old.stream (seek (from_end (pos 0))) reply new)
           → EndsWith new.stream bytes
       go true h = absurd (not_refused reply failed_earlier quiet h.1)
       go false (inl h) = went (sought old.stream (from_end (pos 0))) (sought_end old.stream) h.0
-      go false (inr (r, may, is, off)) = absurd (not_refused reply r quiet is)
+      go false (inr (r, may, is, off, allowed)) = absurd (not_refused reply r quiet is)
 
 -- so many of the bytes were written behind these; none in a file that is not sound
 record Grows (sound : Bool) (before bytes : List ℕ) (n : ℕ) (new : StreamState) : Type 0 where
@@ -179,11 +179,11 @@ module _ (causes : Causes) (setting : StreamSetting) (old new : StreamRun) (befo
   write_runs ends = go old.failed
     where
       go : (b : Bool) → MatchBool b (StreamOnFailed (write bytes) reply new)
-          ((StreamStep setting old.stream (write bytes) reply new.stream × (new.failed ≡ false)) ⊎ IsStreamBroken causes old.stream (write bytes) reply new)
+          ((StreamStep setting old.stream (write bytes) reply new.stream × (new.failed ≡ false)) ⊎ IsStreamBroken causes setting old.stream (write bytes) reply new)
           → Grows setting.sound before bytes (taken_by_work reply) new.stream
       go true h = absurd (not_refused reply failed_earlier quiet h.1)
       go false (inl h) = write_step setting old.stream new.stream before bytes ends reply quiet h.0
-      go false (inr (r, may, is, off)) = absurd (not_refused reply r quiet is)
+      go false (inr (r, may, is, off, allowed)) = absurd (not_refused reply r quiet is)
 
 -- ---- its closing
 

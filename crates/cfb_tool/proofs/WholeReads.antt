@@ -42,11 +42,11 @@ module _ (causes : Causes) (setting : StreamSetting) (old new : StreamRun) (byte
   read_calm = go old.failed refl
     where
       go : (b : Bool) → old.failed ≡ b → MatchBool b (StreamOnFailed read_to_end (got bytes) new)
-          ((StreamStep setting old.stream read_to_end (got bytes) new.stream × (new.failed ≡ false)) ⊎ IsStreamBroken causes old.stream read_to_end (got bytes) new)
+          ((StreamStep setting old.stream read_to_end (got bytes) new.stream × (new.failed ≡ false)) ⊎ IsStreamBroken causes setting old.stream read_to_end (got bytes) new)
           → (old.failed ≡ false) × (new.failed ≡ false) × ReadToEnd old.stream (got bytes) new.stream
       go true e h = absurd (got_not_done bytes failed_earlier h.1)
       go false e (inl h) = (e, h.1, h.0)
-      go false e (inr (r, may, is, off)) = absurd (got_not_done bytes r is)
+      go false e (inr (r, may, is, off, allowed)) = absurd (got_not_done bytes r is)
 
   pub read_whole : old.stream.position ≡ 0 → length old.stream.content ≤ old.stream.len → ReadToEnd old.stream (got bytes) new.stream
       → (old.stream.content ≡ bytes) × (old.stream.len ≡ length bytes)
@@ -94,7 +94,7 @@ module _ (causes : Causes) (setting : Setting) (old new : TreeState) (path : Lis
           (FollowsRules setting old (open_read_stream path) done new ⊎ IsBroken causes setting old (open_read_stream path) done new) → StandsThere
       go true h = absurd (refused_not_done failed_earlier h.0)
       go false (inl follows) = named (names_of_path path) refl (done_step setting.cases setting.stream.sound old.root_len old.tree new.tree (open_read_stream path) follows.step).0
-      go false (inr ((r, may, is), off)) = absurd (refused_not_done r is)
+      go false (inr ((r, may, is, rules), off)) = absurd (refused_not_done r is)
 
 opened_there : (cases : Cases) (tree : Tree) (path : List ℕ) (names : List (List ℕ)) (info : StreamInfo) → names_of_path path ≡ Some names → object_at cases tree names ≡ Some (a_stream info)
     → opened_by_path cases tree path ≡ opened info.len info.content

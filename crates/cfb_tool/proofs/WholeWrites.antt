@@ -42,10 +42,10 @@ runs_take : (causes : Causes) (setting : StreamSetting) (old new : StreamRun) (b
 runs_take causes setting old new bytes some = go old.failed
   where
     go : (b : Bool) → MatchBool b (StreamOnFailed (write bytes) (count 0) new)
-        ((StreamStep setting old.stream (write bytes) (count 0) new.stream × (new.failed ≡ false)) ⊎ IsStreamBroken causes old.stream (write bytes) (count 0) new) → ⊥
+        ((StreamStep setting old.stream (write bytes) (count 0) new.stream × (new.failed ≡ false)) ⊎ IsStreamBroken causes setting old.stream (write bytes) (count 0) new) → ⊥
     go true h = absurd (let w : true ≡ false = ap is_served h.1 in cc)
     go false (inl h) = write_takes setting old.stream new.stream bytes some h.0
-    go false (inr (refusal, may, is, rest)) = not_served refusal is
+    go false (inr (refusal, may, is, off, allowed)) = not_served refusal is
 
 pub takes_some : (old new : OpenStream) (bytes : List ℕ) → 0 < length bytes → StreamRunsOn old (write bytes) (count 0) new → ⊥
 unfolding Runs

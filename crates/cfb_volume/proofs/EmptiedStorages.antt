@@ -25,7 +25,7 @@ use Rattle.cfb_agreement.specs.Files.{Agrees, FileState, Holds, IsAsMade, SameSe
 use Rattle.cfb_entry_changes.specs.Clearing.{ClearsStorage}
 use Rattle.cfb_entry_changes.proofs.Emptied.{cleared-has-outline, cleared-is-balanced, cleared-is-found}
 use Rattle.cfb_volume.specs.Clearing.{EmptiesStorage, EmptiesStreams, KeepsStreamsBeside, KeepsStreamsBut, emptied_at}
-use Rattle.cfb_volume.proofs.AddedStorages.{setting-then}
+use Rattle.cfb_volume.proofs.Settings.{setting-then}
 use Rattle.cfb_objects.proofs.Balance.{content-keeps-balance}
 use Rattle.cfb_volume.proofs.InsideNames.{inside-stands}
 use Rattle.cfb_volume.proofs.Insides.{inside-stays, inside-stream, inside-unique, storage-stays}

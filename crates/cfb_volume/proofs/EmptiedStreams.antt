@@ -25,7 +25,7 @@ use Rattle.cfb_agreement.specs.Changes.{ChangesOneContent}
 use Rattle.cfb_agreement.specs.Files.{Agrees, FileState, Holds, SameSetting, failures_of, is_failed}
 use Rattle.cfb_agreement.proofs.ContentChanges.{content-becomes-tree}
 use Rattle.cfb_volume.specs.Clearing.{EmptiesStreams, KeepsStreamsBut, MeansTheSameBut, StandBelow}
-use Rattle.cfb_volume.proofs.AddedStorages.{setting-same, setting-then}
+use Rattle.cfb_volume.proofs.Settings.{setting-same, setting-then}
 use Rattle.cfb_volume.proofs.Forgotten.{forgets-content}
 
 -- ---- entries but for start and length

@@ -1,3 +1,4 @@
+pub mod Settings
 pub mod EmptyStreams
 pub mod Tidy
 pub mod InsertedObjects
@@ -17,4 +18,3 @@ pub mod RemovedStorages
 pub mod MarkedObjects
 pub mod RemovedObjects
 pub mod PutObjects
-pub mod AddedStorages

@@ -13,7 +13,7 @@ use Rattle.cfb_content.proofs.FixedHeader.{header-then}
 use Rattle.cfb_agreement.specs.Files.{FileState, Holds, SameSetting, failures_of, is_failed}
 use Rattle.cfb_agreement.specs.Laws.{with_flags}
 use Rattle.cfb_volume.specs.Clearing.{BreaksOff}
-use Rattle.cfb_volume.proofs.AddedStorages.{setting-same, setting-then}
+use Rattle.cfb_volume.proofs.Settings.{setting-same, setting-then}
 
 -- the file after a step was handed on
 abbrev pub handed_on : Bool → FileState → FileState

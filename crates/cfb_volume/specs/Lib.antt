@@ -1,4 +1,3 @@
 pub mod Clearing
 pub mod Answers
 pub mod Removing
-pub mod Adding

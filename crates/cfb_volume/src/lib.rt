@@ -1,7 +1,6 @@
 //! A file whose memory is what its bytes say, and its changes, each told by the tree.
 #![tactic(auto)]
 
-mod adding;
 mod clearing;
 mod inserting;
 mod marking;

@@ -271,8 +271,8 @@ impl<F: Medium, A: Heap> Volume<F, A> {
 
 impl<F: Medium, A: Heap + Clone> Volume<F, A> {
     /// Puts a beginning of `bytes` into the stream of that entry at byte `at`, which is inside it or its end, and answers how many bytes
-    /// that is: at least one where there is one. Behind the end the stream grows, as far as numbers go; inside its length nothing but the
-    /// bytes of the file changes: no sector is taken, nor does one become free.
+    /// that is: at least one where there is one; no bytes change nothing. Behind the end the stream grows, as far as numbers go; inside its
+    /// length nothing but the bytes of the file changes: no sector is taken, nor does one become free.
     ///
     /// `Full` only at the end, where the stream could not have one byte more in the file before, and then no number is left; `Memory`; and
     /// `Medium` where the medium fails. All is as before then, or the file has failed.
@@ -284,6 +284,7 @@ impl<F: Medium, A: Heap + Clone> Volume<F, A> {
         requires fits { at + length bytes.now ≤ max_stream_len (version_of self.old.base) }
         ensures count { IfOk result (λ n. n ≤ length bytes.now) }
         ensures some { 0 < length bytes.now → IfOk result (λ n. 0 < n) }
+        ensures none { length bytes.now ≡ 0 → OnErr result ⊥ × (self.new ≡ self.old) }
         ensures len { IfOk result (λ n. len_of self.new.base entry
             ≡ max (len_of self.old.base entry) (at + n)) }
         ensures stream { IsStreamOf self.new.base entry }

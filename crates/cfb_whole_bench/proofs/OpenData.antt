@@ -34,15 +34,15 @@ use Rattle.cfb_whole_bench.proofs.Refusals.{by_break, by_rule, stopped_so}
 served : (causes : Causes) (old : OpenStream) (call : StreamCall) (reply : StreamReply) (new : OpenStream) → is_failed old.file ≡ false
     → StreamRunsBy causes old call reply new
     → (StreamStep (stream_setting_of (stored_in old)) (stream_in old) call reply (stream_in new) × (is_failed new.file ≡ false))
-    ⊎ IsStreamBroken causes (stream_in old) call reply (run_in new)
+    ⊎ IsStreamBroken causes (stream_setting_of (stored_in old)) (stream_in old) call reply (run_in new)
 unfolding Runs
 served causes old call reply new calm runs = go (is_failed old.file) calm runs
   where
     go : (b : Bool) → b ≡ false → MatchBool b (StreamOnFailed call reply (run_in new))
         ((StreamStep (stream_setting_of (stored_in old)) (stream_in old) call reply (stream_in new) × (is_failed new.file ≡ false))
-        ⊎ IsStreamBroken causes (stream_in old) call reply (run_in new))
+        ⊎ IsStreamBroken causes (stream_setting_of (stored_in old)) (stream_in old) call reply (run_in new))
         → (StreamStep (stream_setting_of (stored_in old)) (stream_in old) call reply (stream_in new) × (is_failed new.file ≡ false))
-        ⊎ IsStreamBroken causes (stream_in old) call reply (run_in new)
+        ⊎ IsStreamBroken causes (stream_setting_of (stored_in old)) (stream_in old) call reply (run_in new)
     go true e h = absurd (cc)
     go false e h = h
 
@@ -63,7 +63,7 @@ some_written causes old new bytes n runs some = failed_or (is_failed old.file) r
 
     failed_or : (b : Bool) → MatchBool b (StreamOnFailed (write bytes) (count n) (run_in new))
         ((StreamStep (stream_setting_of (stored_in old)) (stream_in old) (write bytes) (count n) (stream_in new) × (is_failed new.file ≡ false))
-        ⊎ IsStreamBroken causes (stream_in old) (write bytes) (count n) (run_in new)) → 1 ≤ n
+        ⊎ IsStreamBroken causes (stream_setting_of (stored_in old)) (stream_in old) (write bytes) (count n) (run_in new)) → 1 ≤ n
     failed_or true h = absurd (let bad : count n ≡ not_done failed_earlier = h.1 in cc)
     failed_or false h = elim h [
       | inl a ↦ step (length bytes == 0) (nat_le (max_stream_len (version_of old.file.base)) (stream_in old).position) old.file.is_sound refl a.0

@@ -9,7 +9,7 @@ ghost use Rattle.cfb_alloc.specs.Frame.{Spares};
 ghost use Rattle.cfb_mini_sectors.specs.State.{HoldsMini, bytes_of, mini_place, mini_stream_of, table_of};
 ghost use Rattle.cfb_mini_sectors.specs.Steps.{SparesMini, StopsShort};
 ghost use Rattle.cfb_mini.specs.MiniRuns.{ChangesMiniStretch, HasTheMinis, IsMiniStretch};
-ghost use Rattle.cfb_mini.specs.MiniSectors.{ChangesFileOnly, HasMiniByte, HasMiniSector, IsStill};
+ghost use Rattle.cfb_mini_changes.specs.MiniSectors.{ChangesFileOnly, HasMiniByte, HasMiniSector, IsStill};
 
 use crate::mini_allocator::{MiniAllocator, no_mini_sector, no_mini_stream};
 use crate::mini_runs::stretch_len;

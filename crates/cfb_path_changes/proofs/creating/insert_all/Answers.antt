@@ -8,7 +8,7 @@ use Rattle.cfb_tables.specs.Refused.{ChangeRefused}
 use Rattle.cfb_directory.specs.State.{IsFullForEntry}
 use Rattle.cfb_agreement.specs.Files.{FileState, Holds, IsFullFile, failures_of}
 use Rattle.cfb_agreement.specs.Laws.{with_flags}
-use Rattle.cfb_volume.proofs.AddedStorages.{Broke, adds-next, room-then, broke-first, broke-later, name-in, reached-storage}
+use Rattle.cfb_path_changes.proofs.AddedStorages.{Broke, adds-next, room-then, broke-first, broke-later, name-in, reached-storage}
 use Rattle.cfb_path_changes.specs.InTurn.{FillsUp, StopsAdding}
 use Rattle.cfb_path_changes.proofs.InTurn.{adds_all_so_far, adds_none_so_far, next_name, texts}
 use Rattle.cfb_path_changes.proofs.creating.insert_all.Given.{Over}

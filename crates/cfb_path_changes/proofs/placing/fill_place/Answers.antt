@@ -32,7 +32,7 @@ returns-in_err-resize-in-There-clause-refused g c =
     let e = c.resize.ensures in
     rw (p.1, p.2) (λ told.
     let held = c.requires.agrees told c.requires.place.1.unfailed in
-    there_refused c.args.what c.args.moment c.args.volume.now c.resize.new.self c.args.place c.in-There.number c.in-There.is _ c.in_err-resize-in-There.field-0.0 e.setting
+    there_refused c.args.what c.args.moment c.args.volume.now c.resize.new.self c.args.place c.in-There.number c.in-There.is _ c.in_err-resize-in-There.field-0.0 held e.setting
     (c.in_err-resize-in-There.ensures.refused told held) (e.changes told held) (e.emptied held refl) (c.in_err-resize-in-There.ensures.err told held) (c.in_err-resize-in-There.ensures.first told refl) (c.in_err-resize-in-There.ensures.counts told))
 
 pub returns-in_ok-resize-in-There-clause-filled : goal.returns-in_ok-resize-in-There-clause-filled

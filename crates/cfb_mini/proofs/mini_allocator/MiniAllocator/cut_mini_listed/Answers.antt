@@ -7,12 +7,12 @@ use Rattle.cfb_tables.specs.Tables.{first_or_end}
 use Rattle.cfb_mini_sectors.specs.State.{HoldsMini, MiniState, table_of}
 use Rattle.cfb_mini_sectors.specs.Steps.{AreStartsUnnamed, BeginsSystem, CanGiveRoomBack, GivesRoomBack, SparesMini, system_sectors}
 use Rattle.cfb_mini_sectors.proofs.MiniFrames.{nothing-touched}
-use Rattle.cfb_mini.specs.Changing.{mini_of}
-use Rattle.cfb_mini.specs.MiniSectors.{KeepsMiniBytesBut}
-use Rattle.cfb_mini.proofs.LeastAbove.{of-some}
-use Rattle.cfb_mini.proofs.MiniCut.{cut-nothing}
-use Rattle.cfb_mini.proofs.MiniExtended.{some-items}
-use Rattle.cfb_mini.proofs.MiniGiven.{begins-refl}
+use Rattle.cfb_mini_changes.specs.Changing.{mini_of}
+use Rattle.cfb_mini_changes.specs.MiniSectors.{KeepsMiniBytesBut}
+use Rattle.cfb_mini_changes.proofs.LeastAbove.{of-some}
+use Rattle.cfb_mini_changes.proofs.MiniCut.{cut-nothing}
+use Rattle.cfb_mini_changes.proofs.MiniExtended.{some-items}
+use Rattle.cfb_mini_changes.proofs.MiniGiven.{begins-refl}
 use Rattle.cfb_mini.proofs.mini_allocator.MiniAllocator.cut_mini_listed.Goals as goal
 
 pub returns-then-left-len-clause-given_back : goal.returns-then-left-len-clause-given_back

@@ -6,10 +6,10 @@ use Rattle.cfb_mini_sectors.specs.State.{HoldsMini, MiniState, mini_stream_of, t
 use Rattle.cfb_mini_sectors.specs.Steps.{SparesMini, system_sectors}
 use Rattle.cfb_mini_sectors.proofs.MinifatGrown.{same_listed}
 use Rattle.cfb_mini_sectors.proofs.MiniFrames.{nothing-touched}
-use Rattle.cfb_mini.specs.Changing.{mini_of}
-use Rattle.cfb_mini.specs.MiniSectors.{IsWhole, KeepsMiniBytesBut}
-use Rattle.cfb_mini.proofs.MiniExtended.{some-items}
-use Rattle.cfb_mini.proofs.LeastAbove.{of-some}
+use Rattle.cfb_mini_changes.specs.Changing.{mini_of}
+use Rattle.cfb_mini_changes.specs.MiniSectors.{IsWhole, KeepsMiniBytesBut}
+use Rattle.cfb_mini_changes.proofs.MiniExtended.{some-items}
+use Rattle.cfb_mini_changes.proofs.LeastAbove.{of-some}
 use Rattle.cfb_mini.proofs.mini_allocator.MiniAllocator.extend_mini_listed.Goals as goal
 
 pub returns-then-count-eq0-clause-spares : goal.returns-then-count-eq0-clause-spares

@@ -8,10 +8,10 @@ use Rattle.cfb_alloc.proofs.Spared.{spares_refl}
 use Rattle.cfb_mini_table.proofs.StateLemmas.{chain-start}
 use Rattle.cfb_mini_sectors.specs.Steps.{IsInMiniStream, IsZeroMini, SparesMini}
 use Rattle.cfb_mini_sectors.proofs.MiniStreams.{empty_chain}
-use Rattle.cfb_mini.specs.MiniSectors.{KeepsMiniBytesBut}
+use Rattle.cfb_mini_changes.specs.MiniSectors.{KeepsMiniBytesBut}
 use Rattle.cfb_mini.proofs.MiniBehind.{chain-some}
-use Rattle.cfb_mini.proofs.MiniCut.{cut-nothing}
-use Rattle.cfb_mini.proofs.MiniGiven.{begins-refl}
+use Rattle.cfb_mini_changes.proofs.MiniCut.{cut-nothing}
+use Rattle.cfb_mini_changes.proofs.MiniGiven.{begins-refl}
 use Rattle.cfb_mini.proofs.MiniWritten.{spares-mini-refl}
 use Rattle.cfb_mini.proofs.mini_allocator.MiniAllocator.free_mini_chain.Goals as goal
 

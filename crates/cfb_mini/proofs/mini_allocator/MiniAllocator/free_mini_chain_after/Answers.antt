@@ -6,10 +6,10 @@ use Rattle.cfb_format.proofs.Unique.{IsChain-unique}
 use Rattle.cfb_tables.proofs.ChainLemmas.{chain_of}
 use Rattle.cfb_alloc.proofs.Spared.{spares_refl}
 use Rattle.cfb_mini_sectors.specs.Steps.{IsInMiniStream, IsZeroMini, SparesMini}
-use Rattle.cfb_mini.specs.MiniSectors.{KeepsMiniBytesBut}
+use Rattle.cfb_mini_changes.specs.MiniSectors.{KeepsMiniBytesBut}
 use Rattle.cfb_mini.proofs.MiniBehind.{begun-at, cut-behind, ends-at-start, goes-behind, on_ok_then, still-some}
-use Rattle.cfb_mini.proofs.MiniExtended.{invalid-refused}
-use Rattle.cfb_mini.proofs.MiniGiven.{begins-refl}
+use Rattle.cfb_mini_changes.proofs.MiniExtended.{invalid-refused}
+use Rattle.cfb_mini_changes.proofs.MiniGiven.{begins-refl}
 use Rattle.cfb_mini.proofs.MiniWritten.{spares-mini-refl}
 use Rattle.cfb_mini.proofs.mini_allocator.MiniAllocator.free_mini_chain_after.Goals as goal
 

@@ -7,7 +7,7 @@ use Rattle.cfb_mini_sectors.specs.State.{MiniState, table_of, tables_in}
 use Rattle.cfb_mini_sectors.specs.Steps.{IsNotHeld, IsTooFewAfterFor, mini_stream_lacks, minifat_lacks}
 use Rattle.cfb_mini.proofs.MiniRoom.{given-back-first, refused-as}
 use Rattle.cfb_directory.proofs.LeastAbove.{least-kept}
-use Rattle.cfb_mini.proofs.LeastAbove.{of-some}
+use Rattle.cfb_mini_changes.proofs.LeastAbove.{of-some}
 use Rattle.cfb_mini.proofs.mini_allocator.MiniAllocator.reserve.Goals as goal
 
 pub returns-in_err-reserve-clause-err : goal.returns-in_err-reserve-clause-err
@@ -33,23 +33,10 @@ pub invariant_of-self-in_err-reserve : goal.invariant_of-self-in_err-reserve
 invariant_of-self-in_err-reserve g c =
     of-some (λ v. v.items) c.self.inside.mini_stream c.in-Some.stream c.self.inside.minifat_sectors.items c.self.inside.above c.in-Some.is c.self.invariant
 
-pub invariant_of-self-in_err-reserve-2 : goal.invariant_of-self-in_err-reserve-2
-invariant_of-self-in_err-reserve-2 g c =
-    let words = c.self.inside.minifat_sectors.items in
-    let stream = c.in-Some.stream.items in
-    least-kept (words ++ stream) (c.reserve-2.new.self.items ++ stream) c.self.inside.above (λ j. c.reserve-2.ensures.items j ++ stream)
-    (of-some (λ v. v.items) c.self.inside.mini_stream c.in-Some.stream words c.self.inside.above c.in-Some.is c.self.invariant)
-
-pub invariant_of-self-in_err-reserve-3 : goal.invariant_of-self-in_err-reserve-3
-invariant_of-self-in_err-reserve-3 g c =
-    let words = c.self.inside.minifat_sectors.items in
-    least-kept (words ++ c.in-Some.stream.items) (c.reserve-2.new.self.items ++ c.reserve-3.new.self.items) c.self.inside.above
-    (λ j. c.reserve-2.ensures.items j ++ c.reserve-3.ensures.items j)
-    (of-some (λ v. v.items) c.self.inside.mini_stream c.in-Some.stream words c.self.inside.above c.in-Some.is c.self.invariant)
-
 pub invariant_of-self-2 : goal.invariant_of-self-2
 invariant_of-self-2 g c =
     let words = c.self.inside.minifat_sectors.items in
-    least-kept (words ++ c.in-Some.stream.items) (c.reserve-2.new.self.items ++ c.reserve-3.new.self.items) c.self.inside.above
-    (λ j. c.reserve-2.ensures.items j ++ c.reserve-3.ensures.items j)
+    let lists = c.reserve_lists.new in
+    least-kept (words ++ c.in-Some.stream.items) (lists.minifat_sectors.items ++ lists.stream.items) c.self.inside.above
+    (λ j. c.reserve_lists.ensures.minifat j ++ c.reserve_lists.ensures.mini_stream j)
     (of-some (λ v. v.items) c.self.inside.mini_stream c.in-Some.stream words c.self.inside.above c.in-Some.is c.self.invariant)

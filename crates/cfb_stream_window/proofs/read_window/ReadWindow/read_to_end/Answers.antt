@@ -25,7 +25,7 @@ returns-in_err-check_rest-clause-refused g c = λ (h : IsOpen g.C.ReadContents c
     (elim (e.refused r) [
       | inl m ↦
           let why = memory_broke ⊥ s w c.check_rest.new.self c.in_err-check_rest.field-0.0 a m.0 m.1 in
-          broke_for _ _ _ _ _ _ _ _ _ (read_broken _ (λ f. true) _ _ _ _ _ _ read_to_end _ refl a.unfailed (counts_none (λ f. true) _ _ _ e.kinds) why) _ _ IsMemory why
+          broke_for _ _ _ _ _ _ _ _ _ (read_broken _ (λ f. true) _ _ _ _ _ _ read_to_end _ refl a.unfailed tt (counts_none (λ f. true) _ _ _ e.kinds) why) _ _ IsMemory why
       | inr u ↦ record {
         rules = unreadable_refused _ _ _ _ _ a.unfailed u;
         stops = inl refl;
@@ -53,7 +53,7 @@ returns-in_err-count-clause-refused g c = λ (h : IsOpen g.C.ReadContents c.args
     let why = memory_broke ⊥ (g.C.ReadContents.stored c.args.content.now c.args.id) c.args.self.now c.append_held.new.self c.in_err-count.field-0.0 a q.refused
     (q.unlent ∙ ap (λ (z : Window). record z { ahead = 0 }) (seen.window ∙ c.self.view_is)) in
     let p = err_from_is_err_and c.from_residual-in_err-count.result c.from_residual-in_err-count.ensures.1 in
-    rw (p.1, p.2) (broke_for _ _ _ _ _ _ _ _ _ (read_broken _ (λ f. true) _ _ _ _ _ _ read_to_end _ refl a.unfailed (memory_counts (λ f. true) _ _ q.refused) why) _ _ IsMemory why)
+    rw (p.1, p.2) (broke_for _ _ _ _ _ _ _ _ _ (read_broken _ (λ f. true) _ _ _ _ _ _ read_to_end _ refl a.unfailed tt (memory_counts (λ f. true) _ _ q.refused) why) _ _ IsMemory why)
 
 pub returns-clause-runs : goal.returns-clause-runs
 returns-clause-runs g c = λ (h : IsOpen g.C.ReadContents c.args.content.now c.args.id c.args.self.now).
@@ -83,4 +83,4 @@ returns-in_err-count-2-clause-refused g c = λ (h : IsOpen g.C.ReadContents c.ar
     let why = broken_from ⊥ s _ w c.check_rest.new.self _ _ seen.window (calm_reads ⊥ _ c.check_rest.new.self _ _ c.in_err-count-2.field-0.0 calm (q.refused there (readable_same s _ _ seen.window (seen.ok r)) more)) in
     let p = err_from_is_err_and c.from_residual-in_err-count-2.result c.from_residual-in_err-count-2.ensures.1 in
     rw (p.1, p.2) (subst (λ (z : Window). IsRefusedReading g.C.ReadContents c.args.content.now c.args.id z read_to_end c.append_rest.new.content c.append_rest.new.self c.in_err-count-2.field-0.0) c.self.view_is
-    (broke_for _ _ _ _ _ _ _ _ _ (read_broken _ _ _ _ _ _ _ _ read_to_end _ refl a.unfailed (q.around h.told).counts why) _ _ IsMemory why))
+    (broke_for _ _ _ _ _ _ _ _ _ (read_broken _ _ _ _ _ _ _ _ read_to_end _ refl a.unfailed tt (q.around h.told).counts why) _ _ IsMemory why))

@@ -22,7 +22,7 @@ returns-in_err-check_rest-clause-refused g c = λ (h : IsOpen g.C.ReadContents c
     rw (p.1, p.2) (elim (e.refused r) [
       | inl m ↦
           let why = memory_broke (g.C.Contents.is_full c.args.content.now) (g.C.ReadContents.stored c.args.content.now c.args.id) c.args.self.now c.check_rest.new.self c.in_err-check_rest.field-0.0 a m.0 m.1 in
-          broke_for _ _ _ _ _ _ _ _ _ (read_broken _ (λ f. true) _ _ _ _ _ _ read_to_end _ refl a.unfailed (counts_none (λ f. true) _ _ _ e.kinds) why) _ _ IsMemory why
+          broke_for _ _ _ _ _ _ _ _ _ (read_broken _ (λ f. true) _ _ _ _ _ _ read_to_end _ refl a.unfailed tt (counts_none (λ f. true) _ _ _ e.kinds) why) _ _ IsMemory why
       | inr u ↦ record {
         rules = unreadable_refused _ _ _ _ _ a.unfailed u;
         stops = inl refl;
@@ -46,7 +46,7 @@ returns-in_err-count-clause-refused g c = λ (h : IsOpen g.C.ReadContents c.args
     let why = memory_broke (g.C.Contents.is_full c.args.content.now) (g.C.ReadContents.stored c.args.content.now c.args.id) c.args.self.now c.append_held.new.self c.in_err-count.field-0.0 a q.refused
     (q.unlent ∙ ap (λ (z : Window). record z { ahead = 0 }) seen.window) in
     let p = err_from_is_err_and c.from_residual-in_err-count.result c.from_residual-in_err-count.ensures.1 in
-    rw (p.1, p.2) (broke_for _ _ _ _ _ _ _ _ _ (read_broken _ (λ f. true) _ _ _ _ _ _ read_to_end _ refl a.unfailed (memory_counts (λ f. true) _ _ q.refused) why) _ _ IsMemory why)
+    rw (p.1, p.2) (broke_for _ _ _ _ _ _ _ _ _ (read_broken _ (λ f. true) _ _ _ _ _ _ read_to_end _ refl a.unfailed tt (memory_counts (λ f. true) _ _ q.refused) why) _ _ IsMemory why)
 
 pub returns-clause-runs : goal.returns-clause-runs
 returns-clause-runs g c = λ (h : IsOpen g.C.ReadContents c.args.content.now c.args.id c.args.self.now).
@@ -69,4 +69,4 @@ returns-in_err-count-2-clause-refused g c = λ (h : IsOpen g.C.ReadContents c.ar
     let q = c.in_err-count-2.ensures in
     let why = broken_from _ _ _ _ c.check_rest.new.self _ _ seen.window (q.refused there (readable_same (g.C.ReadContents.stored c.args.content.now c.args.id) _ _ seen.window (seen.ok r)) more) in
     let p = err_from_is_err_and c.from_residual-in_err-count-2.result c.from_residual-in_err-count-2.ensures.1 in
-    rw (p.1, p.2) (broke_for _ _ _ _ _ _ _ _ _ (read_broken _ _ _ _ _ _ _ _ read_to_end _ refl a.unfailed (q.around h.told).counts why) _ _ IsMemory why)
+    rw (p.1, p.2) (broke_for _ _ _ _ _ _ _ _ _ (read_broken _ _ _ _ _ _ _ _ read_to_end _ refl a.unfailed tt (q.around h.told).counts why) _ _ IsMemory why)

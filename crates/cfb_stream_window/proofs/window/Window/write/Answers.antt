@@ -1,4 +1,4 @@
-use Rattle.std.proofs.Common.{◌≡◌, ◌<◌, ◌≤◌, ◌∙◌, ℕ, length, take, arith, sym, refl, inl, length-take}
+use Rattle.std.proofs.Common.{◌≡◌, ◌<◌, ◌≤◌, ◌+◌, ◌∙◌, ℕ, length, take, arith, sym, refl, inl, length-take}
 use Rattle.std.proofs.lemmas.List.{take-take}
 use Rattle.std.proofs.lemmas.Result.{err_from_is_err_and}
 use Rattle.cfb_format.specs.Refused.{IsMemory}
@@ -56,22 +56,25 @@ returns-in_err-count-clause-refused g c = λ (h : IsOpen g.C.ReadContents c.args
     let r : IsReady g.C.ReadContents c.args.content.now c.args.id c.args.self.now = record { told = h.told; agrees = h.suits f } in
     let sound = sym c.is_sound.ensures ∙ c.if-not-is_sound.false in
     let some : 0 < length c.args.bytes.now = not_empty _ (sym c.is_empty.ensures ∙ c.if-is_empty.false) in
+    let before : c.args.self.now.base + c.args.self.now.cursor < (g.C.ReadContents.stored c.args.content.now c.args.id).limit = omega (arith) in
     let n = c.min-most.result in
     let len : length (take n c.args.bytes.now) ≡ n = omega (arith, length-take n c.args.bytes.now) in
     let e = c.in_err-count.ensures in
     let why = e.refused r sound (omega (arith, len)) (omega (arith, some, len)) in
     let p = err_from_is_err_and c.from_residual.result c.from_residual.ensures.1 in
-    rw (p.1, p.2) (broke_for _ _ _ _ _ _ _ _ _ (written_broken _ _ _ _ _ _ _ _ c.args.bytes.now _ some f (e.around h.told).counts why) _ _ IsMemory why)
+    rw (p.1, p.2) (broke_for _ _ _ _ _ _ _ _ _ (written_broken _ _ _ _ _ _ _ _ c.args.bytes.now _ some f (before, sound) (e.around h.told).counts why) _ _ IsMemory why)
 
 pub returns-in_err-have_room-clause-refused : goal.returns-in_err-have_room-clause-refused
 returns-in_err-have_room-clause-refused g c = λ (h : IsOpen g.C.ReadContents c.args.content.now c.args.id c.args.self.now).
     let f = sym c.is_failed.ensures ∙ c.if-is_failed.false in
     let r : IsReady g.C.ReadContents c.args.content.now c.args.id c.args.self.now = record { told = h.told; agrees = h.suits f } in
+    let sound = sym c.is_sound.ensures ∙ c.if-not-is_sound.false in
+    let before : c.args.self.now.base + c.args.self.now.cursor < (g.C.ReadContents.stored c.args.content.now c.args.id).limit = omega (arith) in
     let some : 0 < length c.args.bytes.now = not_empty _ (sym c.is_empty.ensures ∙ c.if-is_empty.false) in
     let e = c.in_err-have_room.ensures in
     let why = e.refused r in
     let p = err_from_is_err_and c.from_residual-in_err-have_room.result c.from_residual-in_err-have_room.ensures.1 in
-    rw (p.1, p.2) (broke_for _ _ _ _ _ _ _ _ _ (written_broken _ _ _ _ _ _ _ _ c.args.bytes.now _ some f (e.around h.told).counts why) _ _ IsMemory why)
+    rw (p.1, p.2) (broke_for _ _ _ _ _ _ _ _ _ (written_broken _ _ _ _ _ _ _ _ c.args.bytes.now _ some f (before, sound) (e.around h.told).counts why) _ _ IsMemory why)
 
 pub returns-clause-runs : goal.returns-clause-runs
 returns-clause-runs g c = λ (h : IsOpen g.C.ReadContents c.args.content.now c.args.id c.args.self.now).

@@ -9,7 +9,7 @@ use Rattle.cfb_mini_sectors.specs.State.{cases_of, entries_of}
 use Rattle.cfb_agreement.specs.Files.{FileState, failures_of}
 use Rattle.cfb_content.proofs.FixedHeader.{header-then}
 use Rattle.cfb_volume.specs.Clearing.{BreaksOff, KeepsStreamsBeside, RemovesWithAll}
-use Rattle.cfb_volume.proofs.AddedStorages.{setting-then}
+use Rattle.cfb_volume.proofs.Settings.{setting-then}
 use Rattle.cfb_volume.proofs.Balances.{balanced-then-but}
 use Rattle.cfb_volume.proofs.RemovedStorages.{all-removed, below-still, named-still, others-now, parent-still}
 use Rattle.cfb_volume.proofs.Steps.{broke-off, flags-keep, hand-err, hand-ok, step-err, step-err-counts, step-ok, step-ok-counts, step-on-err}

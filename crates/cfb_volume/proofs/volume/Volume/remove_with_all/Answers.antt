@@ -10,7 +10,7 @@ use Rattle.cfb_trees.proofs.Members.{reached-is-within}
 use Rattle.cfb_trees.proofs.Reached.{below-reached}
 use Rattle.cfb_mini_sectors.specs.State.{cases_of, entries_of}
 use Rattle.cfb_agreement.specs.Files.{FileState}
-use Rattle.cfb_volume.proofs.AddedStorages.{setting-same}
+use Rattle.cfb_volume.proofs.Settings.{setting-same}
 use Rattle.cfb_volume.proofs.EmptiedStreams.{kept-stream}
 use Rattle.cfb_volume.proofs.RemovedStorages.{beside-one, stands-removed, stream-is-childless}
 use Rattle.cfb_volume.proofs.volume.Volume.remove_with_all.Goals as goal

@@ -1,4 +1,4 @@
-use Rattle.std.proofs.Common.{◌≡◌, ◌<◌, ◌≤◌, ◌+◌, ◌⊎◌, inr, max, sym, ◌∙◌, ap, subst, length, take, arith}
+use Rattle.std.proofs.Common.{◌≡◌, ◌<◌, ◌≤◌, ◌+◌, ◌⊎◌, inr, max, false, sym, ◌∙◌, ap, subst, length, take, arith}
 use Rattle.std.specs.Prelude.{IsTrue}
 use Rattle.std.proofs.lemmas.Result.{err_from_is_err_and}
 use Rattle.cfb_format.specs.declared.validate.Validation.{Validation}
@@ -14,7 +14,7 @@ use Rattle.cfb_resizing.specs.Turning.{LeavesNoMinis}
 use Rattle.cfb_growing.specs.Putting.{ChangesFileAlone}
 use Rattle.cfb_agreement.specs.Changes.{ChangesOneContent}
 use Rattle.cfb_agreement.specs.Files.{EmptyStartAtEnd, FileState, Holds, SameSetting}
-use Rattle.cfb_volume.proofs.ContentSteps.{WasRefused, WentWell, ended, ended-changes, ended-entries, ended-holds, ended-setting, ended-stream, file_on, refused-agrees, refused-changes, refused-setting, refused-stays, refused-stream}
+use Rattle.cfb_volume.proofs.ContentSteps.{WasRefused, WentWell, ended, ended-changes, ended-entries, ended-holds, ended-same, ended-setting, ended-stream, file_on, refused-agrees, refused-changes, refused-setting, refused-stays, refused-stream}
 use Rattle.cfb_volume.proofs.EmptyStreams.{put-in-at-end}
 use Rattle.cfb_volume.proofs.Refusals.{why-full, write-break}
 use Rattle.cfb_volume.proofs.volume.Volume.write.Goals as goal
@@ -96,6 +96,9 @@ returns-in_err-count-clause-foreseen g c told held =
     ((why-full (IsTrue g.F.ReadMedium.tells → IsNotChangeable s) ((len_of s i ≤ c.args.at) × ((validation : Validation) → HoldsMini validation s → IsTooLongFor s i (len_of s i + 1)))
     c.in_err-count.field-0.0 c.in_err-count.ensures.err is).1 Permissive sound.held))
 
+pub returns-in_err-count-clause-none : goal.returns-in_err-count-clause-none
+returns-in_err-count-clause-none g c none = absurd (c.in_err-count.ensures.none none).0
+
 -- ---- it went well
 
 changed : (g : _) (c : goal.After-end_change g) → IsTrue g.F.ReadMedium.tells → WentWell c.args.self.now.base c.put_content.new.mini c.args.entry
@@ -155,6 +158,15 @@ pub returns-clause-len : goal.returns-clause-len
 returns-clause-len g c =
     ap (λ (s : MiniState). len_of s c.args.entry) c.end_change.ensures ∙ c.in_ok-count.ensures.len
     ∙ ap (λ (f : FileState). max (len_of f.base c.args.entry) (c.args.at + c.in_ok-count.count)) c.self.view_is
+
+pub returns-clause-none : goal.returns-clause-none
+returns-clause-none g c none =
+    let s = c.self.inside.mini in
+    let unchanged = (c.in_ok-count.ensures.none none).1 in
+    let calm : (table_of s).file.begun ≡ false = subst (λ (f : FileState). (table_of f.base).file.begun ≡ false) (sym c.self.view_is) c.requires.unfailed in (
+      tt,
+      ap (λ (x : MiniState). file_on c.self.inside.is_sound c.self.inside.buffer_limit x) (c.end_change.ensures ∙ ap ended unchanged ∙ ended-same s calm) ∙ c.self.view_is,
+    )
 
 pub returns-clause-content : goal.returns-clause-content
 returns-clause-content g c told held =

@@ -1,0 +1,9 @@
+pub mod MiniKnown
+pub mod MiniSettled
+pub mod MiniTaken
+pub mod MiniGrown
+pub mod MiniExtended
+pub mod MiniCut
+pub mod MiniGiven
+pub mod LeastAbove
+pub mod WholeFiles

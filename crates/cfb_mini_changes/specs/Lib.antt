@@ -1,0 +1,2 @@
+pub mod MiniSectors
+pub mod Changing
